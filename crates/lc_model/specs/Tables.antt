@@ -1,0 +1,11 @@
+-- The tables of a rule text: equations, images, files, and what is asked of them.
+pub mod Equation
+pub mod Compiling
+pub mod Lowering
+pub mod Image
+pub mod File
+pub mod Half
+pub mod Spelled
+pub mod Slot
+pub mod Interpretation
+pub mod HalvesAndBytes

@@ -1,0 +1,31 @@
+//! Equations: words that spell conditions.
+
+ghost use Rattle.lc_model.specs.Condition.{condition_of};
+ghost use Rattle.lc_model.specs.Laws.Equations.{IsLight, NeedIsMostWaiting, SoundWordsSpell, WordsRun, WordsSpellConditions};
+
+use crate::condition::Cond;
+
+/// The words of a condition spell it, and have its need.
+pub fn words_spell_conditions()
+    ensures { WordsSpellConditions }
+{}
+
+/// The need of an equation is the most operands that wait behind any front of it.
+pub fn need_is_most_waiting()
+    ensures { NeedIsMostWaiting }
+{}
+
+/// With the heavier operand first few operands wait.
+pub fn heavier_first_is_light(c: &Cond)
+    ensures { IsLight (condition_of c.now) }
+{}
+
+/// The validator's tests of an equation's words pass exactly where the words spell a condition.
+pub fn sound_words_spell()
+    ensures { SoundWordsSpell }
+{}
+
+/// The words of a condition can be run: no operand is missing, and at most eight wait.
+pub fn words_run()
+    ensures { WordsRun }
+{}
