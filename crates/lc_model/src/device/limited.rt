@@ -1,0 +1,107 @@
+//! A slice as a sink, with a limit.
+
+ghost use Rattle.std.specs.Prelude.{◌≡◌, ◌+◌, ◌-◌, ◌^◌, ◌<◌, ◌≤◌, ◌⊎◌, ◌↔◌, ℕ, min, length, take, Some, None, false, IfOk, OnErr, IsErr};
+ghost use Rattle.lc_model.specs.Device.{WritesSome, Faults};
+
+use crate::device::{ByteSink, DeviceFault};
+
+/// Takes bytes into a slice from its front on, up to a limit, and fails at one write if it is told to. It tells its bytes.
+#[derive(Drop)]
+pub struct Limited<'a> {
+    /// Where the bytes go.
+    pub room: &'a mut [u8],
+    /// The bytes taken so far: the first ones of the room.
+    pub taken: usize,
+    /// The most bytes that are taken.
+    pub limit: usize,
+    /// The number of the write that fails, from 1 on.
+    pub fault_at: Option<u64>,
+    /// The writes so far.
+    pub writes: u64,
+    /// Whether a write has failed.
+    pub failed: bool,
+    ghost within: { taken ≤ limit },
+    ghost has_room: { limit ≤ length room.now },
+}
+
+impl<'a> Limited<'a> {
+    /// Takes `limit` bytes, and fails behind them. The room is at least as long.
+    pub fn new(room: &'a mut [u8], limit: usize) -> Limited<'a>
+        requires { limit ≤ length room.old }
+        ensures room { result.room.now ≡ room.old }
+        ensures taken { result.taken ≡ 0 }
+        ensures limit { result.limit ≡ limit }
+        ensures fault_at { result.fault_at ≡ None }
+        ensures writes { result.writes ≡ 0 }
+        ensures failed { result.failed ≡ false }
+    {
+        Limited {
+            room,
+            taken: 0,
+            limit,
+            fault_at: None,
+            writes: 0,
+            failed: false,
+        }
+    }
+
+    /// The same, but the write of this number fails. Writes count from 1.
+    pub fn failing_at(room: &'a mut [u8], limit: usize, write: u64) -> Limited<'a>
+        requires { limit ≤ length room.old }
+        ensures room { result.room.now ≡ room.old }
+        ensures taken { result.taken ≡ 0 }
+        ensures limit { result.limit ≡ limit }
+        ensures fault_at { result.fault_at ≡ Some write }
+        ensures writes { result.writes ≡ 0 }
+        ensures failed { result.failed ≡ false }
+    {
+        Limited {
+            room,
+            taken: 0,
+            limit,
+            fault_at: Some(write),
+            writes: 0,
+            failed: false,
+        }
+    }
+
+    /// The bytes taken so far.
+    pub fn bytes(&self) -> &[u8]
+        ensures { result.now ≡ take self.now.taken self.now.room.now }
+    {
+        &self.room[..self.taken]
+    }
+}
+
+impl ByteSink for Limited<'_> {
+    ghost gained = { λ sink. Some (take sink.taken sink.room.now) };
+
+    ghost has_failed = { λ sink. sink.failed };
+
+    fn write(&mut self, bytes: &[u8]) -> Result<usize, DeviceFault>
+        requires { 0 < length bytes.now }
+        ensures written { IfOk result (λ count. WritesSome (Some (take self.old.taken self.old.room.now)) (Some (take self.new.taken self.new.room.now)) self.old.failed self.new.failed count bytes.now) }
+        ensures fault { OnErr result (Faults (Some (take self.old.taken self.old.room.now)) (Some (take self.new.taken self.new.room.now)) self.new.failed) }
+
+        // It fails at the write that it is told to fail at and behind its limit, and takes all that the limit allows.
+        ensures told { IsErr result ↔ ((self.old.fault_at ≡ Some self.new.writes) ⊎ (self.old.taken ≡ self.old.limit)) }
+        ensures whole { IfOk result (λ count. count ≡ min (length bytes.now) (self.old.limit - self.old.taken)) }
+        ensures writes { self.new.writes ≡ min (self.old.writes + 1) (2 ^ 64 - 1) }
+        ensures limit { self.new.limit ≡ self.old.limit }
+        ensures fault_at { self.new.fault_at ≡ self.old.fault_at }
+    {
+        self.writes = self.writes.saturating_add(1);
+        if self.fault_at == Some(self.writes) || self.taken == self.limit {
+            self.failed = true;
+            return Err(DeviceFault);
+        }
+        let count = bytes.len().min(self.limit - self.taken);
+        self.room[self.taken..self.taken + count].copy_from_slice(&bytes[..count]);
+        self.taken += count;
+        Ok(count)
+    }
+
+    fn failed(&self) -> bool {
+        self.failed
+    }
+}

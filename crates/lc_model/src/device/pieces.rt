@@ -1,0 +1,100 @@
+//! A slice as a source, in pieces.
+
+ghost use Rattle.std.specs.Prelude.{◌≡◌, ◌<◌, ◌↔◌, ℕ, min, length, Some, None, false, IfOk, OnErr, IsErr};
+ghost use Rattle.lc_model.specs.Device.{one_read_more, ReadsSome, Faults};
+
+use crate::device::{ByteSource, DeviceFault};
+
+/// Gives the bytes of a slice, at most so many a read, and fails at one read if it is told to. It tells its bytes.
+#[derive(Drop)]
+pub struct Pieces<'a> {
+    /// The bytes that are left.
+    pub left: &'a [u8],
+    /// The most bytes of one read.
+    pub most: usize,
+    /// The number of the read that fails, from 1 on.
+    pub fault_at: Option<u64>,
+    /// The reads so far.
+    pub reads: u64,
+    /// Whether a read has failed.
+    pub failed: bool,
+    ghost some: { 0 < most },
+}
+
+impl<'a> Pieces<'a> {
+    /// Gives all of the bytes, at most `most` of them at each read, and never fails.
+    pub fn new(bytes: &'a [u8], most: usize) -> Pieces<'a>
+        requires { 0 < most }
+        ensures left { result.left.now ≡ bytes.now }
+        ensures most { result.most ≡ most }
+        ensures fault_at { result.fault_at ≡ None }
+        ensures reads { result.reads ≡ 0 }
+        ensures failed { result.failed ≡ false }
+    {
+        Pieces {
+            left: bytes,
+            most,
+            fault_at: None,
+            reads: 0,
+            failed: false,
+        }
+    }
+
+    /// The same bytes in the same pieces, but the read of this number fails. Reads count from 1.
+    pub fn failing_at(bytes: &'a [u8], most: usize, read: u64) -> Pieces<'a>
+        requires { 0 < most }
+        ensures left { result.left.now ≡ bytes.now }
+        ensures most { result.most ≡ most }
+        ensures fault_at { result.fault_at ≡ Some read }
+        ensures reads { result.reads ≡ 0 }
+        ensures failed { result.failed ≡ false }
+    {
+        Pieces {
+            left: bytes,
+            most,
+            fault_at: Some(read),
+            reads: 0,
+            failed: false,
+        }
+    }
+}
+
+impl ByteSource for Pieces<'_> {
+    ghost rest = { λ source. Some source.left.now };
+
+    ghost reads_made = { λ source. source.reads };
+
+    ghost has_failed = { λ source. source.failed };
+
+    fn read(&mut self, buffer: &mut [u8]) -> Result<usize, DeviceFault>
+        requires { 0 < length buffer.old }
+        ensures read { IfOk result (λ count. ReadsSome (Some self.old.left.now) (Some self.new.left.now) self.old.failed self.new.failed count buffer.new) }
+        ensures fault { OnErr result (Faults (Some self.old.left.now) (Some self.new.left.now) self.new.failed) }
+        ensures counted { self.new.reads ≡ one_read_more self.old.reads }
+
+        // It fails at the read that it is told to fail at, and gives all that a piece, the buffer and the rest allow.
+        ensures told { IsErr result ↔ (self.old.fault_at ≡ Some self.new.reads) }
+        ensures whole { IfOk result (λ count. count ≡ min (min self.old.most (length buffer.old)) (length self.old.left.now)) }
+        ensures most { self.new.most ≡ self.old.most }
+        ensures fault_at { self.new.fault_at ≡ self.old.fault_at }
+    {
+        self.reads = self.reads.saturating_add(1);
+        if self.fault_at == Some(self.reads) {
+            self.failed = true;
+            return Err(DeviceFault);
+        }
+        let count = self.most.min(buffer.len()).min(self.left.len());
+        let (piece, left) = self.left.split_at(count);
+        buffer[..count].copy_from_slice(piece);
+        self.left = left;
+        Ok(count)
+    }
+
+    fn reads(&self) -> u64 {
+        self.reads
+    }
+
+    fn failed(&self) -> bool {
+        self.failed
+    }
+}

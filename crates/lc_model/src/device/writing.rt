@@ -1,0 +1,46 @@
+//! A writer of the standard library as a sink.
+
+ghost use Rattle.std.specs.Prelude.{◌≡◌, None, false};
+
+use crate::device::{ByteSink, DeviceFault};
+use std::io::Write;
+
+/// Writes to a writer, whose bytes are unknown. Each of its errors is a fault, an interrupted call among them, and so is a
+/// write that takes no byte.
+#[derive(Drop)]
+pub struct Writing<W: Drop> {
+    writer: W,
+    failed: bool,
+}
+
+impl<W: Write + Drop> Writing<W> {
+    /// Nothing failed yet.
+    pub fn new(writer: W) -> Writing<W>
+        ensures { ⟦<Writing<W> as ByteSink>⟧.has_failed result ≡ false }
+    {
+        Writing {
+            writer,
+            failed: false,
+        }
+    }
+}
+
+impl<W: Write + Drop> ByteSink for Writing<W> {
+    ghost gained = { λ _. None };
+
+    ghost has_failed = { λ sink. sink.failed };
+
+    fn write(&mut self, bytes: &[u8]) -> Result<usize, DeviceFault> {
+        match self.writer.write(bytes) {
+            Ok(count) if count > 0 => Ok(count),
+            _ => {
+                self.failed = true;
+                Err(DeviceFault)
+            }
+        }
+    }
+
+    fn failed(&self) -> bool {
+        self.failed
+    }
+}
