@@ -8,7 +8,7 @@ mod tests;
 pub mod writing;
 
 ghost use Rattle.std.specs.Prelude.{◌≡◌, ◌<◌, ℕ, Bool, List, Option, length, IfOk, OnErr};
-ghost use Rattle.lc_model.specs.Device.{one_read_more, ReadsSome, WritesSome, Faults};
+ghost use Rattle.lc_model.specs.Device.{one_call_more, ReadsSome, WritesSome, Faults};
 
 use thiserror::Error;
 
@@ -34,7 +34,7 @@ pub trait ByteSource {
         requires { 0 < length buffer.old }
         ensures read { IfOk result (λ count. ReadsSome (rest self.old) (rest self.new) (has_failed self.old) (has_failed self.new) count buffer.new) }
         ensures fault { OnErr result (Faults (rest self.old) (rest self.new) (has_failed self.new)) }
-        ensures counted { reads_made self.new ≡ one_read_more (reads_made self.old) };
+        ensures counted { reads_made self.new ≡ one_call_more (reads_made self.old) };
 
     /// The number of reads so far, those that failed among them, up to 2^64 - 1.
     fn reads(&self) -> u64

@@ -1,7 +1,7 @@
 //! A slice as a sink, with a limit.
 
-ghost use Rattle.std.specs.Prelude.{◌≡◌, ◌+◌, ◌-◌, ◌^◌, ◌<◌, ◌≤◌, ◌⊎◌, ◌↔◌, ℕ, min, length, take, Some, None, false, IfOk, OnErr, IsErr};
-ghost use Rattle.lc_model.specs.Device.{WritesSome, Faults};
+ghost use Rattle.std.specs.Prelude.{◌≡◌, ◌-◌, ◌<◌, ◌≤◌, ◌⊎◌, ◌↔◌, ℕ, min, length, take, Some, None, false, IfOk, OnErr, IsErr};
+ghost use Rattle.lc_model.specs.Device.{one_call_more, WritesSome, Faults};
 
 use crate::device::{ByteSink, DeviceFault};
 
@@ -86,7 +86,7 @@ impl ByteSink for Limited<'_> {
         // It fails at the write that it is told to fail at and behind its limit, and takes all that the limit allows.
         ensures told { IsErr result ↔ ((self.old.fault_at ≡ Some self.new.writes) ⊎ (self.old.taken ≡ self.old.limit)) }
         ensures whole { IfOk result (λ count. count ≡ min (length bytes.now) (self.old.limit - self.old.taken)) }
-        ensures writes { self.new.writes ≡ min (self.old.writes + 1) (2 ^ 64 - 1) }
+        ensures writes { self.new.writes ≡ one_call_more self.old.writes }
         ensures limit { self.new.limit ≡ self.old.limit }
         ensures fault_at { self.new.fault_at ≡ self.old.fault_at }
     {

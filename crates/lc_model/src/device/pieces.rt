@@ -1,7 +1,7 @@
 //! A slice as a source, in pieces.
 
 ghost use Rattle.std.specs.Prelude.{◌≡◌, ◌<◌, ◌↔◌, ℕ, min, length, Some, None, false, IfOk, OnErr, IsErr};
-ghost use Rattle.lc_model.specs.Device.{one_read_more, ReadsSome, Faults};
+ghost use Rattle.lc_model.specs.Device.{one_call_more, ReadsSome, Faults};
 
 use crate::device::{ByteSource, DeviceFault};
 
@@ -70,7 +70,7 @@ impl ByteSource for Pieces<'_> {
         requires { 0 < length buffer.old }
         ensures read { IfOk result (λ count. ReadsSome (Some self.old.left.now) (Some self.new.left.now) self.old.failed self.new.failed count buffer.new) }
         ensures fault { OnErr result (Faults (Some self.old.left.now) (Some self.new.left.now) self.new.failed) }
-        ensures counted { self.new.reads ≡ one_read_more self.old.reads }
+        ensures counted { self.new.reads ≡ one_call_more self.old.reads }
 
         // It fails at the read that it is told to fail at, and gives all that a piece, the buffer and the rest allow.
         ensures told { IsErr result ↔ (self.old.fault_at ≡ Some self.new.reads) }

@@ -1,11 +1,12 @@
 //! A reader of the standard library as a source.
 
-ghost use Rattle.std.specs.Prelude.{◌≡◌, None, false};
+ghost use Rattle.std.specs.Prelude.{◌≡◌, false};
 
 use crate::device::{ByteSource, DeviceFault};
 use std::io::Read;
 
-/// Reads from a reader, whose bytes are unknown. Each of its errors is a fault, an interrupted call among them.
+/// Reads from a reader, and tells the bytes that it tells: none of a file's. Each of its errors is a fault, an interrupted
+/// call among them.
 #[derive(Drop)]
 pub struct Reading<R: Drop> {
     reader: R,
@@ -16,6 +17,7 @@ pub struct Reading<R: Drop> {
 impl<R: Read + Drop> Reading<R> {
     /// Nothing was read or failed yet.
     pub fn new(reader: R) -> Reading<R>
+        ensures rest { ⟦<Reading<R> as ByteSource>⟧.rest result ≡ R.remaining reader }
         ensures reads { ⟦<Reading<R> as ByteSource>⟧.reads_made result ≡ 0 }
         ensures failed { ⟦<Reading<R> as ByteSource>⟧.has_failed result ≡ false }
     {
@@ -28,7 +30,7 @@ impl<R: Read + Drop> Reading<R> {
 }
 
 impl<R: Read + Drop> ByteSource for Reading<R> {
-    ghost rest = { λ _. None };
+    ghost rest = { λ source. R.remaining source.reader };
 
     ghost reads_made = { λ source. source.reads };
 

@@ -1,12 +1,12 @@
 //! A writer of the standard library as a sink.
 
-ghost use Rattle.std.specs.Prelude.{◌≡◌, None, false};
+ghost use Rattle.std.specs.Prelude.{◌≡◌, false};
 
 use crate::device::{ByteSink, DeviceFault};
 use std::io::Write;
 
-/// Writes to a writer, whose bytes are unknown. Each of its errors is a fault, an interrupted call among them, and so is a
-/// write that takes no byte.
+/// Writes to a writer, and tells the bytes that it tells: none of a file's. Each of its errors is a fault, an interrupted
+/// call among them, and so is a write that takes no byte.
 #[derive(Drop)]
 pub struct Writing<W: Drop> {
     writer: W,
@@ -16,7 +16,8 @@ pub struct Writing<W: Drop> {
 impl<W: Write + Drop> Writing<W> {
     /// Nothing failed yet.
     pub fn new(writer: W) -> Writing<W>
-        ensures { ⟦<Writing<W> as ByteSink>⟧.has_failed result ≡ false }
+        ensures gained { ⟦<Writing<W> as ByteSink>⟧.gained result ≡ W.contents writer }
+        ensures failed { ⟦<Writing<W> as ByteSink>⟧.has_failed result ≡ false }
     {
         Writing {
             writer,
@@ -26,7 +27,7 @@ impl<W: Write + Drop> Writing<W> {
 }
 
 impl<W: Write + Drop> ByteSink for Writing<W> {
-    ghost gained = { λ _. None };
+    ghost gained = { λ sink. W.contents sink.writer };
 
     ghost has_failed = { λ sink. sink.failed };
 
