@@ -1,0 +1,80 @@
+-- What is taken from a source, record by record. The format of streams is this project's own.
+use Rattle.std.specs.Prelude.{◌≡◌, ℕ, ◌^◌, ◌<◌, ◌≤◌, Bool, true, List, [], ◌++◌, length, take, Option, Some, None}
+use Rattle.std.specs.Io.KnownBytes.{Consumes, IsAtEnd}
+use Rattle.lc_model.specs.declared.record.Moment.{Moment}
+use Rattle.lc_model.specs.Host.Stream.{Front, Nothing, Record, NoRecord, CutRecord, Packet, packets_alone, front}
+use Rattle.flight_run.specs.declared.intake.Stop.{Stop}
+use Rattle.flight_run.specs.declared.intake.Stop.TheVariants.{Bad, Truncated, Fault, Bound}
+
+-- ---- one buffer
+
+-- the buffer's first bytes, this many, are the first that were left; fewer than it has room for only at the end
+pub record Fills (left now : Option (List ℕ)) (failed fails : Bool) (count : ℕ) (buffer : List ℕ) : Type 0 where
+  pub fits : count ≤ length buffer
+  pub takes : Consumes left now (take count buffer)
+  pub at_the_end : count < length buffer → IsAtEnd now
+  pub as_before : fails ≡ failed
+
+-- why a buffer was not filled: a read failed, or as many were made as may be
+abbrev pub BreaksOff : Stop → (failed fails : Bool) → (reads : ℕ) → Type 0
+BreaksOff Fault failed fails reads = fails ≡ true
+BreaksOff Bound failed fails reads = (fails ≡ failed) × (reads ≡ 2 ^ 32)
+BreaksOff stop failed fails reads = ⊥
+
+-- some bytes were taken, fewer than there is room for, before a read failed or one too many was wanted
+pub record Breaks (left now : Option (List ℕ)) (failed fails : Bool) (reads room : ℕ) (stop : Stop) : Type 0 where
+  pub taken : List ℕ
+  pub takes : Consumes left now taken
+  pub fewer : length taken < room
+  pub why : BreaksOff stop failed fails reads
+
+-- ---- one record
+
+-- these bytes are a packet's record, whatever follows them
+pub record IsRecord (bytes body : List ℕ) : Type 0 where
+  pub moment : Moment
+  pub stands : (rest : List ℕ) → front packets_alone 1 (bytes ++ rest) ≡ Record (record { moment = moment; contents = Packet body }) rest
+
+-- a record with this body was taken
+pub record TakesRecord (left now : Option (List ℕ)) (failed fails : Bool) (body : List ℕ) : Type 0 where
+  pub taken : List ℕ
+  pub takes : Consumes left now taken
+  pub is : IsRecord taken body
+  pub as_before : fails ≡ failed
+
+-- the source ended in front of a record
+pub record EndsHere (left now : Option (List ℕ)) (failed fails : Bool) : Type 0 where
+  pub nothing : Consumes left now []
+  pub at_the_end : IsAtEnd now
+  pub as_before : fails ≡ failed
+
+-- nothing, or less than a record
+abbrev pub IsPart : Front → Type 0
+IsPart Nothing = Unit {0}
+IsPart CutRecord = Unit {0}
+IsPart other = ⊥
+
+-- what the bytes taken of a record are, where a run stops in it: no record, whatever follows; or a part of one
+abbrev pub IsFrontAt : Stop → List ℕ → Type 0
+IsFrontAt Bad taken = (rest : List ℕ) → front packets_alone 1 (taken ++ rest) ≡ NoRecord
+IsFrontAt Truncated taken = front packets_alone 1 taken ≡ CutRecord
+IsFrontAt other taken = IsPart (front packets_alone 1 taken)
+
+-- why no record was taken: there is none, or its bytes were not to be had
+abbrev pub Stops : Stop → (failed fails : Bool) → (reads : ℕ) → Type 0
+Stops Bad failed fails reads = fails ≡ failed
+Stops Truncated failed fails reads = fails ≡ failed
+Stops stop failed fails reads = BreaksOff stop failed fails reads
+
+-- no record was taken
+pub record StopsHere (left now : Option (List ℕ)) (failed fails : Bool) (reads : ℕ) (stop : Stop) : Type 0 where
+  pub taken : List ℕ
+  pub takes : Consumes left now taken
+  pub front : IsFrontAt stop taken
+  pub at_the_end : stop ≡ Truncated → IsAtEnd now
+  pub why : Stops stop failed fails reads
+
+-- what the next record is
+abbrev pub IsNext : (left now : Option (List ℕ)) → (failed fails : Bool) → (buffer : List ℕ) → Option ℕ → Type 0
+IsNext left now failed fails buffer None = EndsHere left now failed fails
+IsNext left now failed fails buffer (Some count) = (count ≤ length buffer) × TakesRecord left now failed fails (take count buffer)

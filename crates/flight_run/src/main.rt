@@ -1,0 +1,6 @@
+//! A run of the Limit Checker over a stream of records.
+#![tactic(auto)]
+
+mod intake;
+
+fn main() {}
