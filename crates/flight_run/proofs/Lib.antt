@@ -1,3 +1,4 @@
 pub mod Slices
 pub mod Fronts
 pub mod Taking
+pub mod Requests

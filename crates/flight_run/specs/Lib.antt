@@ -1,2 +1,4 @@
 -- What the contracts of the program cite.
 pub mod Intake
+pub mod Sending
+pub mod Arrival

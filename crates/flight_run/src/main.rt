@@ -2,5 +2,7 @@
 #![tactic(auto)]
 
 mod intake;
+mod packet;
+mod sending;
 
 fn main() {}
