@@ -1,0 +1,5 @@
+pub mod Watcher
+pub mod Entry
+pub mod Sampling
+pub mod Running
+pub mod Shared
