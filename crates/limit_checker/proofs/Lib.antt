@@ -1,3 +1,4 @@
 pub mod Results
 pub mod Fronts
 pub mod Running
+pub mod Laying

@@ -6,6 +6,7 @@ mod actionpoint;
 mod checker;
 mod equation;
 mod field;
+mod layout;
 mod watchpoint;
 
-//pub use checker::LimitChecker;
+pub use checker::LimitChecker;
