@@ -2,3 +2,5 @@ pub mod Results
 pub mod Fronts
 pub mod Running
 pub mod Laying
+pub mod Lowering
+pub mod Tables

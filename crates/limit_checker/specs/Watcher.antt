@@ -49,14 +49,15 @@ abbrev pub point_after : Watcher → ℕ → Actionpoint → Point Tally → Poi
 point_after w n rule point =
     if not (is_disabled w.mode) && is_sampled point.state then sampled_point by_counts w.terms w.mode w.watch n rule point else (point, [])
 
--- the same of all rules: that of this number is sampled
+-- the same among all points, where there is such a rule
+abbrev pub sample_with : Watcher → ℕ → Option Actionpoint → Option (Point Tally) → Watcher × List Request
+sample_with w n (Some rule) (Some point) =
+    let after : Point Tally × List Request = point_after w n rule point in (record w { points = slice_set w.points n after.0 }, after.1)
+sample_with w n rule point = (w, [])
+
+-- after the rule of this number is sampled, and what is requested
 unfoldable pub after_sample : ℕ → Watcher → Watcher × List Request
-after_sample n w = at (slice_get w.rules n) (slice_get w.points n)
-  where
-    at : Option Actionpoint → Option (Point Tally) → Watcher × List Request
-    at (Some rule) (Some point) =
-        let after : Point Tally × List Request = point_after w n rule point in (record w { points = slice_set w.points n after.0 }, after.1)
-    at rule point = (w, [])
+after_sample n w = sample_with w n (slice_get w.rules n) (slice_get w.points n)
 
 -- the command sequence that requests start, the first one
 abbrev pub sequence_in : List Request → Option ℕ
