@@ -27,7 +27,7 @@ abbrev pub words_of : List ℕ → Entry → List ℕ
 words_of words entry = slice_range words entry.start entry.end
 
 -- in place of the condition of words that spell none; a Limit Checker keeps no such words
-abbrev no_condition : Condition
+abbrev pub no_condition : Condition
 no_condition = Watch (record { kind = U8; mid = 0; offset = 0; mask = 0; stale = 0; op = Less; value = pos 0 })
 
 -- the rule that an entry and the words are, over these watchpoints
