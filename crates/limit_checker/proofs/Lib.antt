@@ -4,3 +4,4 @@ pub mod Running
 pub mod Laying
 pub mod Lowering
 pub mod Tables
+pub mod Sampling

@@ -30,9 +30,13 @@ words_of words entry = slice_range words entry.start entry.end
 abbrev pub no_condition : Condition
 no_condition = Watch (record { kind = U8; mid = 0; offset = 0; mask = 0; stale = 0; op = Less; value = pos 0 })
 
--- the rule that an entry and the words are, over these watchpoints
+-- the condition that the entry's words spell over these watchpoints
+abbrev pub condition_in : List Term → List ℕ → Entry → Condition
+condition_in terms words entry = unwrap_or (spelled_condition terms (words_of words entry)) no_condition
+
+-- the rule that the entry is
 abbrev pub rule_in : List Term → List ℕ → Entry → Actionpoint
-rule_in terms words entry = rule_with entry (unwrap_or (spelled_condition terms (words_of words entry)) no_condition)
+rule_in terms words entry = rule_with entry (condition_in terms words entry)
 
 -- the entry's words lie among the words, and can be run
 pub record IsRunnable (terms : List Term) (words : List ℕ) (entry : Entry) : Type 0 where
