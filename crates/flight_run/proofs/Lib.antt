@@ -2,3 +2,6 @@ pub mod Slices
 pub mod Fronts
 pub mod Taking
 pub mod Requests
+pub mod Counting
+pub mod OneRequest
+pub mod Sampled

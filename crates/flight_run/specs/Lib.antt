@@ -2,3 +2,5 @@
 pub mod Intake
 pub mod Sending
 pub mod Arrival
+pub mod Flight
+pub mod Kept

@@ -1,0 +1,7 @@
+-- What a value of the program keeps.
+use Rattle.flight_run.specs.declared.flight.Flight.{Flight}
+use Rattle.flight_run.specs.Flight.{Kept}
+
+-- its Limit Checker, and its sequence count
+abbrev pub kept_of : Flight → Kept
+kept_of flight = record { watcher = flight.checker; count = flight.count }
