@@ -5,3 +5,4 @@ pub mod Requests
 pub mod Counting
 pub mod OneRequest
 pub mod Sampled
+pub mod Arrivals
