@@ -6,3 +6,4 @@ pub mod Counting
 pub mod OneRequest
 pub mod Sampled
 pub mod Arrivals
+pub mod Following
