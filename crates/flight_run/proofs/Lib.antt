@@ -7,3 +7,4 @@ pub mod OneRequest
 pub mod Sampled
 pub mod Arrivals
 pub mod Following
+pub mod Texts
