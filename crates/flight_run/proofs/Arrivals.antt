@@ -37,7 +37,7 @@ unfolding sampled
 refused w (Ok request) is = absurd (cc is)
 refused w (Err refusal) is = refl
 
-not_taken : (packet : List ℕ) (w : Watcher) → is_taken packet ≡ false → after_arrival packet w ≡ (w, [])
+pub not_taken : (packet : List ℕ) (w : Watcher) → is_taken packet ≡ false → after_arrival packet w ≡ (w, [])
 unfolding after_arrival
 not_taken packet w is = rw is refl
 

@@ -8,3 +8,4 @@ pub mod Sampled
 pub mod Arrivals
 pub mod Following
 pub mod Texts
+pub mod Follows

@@ -54,7 +54,7 @@ pub record SendsAlike (requests others : List Request) : Type 0 where
   pub bytes : (count : ℕ) → request_bytes count requests ≡ request_bytes count others
   pub counts : (count : ℕ) → count_after count requests ≡ count_after count others
 
-same_requests : (requests : List Request) → SendsAlike requests requests
+pub same_requests : (requests : List Request) → SendsAlike requests requests
 same_requests requests = record { bytes = λ count. refl; counts = λ count. refl }
 
 no_sequences : (b : Bool) (mid : ℕ) → SendsAlike (cond b (short_packet mid ∷ []) []) []
