@@ -4,3 +4,5 @@ pub mod Sending
 pub mod Arrival
 pub mod Flight
 pub mod Kept
+pub mod Outcome
+pub mod Course

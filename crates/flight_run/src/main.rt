@@ -1,10 +1,12 @@
 //! A run of the Limit Checker over a stream of records.
 #![tactic(auto)]
 
+mod error;
 mod flight;
 mod intake;
 mod outgoing;
 mod packet;
+mod run;
 mod sending;
 
 fn main() {}

@@ -1,0 +1,63 @@
+-- A run between two records.
+use Rattle.std.specs.Prelude.{◌≡◌, ℕ, ◌+◌, ◌^◌, ◌<◌, ◌≤◌, Bool, true, false, List, [], ◌∷◌, ◌++◌, length, take, filter_map, Option, Some, None, Result, Ok, Err}
+use Rattle.std.specs.Io.KnownBytes.{Appends, Consumes, IsAtEnd}
+use Rattle.lc_model.specs.Host.Stream.{StreamEntry}
+use Rattle.lc_model.specs.Host.FixedTables.{packet_in}
+use Rattle.flight_run.specs.declared.intake.Stop.{Stop}
+use Rattle.flight_run.specs.declared.run.Halt.{Halt}
+use Rattle.flight_run.specs.declared.run.Halt.TheVariants.{Stopped, Unsent}
+use Rattle.flight_run.specs.Intake.{EndsHere, IsRecord, StopsHere}
+use Rattle.flight_run.specs.Flight.{Kept, handled, all_handled}
+use Rattle.flight_run.specs.Outcome.{Devices}
+
+-- the bytes of all sequence requests over these records, from what is kept at first on
+unfoldable pub output_from : Kept → List StreamEntry → List ℕ
+output_from kept entries = (all_handled (filter_map packet_in entries) kept).1
+
+-- one record was handled, and so many bytes written
+pub record Advances (d : Devices) (kept after : Kept) (count : ℕ) : Type 0 where
+  pub taken : List ℕ
+  pub body : List ℕ
+  pub took : Consumes d.left d.left_after taken
+  pub is : IsRecord taken body
+  pub wrote : Appends d.gained d.gained_after (handled body kept).1
+  pub moved : after ≡ (handled body kept).0
+  pub counted : count ≡ length (handled body kept).1
+  pub few : count ≤ 2112
+  pub no_read_failed : d.read_fails ≡ false
+  pub no_write_failed : d.write_fails ≡ false
+
+-- the source ended in front of a record
+pub record Lands (d : Devices) (kept after : Kept) : Type 0 where
+  pub ends : EndsHere d.left d.left_after false d.read_fails
+  pub idle : d.gained_after ≡ d.gained
+  pub same : after ≡ kept
+  pub no_write_failed : d.write_fails ≡ false
+
+-- no record was taken
+pub record HaltsUnread (d : Devices) (stop : Stop) : Type 0 where
+  pub stops : StopsHere d.left d.left_after false d.read_fails d.reads stop
+  pub idle : d.gained_after ≡ d.gained
+  pub no_write_failed : d.write_fails ≡ false
+
+-- a record was taken, but only the first bytes that it leads to were written, this many
+pub record HaltsUnsent (d : Devices) (kept : Kept) (sent : ℕ) : Type 0 where
+  pub taken : List ℕ
+  pub body : List ℕ
+  pub took : Consumes d.left d.left_after taken
+  pub is : IsRecord taken body
+  pub wrote : Appends d.gained d.gained_after (take sent (handled body kept).1)
+  pub fewer : sent < length (handled body kept).1
+  pub few : sent ≤ 2112
+  pub no_read_failed : d.read_fails ≡ false
+  pub write_failed : d.write_fails ≡ true
+
+-- why a run goes no further
+abbrev pub Halts : Devices → Kept → Halt → Type 0
+Halts d kept (Stopped stop) = HaltsUnread d stop
+Halts d kept (Unsent sent) = HaltsUnsent d kept sent
+
+-- what the next record leads to
+abbrev pub GoesOn : Devices → (kept after : Kept) → Option ℕ → Type 0
+GoesOn d kept after None = Lands d kept after
+GoesOn d kept after (Some count) = Advances d kept after count

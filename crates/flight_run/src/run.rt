@@ -1,0 +1,57 @@
+//! All records of a source, one after the other.
+
+ghost use Rattle.std.specs.Prelude.{◌≡◌, ◌<◌, ◌≤◌, false, length, IfOk, IfErr, IsOk};
+ghost use Rattle.flight_run.specs.Kept.{kept_of};
+ghost use Rattle.flight_run.specs.Course.{GoesOn, Halts};
+
+use crate::flight::Flight;
+use crate::intake::{self, LONGEST_BODY, MOST_READS, Stop};
+use crate::outgoing::Outgoing;
+use crate::sending;
+use lc_model::{ByteSink, ByteSource};
+
+/// Why a run goes no further.
+#[derive(Clone, Copy, Debug, PartialEq, Eq)]
+pub enum Halt {
+    /// There is no next record, or it was not to be had.
+    Stopped(Stop),
+    /// A write failed, after so many bytes that the record leads to.
+    Unsent(usize),
+}
+
+/// Handles the next record and answers the number of bytes that it led to; none at the end of the source.
+fn advance<R: ByteSource, W: ByteSink>(
+    flight: &mut Flight,
+    buffer: &mut [u8],
+    outgoing: &mut Outgoing,
+    reader: &mut R,
+    writer: &mut W,
+) -> Result<Option<usize>, Halt>
+    requires room { length buffer.old ≡ LONGEST_BODY }
+    requires bounded { R.reads_made reader.old ≤ MOST_READS }
+    requires readable { R.has_failed reader.old ≡ false }
+    requires writable { W.has_failed writer.old ≡ false }
+    ensures goes_on { IfOk result (GoesOn (record { left = R.rest reader.old; left_after = R.rest reader.new; reads = R.reads_made reader.new;
+        read_fails = R.has_failed reader.new; gained = W.gained writer.old; gained_after = W.gained writer.new; write_fails = W.has_failed writer.new })
+        (kept_of flight.old) (kept_of flight.new)) }
+    ensures halts { IfErr result (Halts (record { left = R.rest reader.old; left_after = R.rest reader.new; reads = R.reads_made reader.new;
+        read_fails = R.has_failed reader.new; gained = W.gained writer.old; gained_after = W.gained writer.new; write_fails = W.has_failed writer.new })
+        (kept_of flight.old)) }
+    ensures bounded { R.reads_made reader.new ≤ MOST_READS }
+    ensures counted { R.reads_made reader.old ≤ R.reads_made reader.new }
+    ensures reads { IsOk result → R.reads_made reader.old < R.reads_made reader.new }
+{
+    match intake::next_packet(reader, buffer) {
+        Ok(Some(size)) => {
+            outgoing.clear();
+            flight.handle(&buffer[..size], outgoing);
+            let bytes = outgoing.as_slice();
+            match sending::write_all(writer, bytes) {
+                Ok(()) => Ok(Some(bytes.len())),
+                Err(sent) => Err(Halt::Unsent(sent)),
+            }
+        }
+        Ok(None) => Ok(None),
+        Err(stop) => Err(Halt::Stopped(stop)),
+    }
+}
