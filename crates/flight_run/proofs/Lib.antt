@@ -9,3 +9,4 @@ pub mod Arrivals
 pub mod Following
 pub mod Texts
 pub mod Follows
+pub mod Courses

@@ -4,6 +4,10 @@ use Rattle.std.specs.Io.KnownBytes.{Appends, Consumes, IsAtEnd}
 use Rattle.lc_model.specs.Host.Stream.{StreamEntry}
 use Rattle.lc_model.specs.Host.FixedTables.{packet_in}
 use Rattle.flight_run.specs.declared.intake.Stop.{Stop}
+use Rattle.flight_run.specs.declared.intake.Stop.TheVariants.{Bad, Truncated, Fault, Bound}
+use Rattle.flight_run.specs.declared.error.RunError.{RunError}
+use Rattle.flight_run.specs.declared.error.RunError.TheVariants as error
+use Rattle.flight_run.specs.declared.error.RunError.TheVariants.{BadRecord, Read, ReadBound, Write}
 use Rattle.flight_run.specs.declared.run.Halt.{Halt}
 use Rattle.flight_run.specs.declared.run.Halt.TheVariants.{Stopped, Unsent}
 use Rattle.flight_run.specs.Intake.{EndsHere, IsRecord, StopsHere}
@@ -51,6 +55,14 @@ pub record HaltsUnsent (d : Devices) (kept : Kept) (sent : ℕ) : Type 0 where
   pub few : sent ≤ 2112
   pub no_read_failed : d.read_fails ≡ false
   pub write_failed : d.write_fails ≡ true
+
+-- how a run ends by this, behind so many records and bytes
+abbrev pub ended_by : Halt → (records bytes : ℕ) → RunError
+ended_by (Stopped Bad) records bytes = BadRecord (records + 1)
+ended_by (Stopped Truncated) records bytes = error.Truncated (records + 1)
+ended_by (Stopped Fault) records bytes = Read
+ended_by (Stopped Bound) records bytes = ReadBound
+ended_by (Unsent sent) records bytes = Write (bytes + sent)
 
 -- why a run goes no further
 abbrev pub Halts : Devices → Kept → Halt → Type 0
