@@ -10,6 +10,7 @@ use Rattle.lc_model.specs.Host.Stream as stream
 use Rattle.lc_model.specs.Host.FixedTables.{packet_in}
 use Rattle.lc_model.specs.Laws.Stream.{FrontDecides}
 use Rattle.flight_run.specs.declared.error.Report.{Report}
+use Rattle.flight_run.specs.declared.error.RunError.{RunError}
 use Rattle.flight_run.specs.declared.intake.Stop.{Stop}
 use Rattle.flight_run.specs.declared.intake.Stop.TheVariants as stop
 use Rattle.flight_run.specs.declared.run.Halt.{Halt}
@@ -236,6 +237,10 @@ module _ (decides : FrontDecides) where
         output : output_from start (records (so_far.taken ++ step.taken)).0 ≡ so_far.written ++ (handled step.body kept).1
         output = ap (output_from start) found ∙ ran
 
-    pub halts : (halt : Halt) → Halts d kept halt → IsOutcome (output_from start) whole (Err (ended_by halt count bytes))
-    halts (Stopped why) step = halts_unread why step
-    halts (Unsent sent) step = halts_unsent sent step
+    halts_by : (halt : Halt) → Halts d kept halt → IsOutcome (output_from start) whole (Err (ended_by halt count bytes))
+    halts_by (Stopped why) step = halts_unread why step
+    halts_by (Unsent sent) step = halts_unsent sent step
+
+    pub halts : (halt : Halt) → Halts d kept halt → (error : RunError) → error ≡ ended_by halt count bytes →
+        IsOutcome (output_from start) whole (Err error)
+    halts halt step error is = subst (λ (e : RunError). IsOutcome (output_from start) whole (Err e)) (sym is) (halts_by halt step)

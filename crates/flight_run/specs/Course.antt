@@ -73,3 +73,8 @@ Halts d kept (Unsent sent) = HaltsUnsent d kept sent
 abbrev pub GoesOn : Devices → (kept after : Kept) → Option ℕ → Type 0
 GoesOn d kept after None = Lands d kept after
 GoesOn d kept after (Some count) = Advances d kept after count
+
+-- at most the bytes that one record leads to were sent
+abbrev pub IsFew : Halt → Type 0
+IsFew (Stopped stop) = Unit {0}
+IsFew (Unsent sent) = sent ≤ 2112

@@ -1,14 +1,16 @@
 //! All records of a source, one after the other.
 
-ghost use Rattle.std.specs.Prelude.{◌≡◌, ◌<◌, ◌≤◌, false, length, IfOk, IfErr, IsOk};
+ghost use Rattle.std.specs.Prelude.{◌≡◌, ◌+◌, ◌*◌, ◌^◌, ◌<◌, ◌≤◌, false, length, IfOk, IfErr, IsOk};
 ghost use Rattle.flight_run.specs.Kept.{kept_of};
-ghost use Rattle.flight_run.specs.Course.{GoesOn, Halts};
+ghost use Rattle.flight_run.specs.Course.{GoesOn, Halts, IsFew, ended_by, output_from};
+ghost use Rattle.flight_run.specs.Outcome.{IsOutcome};
 
+use crate::error::{Report, RunError};
 use crate::flight::Flight;
 use crate::intake::{self, LONGEST_BODY, MOST_READS, Stop};
 use crate::outgoing::Outgoing;
 use crate::sending;
-use lc_model::{ByteSink, ByteSource};
+use lc_model::{ByteSink, ByteSource, laws};
 
 /// Why a run goes no further.
 #[derive(Clone, Copy, Debug, PartialEq, Eq)]
@@ -53,5 +55,56 @@ fn advance<R: ByteSource, W: ByteSink>(
         }
         Ok(None) => Ok(None),
         Err(stop) => Err(Halt::Stopped(stop)),
+    }
+}
+
+/// How a run ends by this, behind the records of the report.
+fn ended(halt: Halt, report: Report) -> RunError
+    requires records { report.records + 1 < 2 ^ 64 }
+    requires bytes { report.bytes + 2112 < 2 ^ 128 }
+    requires few { IsFew halt }
+    ensures { result ≡ ended_by halt report.records report.bytes }
+{
+    let Report { records, bytes } = report;
+    match halt {
+        Halt::Stopped(Stop::Bad) => RunError::BadRecord { n: records + 1 },
+        Halt::Stopped(Stop::Truncated) => RunError::Truncated { n: records + 1 },
+        Halt::Stopped(Stop::Fault) => RunError::Read,
+        Halt::Stopped(Stop::Bound) => RunError::ReadBound,
+        Halt::Unsent(sent) => RunError::Write {
+            sent: bytes + sent as u128,
+        },
+    }
+}
+
+/// Handles all records of the source.
+pub fn fly<R: ByteSource, W: ByteSink>(
+    flight: &mut Flight,
+    buffer: &mut [u8],
+    outgoing: &mut Outgoing,
+    reader: &mut R,
+    writer: &mut W,
+) -> Result<Report, RunError>
+    requires room { length buffer.old ≡ LONGEST_BODY }
+    requires unread { R.reads_made reader.old ≡ 0 }
+    requires readable { R.has_failed reader.old ≡ false }
+    requires writable { W.has_failed writer.old ≡ false }
+    ensures { IsOutcome (output_from (kept_of flight.old)) (record { left = R.rest reader.old; left_after = R.rest reader.new; reads = R.reads_made reader.new;
+        read_fails = R.has_failed reader.new; gained = W.gained writer.old; gained_after = W.gained writer.new; write_fails = W.has_failed writer.new }) result }
+{
+    laws::stream::front_decides();
+    let mut report = Report {
+        records: 0,
+        bytes: 0,
+    };
+    loop {
+        match advance(flight, buffer, outgoing, reader, writer) {
+            Ok(Some(count)) => {
+                report.records += 1;
+                report.bytes += count as u128;
+            }
+            Ok(None) => return Ok(report),
+            Err(halt) => return Err(ended(halt, report)),
+        }
     }
 }

@@ -1,0 +1,37 @@
+use Rattle.std.proofs.Common.{rules, ◌≡◌, refl, sym, ◌∙◌, ap, subst, ◌+◌, ◌*◌, ◌<◌, ◌≤◌, false, length, Err, arith}
+use Rattle.flight_run.specs.Kept.{kept_of}
+use Rattle.flight_run.proofs.Courses.{nothing_yet, one_more, lands, halts}
+use Rattle.flight_run.proofs.run.fly.Goals as goal
+
+pub loop-count-init : goal.loop-count-init
+loop-count-init g c = (
+  c.requires.room,
+  c.requires.readable,
+  c.requires.writable,
+  omega arith,
+  omega (arith, c.requires.unread),
+  omega arith,
+  nothing_yet (kept_of c.args.flight.now) (g.R.ByteSource.rest c.args.reader.now) (g.W.ByteSink.gained c.args.writer.now),
+)
+
+pub loop-count-preserved : goal.loop-count-preserved
+loop-count-preserved g c =
+    let step = rw c.in-Ok-Some.field-0-is at c.in-Ok-Some.ensures.goes_on in
+    (
+      c.advance.auto.buffer ∙ c.loop-count.invariant.0,
+      step.no_read_failed,
+      step.no_write_failed,
+      omega (arith, c.in-Ok-Some.ensures.reads refl, c.loop-count.invariant.3),
+      c.in-Ok-Some.ensures.bounded,
+      omega (arith, step.few, c.loop-count.invariant.5),
+      one_more c.front_decides.ensures _ _ _ _ _ _ _ c.loop-count.invariant.6 _ _ step,
+    )
+
+pub returns-in-Ok-None : goal.returns-in-Ok-None
+returns-in-Ok-None g c =
+    let step = rw c.in-Ok-None.field-0-is at c.in-Ok-None.ensures.goes_on in
+    lands c.front_decides.ensures _ _ _ _ _ _ _ c.loop-count.invariant.6 _ step
+
+pub returns-in-Err : goal.returns-in-Err
+returns-in-Err g c =
+    halts c.front_decides.ensures _ _ _ _ _ _ _ c.loop-count.invariant.6 c.in-Err.halt c.in-Err.ensures.halts c.ended.result c.ended.ensures
