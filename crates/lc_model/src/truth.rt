@@ -4,11 +4,12 @@ ghost use Rattle.std.specs.Prelude.{◌≡◌};
 ghost use Rattle.lc_model.specs.Truth.{truth_and, truth_or, truth_xor, truth_not};
 
 /// What a watchpoint or a condition is found to be.
-#[derive(Clone, Copy, Debug, PartialEq, Eq)]
+#[derive(Clone, Copy, Debug, Default, PartialEq, Eq)]
 pub enum Truth {
     True,
     False,
-    /// Too long without a packet.
+    /// Too long without a packet, or none yet.
+    #[default]
     Stale,
     /// The packet was too short for the field.
     Error,

@@ -1,7 +1,7 @@
 //! Equations: words that spell conditions.
 
 ghost use Rattle.lc_model.specs.Condition.{condition_of};
-ghost use Rattle.lc_model.specs.Laws.Equations.{IsLight, NeedIsMostWaiting, SoundWordsSpell, WordsRun, WordsSpellConditions};
+ghost use Rattle.lc_model.specs.Laws.Equations.{IsLight, LoweredWordsRun, NeedIsMostWaiting, SoundWordsSpell, WordsRun, WordsSpellConditions};
 
 use crate::condition::Cond;
 
@@ -28,4 +28,9 @@ pub fn sound_words_spell()
 /// The words of a condition can be run: no operand is missing, and at most eight wait.
 pub fn words_run()
     ensures { WordsRun }
+{}
+
+/// The words of lowered rules can be run, and there are few of them.
+pub fn lowered_words_run()
+    ensures { LoweredWordsRun }
 {}
