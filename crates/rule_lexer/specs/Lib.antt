@@ -2,4 +2,7 @@
 pub mod Token
 pub mod Fault
 pub mod Fitting
+pub mod Digits
+pub mod Front
+pub mod Step
 pub mod Laws

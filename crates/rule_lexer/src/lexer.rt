@@ -9,8 +9,12 @@ ghost use Rattle.rule_lexer.specs.Token.{tokens_of, HasItsKind};
 ghost use Rattle.rule_lexer.specs.Fault.{IsFault, IsFaultUnlessMemory, IsUnlessMemory};
 
 use crate::error::LexError;
+use crate::scanner::Scanner;
 use crate::token::Token;
 use std::alloc::Global;
+
+/// The most bytes of a text.
+const LONGEST_TEXT: usize = 65_536;
 
 /// Splits a rule text into its tokens, in order, in one pass. Blanks (space, tab, line feed, carriage return) and
 /// comments (`#` up to the next line feed or the end) stand between tokens; a token is the longest that fits. Only the
@@ -25,7 +29,13 @@ pub fn lex<'a>(alloc: Global, text: &'a [u8]) -> Result<Vec<Token<'a>>, LexError
     ensures accepts { (tokens : List model.Token) → Splits text.now tokens → MatchResult result (λ found. tokens_of found.items ≡ tokens) (λ error. error ≡ Memory) }
     ensures refuses { (fault : LexError) → IsFault text.now fault → MatchResult result (λ found. ⊥) (λ error. IsUnlessMemory fault error) }
 {
-    let _ = text;
-    let _ = alloc;
-    Err(LexError::Memory)
+    if text.len() > LONGEST_TEXT {
+        return Err(LexError::TextTooLong);
+    }
+    let mut tokens = Vec::new(alloc);
+    let mut scanner = Scanner::new(text);
+    while let Some(token) = scanner.next_token()? {
+        tokens.push(token)?;
+    }
+    Ok(tokens)
 }
