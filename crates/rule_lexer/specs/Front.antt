@@ -1,7 +1,7 @@
 -- What the lexer's steps find at the front of a text. This project's own.
-use Rattle.std.specs.Prelude.{◌≡◌, ℕ, ◌+◌, ◌≤◌, Bool, false, ◌||◌, ◌==◌, IsTrue, IsFalse, List, [], ◌∷◌, ◌++◌, length, take, drop}
+use Rattle.std.specs.Prelude.{◌≡◌, ℕ, ◌+◌, ◌≤◌, Bool, false, not, ◌||◌, ◌==◌, IsTrue, IsFalse, List, [], ◌∷◌, ◌++◌, length, take, drop}
 use Rattle.std.specs.Char.{is_ascii_digit}
-use Rattle.lc_model.specs.Text.Token.{Cuts, IsBad, IsLongest, is_blank, is_sign, is_token, magnitude_text, number_sign}
+use Rattle.lc_model.specs.Text.Token.{Cuts, IsBad, IsLongest, is_blank, is_sign, is_token, line_feed, magnitude_text, number_sign, quote}
 use Rattle.rule_lexer.specs.declared.error.LexError.{LexError}
 use Rattle.rule_lexer.specs.declared.error.LexError.TheVariants.{BadByte, BadNumber, NameTooLong, BadString, TextTooLong, Memory}
 use Rattle.rule_lexer.specs.declared.lexeme.Lexeme.{Lexeme}
@@ -16,9 +16,25 @@ begins test (c ∷ cs) = test c
 abbrev pub begins_numeral : List ℕ → Bool
 begins_numeral text = begins is_ascii_digit (magnitude_text text)
 
+-- what may stand before a number
+abbrev pub is_minus : ℕ → Bool
+is_minus c = c == 45
+
+-- what begins a comment
+abbrev pub is_number_sign : ℕ → Bool
+is_number_sign c = c == number_sign
+
+-- what begins a string
+abbrev pub is_quote : ℕ → Bool
+is_quote c = c == quote
+
+-- any byte but a line feed
+abbrev pub is_line_byte : ℕ → Bool
+is_line_byte c = not (c == line_feed)
+
 -- what begins a blank or a comment
 abbrev pub is_gap_byte : ℕ → Bool
-is_gap_byte c = is_blank c || c == number_sign
+is_gap_byte c = is_blank c || is_number_sign c
 
 -- the first bytes of the text, this many, are such, and nothing more of the text can be taken in
 pub record IsFront (test : List ℕ → Bool) (text : List ℕ) (count : ℕ) : Type 0 where

@@ -1,20 +1,27 @@
 //! What stands between tokens: blanks and comments.
 
-ghost use Rattle.std.specs.Prelude.{◌≡◌, IsTrue, ◌==◌, ◌≤◌, length, take, drop};
-ghost use Rattle.lc_model.specs.Text.Token.{IsComment, number_sign};
-ghost use Rattle.rule_lexer.specs.Front.{IsGap, begins};
+ghost use Rattle.std.specs.Prelude.{◌≡◌, ◌<◌, ◌≤◌, IsTrue, length, take, drop};
+ghost use Rattle.std.specs.List.{prefix_len};
+ghost use Rattle.lc_model.specs.Text.Token.{IsComment};
+ghost use Rattle.rule_lexer.specs.Front.{IsGap, begins, is_line_byte, is_number_sign};
 
 use crate::bytes::{LINE_FEED, NUMBER_SIGN, is_blank};
 
+/// The bytes in front of the next line feed, or all of them.
+fn line_length(rest: &[u8]) -> usize
+    ensures { result ≡ prefix_len is_line_byte rest.now }
+{
+    rest.iter().take_while(|byte| **byte != LINE_FEED).count()
+}
+
 /// The bytes of the comment in front: `#` and what follows it, up to the next line feed or the end.
 fn comment_length(rest: &[u8]) -> usize
-    requires { IsTrue (begins (λ c. c == number_sign) rest.now) }
+    requires { IsTrue (begins is_number_sign rest.now) }
     ensures within { result ≤ length rest.now }
+    ensures some { 0 < result }
     ensures comment { IsComment (take result rest.now) (drop result rest.now) }
 {
-    rest.iter()
-        .position(|byte| *byte == LINE_FEED)
-        .unwrap_or(rest.len())
+    line_length(rest)
 }
 
 /// The bytes of the blanks and comments in front.

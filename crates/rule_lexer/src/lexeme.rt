@@ -1,15 +1,14 @@
 //! The token in front of a text.
 
-ghost use Rattle.std.specs.Prelude.{◌≡◌, ◌<◌, false, IsTrue, MatchResult, length, ◌==◌};
-ghost use Rattle.lc_model.specs.Text.Token.{is_letter, quote};
-ghost use Rattle.rule_lexer.specs.Front.{IsBadFront, IsFrontToken, begins, begins_numeral, is_gap_byte};
+ghost use Rattle.std.specs.Prelude.{◌≡◌, ◌<◌, false, IsTrue, MatchResult, length};
+ghost use Rattle.lc_model.specs.Text.Token.{is_letter};
+ghost use Rattle.rule_lexer.specs.Front.{IsBadFront, IsFrontToken, begins, begins_numeral, is_gap_byte, is_quote};
 
-use crate::bytes::QUOTE;
 use crate::error::LexError;
 use crate::keyword::word_kind;
 use crate::number::{begins_numeral, number_value, numeral_length};
 use crate::sign::sign;
-use crate::text::string_length;
+use crate::text::{begins_string, string_length};
 use crate::token::TokenKind;
 use crate::word::{begins_word, word_length};
 
@@ -53,7 +52,7 @@ fn numeral(at: usize, rest: &[u8]) -> Result<Lexeme, LexError>
 
 /// The string in front.
 fn string(at: usize, rest: &[u8]) -> Result<Lexeme, LexError>
-    requires { IsTrue (begins (λ c. c == quote) rest.now) }
+    requires { IsTrue (begins is_quote rest.now) }
     ensures { MatchResult result (IsFrontToken rest.now) (IsBadFront at rest.now) }
 {
     match string_length(rest) {
@@ -76,7 +75,7 @@ pub fn front_lexeme(at: usize, rest: &[u8]) -> Result<Lexeme, LexError>
         word(at, rest)
     } else if begins_numeral(rest) {
         numeral(at, rest)
-    } else if rest[0] == QUOTE {
+    } else if begins_string(rest) {
         string(at, rest)
     } else {
         sign(rest).ok_or(LexError::BadByte { at })

@@ -1,22 +1,32 @@
 //! Numbers.
 
 ghost use Rattle.std.specs.Prelude.{◌≡◌, ℕ, ◌⊎◌, IsTrue};
-ghost use Rattle.lc_model.specs.Text.Token.{is_numeral, number, magnitude, at_most_32_bits};
-ghost use Rattle.rule_lexer.specs.Front.{IsFront, begins_numeral};
+ghost use Rattle.lc_model.specs.Text.Token.{at_most_32_bits, is_numeral, magnitude, magnitude_text, number};
+ghost use Rattle.rule_lexer.specs.Front.{IsFront, begins, begins_numeral, is_minus};
 ghost use Rattle.rule_lexer.specs.Digits.{value_in_base};
 
 use crate::bytes::MINUS;
 use crate::word::run_length;
 
+/// Whether `-` stands in front.
+fn is_negative(text: &[u8]) -> bool
+    ensures { result ≡ begins is_minus text.now }
+{
+    matches!(text, [MINUS, ..])
+}
+
+/// The text without the `-` in front.
+fn unsigned<'a>(text: &'a [u8]) -> &'a [u8]
+    ensures { result.now ≡ magnitude_text text.now }
+{
+    if is_negative(text) { &text[1..] } else { text }
+}
+
 /// Whether a number stands in front, right or wrong: a digit, or `-` and a digit.
 pub fn begins_numeral(rest: &[u8]) -> bool
     ensures { result ≡ begins_numeral rest.now }
 {
-    match rest {
-        [MINUS, byte, ..] => byte.is_ascii_digit(),
-        [byte, ..] => byte.is_ascii_digit(),
-        [] => false,
-    }
+    matches!(unsigned(rest), [byte, ..] if byte.is_ascii_digit())
 }
 
 /// The bytes of the number in front, with the letters and digits that follow it directly, which make it a wrong one.
@@ -24,10 +34,8 @@ pub fn numeral_length(rest: &[u8]) -> usize
     requires { IsTrue (begins_numeral rest.now) }
     ensures { IsFront is_numeral rest.now result }
 {
-    match rest {
-        [MINUS, digits @ ..] => 1 + run_length(digits),
-        digits => run_length(digits),
-    }
+    let digits = unsigned(rest);
+    rest.len() - digits.len() + run_length(digits)
 }
 
 /// The number that digits write in base 10 or 16, where it is below 2^32 and each byte is a digit.
@@ -60,8 +68,6 @@ fn magnitude(text: &[u8]) -> Option<u32>
 pub fn number_value(text: &[u8]) -> Option<i64>
     ensures { result ≡ number text.now }
 {
-    match text {
-        [MINUS, digits @ ..] => magnitude(digits).map(|value| -i64::from(value)),
-        digits => magnitude(digits).map(i64::from),
-    }
+    let value = i64::from(magnitude(unsigned(text))?);
+    Some(if is_negative(text) { -value } else { value })
 }

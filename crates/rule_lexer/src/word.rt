@@ -18,9 +18,7 @@ pub fn begins_word(rest: &[u8]) -> bool
 pub fn run_length(rest: &[u8]) -> usize
     ensures { result ≡ prefix_len is_word_byte rest.now }
 {
-    rest.iter()
-        .position(|byte| !is_word_byte(*byte))
-        .unwrap_or(rest.len())
+    rest.iter().take_while(|byte| is_word_byte(**byte)).count()
 }
 
 /// The bytes of the word in front, however long it is.

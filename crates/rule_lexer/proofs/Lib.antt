@@ -1,0 +1,11 @@
+mod Tests
+mod Runs
+mod Fronts
+mod Lexemes
+mod Words
+mod Numerals
+mod Strings
+mod Cutting
+mod Gaps
+mod Judged
+mod Digits
