@@ -1,7 +1,10 @@
 -- What stands in front and is no token is bad.
-use Rattle.std.proofs.Common.{◌≡◌, refl, ◌∙◌, ap, subst, ℕ, ◌<◌, Bool, true, false, ◌||◌, ◌==◌, List, [], ◌∷◌, ◌++◌, length, take, drop, None, take-append-drop, length-take-le, arith}
-use Rattle.lc_model.specs.Text.Token.{BeginsNoLexeme, IsBad, bad_byte, bad_number, bad_string, name_too_long, is_blank, is_letter, is_numeral, is_sign, is_string, is_word, longest_name, number, number_sign, quote}
-use Rattle.rule_lexer.specs.Front.{IsFront, LacksSign, begins, begins_numeral, is_gap_byte, is_number_sign, is_quote}
+use Rattle.std.proofs.Common.{◌≡◌, refl, ◌∙◌, ap, subst, ℕ, ◌<◌, Bool, true, false, ◌&&◌, ◌||◌, ◌==◌, nat_le, List, [], ◌∷◌, ◌++◌, length, take, drop, Option, Some, None, is_some, MatchOption, MatchResult, take-append-drop, length-take-le, arith}
+use Rattle.std.specs.Option.{ok_or}
+use Rattle.lc_model.specs.Text.Token.{BeginsNoLexeme, IsBad, bad_byte, bad_number, bad_string, name_too_long, is_blank, is_letter, is_numeral, is_sign, is_string, is_token, is_word, longest_name, number, number_sign, quote}
+use Rattle.rule_lexer.specs.declared.error.LexError.TheVariants.{BadByte}
+use Rattle.rule_lexer.specs.declared.lexeme.Lexeme.{Lexeme}
+use Rattle.rule_lexer.specs.Front.{IsBadFront, IsFront, IsFrontSign, IsFrontToken, LacksSign, begins, begins_numeral, is_gap_byte, is_number_sign, is_quote}
 use Rattle.rule_lexer.proofs.Tests.{none_true}
 use Rattle.rule_lexer.proofs.Lexemes.{no_word, no_numeral, no_string}
 
@@ -64,3 +67,26 @@ wrong_byte [] some no_gap letter numeral quoted no_sign = absurd (omega arith)
 wrong_byte (c ∷ cs) some no_gap letter numeral quoted no_sign =
     bad_byte (first_of_none (is_blank c) _ no_gap) (differs c number_sign (second_of_none (is_blank c) _ no_gap)) (differs c quote quoted)
     (nothing_begins (c ∷ cs) letter numeral quoted no_sign)
+
+-- ---- a sign, or such a byte
+
+sign_is_token : (w : List ℕ) → is_sign w ≡ true → is_token w ≡ true
+sign_is_token w is = last_of (is_word w && nat_le (length w) longest_name) (is_numeral w && is_some (number w)) (is_string w) (is_sign w) is
+  where
+    last_of : (a b c d : Bool) → d ≡ true → (a || b || c || d) ≡ true
+    last_of true b c d e = refl
+    last_of false true c d e = refl
+    last_of false false true d e = refl
+    last_of false false false d e = e
+
+pub sign_or_bad : (at : ℕ) (text : List ℕ) (found : Option Lexeme) → MatchOption found (LacksSign text) (IsFrontSign text) →
+    (LacksSign text → IsBad 1 text) → MatchResult (ok_or found (BadByte at)) (IsFrontToken text) (IsBadFront at text)
+sign_or_bad at text None lacks bad = (refl, bad lacks)
+sign_or_bad at text (Some lexeme) is bad = record {
+  front = record {
+    within = is.front.within;
+    passes = sign_is_token (take lexeme.length text) is.front.passes;
+    longest = is.front.longest;
+  };
+  kind = is.kind;
+}

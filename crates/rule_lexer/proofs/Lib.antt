@@ -9,3 +9,6 @@ mod Cutting
 mod Gaps
 mod Judged
 mod Digits
+mod Steps
+mod Scans
+mod Faults

@@ -9,12 +9,31 @@ ghost use Rattle.rule_lexer.specs.Token.{tokens_of, HasItsKind};
 ghost use Rattle.rule_lexer.specs.Fault.{IsFault, IsFaultUnlessMemory, IsUnlessMemory};
 
 use crate::error::LexError;
+use crate::laws::has_at_most_one_fault;
 use crate::scanner::Scanner;
 use crate::token::Token;
-use std::alloc::Global;
+use lc_model::laws::reading;
+use std::alloc::{Allocator, Global};
 
 /// The most bytes of a text.
 const LONGEST_TEXT: usize = 65_536;
+
+/// The tokens up to the end of the text or its first fault, in memory that the allocator gives.
+fn scan<'a, A: Allocator>(alloc: A, text: &'a [u8]) -> Result<Vec<Token<'a>, A>, LexError>
+    ensures splits { IfOk result (λ found. Splits text.now (tokens_of found.items)) }
+    ensures kinds { IfOk result (λ found. All HasItsKind found.items) }
+    ensures refused { IfErr result (λ error. IsFaultUnlessMemory text.now error) }
+{
+    if text.len() > LONGEST_TEXT {
+        return Err(LexError::TextTooLong);
+    }
+    let mut tokens = Vec::new(alloc);
+    let mut scanner = Scanner::new(text);
+    while let Some(token) = scanner.next_token()? {
+        tokens.push(token)?;
+    }
+    Ok(tokens)
+}
 
 /// Splits a rule text into its tokens, in order, in one pass. Blanks (space, tab, line feed, carriage return) and
 /// comments (`#` up to the next line feed or the end) stand between tokens; a token is the longest that fits. Only the
@@ -29,13 +48,7 @@ pub fn lex<'a>(alloc: Global, text: &'a [u8]) -> Result<Vec<Token<'a>>, LexError
     ensures accepts { (tokens : List model.Token) → Splits text.now tokens → MatchResult result (λ found. tokens_of found.items ≡ tokens) (λ error. error ≡ Memory) }
     ensures refuses { (fault : LexError) → IsFault text.now fault → MatchResult result (λ found. ⊥) (λ error. IsUnlessMemory fault error) }
 {
-    if text.len() > LONGEST_TEXT {
-        return Err(LexError::TextTooLong);
-    }
-    let mut tokens = Vec::new(alloc);
-    let mut scanner = Scanner::new(text);
-    while let Some(token) = scanner.next_token()? {
-        tokens.push(token)?;
-    }
-    Ok(tokens)
+    reading::splits_in_one_way();
+    has_at_most_one_fault();
+    scan(alloc, text)
 }

@@ -6,7 +6,7 @@ ghost use Rattle.rule_lexer.specs.Step.{IsStep, IsFaultBehindGap};
 
 use crate::error::LexError;
 use crate::gap::gap_length;
-use crate::lexeme::front_lexeme;
+use crate::lexeme::{Lexeme, front_lexeme};
 use crate::token::Token;
 
 /// What is left of a text, and its place.
@@ -39,6 +39,21 @@ impl<'a> Scanner<'a> {
         front
     }
 
+    /// Goes over the lexeme in front, and gives it with its place.
+    fn take(&mut self, lexeme: Lexeme) -> Token<'a>
+        requires within { lexeme.length ≤ length self.old.rest.now }
+        requires fits { self.old.at + length self.old.rest.now ≤ longest_text }
+        ensures token_at { result.at ≡ self.old.at }
+        ensures token_text { result.text.now ≡ take lexeme.length self.old.rest.now }
+        ensures token_kind { result.kind ≡ lexeme.kind }
+        ensures rest { self.new.rest.now ≡ drop lexeme.length self.old.rest.now }
+        ensures at { self.new.at ≡ self.old.at + lexeme.length }
+    {
+        let at = self.at;
+        let text = self.advance(lexeme.length);
+        Token { at, text, kind: lexeme.kind }
+    }
+
     /// Goes over blanks, comments and the next token, and gives that token; none at the end. The error is of what stands
     /// behind the blanks and comments.
     pub fn next_token(&mut self) -> Result<Option<Token<'a>>, LexError>
@@ -49,13 +64,7 @@ impl<'a> Scanner<'a> {
         if self.rest.is_empty() {
             return Ok(None);
         }
-        let at = self.at;
-        let lexeme = front_lexeme(at, self.rest)?;
-        let text = self.advance(lexeme.length);
-        Ok(Some(Token {
-            at,
-            text,
-            kind: lexeme.kind,
-        }))
+        let lexeme = front_lexeme(self.at, self.rest)?;
+        Ok(Some(self.take(lexeme)))
     }
 }
