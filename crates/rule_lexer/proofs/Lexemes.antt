@@ -8,7 +8,7 @@ use Rattle.rule_lexer.specs.Front.{begins, begins_numeral, is_quote}
 use Rattle.rule_lexer.proofs.Tests.{first_false, only_first, only_second, only_third}
 
 -- what passes a test that none of these texts passes is none of them
-none_of : (f : List ℕ → Bool) (texts : List (List ℕ)) → list_any f texts ≡ false →
+pub none_of : (f : List ℕ → Bool) (texts : List (List ℕ)) → list_any f texts ≡ false →
     (text : List ℕ) → f text ≡ true → list_any (bytes_eq text) texts ≡ false
 none_of f [] none text fit = refl
 none_of f (w ∷ ws) none text fit = step (bytes_eq text w) (f w) refl refl none (λ others. none_of f ws others text fit)
@@ -53,14 +53,14 @@ letter_is_no_quote c e = grind (arith, e)
 letter_is_no_minus : (c : ℕ) → is_letter c ≡ true → (c == 45) ≡ false
 letter_is_no_minus c e = grind (arith, e)
 
-letter_begins_no_numeral : (text : List ℕ) → begins is_letter text ≡ true → begins_numeral text ≡ false
+pub letter_begins_no_numeral : (text : List ℕ) → begins is_letter text ≡ true → begins_numeral text ≡ false
 letter_begins_no_numeral [] e = refl
 letter_begins_no_numeral (c ∷ cs) e =
     let digit : is_ascii_digit c ≡ false = letter_is_no_digit c e in
     let minus : (c == 45) ≡ false = letter_is_no_minus c e in
     rw (minus, digit) refl
 
-letter_begins_no_string : (text : List ℕ) → begins is_letter text ≡ true → begins is_quote text ≡ false
+pub letter_begins_no_string : (text : List ℕ) → begins is_letter text ≡ true → begins is_quote text ≡ false
 letter_begins_no_string [] e = refl
 letter_begins_no_string (c ∷ cs) e = letter_is_no_quote c e
 
@@ -70,7 +70,7 @@ word_alone text e = only_first (is_word text) (is_numeral text) (is_string text)
     (no_numeral text (letter_begins_no_numeral text e)) (no_string text (letter_begins_no_string text e))
     (none_of (begins is_letter) signs refl text e)
 
-numeral_begins_no_word : (text : List ℕ) → begins_numeral text ≡ true → begins is_letter text ≡ false
+pub numeral_begins_no_word : (text : List ℕ) → begins_numeral text ≡ true → begins is_letter text ≡ false
 numeral_begins_no_word [] e = refl
 numeral_begins_no_word (c ∷ cs) e = go (c == 45) refl
   where
@@ -78,7 +78,7 @@ numeral_begins_no_word (c ∷ cs) e = go (c == 45) refl
     go true m = grind (arith, m)
     go false m = let digit : is_ascii_digit c ≡ true = rw m at e in grind (arith, digit)
 
-numeral_begins_no_string : (text : List ℕ) → begins_numeral text ≡ true → begins is_quote text ≡ false
+pub numeral_begins_no_string : (text : List ℕ) → begins_numeral text ≡ true → begins is_quote text ≡ false
 numeral_begins_no_string [] e = refl
 numeral_begins_no_string (c ∷ cs) e = go (c == 45) refl
   where
@@ -92,11 +92,11 @@ numeral_alone text e = only_second (is_word text) (is_numeral text) (is_string t
     (no_word text (numeral_begins_no_word text e)) (no_string text (numeral_begins_no_string text e))
     (none_of begins_numeral signs refl text e)
 
-quote_begins_no_word : (text : List ℕ) → begins is_quote text ≡ true → begins is_letter text ≡ false
+pub quote_begins_no_word : (text : List ℕ) → begins is_quote text ≡ true → begins is_letter text ≡ false
 quote_begins_no_word [] e = refl
 quote_begins_no_word (c ∷ cs) e = grind (arith, e)
 
-quote_begins_no_numeral : (text : List ℕ) → begins is_quote text ≡ true → begins_numeral text ≡ false
+pub quote_begins_no_numeral : (text : List ℕ) → begins is_quote text ≡ true → begins_numeral text ≡ false
 quote_begins_no_numeral [] e = refl
 quote_begins_no_numeral (c ∷ cs) e =
     let digit : is_ascii_digit c ≡ false = grind (arith, e) in

@@ -12,3 +12,6 @@ mod Digits
 mod Steps
 mod Scans
 mod Faults
+mod Tables
+mod Spelled
+mod Classes

@@ -47,3 +47,7 @@ none_true false false false d p q r s = s
 pub not_true : (b : Bool) → (b ≡ true → ⊥) → b ≡ false
 not_true true never = absurd (never refl)
 not_true false never = refl
+
+pub second_false : (a b : Bool) → b ≡ false → (a && b) ≡ false
+second_false true b e = e
+second_false false b e = refl

@@ -1,5 +1,6 @@
 -- Which kinds of tokens are of which classes of the grammar. This project's own.
 use Rattle.std.specs.Prelude.{ℕ, Bool, true, false, ◌&&◌, IsTrue, List, Option, Some, None, codes, bytes_eq}
+use Rattle.std.specs.Option.{option_map_or}
 use Rattle.lc_model.specs.declared.field.FieldType.TheVariants.{U8, I8, U16Be, U16Le, I16Be, I16Le, U32Be, U32Le, I32Be, I32Le}
 use Rattle.lc_model.specs.declared.field.CmpOp.TheVariants.{Less, LessOrEqual, NotEqual, Equal, GreaterOrEqual, Greater}
 use Rattle.lc_model.specs.declared.mode.ApMode.TheVariants.{Active, Passive, Disabled, PermOff}
@@ -61,11 +62,6 @@ spelling (Compare Equal) = Some (codes "==")
 spelling (Compare GreaterOrEqual) = Some (codes ">=")
 spelling (Compare Greater) = Some (codes ">")
 
--- the text passes, where there is one
-abbrev passes : (List ℕ → Bool) → Option (List ℕ) → Bool
-passes test (Some text) = test text
-passes test None = false
-
 -- whether the tokens of the kind are of the class
 abbrev pub kind_fits : Class → TokenKind → Bool
 kind_fits class.Item Packet = true
@@ -90,8 +86,8 @@ kind_fits class.Operand Name = true
 kind_fits class.Operand kind = false
 kind_fits class.Compare (Compare op) = true
 kind_fits class.Compare kind = false
-kind_fits (class.Word letters) kind = passes (λ text. is_word text && bytes_eq letters text) (spelling kind)
-kind_fits (class.Sign letters) kind = passes (λ text. is_sign text && bytes_eq letters text) (spelling kind)
+kind_fits (class.Word letters) kind = option_map_or (λ text. is_word text && bytes_eq letters text) (spelling kind) false
+kind_fits (class.Sign letters) kind = option_map_or (λ text. is_sign text && bytes_eq letters text) (spelling kind) false
 
 -- the words that the grammar wants are reserved
 abbrev pub IsOfGrammar : Class → Type 0
