@@ -35,8 +35,7 @@ run_of_closed (c ∷ []) others is =
 run_of_closed (c ∷ d ∷ ds) others is =
     let run : prefix_len is_text_byte (c ∷ d ∷ ds ++ others) ≡ 1 + prefix_len is_text_byte (d ∷ ds ++ others) = run_begins is_text_byte c (d ∷ ds ++ others) (first_true (is_text_byte c) _ is) in
     let tail = run_of_closed (d ∷ ds) others (second_true (is_text_byte c) _ is) in
-    let size : length (c ∷ d ∷ ds) ≡ 1 + length (d ∷ ds) = length-append (c ∷ []) (d ∷ ds) in
-    (
+    let size : length (c ∷ d ∷ ds) ≡ 1 + length (d ∷ ds) = length-append (c ∷ []) (d ∷ ds) in (
       rw run (omega (arith, tail.0, size)),
       rw run (rw (drop_more (prefix_len is_text_byte (d ∷ ds ++ others)) c (d ∷ ds ++ others)) tail.1),
     )

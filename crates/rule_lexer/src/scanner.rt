@@ -51,7 +51,11 @@ impl<'a> Scanner<'a> {
     {
         let at = self.at;
         let text = self.advance(lexeme.length);
-        Token { at, text, kind: lexeme.kind }
+        Token {
+            at,
+            text,
+            kind: lexeme.kind,
+        }
     }
 
     /// Goes over blanks, comments and the next token, and gives that token; none at the end. The error is of what stands

@@ -8,5 +8,5 @@ abbrev pub invariant-loop-byte : goal.invariant-loop-byte
 invariant-loop-byte l = record {
   all_digits : list_all (is_digit_in l.base) (take l.byte-index l.digits) ≡ true;
   value_is : l.value ≡ number_of_digits l.base (take l.byte-index l.digits);
-  fits : l.value < 2 ^ 32
+  fits : l.value < 2 ^ 32;
 }

@@ -14,6 +14,6 @@ returns-else-count-le-LONGEST_TEXT c =
     no_string_by_parts c.args.rest.now c.split_at.result.1.now c.split_at-2.result.1.now c.inner_length-count.result c.requires
     c.split_at.ensures.back c.inner_length-count.ensures.value c.split_at-2.ensures.back
     (λ short ends. elim c.else-count-le-LONGEST_TEXT.branch [
-      else-count-le-LONGEST_TEXT-via-then-count-le-LONGEST_TEXT+else-begins_string w ↦ cc (w.begins_string.ensures, w.if-begins_string.false, ends)
+      | else-count-le-LONGEST_TEXT-via-then-count-le-LONGEST_TEXT+else-begins_string w ↦ cc (w.begins_string.ensures, w.if-begins_string.false, ends)
       | else-count-le-LONGEST_TEXT-via-else-count-le-LONGEST_TEXT w ↦ omega arith
     ])
