@@ -15,7 +15,7 @@ use Rattle.rule_lexer.specs.declared.token.TokenKind.TheVariants.{FieldKind, Sta
 use Rattle.rule_lexer.specs.Token.{IsKind}
 use Rattle.rule_lexer.specs.Fitting.{IsOfGrammar, kind_fits}
 use Rattle.rule_lexer.specs.Front.{begins, begins_numeral, is_quote}
-use Rattle.rule_lexer.proofs.Tests.{first_false, first_true, none_true, not_true, second_false}
+use Rattle.rule_lexer.proofs.Booleans.{first_false, first_true, none_true, not_true, second_false}
 use Rattle.rule_lexer.proofs.Lexemes.{letter_begins_no_numeral, letter_begins_no_string, no_string, no_word, none_of, numeral_begins_no_string, numeral_begins_no_word, quote_begins_no_numeral, quote_begins_no_word}
 use Rattle.rule_lexer.proofs.Tables.{no_value, text_of_value}
 use Rattle.rule_lexer.proofs.Spelled.{comparisons, event_kinds, field_types, same_text, spelled_fits, states, text_of}

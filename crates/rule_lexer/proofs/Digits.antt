@@ -6,7 +6,7 @@ use Rattle.std.proofs.Math.Nat.{mul-le-mul_left}
 use Rattle.std.proofs.lemmas.List.Sums.{fold-append, fold_more}
 use Rattle.lc_model.specs.Text.Token.{number_of_digits, at_most_32_bits}
 use Rattle.rule_lexer.specs.Digits.{is_digit_in, value_in_base}
-use Rattle.rule_lexer.proofs.Tests.{both_true}
+use Rattle.rule_lexer.proofs.Booleans.{both_true}
 
 -- one digit more
 abbrev more : ℕ → ℕ → ℕ → ℕ

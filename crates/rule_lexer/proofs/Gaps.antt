@@ -4,7 +4,7 @@ use Rattle.std.specs.List.{list_all, list_any, prefix_len}
 use Rattle.std.proofs.lemmas.List.Sums.{prefix_len-le-length}
 use Rattle.lc_model.specs.Text.Token.{Token, Cuts, here, blank, comment, token, IsComment, is_blank, line_feed, number_sign}
 use Rattle.rule_lexer.specs.Front.{IsGap, begins, is_gap_byte, is_line_byte, is_number_sign}
-use Rattle.rule_lexer.proofs.Tests.{first_true, second_true}
+use Rattle.rule_lexer.proofs.Booleans.{first_true, second_true}
 use Rattle.rule_lexer.proofs.Runs.{run_passes, run_stops, run_begins, take_run, drop_run}
 use Rattle.rule_lexer.proofs.Cutting.{join}
 

@@ -5,7 +5,7 @@ use Rattle.lc_model.specs.Text.Token.{BeginsNoLexeme, IsBad, bad_byte, bad_numbe
 use Rattle.rule_lexer.specs.declared.error.LexError.TheVariants.{BadByte}
 use Rattle.rule_lexer.specs.declared.lexeme.Lexeme.{Lexeme}
 use Rattle.rule_lexer.specs.Front.{IsBadFront, IsFront, IsFrontSign, IsFrontToken, LacksSign, begins, begins_numeral, is_gap_byte, is_number_sign, is_quote}
-use Rattle.rule_lexer.proofs.Tests.{none_true}
+use Rattle.rule_lexer.proofs.Booleans.{none_true}
 use Rattle.rule_lexer.proofs.Lexemes.{no_word, no_numeral, no_string}
 
 pub long_word : (text : List ℕ) (count : ℕ) → IsFront is_word text count → longest_name < count → IsBad 3 text

@@ -5,7 +5,7 @@ use Rattle.std.specs.Char.{is_ascii_digit}
 use Rattle.std.proofs.lemmas.Slice.Eq.{bytes_eq-Decides}
 use Rattle.lc_model.specs.Text.Token.{is_letter, is_word, is_word_byte, is_numeral, is_string, is_sign, is_lexeme, signs}
 use Rattle.rule_lexer.specs.Front.{begins, begins_numeral, is_quote}
-use Rattle.rule_lexer.proofs.Tests.{first_false, only_first, only_second, only_third}
+use Rattle.rule_lexer.proofs.Booleans.{first_false, only_first, only_second, only_third}
 
 -- what passes a test that none of these texts passes is none of them
 pub none_of : (f : List ℕ → Bool) (texts : List (List ℕ)) → list_any f texts ≡ false →

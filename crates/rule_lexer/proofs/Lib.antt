@@ -1,4 +1,4 @@
-mod Tests
+mod Booleans
 mod Runs
 mod Fronts
 mod Lexemes

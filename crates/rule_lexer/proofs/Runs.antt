@@ -3,7 +3,7 @@ use Rattle.std.proofs.Common.{◌≡◌, refl, sym, ◌∙◌, ap, ℕ, suc, ◌
 use Rattle.std.specs.List.{list_all, prefix_len}
 use Rattle.std.proofs.lemmas.List.Folds.{list_all-append}
 use Rattle.rule_lexer.specs.Front.{begins}
-use Rattle.rule_lexer.proofs.Tests.{first_true, second_true}
+use Rattle.rule_lexer.proofs.Booleans.{first_true, second_true}
 
 pub take_more : (n x : ℕ) (xs : List ℕ) → take (1 + n) (x ∷ xs) ≡ x ∷ take n xs
 take_more n x xs = let e : 1 + n ≡ suc n = omega arith in rw e refl

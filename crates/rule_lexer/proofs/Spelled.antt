@@ -17,7 +17,7 @@ use Rattle.rule_lexer.specs.declared.token.TokenKind.{TokenKind}
 use Rattle.rule_lexer.specs.declared.token.TokenKind.TheVariants.{Packet, Field, Rule, Mid, Length, At, Mask, Stale, Fails, Sequence, Event, Report, When, Or, Xor, And, Not, FieldKind, State, Level, Name, Number, Text, Equals, Semicolon, Open, Close, Compare}
 use Rattle.rule_lexer.specs.Token.{IsKind}
 use Rattle.rule_lexer.specs.Fitting.{kind_fits, spelling}
-use Rattle.rule_lexer.proofs.Tests.{first_true, second_true}
+use Rattle.rule_lexer.proofs.Booleans.{first_true, second_true}
 use Rattle.rule_lexer.proofs.Tables.{text_of_value}
 
 -- ---- kinds with one text

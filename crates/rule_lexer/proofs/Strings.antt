@@ -4,7 +4,7 @@ use Rattle.std.specs.List.{list_all, prefix_len}
 use Rattle.std.proofs.lemmas.List.Folds.{length-prefix_len}
 use Rattle.lc_model.specs.Text.Token.{BeginsNoLexeme, IsLongest, is_closed, is_lexeme, is_string, is_text_byte, quote}
 use Rattle.rule_lexer.specs.Front.{IsFront, begins, is_quote}
-use Rattle.rule_lexer.proofs.Tests.{both_true, first_true, not_true, second_true}
+use Rattle.rule_lexer.proofs.Booleans.{both_true, first_true, not_true, second_true}
 use Rattle.rule_lexer.proofs.Runs.{drop_more, run_passes, run_begins}
 use Rattle.rule_lexer.proofs.Fronts.{front_of}
 use Rattle.rule_lexer.proofs.Lexemes.{string_alone}

@@ -3,7 +3,7 @@ use Rattle.std.proofs.Common.{◌≡◌, refl, sym, ◌∙◌, ap, ℕ, Bool, tr
 use Rattle.std.specs.Prelude.{find}
 use Rattle.std.specs.List.{list_all, list_any}
 use Rattle.std.proofs.lemmas.Slice.Eq.{bytes_eq-Decides}
-use Rattle.rule_lexer.proofs.Tests.{first_true, second_true}
+use Rattle.rule_lexer.proofs.Booleans.{first_true, second_true}
 
 module _ {A : Type 0} where
   -- where each value is beside its own text, a text with this value is that text
