@@ -1,5 +1,5 @@
 -- A text has at most one fault.
-use Rattle.std.proofs.Common.{◌≡◌, refl, sym, ◌∙◌, ap, ℕ, ◌≤◌, ◌<◌, ◌⊎◌, inl, inr, cond, ◌==◌, List, length, arith}
+use Rattle.std.proofs.Common.{◌≡◌, refl, sym, ◌∙◌, ℕ, ◌≤◌, ◌<◌, ◌⊎◌, inl, inr, cond, ◌==◌, List, length, arith}
 use Rattle.lc_model.specs.Text.Token.{Token, Splits, HasBadToken, longest_text}
 use Rattle.lc_model.specs.Laws.Reading.{AtMostOneBadToken}
 use Rattle.rule_lexer.specs.declared.error.LexError.{LexError}

@@ -1,5 +1,5 @@
 -- What stands in front of a text, of which it is a part.
-use Rattle.std.proofs.Common.{◌≡◌, refl, sym, ◌∙◌, ap, subst, ℕ, ◌+◌, ◌≤◌, Bool, true, List, ◌++◌, length, take, drop, length-append, arith}
+use Rattle.std.proofs.Common.{◌≡◌, refl, sym, ◌∙◌, ap, subst, ℕ, Bool, true, List, ◌++◌, length, drop, length-append, arith}
 use Rattle.std.proofs.lemmas.List.{take_at, drop_at}
 use Rattle.lc_model.specs.Text.Token.{IsLongest}
 use Rattle.rule_lexer.specs.Front.{IsFront}

@@ -1,9 +1,8 @@
 -- Blanks and comments in front of a text.
-use Rattle.std.proofs.Common.{◌≡◌, refl, sym, ◌∙◌, ap, subst, ℕ, suc, ◌+◌, ◌≤◌, ◌<◌, Bool, true, false, not, ◌||◌, ◌==◌, IsFalse, List, [], ◌∷◌, ◌++◌, length, take, drop, get_or, add-one, drop-cons, length-append, length-drop, length-take-le, drop-drop, take-append-drop, arith}
+use Rattle.std.proofs.Common.{◌≡◌, refl, sym, ap, subst, ℕ, suc, ◌+◌, ◌≤◌, ◌<◌, Bool, true, false, ◌||◌, ◌==◌, List, [], ◌∷◌, ◌++◌, length, take, drop, get_or, drop-cons, length-drop, length-take-le, drop-drop, take-append-drop, arith}
 use Rattle.std.specs.List.{list_all, list_any, prefix_len}
-use Rattle.std.proofs.lemmas.List.Sums.{prefix_len-le-length}
-use Rattle.lc_model.specs.Text.Token.{Token, Cuts, here, blank, comment, token, IsComment, is_blank, line_feed, number_sign}
-use Rattle.rule_lexer.specs.Front.{IsGap, begins, is_gap_byte, is_line_byte, is_number_sign}
+use Rattle.lc_model.specs.Text.Token.{Cuts, here, blank, comment, IsComment, is_blank, line_feed}
+use Rattle.rule_lexer.specs.Front.{begins, is_line_byte, is_number_sign}
 use Rattle.rule_lexer.proofs.Booleans.{first_true, second_true}
 use Rattle.rule_lexer.proofs.Runs.{run_passes, run_stops, run_begins, take_run, drop_run}
 use Rattle.rule_lexer.proofs.Cutting.{join}

@@ -4,7 +4,7 @@ use Rattle.std.specs.Option.{ok_or}
 use Rattle.lc_model.specs.Text.Token.{BeginsNoLexeme, IsBad, bad_byte, bad_number, bad_string, name_too_long, is_blank, is_letter, is_numeral, is_sign, is_string, is_token, is_word, longest_name, number, number_sign, quote}
 use Rattle.rule_lexer.specs.declared.error.LexError.TheVariants.{BadByte}
 use Rattle.rule_lexer.specs.declared.lexeme.Lexeme.{Lexeme}
-use Rattle.rule_lexer.specs.Front.{IsBadFront, IsFront, IsFrontSign, IsFrontToken, LacksSign, begins, begins_numeral, is_gap_byte, is_number_sign, is_quote}
+use Rattle.rule_lexer.specs.Front.{IsBadFront, IsFront, IsFrontSign, IsFrontToken, LacksSign, begins, begins_numeral, is_gap_byte, is_quote}
 use Rattle.rule_lexer.proofs.Booleans.{none_true}
 use Rattle.rule_lexer.proofs.Lexemes.{no_word, no_numeral, no_string}
 

@@ -1,9 +1,9 @@
 -- What kind a lexeme is of goes by its first bytes.
-use Rattle.std.proofs.Common.{◌≡◌, refl, sym, ◌∙◌, ap, ℕ, Bool, true, false, cond, ◌||◌, ◌==◌, List, [], ◌∷◌, bytes_eq, arith}
+use Rattle.std.proofs.Common.{◌≡◌, refl, sym, ◌∙◌, ap, ℕ, Bool, true, false, ◌||◌, ◌==◌, List, [], ◌∷◌, bytes_eq, arith}
 use Rattle.std.specs.List.{list_any}
 use Rattle.std.specs.Char.{is_ascii_digit}
 use Rattle.std.proofs.lemmas.Slice.Eq.{bytes_eq-Decides}
-use Rattle.lc_model.specs.Text.Token.{is_letter, is_word, is_word_byte, is_numeral, is_string, is_sign, is_lexeme, signs}
+use Rattle.lc_model.specs.Text.Token.{is_letter, is_word, is_numeral, is_string, is_sign, is_lexeme, signs}
 use Rattle.rule_lexer.specs.Front.{begins, begins_numeral, is_quote}
 use Rattle.rule_lexer.proofs.Booleans.{first_false, only_first, only_second, only_third}
 

@@ -1,11 +1,10 @@
 -- The number in front of a text.
-use Rattle.std.proofs.Common.{◌≡◌, refl, sym, ◌∙◌, ap, subst, ℕ, suc, ◌+◌, ◌-◌, ◌≤◌, Bool, true, false, cond, ◌&&◌, ◌==◌, List, [], ◌∷◌, ◌++◌, length, take, drop, length-append, arith}
+use Rattle.std.proofs.Common.{◌≡◌, refl, sym, ◌∙◌, ap, subst, ℕ, ◌+◌, ◌-◌, Bool, true, false, cond, ◌==◌, List, [], ◌∷◌, ◌++◌, length, take, drop, length-append, arith}
 use Rattle.std.specs.List.{list_all, prefix_len}
 use Rattle.std.specs.Char.{is_ascii_digit}
 use Rattle.std.proofs.lemmas.List.Sums.{prefix_len-le-length}
-use Rattle.lc_model.specs.Text.Token.{IsLongest, is_lexeme, is_numeral, is_word_byte, magnitude_text}
+use Rattle.lc_model.specs.Text.Token.{IsLongest, is_numeral, is_word_byte, magnitude_text}
 use Rattle.rule_lexer.specs.Front.{IsFront, begins, begins_numeral}
-use Rattle.rule_lexer.proofs.Booleans.{both_true, second_true}
 use Rattle.rule_lexer.proofs.Runs.{take_more, drop_more, run_passes, run_stops, take_run, drop_run, nothing_more}
 use Rattle.rule_lexer.proofs.Lexemes.{numeral_alone}
 

@@ -1,5 +1,5 @@
 -- The tokens so far, and one more.
-use Rattle.std.proofs.Common.{◌≡◌, refl, sym, ◌∙◌, ap, subst, ℕ, zero, ◌+◌, ◌≤◌, ◌<◌, ◌⊎◌, inl, inr, List, [], ◌∷◌, ◌++◌, length, append-nil, Some, None, arith}
+use Rattle.std.proofs.Common.{◌≡◌, sym, ap, subst, ℕ, ◌+◌, ◌≤◌, List, [], ◌∷◌, ◌++◌, length, append-nil, Some, None, arith}
 use Rattle.std.specs.Prelude.{All}
 use Rattle.std.proofs.lemmas.List.{map-append}
 use Rattle.std.proofs.lemmas.List.Elements.{All-push}
@@ -9,7 +9,7 @@ use Rattle.rule_lexer.specs.declared.error.LexError.{LexError}
 use Rattle.rule_lexer.specs.declared.error.LexError.TheVariants.{BadByte, BadNumber, NameTooLong, BadString, TextTooLong, Memory}
 use Rattle.rule_lexer.specs.declared.token.Token.{Token}
 use Rattle.rule_lexer.specs.Token.{token_of, tokens_of, HasItsKind}
-use Rattle.rule_lexer.specs.Fault.{IsFault, IsFaultUnlessMemory}
+use Rattle.rule_lexer.specs.Fault.{IsFault}
 use Rattle.rule_lexer.specs.Front.{IsBadFront}
 use Rattle.rule_lexer.specs.Step.{IsStep, IsFaultBehindGap}
 use Rattle.rule_lexer.proofs.Cutting.{join, cut_length}

@@ -1,7 +1,7 @@
 -- Kinds whose tokens have one text each.
-use Rattle.std.proofs.Common.{◌≡◌, refl, sym, ◌∙◌, ap, ℕ, Bool, true, false, not, ◌&&◌, ◌||◌, List, [], Option, Some, None, is_some, unwrap_or, slice_get, bytes_eq, codes, zero, suc, ◌∷◌}
+use Rattle.std.proofs.Common.{◌≡◌, refl, sym, ◌∙◌, ap, ℕ, Bool, true, false, not, ◌&&◌, List, [], Option, Some, None, is_some, unwrap_or, slice_get, bytes_eq, codes, zero, suc, ◌∷◌}
 use Rattle.std.specs.Option.{option_map_or}
-use Rattle.std.specs.List.{list_all, list_any}
+use Rattle.std.specs.List.{list_all}
 use Rattle.lc_model.specs.declared.field.FieldType.{FieldType}
 use Rattle.lc_model.specs.declared.field.CmpOp.{CmpOp}
 use Rattle.lc_model.specs.declared.mode.ApMode.{ApMode}
@@ -14,7 +14,7 @@ use Rattle.lc_model.specs.Text.Token.{is_word, is_sign}
 use Rattle.lc_model.specs.Text.Class as class
 use Rattle.lc_model.specs.Text.Class.{Class, fits}
 use Rattle.rule_lexer.specs.declared.token.TokenKind.{TokenKind}
-use Rattle.rule_lexer.specs.declared.token.TokenKind.TheVariants.{Packet, Field, Rule, Mid, Length, At, Mask, Stale, Fails, Sequence, Event, Report, When, Or, Xor, And, Not, FieldKind, State, Level, Name, Number, Text, Equals, Semicolon, Open, Close, Compare}
+use Rattle.rule_lexer.specs.declared.token.TokenKind.TheVariants.{FieldKind, State, Level, Name, Number, Text, Compare}
 use Rattle.rule_lexer.specs.Token.{IsKind}
 use Rattle.rule_lexer.specs.Fitting.{kind_fits, spelling}
 use Rattle.rule_lexer.proofs.Booleans.{first_true, second_true}

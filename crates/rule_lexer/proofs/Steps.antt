@@ -1,5 +1,5 @@
 -- What a step over a gap and a token gives.
-use Rattle.std.proofs.Common.{◌≡◌, refl, sym, ◌∙◌, ap, subst, ℕ, ◌+◌, ◌-◌, ◌≤◌, ◌<◌, Bool, true, List, [], ◌∷◌, ◌++◌, length, take, drop, Some, None, length-drop, length-take-le, take-append-drop, arith}
+use Rattle.std.proofs.Common.{◌≡◌, sym, ◌∙◌, ap, subst, ℕ, ◌+◌, ◌-◌, ◌≤◌, ◌<◌, true, List, [], ◌∷◌, ◌++◌, length, take, drop, Some, length-drop, length-take-le, take-append-drop, arith}
 use Rattle.lc_model.specs.Text.Token as model
 use Rattle.lc_model.specs.Text.Token.{Cuts, here, token, is_token}
 use Rattle.rule_lexer.specs.declared.lexeme.Lexeme.{Lexeme}

@@ -1,8 +1,8 @@
 -- The word in front of a text.
-use Rattle.std.proofs.Common.{◌≡◌, refl, sym, ◌∙◌, ap, subst, ℕ, Bool, true, false, ◌&&◌, ◌||◌, List, [], ◌∷◌, ◌++◌, take, drop, arith}
-use Rattle.std.specs.List.{list_all, prefix_len}
+use Rattle.std.proofs.Common.{◌≡◌, refl, sym, ◌∙◌, ap, subst, ℕ, true, false, List, [], ◌∷◌, ◌++◌, take, drop}
+use Rattle.std.specs.List.{prefix_len}
 use Rattle.std.proofs.lemmas.List.Sums.{prefix_len-le-length}
-use Rattle.lc_model.specs.Text.Token.{IsLongest, is_letter, is_lexeme, is_word, is_word_byte}
+use Rattle.lc_model.specs.Text.Token.{IsLongest, is_letter, is_word, is_word_byte}
 use Rattle.rule_lexer.specs.Front.{IsFront, begins}
 use Rattle.rule_lexer.proofs.Booleans.{both_true, second_true}
 use Rattle.rule_lexer.proofs.Runs.{run_passes, run_stops, take_run, drop_run, nothing_more}

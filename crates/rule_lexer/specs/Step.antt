@@ -1,6 +1,6 @@
 -- What one step from token to token finds. This project's own.
 use Rattle.std.specs.Prelude.{◌≡◌, ℕ, ◌<◌, List, [], ◌∷◌, length, Option, Some, None}
-use Rattle.lc_model.specs.Text.Token.{Cuts, IsBad}
+use Rattle.lc_model.specs.Text.Token.{Cuts}
 use Rattle.rule_lexer.specs.declared.error.LexError.{LexError}
 use Rattle.rule_lexer.specs.declared.token.Token.{Token}
 use Rattle.rule_lexer.specs.Token.{token_of, HasItsKind}

@@ -8,7 +8,7 @@ ghost use Rattle.rule_lexer.specs.Front.{IsFront, begins, is_quote};
 use crate::bytes::{QUOTE, is_text_byte};
 
 /// The most bytes between the quotes.
-const LONGEST_TEXT: usize = 31;
+const LONGEST_STRING: usize = 31;
 
 /// The number of bytes in front that may stand between quotes.
 fn inner_length(rest: &[u8]) -> usize
@@ -33,7 +33,7 @@ pub fn string_length(rest: &[u8]) -> Option<usize>
     let inside = rest.split_at(1).1;
     let count = inner_length(inside);
     let behind = inside.split_at(count).1;
-    if count <= LONGEST_TEXT && begins_string(behind) {
+    if count <= LONGEST_STRING && begins_string(behind) {
         Some(count + 2)
     } else {
         None

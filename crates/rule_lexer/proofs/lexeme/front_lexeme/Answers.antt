@@ -1,4 +1,4 @@
-use Rattle.std.proofs.Common.{◌≡◌, MatchResult, sym, ◌∙◌, subst}
+use Rattle.std.proofs.Common.{MatchResult, sym, ◌∙◌, subst}
 use Rattle.rule_lexer.specs.Front.{IsBadFront, IsFrontToken}
 use Rattle.rule_lexer.proofs.Judged.{sign_or_bad, wrong_byte}
 use Rattle.rule_lexer.proofs.lexeme.front_lexeme.Goals as goal

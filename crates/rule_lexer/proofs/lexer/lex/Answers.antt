@@ -1,4 +1,4 @@
-use Rattle.std.proofs.Common.{◌≡◌, ℕ, ◌⊎◌, inl, inr, List, Result, Ok, Err, sym}
+use Rattle.std.proofs.Common.{◌≡◌, ℕ, inl, inr, List, Result, Ok, Err}
 use Rattle.std.specs.Prelude.{IfErr, IfOk, MatchResult}
 use Rattle.lc_model.specs.Text.Token as model
 use Rattle.lc_model.specs.Text.Token.{Splits}

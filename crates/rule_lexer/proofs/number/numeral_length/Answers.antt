@@ -1,4 +1,4 @@
-use Rattle.std.proofs.Common.{◌≡◌, ℕ, ◌+◌, ◌-◌, ◌≤◌, length, sym, ◌∙◌, ap, subst, arith}
+use Rattle.std.proofs.Common.{◌≡◌, ◌+◌, ◌-◌, length, arith}
 use Rattle.std.specs.List.{prefix_len}
 use Rattle.lc_model.specs.Text.Token.{is_numeral, is_word_byte, magnitude_text}
 use Rattle.rule_lexer.specs.Front.{IsFront}

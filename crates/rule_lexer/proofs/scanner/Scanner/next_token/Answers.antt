@@ -1,4 +1,4 @@
-use Rattle.std.proofs.Common.{◌≤◌, length, ap, ◌∙◌, length-drop, arith}
+use Rattle.std.proofs.Common.{◌≤◌, length, ap, length-drop, arith}
 use Rattle.rule_lexer.proofs.Steps.{gap_cut, step_over}
 use Rattle.rule_lexer.proofs.scanner.Scanner.next_token.Goals as goal
 
