@@ -13,13 +13,13 @@ use crate::laws::has_at_most_one_fault;
 use crate::scanner::Scanner;
 use crate::token::Token;
 use lc_model::laws::reading;
-use std::alloc::{Allocator, Global};
+use std::alloc::Global;
 
 /// The most bytes of a text.
 const LONGEST_TEXT: usize = 65_536;
 
-/// The tokens up to the end of the text or its first fault, in memory that the allocator gives.
-fn scan<'a, A: Allocator>(alloc: A, text: &'a [u8]) -> Result<Vec<Token<'a>, A>, LexError>
+/// The tokens up to the end of the text or its first fault.
+fn scan<'a>(alloc: Global, text: &'a [u8]) -> Result<Vec<Token<'a>>, LexError>
     ensures splits { IfOk result (λ found. Splits text.now (tokens_of found.items)) }
     ensures kinds { IfOk result (λ found. All HasItsKind found.items) }
     ensures refused { IfErr result (λ error. IsFaultUnlessMemory text.now error) }

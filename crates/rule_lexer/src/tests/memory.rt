@@ -19,8 +19,9 @@ fn codes(rt: HostRuntime) {
     }
 }
 
-/// Where an allocation fails, the answer is `Memory`, and no other. `rt try --test --fail-alloc 1..` runs this with each
-/// allocation failing in turn.
+/// Where an allocation fails, the answer is `Memory`, and no other: `rt try --test --fail-alloc N`, for N from 1 to 5,
+/// has the list's first room or one of its four growths refused here. (The other tests ask for the tokens, and fail then
+/// with `out of memory`.)
 #[test]
 fn all_tokens_or_no_memory(rt: HostRuntime) {
     match lex(
