@@ -1,17 +1,16 @@
 -- The words of lowered rules can be run.
-use Rattle.std.proofs.Common.{◌≡◌, refl, sym, ◌∙◌, ap, subst, ℕ, zero, suc, ◌+◌, ◌<◌, ◌≤◌, ◌⊎◌, inl, inr, Bool, true, false, ◌||◌, if◌then◌else◌, List, [], ◌∷◌, ◌++◌, length, flat_map, slice_get, filter_map, Option, Some, None, option_map, IsTrue, true≢false, nat_lt, get_or, Contains, arith, length-append}
+use Rattle.std.proofs.Common.{◌≡◌, refl, sym, ◌∙◌, ℕ, zero, suc, ◌+◌, ◌<◌, ◌≤◌, ◌⊎◌, inl, inr, Bool, true, false, if◌then◌else◌, List, [], ◌∷◌, ◌++◌, length, flat_map, slice_get, filter_map, Option, Some, None, option_map, IsTrue, true≢false, nat_lt, Contains, arith, length-append}
 use Rattle.std.specs.List.{list_any, enumerate_from, AllByRecursion}
 use Rattle.std.proofs.lemmas.Bool.{cases_lt}
 use Rattle.lc_model.specs.declared.field.Term.{Term}
 use Rattle.lc_model.specs.Condition.{Condition, Watch, Not, Join}
 use Rattle.lc_model.specs.Rule.{NamedRule}
 use Rattle.lc_model.specs.Codes.{table_entries}
-use Rattle.lc_model.specs.Text.Reading.{TextRefusal, ForText, ForRule}
-use Rattle.lc_model.specs.Tables.Equation.{same_term, mentions, terms_of, words, size, equation_length, operator_word, need}
+use Rattle.lc_model.specs.Text.Reading.{ForText, ForRule}
+use Rattle.lc_model.specs.Tables.Equation.{same_term, mentions, terms_of, words, size, operator_word, need}
 use Rattle.lc_model.specs.Tables.Image.{most_waiting}
-use Rattle.lc_model.specs.Tables.Compiling.{text_order_limits, equation_fault, first_refused, limit_refusal}
-use Rattle.lc_model.specs.Tables.Lowering.{Lowers}
-use Rattle.lc_model.specs.Laws.Equations.{WordsSpell, RuleRuns, RulesRun, LoweredWordsRun}
+use Rattle.lc_model.specs.Tables.Compiling.{text_order_limits, equation_fault}
+use Rattle.lc_model.specs.Laws.Equations.{WordsSpell, RuleRuns, LoweredWordsRun}
 use Rattle.lc_model.proofs.ResultLaws.{one_term, front, back}
 use Rattle.lc_model.proofs.SensibleLaws.{all_among}
 use Rattle.lc_model.proofs.SoundWords.{sound_words_spell}

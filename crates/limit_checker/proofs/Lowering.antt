@@ -1,5 +1,5 @@
 -- The tables of lowered rules say these rules.
-use Rattle.std.proofs.Common.{◌≡◌, refl, sym, ◌∙◌, ap, ap₂, subst, ℕ, zero, suc, ◌+◌, ◌-◌, ◌<◌, ◌≤◌, List, [], ◌∷◌, ◌++◌, length, take, drop, map, get_or, slice_range, Option, Some, option_map, unwrap_or, All, Vec, Global, append_assoc, append-nil, length-append, arith}
+use Rattle.std.proofs.Common.{◌≡◌, refl, sym, ◌∙◌, ap, ap₂, ℕ, zero, suc, ◌+◌, ◌-◌, ◌<◌, List, [], ◌∷◌, ◌++◌, length, map, slice_range, Option, option_map, unwrap_or, All, Vec, Global, append_assoc, length-append, arith}
 use Rattle.std.specs.List.{AllByRecursion}
 use Rattle.std.proofs.Math.Seq.{take-append-le, take_all, drop-append_seam}
 use Rattle.std.proofs.lemmas.List.{length-map}
@@ -20,7 +20,7 @@ use Rattle.lc_model.specs.Kept.Next.{unseen_result, by_counts}
 use Rattle.limit_checker.specs.declared.actionpoint.Entry.{Entry}
 use Rattle.limit_checker.specs.Watcher.{Watcher, actions, fresh, fresh_point}
 use Rattle.limit_checker.specs.Tables.{AreTables, watcher}
-use Rattle.limit_checker.specs.Entry.{rule_with, rule_in, words_of, no_condition, IsRunnable}
+use Rattle.limit_checker.specs.Entry.{rule_with, rule_in, no_condition, IsRunnable}
 use Rattle.limit_checker.specs.Layout.{entry_for, point_for, before_last, words_kept, flat, laid, IsShort, HasShortText}
 
 -- ---- what is asked before rules are laid out
@@ -153,7 +153,7 @@ module _ (terms : List Term) (rules : List Rule) (equations : List (Vec ℕ Glob
       ≡ fresh terms (actions (rules_of rules))
   watcher_set =
       ap₂ (λ (said : List Actionpoint) (points : List (Point Tally)).
-          let w : Watcher = record { mode = Active; terms = terms; rules = said; watch = by_counts.unseen terms; points = points } in w)
+      let w : Watcher = record { mode = Active; terms = terms; rules = said; watch = by_counts.unseen terms; points = points } in w)
       laid_all.same (points_fresh rules)
 
 -- what is known of these rules and equations

@@ -7,7 +7,6 @@ use Rattle.lc_model.specs.LimitChecker.Steps.{Point}
 use Rattle.lc_model.specs.Kept.Summary.{WatchResult, Tally}
 use Rattle.lc_model.specs.Kept.Next.{results_by}
 use Rattle.limit_checker.specs.declared.actionpoint.Entry.{Entry}
-use Rattle.limit_checker.specs.Shared.{AreShared}
 use Rattle.limit_checker.specs.Tables.{AreTables}
 
 module _ (f : Term → WatchResult → WatchResult) where

@@ -58,23 +58,19 @@ impl Model for Point {
 
     ghost Value = { Kept Tally };
 
-    ghost view = {
-        λ p. record {
-            state = p.state;
-            past = record { last = p.last; run = p.run; to_fail = p.to_fail; to_pass = p.to_pass; quiet = p.quiet };
-        }
-    };
+    ghost view = { λ p. record {
+      state = p.state;
+      past = record { last = p.last; run = p.run; to_fail = p.to_fail; to_pass = p.to_pass; quiet = p.quiet };
+    } };
 
-    ghost inverse = {
-        λ p. record {
-            state = p.state;
-            last = p.past.last;
-            run = p.past.run;
-            to_fail = p.past.to_fail;
-            to_pass = p.past.to_pass;
-            quiet = p.past.quiet;
-        }
-    };
+    ghost inverse = { λ p. record {
+      state = p.state;
+      last = p.past.last;
+      run = p.past.run;
+      to_fail = p.past.to_fail;
+      to_pass = p.past.to_pass;
+      quiet = p.past.quiet;
+    } };
 }
 
 impl Point {
@@ -122,7 +118,11 @@ impl Point {
     {
         let failed = is_same(ApResult::Fail, outcome);
         let passed = is_same(ApResult::Pass, outcome);
-        self.run = if failed { self.run.saturating_add(1) } else { 0 };
+        self.run = if failed {
+            self.run.saturating_add(1)
+        } else {
+            0
+        };
         self.to_fail = counted_if(was(ApResult::Pass, self.last) && failed, self.to_fail);
         self.to_pass = counted_if(was(ApResult::Fail, self.last) && passed, self.to_pass);
         self.quiet = counted_if(is_passive(self.state) && fails <= self.run, self.quiet);

@@ -27,8 +27,12 @@ fn bits_in(kind: FieldType, bytes: &[u8]) -> u32
         FieldType::U8 | FieldType::I8 => bytes[0] as u32,
         FieldType::U16Be | FieldType::I16Be => u16::from_be_bytes([bytes[0], bytes[1]]) as u32,
         FieldType::U16Le | FieldType::I16Le => u16::from_le_bytes([bytes[0], bytes[1]]) as u32,
-        FieldType::U32Be | FieldType::I32Be => u32::from_be_bytes([bytes[0], bytes[1], bytes[2], bytes[3]]),
-        FieldType::U32Le | FieldType::I32Le => u32::from_le_bytes([bytes[0], bytes[1], bytes[2], bytes[3]]),
+        FieldType::U32Be | FieldType::I32Be => u32::from_be_bytes([
+            bytes[0], bytes[1], bytes[2], bytes[3],
+        ]),
+        FieldType::U32Le | FieldType::I32Le => u32::from_le_bytes([
+            bytes[0], bytes[1], bytes[2], bytes[3],
+        ]),
     }
 }
 
@@ -48,7 +52,8 @@ fn number_in(kind: FieldType, bits: u32) -> i64
     ensures { result ≡ number_of_bits kind bits }
 {
     match kind {
-        FieldType::U8 | FieldType::U16Be | FieldType::U16Le | FieldType::U32Be | FieldType::U32Le => i64::from(bits),
+        FieldType::U8 | FieldType::U16Be | FieldType::U16Le | FieldType::U32Be | FieldType::U32Le =>
+            i64::from(bits),
         FieldType::I8 => signed(bits, 1 << 7),
         FieldType::I16Be | FieldType::I16Le => signed(bits, 1 << 15),
         FieldType::I32Be | FieldType::I32Le => signed(bits, 1 << 31),

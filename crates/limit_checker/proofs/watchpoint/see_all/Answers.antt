@@ -1,4 +1,4 @@
-use Rattle.std.proofs.Common.{◌≡◌, ◌≢◌, ◌<◌, ◌∙◌, sym, refl, ap, ℕ, List, length, arith, get_or, Bool, true, false, ◌==◌}
+use Rattle.std.proofs.Common.{◌≡◌, ◌≢◌, ◌<◌, ◌∙◌, sym, refl, ℕ, List, length, arith, false, ◌==◌}
 use Rattle.lc_model.specs.declared.field.Term.{Term}
 use Rattle.lc_model.specs.Packet.{message_id}
 use Rattle.lc_model.specs.Kept.Summary.{WatchResult}
@@ -16,11 +16,11 @@ loop-i-preserved c =
     let in_terms : c.loop-i.i < length c.args.terms.now = omega arith in
     let in_results : c.loop-i.i < length c.loop-i.results = omega arith in
     elim c.if-term-mid.branch [
-      then-term-mid w ↦
+      | then-term-mid w ↦
           rw w.results-is
           (written (seen_result c.args.packet.now) c.args.terms.now c.loop-i.results c.loop-i.i _ w.index-results-i.result w.see.new.self in_terms in_results
           w.see.ensures ∙ c.loop-i.invariant)
-    | else-term-mid w ↦
+      | else-term-mid w ↦
           rw w.results-is
           (unwritten (seen_result c.args.packet.now) c.args.terms.now c.loop-i.results c.loop-i.i _ unseen_result in_terms in_results
           (of_another c.args.packet.now _ _ (λ e. w.if-term-mid.false (e ∙ sym c.message_id-mid.ensures))) ∙ c.loop-i.invariant)

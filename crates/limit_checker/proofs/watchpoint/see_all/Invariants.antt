@@ -1,4 +1,4 @@
-use Rattle.std.proofs.Common.{◌≡◌, ◌++◌, take, drop, length}
+use Rattle.std.proofs.Common.{◌≡◌, ◌++◌, take, drop}
 use Rattle.lc_model.specs.Kept.Next.{seen_result, results_by}
 use Rattle.limit_checker.proofs.watchpoint.see_all.Given as goal
 

@@ -1,16 +1,10 @@
-use Rattle.std.proofs.Common.{◌≡◌, ◌<◌, ◌∙◌, sym, ap, ℕ, refl, Bool, true, false, List, length, map, slice_get, slice_set, Some, unwrap_or, arith}
-use Rattle.std.proofs.lemmas.List.{length-map}
+use Rattle.std.proofs.Common.{◌∙◌, sym, ap, refl, slice_get, slice_set}
 use Rattle.std.proofs.lemmas.Option.{slice_get_read}
-use Rattle.lc_model.specs.declared.field.Term.{Term}
-use Rattle.lc_model.specs.declared.mode.LcMode.{LcMode}
-use Rattle.lc_model.specs.Condition.{Condition}
-use Rattle.lc_model.specs.Tables.Spelled.{spelled_condition}
-use Rattle.lc_model.specs.LimitChecker.Steps.{Point, is_disabled, is_sampled}
-use Rattle.lc_model.specs.Kept.Summary.{WatchResult, Tally}
-use Rattle.limit_checker.specs.declared.actionpoint.Entry.{Entry}
+use Rattle.lc_model.specs.LimitChecker.Steps.{Point, is_disabled}
+use Rattle.lc_model.specs.Kept.Summary.{Tally}
 use Rattle.limit_checker.specs.Entry.{condition_in}
-use Rattle.limit_checker.specs.Tables.{watcher, AreTables}
-use Rattle.limit_checker.specs.Watcher.{Watcher, after_sample, sequence_in}
+use Rattle.limit_checker.specs.Tables.{watcher}
+use Rattle.limit_checker.specs.Watcher.{Watcher, sequence_in}
 use Rattle.limit_checker.proofs.Sampling.{unchanged_disabled, unchanged_off, within, sampled_as}
 use Rattle.limit_checker.proofs.checker.LimitChecker.sample_one.Goals as goal
 

@@ -1,6 +1,5 @@
-use Rattle.std.proofs.Common.{◌≡◌, ◌∙◌, ap, sym, arith, length}
-use Rattle.std.proofs.lemmas.List.{length-map}
-use Rattle.limit_checker.proofs.Lowering.{AreGiven, given, texts_short, equations_short, tables_set, watcher_set}
+use Rattle.std.proofs.Common.{arith}
+use Rattle.limit_checker.proofs.Lowering.{given, texts_short, equations_short, tables_set, watcher_set}
 use Rattle.limit_checker.proofs.checker.LimitChecker.set.Goals as goal
 
 pub lay_out_rules-requires-clause-short : goal.lay_out_rules-requires-clause-short
@@ -16,8 +15,7 @@ lay_out_rules-requires-clause-texts c =
 pub invariant_of-self : goal.invariant_of-self
 invariant_of-self c =
     let g = given c.args.lowered.terms.items _ _ _ _ c.lowered_words_run.ensures c.requires c.as_slice-2.ensures c.as_slice-3.ensures.value in
-    let room = c.self.invariant.1 in
-    (
+    let room = c.self.invariant.1 in (
       rw (
         c.lay_out_terms.ensures.table,
         c.lay_out_terms.ensures.watch,

@@ -1,0 +1,17 @@
+mod Booleans
+mod Runs
+mod Fronts
+mod Lexemes
+mod Words
+mod Numerals
+mod Strings
+mod Cutting
+mod Gaps
+mod Judged
+mod Digits
+mod Steps
+mod Scans
+mod Faults
+mod Tables
+mod Spelled
+mod Classes

@@ -1,0 +1,72 @@
+-- What the lexer's steps find at the front of a text. This project's own.
+use Rattle.std.specs.Prelude.{◌≡◌, ℕ, ◌+◌, ◌≤◌, Bool, false, not, ◌||◌, ◌==◌, IsTrue, IsFalse, List, [], ◌∷◌, ◌++◌, length, take, drop}
+use Rattle.std.specs.Char.{is_ascii_digit}
+use Rattle.lc_model.specs.Text.Token.{Cuts, IsBad, IsLongest, is_blank, is_sign, is_token, line_feed, magnitude_text, number_sign, quote}
+use Rattle.rule_lexer.specs.declared.error.LexError.{LexError}
+use Rattle.rule_lexer.specs.declared.error.LexError.TheVariants.{BadByte, BadNumber, NameTooLong, BadString, TextTooLong, Memory}
+use Rattle.rule_lexer.specs.declared.lexeme.Lexeme.{Lexeme}
+use Rattle.rule_lexer.specs.Token.{IsKind}
+
+-- the text has a first byte, and it passes
+abbrev pub begins : (ℕ → Bool) → List ℕ → Bool
+begins test [] = false
+begins test (c ∷ cs) = test c
+
+-- a digit stands first, or behind a `-` that stands first
+abbrev pub begins_numeral : List ℕ → Bool
+begins_numeral text = begins is_ascii_digit (magnitude_text text)
+
+-- what may stand before a number
+abbrev pub is_minus : ℕ → Bool
+is_minus c = c == 45
+
+-- what begins a comment
+abbrev pub is_number_sign : ℕ → Bool
+is_number_sign c = c == number_sign
+
+-- what begins a string
+abbrev pub is_quote : ℕ → Bool
+is_quote c = c == quote
+
+-- any byte but a line feed
+abbrev pub is_line_byte : ℕ → Bool
+is_line_byte c = not (c == line_feed)
+
+-- what begins a blank or a comment
+abbrev pub is_gap_byte : ℕ → Bool
+is_gap_byte c = is_blank c || is_number_sign c
+
+-- the first bytes of the text, this many, are such, and nothing more of the text can be taken in
+pub record IsFront (test : List ℕ → Bool) (text : List ℕ) (count : ℕ) : Type 0 where
+  pub within : count ≤ length text
+  pub passes : IsTrue (test (take count text))
+  pub longest : IsLongest (take count text) (drop count text)
+
+-- the first bytes of the text, this many, are blanks and comments, and neither stands behind them
+pub record IsGap (text : List ℕ) (count : ℕ) : Type 0 where
+  pub within : count ≤ length text
+  pub cuts : (at : ℕ) → Cuts at text [] (at + count) (drop count text)
+  pub stops : begins is_gap_byte (drop count text) ≡ false
+
+-- the lexeme is a token in front, of its kind
+pub record IsFrontToken (text : List ℕ) (lexeme : Lexeme) : Type 0 where
+  pub front : IsFront is_token text lexeme.length
+  pub kind : IsKind lexeme.kind (take lexeme.length text)
+
+-- the lexeme is a sign in front, of its kind
+pub record IsFrontSign (text : List ℕ) (lexeme : Lexeme) : Type 0 where
+  pub front : IsFront is_sign text lexeme.length
+  pub kind : IsKind lexeme.kind (take lexeme.length text)
+
+-- no front of the text is a sign
+abbrev pub LacksSign : List ℕ → Type 0
+LacksSign text = (front rest : List ℕ) → front ++ rest ≡ text → IsFalse (is_sign front)
+
+-- what stands in front is this fault, whose place is this one
+abbrev pub IsBadFront : ℕ → List ℕ → LexError → Type 0
+IsBadFront here text (BadByte at) = (at ≡ here) × IsBad 1 text
+IsBadFront here text (BadNumber at) = (at ≡ here) × IsBad 2 text
+IsBadFront here text (NameTooLong at) = (at ≡ here) × IsBad 3 text
+IsBadFront here text (BadString at) = (at ≡ here) × IsBad 4 text
+IsBadFront here text TextTooLong = ⊥
+IsBadFront here text Memory = ⊥

@@ -1,0 +1,8 @@
+-- What the lexer's contracts cite.
+pub mod Token
+pub mod Fault
+pub mod Fitting
+pub mod Digits
+pub mod Front
+pub mod Step
+pub mod Laws

@@ -1,0 +1,98 @@
+//! The kinds of words.
+
+ghost use Rattle.std.specs.Prelude.{◌≡◌, IsTrue, IsFalse, MatchOption, bytes_eq};
+ghost use Rattle.std.specs.List.{list_any};
+ghost use Rattle.lc_model.specs.Text.Token.{is_word};
+ghost use Rattle.lc_model.specs.Text.Class.{field_type, state, event_kind, other_words};
+ghost use Rattle.rule_lexer.specs.Token.{IsKind};
+
+use crate::token::TokenKind;
+use lc_model::{ApMode, EventKind, FieldType};
+
+/// The type that the word names.
+fn field_type(word: &[u8]) -> Option<FieldType>
+    ensures { result ≡ field_type word.now }
+{
+    match word {
+        b"u8" => Some(FieldType::U8),
+        b"i8" => Some(FieldType::I8),
+        b"u16be" => Some(FieldType::U16Be),
+        b"u16le" => Some(FieldType::U16Le),
+        b"i16be" => Some(FieldType::I16Be),
+        b"i16le" => Some(FieldType::I16Le),
+        b"u32be" => Some(FieldType::U32Be),
+        b"u32le" => Some(FieldType::U32Le),
+        b"i32be" => Some(FieldType::I32Be),
+        b"i32le" => Some(FieldType::I32Le),
+        _ => None,
+    }
+}
+
+/// The state that the word names.
+fn state(word: &[u8]) -> Option<ApMode>
+    ensures { result ≡ state word.now }
+{
+    match word {
+        b"active" => Some(ApMode::Active),
+        b"passive" => Some(ApMode::Passive),
+        b"disabled" => Some(ApMode::Disabled),
+        _ => None,
+    }
+}
+
+/// The event type that the word names.
+fn event_kind(word: &[u8]) -> Option<EventKind>
+    ensures { result ≡ event_kind word.now }
+{
+    match word {
+        b"debug" => Some(EventKind::Debug),
+        b"info" => Some(EventKind::Information),
+        b"error" => Some(EventKind::Error),
+        b"critical" => Some(EventKind::Critical),
+        _ => None,
+    }
+}
+
+/// The kind of a reserved word that stands for no value.
+fn plain_word(word: &[u8]) -> Option<TokenKind>
+    ensures { MatchOption result (IsFalse (list_any (bytes_eq word.now) other_words)) (λ kind. IsKind kind word.now) }
+{
+    match word {
+        b"packet" => Some(TokenKind::Packet),
+        b"field" => Some(TokenKind::Field),
+        b"rule" => Some(TokenKind::Rule),
+        b"mid" => Some(TokenKind::Mid),
+        b"length" => Some(TokenKind::Length),
+        b"at" => Some(TokenKind::At),
+        b"mask" => Some(TokenKind::Mask),
+        b"stale" => Some(TokenKind::Stale),
+        b"fails" => Some(TokenKind::Fails),
+        b"sequence" => Some(TokenKind::Sequence),
+        b"event" => Some(TokenKind::Event),
+        b"report" => Some(TokenKind::Report),
+        b"when" => Some(TokenKind::When),
+        b"or" => Some(TokenKind::Or),
+        b"xor" => Some(TokenKind::Xor),
+        b"and" => Some(TokenKind::And),
+        b"not" => Some(TokenKind::Not),
+        _ => None,
+    }
+}
+
+/// The kind of a word: which reserved word it is, or a name.
+pub fn word_kind(word: &[u8]) -> TokenKind
+    requires { IsTrue (is_word word.now) }
+    ensures { IsKind result word.now }
+{
+    if let Some(kind) = plain_word(word) {
+        kind
+    } else if let Some(kind) = field_type(word) {
+        TokenKind::FieldKind(kind)
+    } else if let Some(mode) = state(word) {
+        TokenKind::State(mode)
+    } else if let Some(kind) = event_kind(word) {
+        TokenKind::Level(kind)
+    } else {
+        TokenKind::Name
+    }
+}
