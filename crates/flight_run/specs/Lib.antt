@@ -6,3 +6,4 @@ pub mod Flight
 pub mod Kept
 pub mod Outcome
 pub mod Course
+pub mod RunOne

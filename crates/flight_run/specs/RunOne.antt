@@ -1,0 +1,66 @@
+-- What `run_one` answers and leaves: a rule text is compiled, and the packets of a stream are handled by its rules from the
+-- start. The format of streams is this project's own.
+use Rattle.std.specs.Prelude.{◌≡◌, ◌≢◌, ℕ, ◌^◌, ◌<◌, false, List, ◌++◌, length, Option, Some, Result, Ok, Err}
+use Rattle.lc_model.specs.Rule.{NamedRule}
+use Rattle.lc_model.specs.Text.Reading.{ReadsOneComparison}
+use Rattle.lc_model.specs.Tables.HalvesAndBytes.{Text}
+use Rattle.lc_model.specs.Host.FixedTables.{fixed_output}
+use Rattle.lc_model.specs.Host.Stream.{StreamEntry, End, Whole, Bad}
+use Rattle.lc_model.specs.Host.Stream as stream
+use Rattle.rpn_compiler.specs.declared.compile.CompileError.{CompileError}
+use Rattle.rpn_compiler.specs.declared.compile.CompileError.TheVariants.{NotYet}
+use Rattle.flight_run.specs.declared.error.Report.{Report}
+use Rattle.flight_run.specs.declared.error.RunError.{RunError}
+use Rattle.flight_run.specs.declared.error.RunError.TheVariants.{Compile, BadRecord, Truncated, Read, Write, ReadBound, Memory}
+use Rattle.flight_run.specs.Outcome.{Devices, IsOutcome, records}
+
+-- nothing was read and nothing written
+pub record IsUntouched (d : Devices) : Type 0 where
+  pub left : d.left_after ≡ d.left
+  pub reads : d.reads ≡ 0
+  pub no_read_failed : d.read_fails ≡ false
+  pub gained : d.gained_after ≡ d.gained
+  pub no_write_failed : d.write_fails ≡ false
+
+-- the text is no text of one comparison, and nothing was read and nothing written
+pub record IsRefused (source : List ℕ) (d : Devices) (number : ℕ) (error : CompileError) : Type 0 where
+  pub first : number ≡ 0
+  pub why : error ≡ NotYet
+  pub unread : (rules : List NamedRule) → ¬ ReadsOneComparison source rules
+  pub untouched : IsUntouched d
+
+-- the text says rules, and the run ended so over them
+pub record IsRunOf (source : List ℕ) (d : Devices) (result : Result Report RunError) : Type 0 where
+  pub rules : List NamedRule
+  pub reads : ReadsOneComparison source rules
+  pub outcome : IsOutcome (fixed_output (record { source = source; rules = rules })) d result
+
+-- how a run ends, whatever the text and the stream
+abbrev pub IsRun : List ℕ → Devices → Result Report RunError → Type 0
+IsRun source d (Err (Compile number error)) = IsRefused source d number error
+IsRun source d (Err Memory) = IsUntouched d
+IsRun source d result = IsRunOf source d result
+
+-- ---- the theorem
+
+-- what is answered where nothing fails: the numbers of records and bytes, or where the records end
+abbrev pub answer : List StreamEntry × End → (bytes : ℕ) → Result Report RunError
+answer (entries, Whole) bytes = Ok (record { records = length entries; bytes = bytes })
+answer (entries, Bad n) bytes = Err (BadRecord n)
+answer (entries, stream.Truncated n) bytes = Err (Truncated n)
+
+-- nothing failed, and no memory was wanted
+pub record IsUndisturbed (d : Devices) (result : Result Report RunError) : Type 0 where
+  pub no_read_failed : d.read_fails ≡ false
+  pub no_write_failed : d.write_fails ≡ false
+  pub few_reads : d.reads < 2 ^ 32
+  pub memory : result ≢ Err Memory
+
+-- for every text of one comparison and every stream: the writer gained exactly the bytes that the rules call for over the
+-- stream's records, and the answer says how these end
+abbrev pub WritesWhatIsCalledFor : List ℕ → Devices → Result Report RunError → Type 0
+WritesWhatIsCalledFor source d result =
+    (rules : List NamedRule) (stream before : List ℕ) → ReadsOneComparison source rules → d.left ≡ Some stream → d.gained ≡ Some before →
+    IsUndisturbed d result →
+    let output : List ℕ = fixed_output (record { source = source; rules = rules }) (records stream).0 in
+    (d.gained_after ≡ Some (before ++ output)) × (result ≡ answer (records stream) (length output))
