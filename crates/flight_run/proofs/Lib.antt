@@ -10,3 +10,5 @@ pub mod Following
 pub mod Texts
 pub mod Follows
 pub mod Courses
+pub mod Headline
+pub mod Started

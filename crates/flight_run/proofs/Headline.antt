@@ -1,0 +1,114 @@
+-- From how a run ends to the theorem.
+use Rattle.std.proofs.Common.{◌≡◌, ◌≢◌, refl, sym, ◌∙◌, ap, subst, ℕ, ◌+◌, ◌<◌, ◌^◌, Bool, true, false, List, [], ◌++◌, length, Option, Some, None, Result, Ok, Err, arith, append-nil}
+use Rattle.std.specs.Io.KnownBytes.{Appends, Consumes, IsAtEnd}
+use Rattle.lc_model.specs.Rule.{NamedRule}
+use Rattle.lc_model.specs.Text.Reading.{Reads, ReadsOneComparison}
+use Rattle.lc_model.specs.Tables.HalvesAndBytes.{Text}
+use Rattle.lc_model.specs.Host.FixedTables.{fixed_output}
+use Rattle.lc_model.specs.Host.Stream.{StreamEntry, End, Whole, Bad}
+use Rattle.lc_model.specs.Host.Stream as stream
+use Rattle.lc_model.specs.Laws.Reading.{AtMostOneReading}
+use Rattle.flight_run.specs.declared.error.Report.{Report}
+use Rattle.flight_run.specs.declared.error.RunError.{RunError}
+use Rattle.flight_run.specs.declared.error.RunError.TheVariants.{Compile, BadRecord, Truncated, Read, Write, ReadBound, Memory}
+use Rattle.flight_run.specs.Outcome.{Devices, TookAndWrote, IsOutcome, records}
+use Rattle.flight_run.specs.RunOne.{IsUntouched, IsRefused, IsRunOf, IsRun, IsUndisturbed, answer, WritesWhatIsCalledFor}
+
+-- a reading in one comparison is a reading
+as_reading : (source : List ℕ) (rules : List NamedRule) → ReadsOneComparison source rules → Reads source rules
+as_reading source rules reads = (reads.0, reads.1, reads.2, reads.4, reads.6)
+
+-- ---- known bytes
+
+wrote_known : (before : List ℕ) (gained now : Option (List ℕ)) (more : List ℕ) → gained ≡ Some before → Appends gained now more → now ≡ Some (before ++ more)
+wrote_known before None now more is wrote = absurd (cc is)
+wrote_known before (Some old) None more is wrote = absurd wrote
+wrote_known before (Some old) (Some new) more is wrote = let same : old ≡ before = cc is in ap (λ (bytes : List ℕ). Some bytes) (wrote ∙ ap (λ front. front ++ more) same)
+
+-- the stream is what was taken and some rest
+pub record Begins (stream taken : List ℕ) (left : Option (List ℕ)) : Type 0 where
+  rest : List ℕ
+  all : stream ≡ taken ++ rest
+  is_left : left ≡ Some rest
+
+took_known : (whole : List ℕ) (left now : Option (List ℕ)) (taken : List ℕ) → left ≡ Some whole → Consumes left now taken → Begins whole taken now
+took_known whole None now taken is took = absurd (cc is)
+took_known whole (Some old) None taken is took = absurd took
+took_known whole (Some old) (Some new) taken is took = let same : old ≡ whole = cc is in record { rest = new; all = sym same ∙ took; is_left = refl }
+
+took_all : (whole taken : List ℕ) (now : Option (List ℕ)) → Begins whole taken now → IsAtEnd now → taken ≡ whole
+took_all whole taken None begins ended = absurd (cc begins.is_left)
+took_all whole taken (Some rest) begins ended =
+    let none : begins.rest ≡ [] = (let same : rest ≡ begins.rest = cc begins.is_left in sym same ∙ ended) in
+    sym (begins.all ∙ ap (λ (r : List ℕ). taken ++ r) none ∙ append-nil taken)
+
+-- ---- the theorem
+
+module _ (one_reading : AtMostOneReading) (source : List ℕ) (d : Devices) where
+  -- all records of the stream, and the output over them
+  abbrev Called : List NamedRule → List ℕ → List ℕ → Result Report RunError → Type 0
+  Called rules whole before result =
+      let output : List ℕ = fixed_output (record { source = source; rules = rules }) (records whole).0 in
+      (d.gained_after ≡ Some (before ++ output)) × (result ≡ answer (records whole) (length output))
+
+  module _ (rules : List NamedRule) (whole before : List ℕ) (left : d.left ≡ Some whole) (gained : d.gained ≡ Some before) where
+    output : List StreamEntry → List ℕ
+    output = fixed_output (record { source = source; rules = rules })
+
+    -- what was written over records that are all the stream's
+    over_all : (bytes : List ℕ) → TookAndWrote (fixed_output (record { source = source; rules = rules })) d bytes → (records bytes).0 ≡ (records whole).0 →
+        d.gained_after ≡ Some (before ++ fixed_output (record { source = source; rules = rules }) (records whole).0)
+    over_all bytes so same =
+        wrote_known before d.gained d.gained_after (fixed_output (record { source = source; rules = rules }) (records bytes).0) gained so.wrote
+        ∙ ap (λ entries. Some (before ++ fixed_output (record { source = source; rules = rules }) entries)) same
+
+    by_outcome : (result : Result Report RunError) → IsUndisturbed d result → IsOutcome (fixed_output (record { source = source; rules = rules })) d result →
+        Called rules whole before result
+    by_outcome (Ok report) calm outcome =
+        let all : outcome.bytes ≡ whole = took_all whole outcome.bytes d.left_after (took_known whole d.left d.left_after outcome.bytes left outcome.so.took) outcome.at_the_end in
+        let same : (records outcome.bytes).0 ≡ (records whole).0 = ap (λ bytes. (records bytes).0) all in
+        let ends : (records whole).1 ≡ Whole = ap (λ bytes. (records bytes).1) (sym all) ∙ outcome.whole in
+        (
+          over_all outcome.bytes outcome.so same,
+          (λ i. Ok (record {
+            records = (outcome.records_counted ∙ ap length same) i;
+            bytes = (outcome.bytes_counted ∙ ap (λ entries. length (fixed_output (record { source = source; rules = rules }) entries)) same) i;
+          }))
+              ∙ ap (λ e. answer ((records whole).0, e) (length (fixed_output (record { source = source; rules = rules }) (records whole).0))) (sym ends),
+        )
+    by_outcome (Err (BadRecord n)) calm outcome =
+        let begins : Begins whole outcome.bytes d.left_after = took_known whole d.left d.left_after outcome.bytes left outcome.so.took in
+        let found : records whole ≡ ((records outcome.bytes).0, Bad n) = ap records begins.all ∙ outcome.bad begins.rest in
+        (
+          over_all outcome.bytes outcome.so (sym (ap (λ (r : List StreamEntry × End). r.0) found)),
+          ap (λ e. answer ((records whole).0, e) (length (fixed_output (record { source = source; rules = rules }) (records whole).0)))
+              (sym (ap (λ (r : List StreamEntry × End). r.1) found)),
+        )
+    by_outcome (Err (Truncated n)) calm outcome =
+        let all : outcome.bytes ≡ whole = took_all whole outcome.bytes d.left_after (took_known whole d.left d.left_after outcome.bytes left outcome.so.took) outcome.at_the_end in
+        let ends : (records whole).1 ≡ stream.Truncated n = ap (λ bytes. (records bytes).1) (sym all) ∙ outcome.cut in
+        (
+          over_all outcome.bytes outcome.so (ap (λ bytes. (records bytes).0) all),
+          ap (λ e. answer ((records whole).0, e) (length (fixed_output (record { source = source; rules = rules }) (records whole).0))) (sym ends),
+        )
+    by_outcome (Err Read) calm outcome = absurd (cc (sym calm.no_read_failed ∙ outcome.failed))
+    by_outcome (Err ReadBound) calm outcome = absurd (omega (arith, calm.few_reads, outcome.bound))
+    by_outcome (Err (Write sent)) calm outcome = absurd (cc (sym calm.no_write_failed ∙ outcome.failed))
+    by_outcome (Err (Compile number error)) calm outcome = absurd outcome
+    by_outcome (Err Memory) calm outcome = absurd outcome
+
+  of_run : (result : Result Report RunError) → IsRunOf source d result → WritesWhatIsCalledFor source d result
+  of_run result run rules whole before reads left gained calm =
+      let same : run.rules ≡ rules = one_reading source run.rules rules (as_reading source run.rules run.reads) (as_reading source rules reads) in
+      by_outcome rules whole before left gained result calm
+      (subst (λ (said : List NamedRule). IsOutcome (fixed_output (record { source = source; rules = said })) d result) same run.outcome)
+
+  pub headline : (result : Result Report RunError) → IsRun source d result → WritesWhatIsCalledFor source d result
+  headline (Ok report) run = of_run (Ok report) run
+  headline (Err (BadRecord n)) run = of_run (Err (BadRecord n)) run
+  headline (Err (Truncated n)) run = of_run (Err (Truncated n)) run
+  headline (Err Read) run = of_run (Err Read) run
+  headline (Err ReadBound) run = of_run (Err ReadBound) run
+  headline (Err (Write sent)) run = of_run (Err (Write sent)) run
+  headline (Err (Compile number error)) run = λ rules whole before reads left gained calm. absurd (run.unread rules reads)
+  headline (Err Memory) run = λ rules whole before reads left gained calm. absurd (calm.memory refl)

@@ -1,0 +1,41 @@
+-- What goes out of a run that starts with a rule text is what the definitions call for.
+use Rattle.std.proofs.Common.{◌≡◌, refl, sym, ◌∙◌, ap, subst, ℕ, ◌<◌, ◌≤◌, ◌^◌, List, [], ◌∷◌, length, map, Some, arith}
+use Rattle.std.specs.Prelude.{filter_map}
+use Rattle.std.specs.List.{AllByRecursion}
+use Rattle.lc_model.specs.Rule.{Actionpoint, NamedRule}
+use Rattle.lc_model.specs.Text.Reading.{Reads}
+use Rattle.lc_model.specs.Tables.Equation.{terms_of}
+use Rattle.lc_model.specs.Tables.Half.{actions}
+use Rattle.lc_model.specs.Tables.Image.{version_1_layouts}
+use Rattle.lc_model.specs.Tables.HalvesAndBytes.{Text}
+use Rattle.lc_model.specs.Host.Stream.{StreamEntry}
+use Rattle.lc_model.specs.Host.FixedTables.{halves_of, fixed_halves, lc_from_start, packet_in, fixed_output}
+use Rattle.lc_model.specs.Kept.Next.{by_counts}
+use Rattle.lc_model.specs.Laws.Past.{IsInRange}
+use Rattle.lc_model.specs.Laws.Reading.{IsWithinRanges, RulesAreWithinRanges}
+use Rattle.lc_model.specs.Laws.LimitChecker.{HalvesAreSensible, IsSensible, SamePacketStep, StaysSettled}
+use Rattle.limit_checker.specs.Watcher.{fresh, fresh_point}
+use Rattle.flight_run.specs.Flight.{Kept}
+use Rattle.flight_run.specs.Course.{output_from}
+use Rattle.flight_run.proofs.Follows.{follows_from_start, all_follow}
+use Rattle.flight_run.proofs.Texts.{watching}
+
+in_range : (rules : List NamedRule) → AllByRecursion (λ (rule : NamedRule). IsWithinRanges rule.action) rules → AllByRecursion IsInRange (actions rules)
+in_range [] all = tt
+in_range (rule ∷ rules) all = (
+  record { fails = all.0.fails.1; passive = all.0.passive; pass_to_fail = all.0.pass_to_fail; fail_to_pass = all.0.fail_to_pass },
+  in_range rules all.1,
+)
+
+-- a Limit Checker with the text's rules, before its first packet and its first request
+abbrev pub at_start : List NamedRule → Kept
+at_start rules = record { watcher = fresh (terms_of rules) (actions rules); count = 0 }
+
+module _ (agrees : SamePacketStep fixed_halves) (settles : StaysSettled fixed_halves) (sensible : HalvesAreSensible) (ranges : RulesAreWithinRanges) where
+  pub calls_for : (text : Text) → Reads text.source text.rules → (entries : List StreamEntry) → output_from (at_start text.rules) entries ≡ fixed_output text entries
+  unfolding output_from
+  calls_for text reads entries =
+      let is_sensible : IsSensible fixed_halves (halves_of text) =
+      sensible version_1_layouts text (in_range text.rules (ranges text.source text.rules reads)) in
+      sym (all_follow agrees settles text is_sensible (filter_map packet_in entries) (lc_from_start (Some (halves_of text)))
+          (by_counts.unseen (terms_of text.rules)) (map fresh_point (actions text.rules)) 0 (follows_from_start text))
