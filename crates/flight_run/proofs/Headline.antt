@@ -8,15 +8,49 @@ use Rattle.lc_model.specs.Host.FixedTables.{fixed_output}
 use Rattle.lc_model.specs.Host.Stream.{StreamEntry, End, Whole, Bad}
 use Rattle.lc_model.specs.Host.Stream as stream
 use Rattle.lc_model.specs.Laws.Reading.{AtMostOneReading}
+use Rattle.rpn_compiler.specs.declared.compile.CompileError.{CompileError}
+use Rattle.rpn_compiler.specs.declared.compile.CompileError.TheVariants as compiler
 use Rattle.flight_run.specs.declared.error.Report.{Report}
 use Rattle.flight_run.specs.declared.error.RunError.{RunError}
 use Rattle.flight_run.specs.declared.error.RunError.TheVariants.{Compile, BadRecord, Truncated, Read, Write, ReadBound, Memory}
 use Rattle.flight_run.specs.Outcome.{Devices, TookAndWrote, IsOutcome, records}
-use Rattle.flight_run.specs.RunOne.{IsUntouched, IsRefused, IsRunOf, IsRun, IsUndisturbed, answer, WritesWhatIsCalledFor}
+use Rattle.flight_run.specs.RunOne.{IsUntouched, IsRunOf, IsRun, refusal_of, IsUndisturbed, answer, WritesWhatIsCalledFor}
 
 -- a reading in one comparison is a reading
-as_reading : (source : List ℕ) (rules : List NamedRule) → ReadsOneComparison source rules → Reads source rules
+pub as_reading : (source : List ℕ) (rules : List NamedRule) → ReadsOneComparison source rules → Reads source rules
 as_reading source rules reads = (reads.0, reads.1, reads.2, reads.4, reads.6)
+
+-- ---- how a run begins
+
+-- a text that has no compiled form
+refused_by : (source : List ℕ) (d : Devices) → IsUntouched d → (error : CompileError) →
+    ((rules : List NamedRule) → ReadsOneComparison source rules → error ≡ compiler.Memory) →
+    IsRun source d (Err (refusal_of error))
+refused_by source d untouched compiler.Memory accepts = untouched
+refused_by source d untouched compiler.NotYet accepts = record {
+  first = refl;
+  why = refl;
+  unread = λ rules reads. cc (accepts rules reads);
+  untouched = untouched;
+}
+
+pub refused : (source : List ℕ) (d : Devices) → IsUntouched d → (error : CompileError) →
+    ((rules : List NamedRule) → ReadsOneComparison source rules → error ≡ compiler.Memory) →
+    (answer : RunError) → answer ≡ refusal_of error → IsRun source d (Err answer)
+refused source d untouched error accepts answer is =
+    subst (λ (e : RunError). IsRun source d (Err e)) (sym is) (refused_by source d untouched error accepts)
+
+-- a text that has one
+pub begun : (source : List ℕ) (rules : List NamedRule) (d : Devices) (result : Result Report RunError) → ReadsOneComparison source rules →
+    IsOutcome (fixed_output (record { source = source; rules = rules })) d result → IsRun source d result
+begun source rules d (Ok report) reads outcome = record { rules = rules; reads = reads; outcome = outcome }
+begun source rules d (Err (BadRecord n)) reads outcome = record { rules = rules; reads = reads; outcome = outcome }
+begun source rules d (Err (Truncated n)) reads outcome = record { rules = rules; reads = reads; outcome = outcome }
+begun source rules d (Err Read) reads outcome = record { rules = rules; reads = reads; outcome = outcome }
+begun source rules d (Err ReadBound) reads outcome = record { rules = rules; reads = reads; outcome = outcome }
+begun source rules d (Err (Write sent)) reads outcome = record { rules = rules; reads = reads; outcome = outcome }
+begun source rules d (Err (Compile number error)) reads outcome = absurd outcome
+begun source rules d (Err Memory) reads outcome = absurd outcome
 
 -- ---- known bytes
 

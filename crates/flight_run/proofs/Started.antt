@@ -1,5 +1,5 @@
 -- What goes out of a run that starts with a rule text is what the definitions call for.
-use Rattle.std.proofs.Common.{◌≡◌, refl, sym, ◌∙◌, ap, subst, ℕ, ◌<◌, ◌≤◌, ◌^◌, List, [], ◌∷◌, length, map, Some, arith}
+use Rattle.std.proofs.Common.{◌≡◌, refl, sym, ◌∙◌, ap, subst, ℕ, ◌<◌, ◌≤◌, ◌^◌, List, [], ◌∷◌, length, map, Some, Result, arith}
 use Rattle.std.specs.Prelude.{filter_map}
 use Rattle.std.specs.List.{AllByRecursion}
 use Rattle.lc_model.specs.Rule.{Actionpoint, NamedRule}
@@ -14,8 +14,11 @@ use Rattle.lc_model.specs.Kept.Next.{by_counts}
 use Rattle.lc_model.specs.Laws.Past.{IsInRange}
 use Rattle.lc_model.specs.Laws.Reading.{IsWithinRanges, RulesAreWithinRanges}
 use Rattle.lc_model.specs.Laws.LimitChecker.{HalvesAreSensible, IsSensible, SamePacketStep, StaysSettled}
-use Rattle.limit_checker.specs.Watcher.{fresh, fresh_point}
-use Rattle.flight_run.specs.Flight.{Kept}
+use Rattle.limit_checker.specs.Watcher.{fresh_point}
+use Rattle.flight_run.specs.declared.error.Report.{Report}
+use Rattle.flight_run.specs.declared.error.RunError.{RunError}
+use Rattle.flight_run.specs.Flight.{Kept, at_start}
+use Rattle.flight_run.specs.Outcome.{Devices, IsOutcome}
 use Rattle.flight_run.specs.Course.{output_from}
 use Rattle.flight_run.proofs.Follows.{follows_from_start, all_follow}
 use Rattle.flight_run.proofs.Texts.{watching}
@@ -27,10 +30,6 @@ in_range (rule ∷ rules) all = (
   in_range rules all.1,
 )
 
--- a Limit Checker with the text's rules, before its first packet and its first request
-abbrev pub at_start : List NamedRule → Kept
-at_start rules = record { watcher = fresh (terms_of rules) (actions rules); count = 0 }
-
 module _ (agrees : SamePacketStep fixed_halves) (settles : StaysSettled fixed_halves) (sensible : HalvesAreSensible) (ranges : RulesAreWithinRanges) where
   pub calls_for : (text : Text) → Reads text.source text.rules → (entries : List StreamEntry) → output_from (at_start text.rules) entries ≡ fixed_output text entries
   unfolding output_from
@@ -39,3 +38,10 @@ module _ (agrees : SamePacketStep fixed_halves) (settles : StaysSettled fixed_ha
       sensible version_1_layouts text (in_range text.rules (ranges text.source text.rules reads)) in
       sym (all_follow agrees settles text is_sensible (filter_map packet_in entries) (lc_from_start (Some (halves_of text)))
           (by_counts.unseen (terms_of text.rules)) (map fresh_point (actions text.rules)) 0 (follows_from_start text))
+
+  -- how such a run ends
+  pub ends_as_called : (text : Text) → Reads text.source text.rules → (kept : Kept) → kept ≡ at_start text.rules → (d : Devices) (result : Result Report RunError) →
+      IsOutcome (output_from kept) d result → IsOutcome (fixed_output text) d result
+  ends_as_called text reads kept is d result outcome =
+      let same : output_from kept ≡ fixed_output text = (λ i. output_from (is i)) ∙ (λ i entries. calls_for text reads entries i) in
+      subst (λ (output : List StreamEntry → List ℕ). IsOutcome output d result) same outcome

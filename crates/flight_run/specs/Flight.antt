@@ -6,12 +6,18 @@ use Rattle.lc_model.specs.Refusal.{Refusal}
 use Rattle.lc_model.specs.Command.{SampleRequest, sample_request, takes}
 use Rattle.lc_model.specs.Events.Request.{Request, Event, Sequence}
 use Rattle.lc_model.specs.Host.FixedTables.{is_taken, sequences_sent}
-use Rattle.limit_checker.specs.Watcher.{Watcher, after_packet, after_aging, after_sample}
+use Rattle.lc_model.specs.Rule.{NamedRule}
+use Rattle.lc_model.specs.Tables.Equation.{terms_of}
+use Rattle.limit_checker.specs.Watcher.{Watcher, fresh, actions, after_packet, after_aging, after_sample}
 
 -- the Limit Checker, and the sequence count of the next request
 pub record Kept : Type 0 where
   pub watcher : Watcher
   pub count : ℕ
+
+-- a Limit Checker with the text's rules, before its first packet and its first request
+abbrev pub at_start : List NamedRule → Kept
+at_start rules = record { watcher = fresh (terms_of rules) (actions rules); count = 0 }
 
 -- the rules from this number on, this many, are sampled where the request takes them
 unfoldable pub sampled_from : SampleRequest → ℕ → ℕ → Watcher → Watcher × List Request

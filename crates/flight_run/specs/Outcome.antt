@@ -21,6 +21,19 @@ pub record Devices : Type 0 where
   pub gained_after : Option (List ℕ)
   pub write_fails : Bool
 
+-- a source and a sink, by what they tell
+abbrev pub devices : (left left_after : Option (List ℕ)) → (reads : ℕ) → (read_fails : Bool) → (gained gained_after : Option (List ℕ)) →
+    (write_fails : Bool) → Devices
+devices left left_after reads read_fails gained gained_after write_fails = record {
+  left = left;
+  left_after = left_after;
+  reads = reads;
+  read_fails = read_fails;
+  gained = gained;
+  gained_after = gained_after;
+  write_fails = write_fails;
+}
+
 module _ (output : List StreamEntry → List ℕ) (d : Devices) where
   -- these bytes were taken, and the output of their records was written
   pub record TookAndWrote (bytes : List ℕ) : Type 0 where

@@ -9,6 +9,7 @@ use Rattle.lc_model.specs.Host.Stream.{StreamEntry, End, Whole, Bad}
 use Rattle.lc_model.specs.Host.Stream as stream
 use Rattle.rpn_compiler.specs.declared.compile.CompileError.{CompileError}
 use Rattle.rpn_compiler.specs.declared.compile.CompileError.TheVariants.{NotYet}
+use Rattle.rpn_compiler.specs.declared.compile.CompileError.TheVariants as compiler
 use Rattle.flight_run.specs.declared.error.Report.{Report}
 use Rattle.flight_run.specs.declared.error.RunError.{RunError}
 use Rattle.flight_run.specs.declared.error.RunError.TheVariants.{Compile, BadRecord, Truncated, Read, Write, ReadBound, Memory}
@@ -40,6 +41,11 @@ abbrev pub IsRun : List ℕ → Devices → Result Report RunError → Type 0
 IsRun source d (Err (Compile number error)) = IsRefused source d number error
 IsRun source d (Err Memory) = IsUntouched d
 IsRun source d result = IsRunOf source d result
+
+-- the answer where the text, the only one, has no compiled form
+abbrev pub refusal_of : CompileError → RunError
+refusal_of compiler.Memory = Memory
+refusal_of NotYet = Compile 0 NotYet
 
 -- ---- the theorem
 

@@ -1,6 +1,10 @@
 //! How a run ends.
 
+ghost use Rattle.std.specs.Prelude.{◌≡◌};
+ghost use Rattle.flight_run.specs.declared.error.RunError.TheVariants.{Memory};
+
 use rpn_compiler::CompileError;
+use std::alloc::AllocError;
 use thiserror::Error;
 
 /// What a run did.
@@ -36,4 +40,12 @@ pub enum RunError {
     /// Out of memory; nothing was read.
     #[error("out of memory")]
     Memory,
+}
+
+impl From<AllocError> for RunError {
+    ghost from_gives = { λ _ e. e ≡ Memory };
+
+    fn from(_error: AllocError) -> RunError {
+        RunError::Memory
+    }
 }

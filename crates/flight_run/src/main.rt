@@ -7,6 +7,7 @@ mod intake;
 mod outgoing;
 mod packet;
 mod run;
+mod run_one;
 mod sending;
 
 fn main() {}

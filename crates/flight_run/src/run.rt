@@ -3,7 +3,7 @@
 ghost use Rattle.std.specs.Prelude.{◌≡◌, ◌+◌, ◌*◌, ◌^◌, ◌<◌, ◌≤◌, false, length, IfOk, IfErr, IsOk};
 ghost use Rattle.flight_run.specs.Kept.{kept_of};
 ghost use Rattle.flight_run.specs.Course.{GoesOn, Halts, IsFew, ended_by, output_from};
-ghost use Rattle.flight_run.specs.Outcome.{IsOutcome};
+ghost use Rattle.flight_run.specs.Outcome.{IsOutcome, devices};
 
 use crate::error::{Report, RunError};
 use crate::flight::Flight;
@@ -33,11 +33,11 @@ fn advance<R: ByteSource, W: ByteSink>(
     requires bounded { R.reads_made reader.old ≤ MOST_READS }
     requires readable { R.has_failed reader.old ≡ false }
     requires writable { W.has_failed writer.old ≡ false }
-    ensures goes_on { IfOk result (GoesOn (record { left = R.rest reader.old; left_after = R.rest reader.new; reads = R.reads_made reader.new;
-        read_fails = R.has_failed reader.new; gained = W.gained writer.old; gained_after = W.gained writer.new; write_fails = W.has_failed writer.new })
+    ensures goes_on { IfOk result (GoesOn (devices (R.rest reader.old) (R.rest reader.new) (R.reads_made reader.new) (R.has_failed reader.new)
+        (W.gained writer.old) (W.gained writer.new) (W.has_failed writer.new))
         (kept_of flight.old) (kept_of flight.new)) }
-    ensures halts { IfErr result (Halts (record { left = R.rest reader.old; left_after = R.rest reader.new; reads = R.reads_made reader.new;
-        read_fails = R.has_failed reader.new; gained = W.gained writer.old; gained_after = W.gained writer.new; write_fails = W.has_failed writer.new })
+    ensures halts { IfErr result (Halts (devices (R.rest reader.old) (R.rest reader.new) (R.reads_made reader.new) (R.has_failed reader.new)
+        (W.gained writer.old) (W.gained writer.new) (W.has_failed writer.new))
         (kept_of flight.old)) }
     ensures bounded { R.reads_made reader.new ≤ MOST_READS }
     ensures counted { R.reads_made reader.old ≤ R.reads_made reader.new }
@@ -89,8 +89,8 @@ pub fn fly<R: ByteSource, W: ByteSink>(
     requires unread { R.reads_made reader.old ≡ 0 }
     requires readable { R.has_failed reader.old ≡ false }
     requires writable { W.has_failed writer.old ≡ false }
-    ensures { IsOutcome (output_from (kept_of flight.old)) (record { left = R.rest reader.old; left_after = R.rest reader.new; reads = R.reads_made reader.new;
-        read_fails = R.has_failed reader.new; gained = W.gained writer.old; gained_after = W.gained writer.new; write_fails = W.has_failed writer.new }) result }
+    ensures { IsOutcome (output_from (kept_of flight.old)) (devices (R.rest reader.old) (R.rest reader.new) (R.reads_made reader.new) (R.has_failed reader.new)
+        (W.gained writer.old) (W.gained writer.new) (W.has_failed writer.new)) result }
 {
     laws::stream::front_decides();
     let mut report = Report {

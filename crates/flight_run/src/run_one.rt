@@ -1,0 +1,98 @@
+//! From a rule text and a stream of packets to the bytes of its sequence requests.
+
+ghost use Rattle.std.specs.Prelude.{◌≡◌, false, IfOk};
+ghost use Rattle.rpn_compiler.specs.Lowered.{IsLowered};
+ghost use Rattle.flight_run.specs.Flight.{at_start};
+ghost use Rattle.flight_run.specs.Kept.{kept_of};
+ghost use Rattle.flight_run.specs.Outcome.{devices};
+ghost use Rattle.flight_run.specs.RunOne.{IsRun, WritesWhatIsCalledFor, refusal_of};
+
+use crate::error::{Report, RunError};
+use crate::flight::Flight;
+use crate::intake::LONGEST_BODY;
+use crate::outgoing::Outgoing;
+use crate::run;
+use lc_model::{ByteSink, ByteSource, laws};
+use limit_checker::LimitChecker;
+use rpn_compiler::{CompileError, Lowered};
+use std::alloc::{AllocError, Global};
+
+/// A Limit Checker with these rules, before its first packet.
+fn ready(alloc: Global, lowered: Lowered) -> Result<Flight, AllocError>
+    requires { IsLowered lowered }
+    ensures { IfOk result (λ flight. kept_of flight ≡ at_start lowered.rules.rules) }
+{
+    laws::equations::lowered_words_run();
+    let mut checker = LimitChecker::new(alloc)?;
+    checker.set(lowered);
+    Ok(Flight { checker, count: 0 })
+}
+
+/// The answer where the text, the only one, has no compiled form.
+fn refusal(error: CompileError) -> RunError
+    ensures { result ≡ refusal_of error }
+{
+    match error {
+        CompileError::Memory => RunError::Memory,
+        error => RunError::Compile { text: 0, error },
+    }
+}
+
+/// Compiles, takes all memory, and then handles all records.
+fn compile_and_fly<R: ByteSource, W: ByteSink>(
+    alloc: Global,
+    text: &[u8],
+    reader: &mut R,
+    writer: &mut W,
+) -> Result<Report, RunError>
+    requires unread { R.reads_made reader.old ≡ 0 }
+    requires readable { R.has_failed reader.old ≡ false }
+    requires writable { W.has_failed writer.old ≡ false }
+    ensures { IsRun text.now (devices (R.rest reader.old) (R.rest reader.new) (R.reads_made reader.new) (R.has_failed reader.new)
+        (W.gained writer.old) (W.gained writer.new) (W.has_failed writer.new)) result }
+{
+    laws::reading::rules_are_within_ranges();
+    laws::limit_checker::limit_checker_agrees_on_texts();
+    laws::limit_checker::halves_are_sensible();
+    let lowered = match rpn_compiler::lower(alloc, text) {
+        Ok(lowered) => lowered,
+        Err(error) => return Err(refusal(error)),
+    };
+    let mut flight = ready(alloc, lowered)?;
+    let mut outgoing = Outgoing::new(alloc)?;
+    let mut buffer = vec![in alloc; 0; LONGEST_BODY]?;
+    run::fly(&mut flight, buffer.as_mut_slice(), &mut outgoing, reader, writer)
+}
+
+/// Compiles a rule text, and handles the packets of a stream by its rules from the start: each sequence request that they
+/// call for is written as a command packet (message id 0x18A9, code 4, the sequence's number, checksum, sequence count).
+///
+/// The stream is records of 11 bytes of header (kind 1, seconds, subseconds, length) and a packet. A packet with a fault,
+/// and every packet but telemetry and an accepted sample request, leads to nothing.
+///
+/// The text is compiled first, and all memory taken, before anything is read. At most 2^32 reads are made, of at most
+/// 65,547 bytes each; a read or a write that fails is not tried again. What was written before a fault stands.
+///
+/// Errors: `Compile` for a text that is none of one comparison (text 0), `Memory` before the first read; then `BadRecord`
+/// and `Truncated` with the record's number from 1, `Read`, `Write` with the bytes that the writer took, `ReadBound`.
+pub fn run_one<R: ByteSource, W: ByteSink>(
+    alloc: Global,
+    text: &[u8],
+    reader: &mut R,
+    writer: &mut W,
+) -> Result<Report, RunError>
+    requires unread { R.reads_made reader.old ≡ 0 }
+    requires readable { R.has_failed reader.old ≡ false }
+    requires writable { W.has_failed writer.old ≡ false }
+
+    // How the run ends and what it leaves, for every text and every stream.
+    ensures run { IsRun text.now (devices (R.rest reader.old) (R.rest reader.new) (R.reads_made reader.new) (R.has_failed reader.new)
+        (W.gained writer.old) (W.gained writer.new) (W.has_failed writer.new)) result }
+
+    // Where nothing fails: exactly the bytes that the rules call for, for every stream.
+    ensures theorem { WritesWhatIsCalledFor text.now (devices (R.rest reader.old) (R.rest reader.new) (R.reads_made reader.new) (R.has_failed reader.new)
+        (W.gained writer.old) (W.gained writer.new) (W.has_failed writer.new)) result }
+{
+    laws::reading::reads_in_one_way();
+    compile_and_fly(alloc, text, reader, writer)
+}
