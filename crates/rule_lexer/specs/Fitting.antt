@@ -1,0 +1,99 @@
+-- Which kinds of tokens are of which classes of the grammar. This project's own.
+use Rattle.std.specs.Prelude.{ℕ, Bool, true, false, ◌&&◌, IsTrue, List, Option, Some, None, codes, bytes_eq}
+use Rattle.lc_model.specs.declared.field.FieldType.TheVariants.{U8, I8, U16Be, U16Le, I16Be, I16Le, U32Be, U32Le, I32Be, I32Le}
+use Rattle.lc_model.specs.declared.field.CmpOp.TheVariants.{Less, LessOrEqual, NotEqual, Equal, GreaterOrEqual, Greater}
+use Rattle.lc_model.specs.declared.mode.ApMode.TheVariants.{Active, Passive, Disabled, PermOff}
+use Rattle.lc_model.specs.declared.rule.EventKind.TheVariants.{Debug, Information, Error, Critical}
+use Rattle.lc_model.specs.Text.Token.{is_word, is_sign}
+use Rattle.lc_model.specs.Text.Class as class
+use Rattle.lc_model.specs.Text.Class.{Class, is_reserved}
+use Rattle.rule_lexer.specs.declared.token.TokenKind.{TokenKind}
+use Rattle.rule_lexer.specs.declared.token.TokenKind.TheVariants.{Packet, Field, Rule, Mid, Length, At, Mask, Stale, Fails, Sequence, Event, Report, When, Or, Xor, And, Not, FieldKind, State, Level, Name, Number, Text, Equals, Semicolon, Open, Close, Compare}
+
+-- the one text of a kind; names, numbers and strings have many
+abbrev pub spelling : TokenKind → Option (List ℕ)
+spelling Packet = Some (codes "packet")
+spelling Field = Some (codes "field")
+spelling Rule = Some (codes "rule")
+spelling Mid = Some (codes "mid")
+spelling Length = Some (codes "length")
+spelling At = Some (codes "at")
+spelling Mask = Some (codes "mask")
+spelling Stale = Some (codes "stale")
+spelling Fails = Some (codes "fails")
+spelling Sequence = Some (codes "sequence")
+spelling Event = Some (codes "event")
+spelling Report = Some (codes "report")
+spelling When = Some (codes "when")
+spelling Or = Some (codes "or")
+spelling Xor = Some (codes "xor")
+spelling And = Some (codes "and")
+spelling Not = Some (codes "not")
+spelling (FieldKind U8) = Some (codes "u8")
+spelling (FieldKind I8) = Some (codes "i8")
+spelling (FieldKind U16Be) = Some (codes "u16be")
+spelling (FieldKind U16Le) = Some (codes "u16le")
+spelling (FieldKind I16Be) = Some (codes "i16be")
+spelling (FieldKind I16Le) = Some (codes "i16le")
+spelling (FieldKind U32Be) = Some (codes "u32be")
+spelling (FieldKind U32Le) = Some (codes "u32le")
+spelling (FieldKind I32Be) = Some (codes "i32be")
+spelling (FieldKind I32Le) = Some (codes "i32le")
+spelling (State Active) = Some (codes "active")
+spelling (State Passive) = Some (codes "passive")
+spelling (State Disabled) = Some (codes "disabled")
+spelling (State PermOff) = None
+spelling (Level Debug) = Some (codes "debug")
+spelling (Level Information) = Some (codes "info")
+spelling (Level Error) = Some (codes "error")
+spelling (Level Critical) = Some (codes "critical")
+spelling Name = None
+spelling (Number value) = None
+spelling Text = None
+spelling Equals = Some (codes "=")
+spelling Semicolon = Some (codes ";")
+spelling Open = Some (codes "(")
+spelling Close = Some (codes ")")
+spelling (Compare Less) = Some (codes "<")
+spelling (Compare LessOrEqual) = Some (codes "<=")
+spelling (Compare NotEqual) = Some (codes "!=")
+spelling (Compare Equal) = Some (codes "==")
+spelling (Compare GreaterOrEqual) = Some (codes ">=")
+spelling (Compare Greater) = Some (codes ">")
+
+-- the text passes, where there is one
+abbrev passes : (List ℕ → Bool) → Option (List ℕ) → Bool
+passes test (Some text) = test text
+passes test None = false
+
+-- whether the tokens of the kind are of the class
+abbrev pub kind_fits : Class → TokenKind → Bool
+kind_fits class.Item Packet = true
+kind_fits class.Item Field = true
+kind_fits class.Item Rule = true
+kind_fits class.Item kind = false
+kind_fits class.Name Name = true
+kind_fits class.Name kind = false
+kind_fits class.Number (Number value) = true
+kind_fits class.Number kind = false
+kind_fits class.Text Text = true
+kind_fits class.Text kind = false
+kind_fits class.FieldKind (FieldKind type) = true
+kind_fits class.FieldKind kind = false
+kind_fits class.State (State mode) = true
+kind_fits class.State kind = false
+kind_fits class.Level (Level level) = true
+kind_fits class.Level kind = false
+kind_fits class.Operand Not = true
+kind_fits class.Operand Open = true
+kind_fits class.Operand Name = true
+kind_fits class.Operand kind = false
+kind_fits class.Compare (Compare op) = true
+kind_fits class.Compare kind = false
+kind_fits (class.Word letters) kind = passes (λ text. is_word text && bytes_eq letters text) (spelling kind)
+kind_fits (class.Sign letters) kind = passes (λ text. is_sign text && bytes_eq letters text) (spelling kind)
+
+-- the words that the grammar wants are reserved
+abbrev pub IsOfGrammar : Class → Type 0
+IsOfGrammar (class.Word letters) = IsTrue (is_reserved letters)
+IsOfGrammar other = Unit {0}
