@@ -1,0 +1,4 @@
+-- What the parser's contracts cite.
+pub mod Fault
+pub mod Syntax
+pub mod Front

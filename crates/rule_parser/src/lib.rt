@@ -1,0 +1,9 @@
+//! The parser of rule texts: a text that is one packet, one field of it and one rule with one comparison becomes its rule.
+//! From tokens to items, and from items to what they mean, are two parts, and neither does the other's work.
+#![tactic(auto)]
+
+mod cursor;
+mod error;
+mod syntax;
+
+pub use error::ParseError;
