@@ -1,8 +1,11 @@
 -- What stands in front of some tokens. This project's own.
-use Rattle.std.specs.Prelude.{◌≡◌, ℕ, Bool, true, false, if◌then◌else◌, List, [], ◌∷◌, Option, Some, None}
+use Rattle.std.specs.Prelude.{◌≡◌, ℕ, Bool, true, false, if◌then◌else◌, List, [], ◌∷◌, Option, Some, None, option_map}
 use Rattle.lc_model.specs.Text.Token as model
+use Rattle.lc_model.specs.Text.Token.{string_text}
 use Rattle.lc_model.specs.Text.Class as class
 use Rattle.lc_model.specs.Text.Class.{Class, word, sign, fits}
+use Rattle.lc_model.specs.Text.Grammar.{number_of}
+use Rattle.lc_model.specs.Text.Syntax as syntax
 use Rattle.rule_lexer.specs.Fitting.{IsOfGrammar, kind_fits}
 use Rattle.rule_lexer.specs.Token.{token_of, HasItsKind}
 use Rattle.rule_lexer.specs.declared.token.Token.{Token}
@@ -76,3 +79,38 @@ Gives view after None read = read ≡ None
 unfoldable pub token_at : Class → List model.Token → Option (model.Token × List model.Token)
 token_at wanted [] = None
 token_at wanted (t ∷ ts) = if fits wanted t.text then Some (t, ts) else None
+
+-- a token of the class that reads a value
+unfoldable pub value_at : {A : Type 0} → Class → (List ℕ → Option A) → List model.Token → Option (A × List model.Token)
+value_at wanted read tokens = do
+  t ← token_at wanted tokens
+  v ← read t.0.text
+  Some (v, t.1)
+
+-- a number
+unfoldable pub number_at : List model.Token → Option (syntax.Number × List model.Token)
+number_at tokens = do
+  t ← token_at class.Number tokens
+  Some (number_of t.0, t.1)
+
+-- what stands between the quotes of a string
+unfoldable pub string_at : List model.Token → Option (List ℕ × List model.Token)
+string_at tokens = do
+  t ← token_at class.Text tokens
+  Some (string_text t.0.text, t.1)
+
+-- a word and a number
+unfoldable pub labelled_at : Class → List model.Token → Option (syntax.Number × List model.Token)
+labelled_at wanted tokens = do
+  w ← token_at wanted tokens
+  number_at w.1
+
+-- whether a token of the class is the first
+unfoldable pub begins : Class → List model.Token → Bool
+begins wanted [] = false
+begins wanted (t ∷ ts) = fits wanted t.text
+
+-- a word and a number, or nothing
+unfoldable pub option_at : Class → List model.Token → Option (Option syntax.Number × List model.Token)
+option_at wanted tokens =
+    if begins wanted tokens then option_map (λ n. (Some n.0, n.1)) (labelled_at wanted tokens) else Some (None, tokens)

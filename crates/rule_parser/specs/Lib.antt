@@ -2,3 +2,4 @@
 pub mod Fault
 pub mod Syntax
 pub mod Front
+pub mod Items

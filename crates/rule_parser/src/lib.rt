@@ -4,6 +4,7 @@
 
 mod cursor;
 mod error;
+mod items;
 mod syntax;
 
 pub use error::ParseError;

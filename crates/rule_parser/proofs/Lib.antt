@@ -1,0 +1,2 @@
+pub mod PlainKinds
+pub mod Fronts
