@@ -1,30 +1,151 @@
 -- What stands in front of tokens, by the kind of the first.
-use Rattle.std.proofs.Common.{◌≡◌, refl, sym, ◌∙◌, ap, ℕ, zero, suc, get_or, drop, arith, add-one, ◌+◌, ◌<◌, Bool, true, false, cond, List, [], ◌∷◌, length, Option, Some, None}
+use Rattle.std.proofs.Common.{◌≡◌, refl, sym, ◌∙◌, ap, subst, ℕ, zero, suc, ◌+◌, ◌-◌, ◌<◌, ◌≤◌, Bool, true, false, cond, ◌&&◌, ◌==◌, ltb, List, [], ◌∷◌, All, length, get_or, take, drop, Option, Some, None, ℤ, is_some, arith, add-one}
+use Rattle.std.specs.Prelude.{nat_le, slice_range}
+use Rattle.std.proofs.Math.Seq.{drop-cons}
+use Rattle.std.proofs.lemmas.List.{drop_all}
+use Rattle.std.proofs.lemmas.Option.{some_pair_parts}
+use Rattle.std.proofs.lemmas.Bool.Decides.{nat_tests}
 use Rattle.lc_model.specs.Text.Token as model
+use Rattle.lc_model.specs.Text.Token.{is_string, is_closed, string_text, number}
+use Rattle.lc_model.specs.Text.Class as class
 use Rattle.lc_model.specs.Text.Class.{Class, fits}
+use Rattle.lc_model.specs.Text.Syntax as syntax
+use Rattle.lc_model.specs.declared.field.FieldType.{FieldType}
+use Rattle.lc_model.specs.declared.field.CmpOp.{CmpOp}
+use Rattle.lc_model.specs.declared.mode.ApMode.{ApMode}
+use Rattle.lc_model.specs.declared.rule.EventKind.{EventKind}
+use Rattle.rule_lexer.specs.Laws.{KindsDecideClasses}
 use Rattle.rule_lexer.specs.Fitting.{IsOfGrammar, kind_fits}
-use Rattle.rule_lexer.specs.Token.{token_of}
+use Rattle.rule_lexer.specs.Token.{token_of, tokens_of, HasItsKind, IsKind}
 use Rattle.rule_lexer.specs.declared.token.Token.{Token}
-use Rattle.rule_parser.specs.Front.{IsNext, token_at}
+use Rattle.rule_lexer.specs.declared.token.TokenKind.{TokenKind}
+use Rattle.rule_lexer.specs.declared.token.TokenKind.TheVariants.{FieldKind, State, Level, Number, Compare}
+use Rattle.rule_parser.specs.Front.{IsNext, begins, number_at, token_at, value_at}
+
+-- ---- places in the list
+
+-- one more token is read
+drop_first : (tokens : List Token) (n : ℕ) (t : Token) → n < length tokens → ((d : Token) → t ≡ get_or tokens n d) →
+    drop n tokens ≡ t ∷ drop (n + 1) tokens
+drop_first tokens n t within is =
+    drop-cons tokens n t within ∙ ap (λ x. x ∷ drop (suc n) tokens) (sym (is t)) ∙ ap (λ k. t ∷ drop k tokens) (sym (add-one n))
+
+pub is_next : (tokens : List Token) (n : ℕ) (t : Token) → KindsDecideClasses → All HasItsKind tokens →
+    n < length tokens → ((d : Token) → t ≡ get_or tokens n d) →
+    IsNext (tokens_of (drop n tokens)) (tokens_of (drop (n + 1) tokens)) (Some t)
+is_next tokens n t law kinds within is =
+    (ap tokens_of (drop_first tokens n t within is), record { kind = kind; classes = λ wanted grammar. law wanted t.kind t.text.now grammar kind })
+  where
+    kind : HasItsKind t
+    kind = subst HasItsKind (sym (is t)) (kinds n t within)
+
+pub none_left : (tokens : List Token) (n : ℕ) → false ≡ ltb n (length tokens) → tokens_of (drop n tokens) ≡ []
+none_left tokens n past = ap tokens_of (drop_all n tokens (grind (arith, nat_tests, past)))
+
+-- ---- tokens
 
 pub nothing_at : (wanted : Class) (before : List model.Token) → before ≡ [] → token_at wanted before ≡ None
 unfolding token_at
 nothing_at wanted before e = ap (token_at wanted) e
 
--- the first token is taken exactly where its kind is of the class
-pub first_at : (wanted : Class) (before after : List model.Token) (t : Token) → IsOfGrammar wanted → IsNext before after (Some t) →
-    token_at wanted before ≡ cond (kind_fits wanted t.kind) (Some (token_of t, after)) None
-unfolding token_at
-first_at wanted before after t grammar next =
-    ap (token_at wanted) next.0 ∙ ap (λ b. cond b (Some (token_of t, after)) None) (next.1.classes wanted grammar)
+pub begins_at_end : (wanted : Class) (before : List model.Token) → before ≡ [] → begins wanted before ≡ false
+unfolding begins
+begins_at_end wanted before e = ap (begins wanted) e
 
+pub begins_first : (wanted : Class) (before after : List model.Token) (t : Token) → IsOfGrammar wanted → IsNext before after (Some t) →
+    begins wanted before ≡ kind_fits wanted t.kind
+unfolding begins
+begins_first wanted before after t grammar next = ap (begins wanted) next.0 ∙ next.1.classes wanted grammar
+
+-- the first token is taken exactly where its kind is of the class
 pub taken_at : (wanted : Class) (before after : List model.Token) (t : Token) → IsOfGrammar wanted → IsNext before after (Some t) →
     (b : Bool) → kind_fits wanted t.kind ≡ b → token_at wanted before ≡ cond b (Some (token_of t, after)) None
-taken_at wanted before after t grammar next b e = first_at wanted before after t grammar next ∙ ap (λ b. cond b (Some (token_of t, after)) None) e
+unfolding token_at
+taken_at wanted before after t grammar next b e =
+    ap (token_at wanted) next.0 ∙ ap (λ b. cond b (Some (token_of t, after)) None) (next.1.classes wanted grammar ∙ e)
 
--- one more token is read
-pub drop_first : (tokens : List Token) (n : ℕ) (t : Token) → n < length tokens → ((d : Token) → t ≡ get_or tokens n d) →
-    drop n tokens ≡ t ∷ drop (n + 1) tokens
-drop_first [] n t within is = absurd (omega arith)
-drop_first (x ∷ xs) zero t within is = let same : t ≡ x = is t in rw same refl
-drop_first (x ∷ xs) (suc n) t within is = rw add-one (drop_first xs n t (omega arith) is)
+-- a token that is taken is of the class
+pub token_takes : (wanted : Class) (before after : List model.Token) (t : model.Token) → token_at wanted before ≡ Some (t, after) →
+    (before ≡ t ∷ after) × (fits wanted t.text ≡ true)
+unfolding token_at
+token_takes wanted [] after t e = absurd (cc e)
+token_takes wanted (u ∷ us) after t e = step (fits wanted u.text) refl e
+  where
+    step : (b : Bool) → fits wanted u.text ≡ b → cond {A = Option (model.Token × List model.Token)} b (Some (u, us)) None ≡ Some (t, after) →
+        (u ∷ us ≡ t ∷ after) × (fits wanted t.text ≡ true)
+    step false is e = absurd (cc e)
+    step true is e =
+        let parts : (u ≡ t) × (us ≡ after) = some_pair_parts u t us after e in
+        (λ i. parts.0 i ∷ parts.1 i, ap (λ (x : model.Token). fits wanted x.text) (sym parts.0) ∙ is)
+
+-- ---- values
+
+pub no_value_at_end : {A : Type 0} (wanted : Class) (read : List ℕ → Option A) (before : List model.Token) → before ≡ [] → value_at wanted read before ≡ None
+unfolding value_at
+no_value_at_end wanted read before e = rw (nothing_at wanted before e) refl
+
+pub no_value : {A : Type 0} (wanted : Class) (read : List ℕ → Option A) (before after : List model.Token) (t : Token) → IsOfGrammar wanted →
+    IsNext before after (Some t) → kind_fits wanted t.kind ≡ false → value_at wanted read before ≡ None
+unfolding value_at
+no_value wanted read before after t grammar next e = rw (taken_at wanted before after t grammar next false e) refl
+
+pub value_taken : {A : Type 0} (wanted : Class) (read : List ℕ → Option A) (before after : List model.Token) (t : Token) → IsOfGrammar wanted →
+    IsNext before after (Some t) → (kind : TokenKind) (v : A) → t.kind ≡ kind → kind_fits wanted kind ≡ true →
+    (IsKind kind t.text.now → read t.text.now ≡ Some v) → value_at wanted read before ≡ Some (v, after)
+unfolding value_at
+value_taken wanted read before after t grammar next kind v is fit reads =
+    let taken : token_at wanted before ≡ Some (token_of t, after) =
+    taken_at wanted before after t grammar next true (ap (kind_fits wanted) is ∙ fit) in
+    let value : read t.text.now ≡ Some v = reads (subst (λ kind. IsKind kind t.text.now) is next.1.kind) in
+    rw (taken, value) refl
+
+pub no_number_at_end : (before : List model.Token) → before ≡ [] → number_at before ≡ None
+unfolding number_at
+no_number_at_end before e = rw (nothing_at class.Number before e) refl
+
+pub no_number : (before after : List model.Token) (t : Token) → IsNext before after (Some t) → kind_fits class.Number t.kind ≡ false → number_at before ≡ None
+unfolding number_at
+no_number before after t next e = rw (taken_at class.Number before after t tt next false e) refl
+
+pub number_taken : (before after : List model.Token) (t : Token) → IsNext before after (Some t) → (value : ℤ) → t.kind ≡ Number value →
+    number_at before ≡ Some (record { at = t.at; value = value }, after)
+unfolding number_at
+number_taken before after t next value is =
+    let taken : token_at class.Number before ≡ Some (token_of t, after) =
+    taken_at class.Number before after t tt next true (ap (kind_fits class.Number) is) in
+    let read : number t.text.now ≡ Some value = subst (λ kind. IsKind kind t.text.now) is next.1.kind in
+    rw (taken, read) refl
+
+-- ---- other kinds
+
+pub is_no_number : (kind : TokenKind) → ((x : ℤ) → kind ≡ Number x → ⊥) → kind_fits class.Number kind ≡ false
+is_no_number (Number x) other = absurd (other x refl)
+is_no_number kind other = refl
+
+pub is_no_type : (kind : TokenKind) → ((x : FieldType) → kind ≡ FieldKind x → ⊥) → kind_fits class.FieldKind kind ≡ false
+is_no_type (FieldKind x) other = absurd (other x refl)
+is_no_type kind other = refl
+
+pub is_no_state : (kind : TokenKind) → ((x : ApMode) → kind ≡ State x → ⊥) → kind_fits class.State kind ≡ false
+is_no_state (State x) other = absurd (other x refl)
+is_no_state kind other = refl
+
+pub is_no_level : (kind : TokenKind) → ((x : EventKind) → kind ≡ Level x → ⊥) → kind_fits class.Level kind ≡ false
+is_no_level (Level x) other = absurd (other x refl)
+is_no_level kind other = refl
+
+pub is_no_comparison : (kind : TokenKind) → ((x : CmpOp) → kind ≡ Compare x → ⊥) → kind_fits class.Compare kind ≡ false
+is_no_comparison (Compare x) other = absurd (other x refl)
+is_no_comparison kind other = refl
+
+-- ---- strings
+
+-- a string has its two quotes
+pub has_quotes : (text : List ℕ) → is_string text ≡ true → 2 ≤ length text
+has_quotes [] e = absurd (cc e)
+has_quotes (c ∷ []) e = absurd (never (c == 34) _ e)
+  where
+    never : (b d : Bool) → (b && false && d) ≡ true → ⊥
+    never true d e = cc e
+    never false d e = cc e
+has_quotes (c ∷ d ∷ ds) e = omega arith

@@ -1,6 +1,7 @@
 //! A place between the tokens of a text, and what stands behind it.
 
-ghost use Rattle.std.specs.Prelude.{◌≡◌, All, IsTrue, option_map};
+ghost use Rattle.std.specs.Prelude.{◌≡◌, ◌≤◌, All, IsTrue, length, option_map};
+ghost use Rattle.lc_model.specs.Text.Token.{string_text};
 ghost use Rattle.lc_model.specs.Text.Class as class;
 ghost use Rattle.lc_model.specs.Text.Class.{comparison, event_kind, field_type, state};
 ghost use Rattle.rule_lexer.specs.Token.{tokens_of, token_of, HasItsKind};
@@ -12,6 +13,14 @@ use lc_model::{ApMode, CmpOp, EventKind, FieldType};
 use rule_lexer::laws::kinds_decide_classes;
 use rule_lexer::{Token, TokenKind};
 use std::marker::Model;
+
+/// What stands between the first byte and the last.
+fn inner<'a>(text: &'a [u8]) -> &'a [u8]
+    requires { 2 ≤ length text.now }
+    ensures { result.now ≡ string_text text.now }
+{
+    &text[1..text.len() - 1]
+}
 
 /// The tokens that aren't read yet. Contracts see them as the text's parts that are left. A step that answers `None` may
 /// have read a token: nothing is read behind it.
@@ -100,7 +109,8 @@ impl<'t, 'a> Cursor<'t, 'a> {
     pub fn field_type(&mut self) -> Option<FieldType>
         ensures { Gives (λ kind. kind) self.new result (value_at class.FieldKind field_type self.old) }
     {
-        match self.next()?.kind {
+        let token = self.next()?;
+        match token.kind {
             TokenKind::FieldKind(kind) => Some(kind),
             _ => None,
         }
@@ -109,7 +119,8 @@ impl<'t, 'a> Cursor<'t, 'a> {
     pub fn state(&mut self) -> Option<ApMode>
         ensures { Gives (λ mode. mode) self.new result (value_at class.State state self.old) }
     {
-        match self.next()?.kind {
+        let token = self.next()?;
+        match token.kind {
             TokenKind::State(mode) => Some(mode),
             _ => None,
         }
@@ -118,7 +129,8 @@ impl<'t, 'a> Cursor<'t, 'a> {
     pub fn level(&mut self) -> Option<EventKind>
         ensures { Gives (λ kind. kind) self.new result (value_at class.Level event_kind self.old) }
     {
-        match self.next()?.kind {
+        let token = self.next()?;
+        match token.kind {
             TokenKind::Level(kind) => Some(kind),
             _ => None,
         }
@@ -127,21 +139,24 @@ impl<'t, 'a> Cursor<'t, 'a> {
     pub fn comparison(&mut self) -> Option<CmpOp>
         ensures { Gives (λ op. op) self.new result (value_at class.Compare comparison self.old) }
     {
-        match self.next()?.kind {
+        let token = self.next()?;
+        match token.kind {
             TokenKind::Compare(op) => Some(op),
             _ => None,
         }
     }
 
     /// What stands between the quotes of a string.
+    #[tactic(auto, unfolding(crate::specs::Front::string_at))]
     pub fn string(&mut self) -> Option<&'a [u8]>
         ensures { Gives (λ text. text.now) self.new result (string_at self.old) }
     {
         let text = self.take(TokenKind::Text)?.text;
-        Some(&text[1..text.len() - 1])
+        Some(inner(text))
     }
 
     /// A reserved word and a number.
+    #[tactic(auto, unfolding(crate::specs::Front::labelled_at))]
     pub fn labelled(&mut self, word: TokenKind) -> Option<Number>
         requires { IsTrue (is_plain word) }
         ensures { Gives number_of self.new result (labelled_at (class_of word) self.old) }
@@ -151,6 +166,7 @@ impl<'t, 'a> Cursor<'t, 'a> {
     }
 
     /// A reserved word and a number, or nothing where the word doesn't stand next.
+    #[tactic(auto, unfolding(crate::specs::Front::option_at))]
     pub fn optional(&mut self, word: TokenKind) -> Option<Option<Number>>
         requires { IsTrue (is_plain word) }
         ensures { Gives (option_map number_of) self.new result (option_at (class_of word) self.old) }

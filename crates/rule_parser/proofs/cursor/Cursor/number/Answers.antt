@@ -1,0 +1,19 @@
+use Rattle.std.proofs.Common.{◌≡◌, ◌∙◌, ap, Some, arith}
+use Rattle.std.proofs.lemmas.Int.{ints}
+use mir.Val.{to_z, of_z}
+use mir.Syntax.{w64}
+use Rattle.rule_parser.proofs.Fronts.{no_number_at_end, no_number, number_taken, is_no_number}
+use Rattle.rule_parser.proofs.cursor.Cursor.number.Goals as goal
+
+pub returns-in_err-token : goal.returns-in_err-token
+returns-in_err-token c = rw c.from_residual.ensures (no_number_at_end _ c.in_err-token.ensures)
+
+pub returns-in-Number : goal.returns-in-Number
+returns-in-Number c =
+    let same : c.in-Number.value ≡ to_z w64 (of_z w64 c.in-Number.value) = omega (arith, ints) in
+    number_taken _ _ c.in_ok-token.token c.in_ok-token.ensures _ c.in-Number.is
+    ∙ ap (λ z. Some (record { at = c.in_ok-token.token.at; value = z }, c.next.new.self)) same
+
+pub returns-in_default : goal.returns-in_default
+returns-in_default c =
+    no_number _ _ c.in_ok-token.token c.in_ok-token.ensures (is_no_number c.in_ok-token.token.kind c.in_default.not-Number)
