@@ -1,2 +1,4 @@
 pub mod PlainKinds
 pub mod Fronts
+pub mod Taken
+pub mod Again

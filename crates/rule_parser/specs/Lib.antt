@@ -3,3 +3,4 @@ pub mod Fault
 pub mod Syntax
 pub mod Front
 pub mod Items
+pub mod Reading

@@ -1,0 +1,1 @@
+-- What derives from tokens is read in front of them.
