@@ -12,12 +12,13 @@ use Rattle.lc_model.specs.Text.Syntax.{Item}
 use Rattle.lc_model.specs.Text.Class as class
 use Rattle.lc_model.specs.Text.Class.{Class, word, sign, fits, Fits, Phrase, done, next, field_type, state, event_kind, comparison}
 use Rattle.lc_model.specs.Text.Grammar as grammar
-use Rattle.lc_model.specs.Text.Grammar.{Derives, DerivesItem, DerivesOption, DerivesReport, number_of, packet_phrase, field_phrase, rule_phrase}
+use Rattle.lc_model.specs.Text.Grammar.{Derives, DerivesItem, DerivesOption, DerivesReport, DerivesFile, number_of, packet_phrase, field_phrase, rule_phrase}
 use Rattle.std.specs.Prelude.{is_none}
-use Rattle.lc_model.specs.Text.Reading.{is_comparison}
+use Rattle.std.proofs.lemmas.List.Sums.{count_by-le-length}
+use Rattle.lc_model.specs.Text.Reading.{is_comparison, nests, IsShallow}
 use Rattle.rule_parser.specs.Front.{◌>>=◌, begins, token_at, value_at, number_at, string_at, labelled_at, option_at}
-use Rattle.rule_parser.specs.Items.{packet_at, field_at, comparison_at, rule_at}
-use Rattle.rule_parser.specs.Reading.{opens}
+use Rattle.rule_parser.specs.Items.{packet_at, field_at, comparison_at, rule_at, items_at, at_end}
+use Rattle.rule_parser.specs.Reading.{opens, ParsesOneComparison}
 use Rattle.rule_parser.proofs.Fronts.{token_takes}
 
 -- ---- steps
@@ -320,3 +321,39 @@ rule_takes before x e =
       unreported = refl;
       compares = ap is_comparison m.says;
     })))))))))))))
+
+-- ---- the three items
+
+both_true : (a b : Bool) → a ≡ true → b ≡ true → (a && b) ≡ true
+both_true true b p q = q
+both_true false b p q = absurd (cc p)
+
+few_shallow : (tokens : List Token) → length tokens ≤ 64 → IsShallow tokens
+few_shallow tokens few front inside back w parts is_when closed =
+    omega (arith, few, count_by-le-length nests inside, length-append (front ++ w ∷ inside) back, length-append front (w ∷ inside), ap length parts)
+
+ended : (items found : List Item) (rest : List Token) → at_end items rest ≡ Some found → (rest ≡ []) × (items ≡ found)
+ended items found [] e = (refl, some_is items found e)
+ended items found (t ∷ ts) e = absurd (cc e)
+
+pub items_take : (tokens : List Token) (items : List Item) → items_at tokens ≡ Some items → ParsesOneComparison tokens items
+unfolding items_at
+items_take tokens items e =
+    some (packet_at tokens) _ _ e (λ p is1 e1.
+    some (field_at p.1) _ _ e1 (λ f is2 e2.
+    some (rule_at f.1) _ _ e2 (λ r is3 e3.
+    let a = packet_takes tokens p is1 in
+    let b = field_takes p.1 f is2 in
+    let c = rule_takes f.1 r is3 in
+    let last = ended _ items r.1 e3 in
+    let parts : tokens ≡ a.front ++ (b.front ++ (c.item.front ++ [])) =
+    a.whole ∙ ap (λ ts. a.front ++ ts) (b.whole ∙ ap (λ ts. b.front ++ ts) (c.item.whole ∙ ap (λ ts. c.item.front ++ ts) last.0)) in
+    let few : Few tokens 36 = subst (λ ts. Few ts 36) (sym parts) (few_append a.few (few_append b.few (few_append c.item.few few_none))) in
+    let file : DerivesFile (a.front ++ (b.front ++ (c.item.front ++ []))) (syntax.Packet p.0 ∷ syntax.Field f.0 ∷ syntax.Rule r.0 ∷ []) =
+    DerivesFile.next a.derives (DerivesFile.next b.derives (DerivesFile.next c.item.derives DerivesFile.done)) in
+    let short = few.short in
+    subst (ParsesOneComparison tokens) last.1 (record {
+      plain = few.closed;
+      parses = (subst (λ ts. DerivesFile ts (syntax.Packet p.0 ∷ syntax.Field f.0 ∷ syntax.Rule r.0 ∷ [])) (sym parts) file, few_shallow tokens (omega arith));
+      one = both_true _ _ c.unreported c.compares;
+    }))))
