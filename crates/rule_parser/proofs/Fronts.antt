@@ -1,12 +1,12 @@
 -- What stands in front of tokens, by the kind of the first.
-use Rattle.std.proofs.Common.{◌≡◌, refl, sym, ◌∙◌, ap, subst, ℕ, zero, suc, ◌+◌, ◌-◌, ◌<◌, ◌≤◌, Bool, true, false, cond, ◌&&◌, ◌==◌, ltb, List, [], ◌∷◌, All, length, get_or, take, drop, Option, Some, None, ℤ, is_some, arith, add-one}
-use Rattle.std.specs.Prelude.{nat_le, slice_range}
+use Rattle.std.proofs.Common.{◌≡◌, refl, sym, ◌∙◌, ap, subst, ℕ, zero, suc, ◌+◌, ◌-◌, ◌<◌, ◌≤◌, ◌^◌, Bool, true, false, cond, ◌&&◌, ◌==◌, ltb, List, [], ◌∷◌, All, length, get_or, take, drop, Option, Some, None, option_map, ℤ, is_some, codes, bytes_eq, arith, add-one}
+use Rattle.std.specs.Prelude.{nat_le, nat_lt, nat_abs}
 use Rattle.std.proofs.Math.Seq.{drop-cons}
 use Rattle.std.proofs.lemmas.List.{drop_all}
 use Rattle.std.proofs.lemmas.Option.{some_pair_parts}
 use Rattle.std.proofs.lemmas.Bool.Decides.{nat_tests}
 use Rattle.lc_model.specs.Text.Token as model
-use Rattle.lc_model.specs.Text.Token.{is_string, is_closed, string_text, number}
+use Rattle.lc_model.specs.Text.Token.{is_string, is_closed, string_text, number, magnitude, magnitude_text, with_sign, at_most_32_bits}
 use Rattle.lc_model.specs.Text.Class as class
 use Rattle.lc_model.specs.Text.Class.{Class, fits}
 use Rattle.lc_model.specs.Text.Syntax as syntax
@@ -20,7 +20,7 @@ use Rattle.rule_lexer.specs.Token.{token_of, tokens_of, HasItsKind, IsKind}
 use Rattle.rule_lexer.specs.declared.token.Token.{Token}
 use Rattle.rule_lexer.specs.declared.token.TokenKind.{TokenKind}
 use Rattle.rule_lexer.specs.declared.token.TokenKind.TheVariants.{FieldKind, State, Level, Number, Compare}
-use Rattle.rule_parser.specs.Front.{IsNext, begins, number_at, token_at, value_at}
+use Rattle.rule_parser.specs.Front.{IsNext, is_empty, begins, number_at, token_at, value_at}
 
 -- ---- places in the list
 
@@ -41,6 +41,12 @@ is_next tokens n t law kinds within is =
 
 pub none_left : (tokens : List Token) (n : ℕ) → false ≡ ltb n (length tokens) → tokens_of (drop n tokens) ≡ []
 none_left tokens n past = ap tokens_of (drop_all n tokens (grind (arith, nat_tests, past)))
+
+pub all_read : (tokens : List Token) (n : ℕ) → nat_le (length tokens) n ≡ is_empty (tokens_of (drop n tokens))
+all_read [] zero = refl
+all_read [] (suc n) = grind arith
+all_read (x ∷ xs) zero = grind arith
+all_read (x ∷ xs) (suc n) = let same : nat_le (length (x ∷ xs)) (suc n) ≡ nat_le (length xs) n = grind arith in same ∙ all_read xs n
 
 -- ---- tokens
 
@@ -115,6 +121,26 @@ number_taken before after t next value is =
     taken_at class.Number before after t tt next true (ap (kind_fits class.Number) is) in
     let read : number t.text.now ≡ Some value = subst (λ kind. IsKind kind t.text.now) is next.1.kind in
     rw (taken, read) refl
+
+-- a number that a text writes
+below : (negative : Bool) (o : Option ℕ) (v : ℤ) → option_map (with_sign negative) (at_most_32_bits o) ≡ Some v → nat_abs v < 2 ^ 32
+below negative None v e = absurd (cc e)
+below negative (Some n) v e = step (nat_lt n (2 ^ 32)) refl e
+  where
+    size : (negative : Bool) (n : ℕ) → nat_abs (with_sign negative n) ≡ n
+    size false n = refl
+    size true zero = refl
+    size true (suc n) = refl
+
+    step : (b : Bool) → nat_lt n (2 ^ 32) ≡ b → option_map (with_sign negative) (cond b (Some n) None) ≡ Some v → nat_abs v < 2 ^ 32
+    step false is e = absurd (cc e)
+    step true is e =
+        let same : with_sign negative n ≡ v = cc e in
+        let within : n < 2 ^ 32 = grind (arith, nat_tests, is) in
+        subst (λ v. nat_abs v < 2 ^ 32) same (subst (λ m. m < 2 ^ 32) (sym (size negative n)) within)
+
+pub number_below : (text : List ℕ) (v : ℤ) → number text ≡ Some v → nat_abs v < 2 ^ 32
+number_below text v e = below (bytes_eq (take 1 text) (codes "-")) (magnitude (magnitude_text text)) v e
 
 -- ---- other kinds
 

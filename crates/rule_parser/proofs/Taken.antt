@@ -16,8 +16,8 @@ use Rattle.lc_model.specs.Text.Grammar.{Derives, DerivesItem, DerivesOption, Der
 use Rattle.std.specs.Prelude.{is_none}
 use Rattle.std.proofs.lemmas.List.Sums.{count_by-le-length}
 use Rattle.lc_model.specs.Text.Reading.{is_comparison, nests, IsShallow}
-use Rattle.rule_parser.specs.Front.{◌>>=◌, begins, token_at, value_at, number_at, string_at, labelled_at, option_at}
-use Rattle.rule_parser.specs.Items.{packet_at, field_at, comparison_at, rule_at, items_at, at_end}
+use Rattle.rule_parser.specs.Front.{◌>>=◌, is_empty, begins, token_at, value_at, number_at, string_at, labelled_at, option_at}
+use Rattle.rule_parser.specs.Items.{packet_at, field_at, comparison_at, rule_at, items_at}
 use Rattle.rule_parser.specs.Reading.{opens, ParsesOneComparison}
 use Rattle.rule_parser.proofs.Fronts.{token_takes}
 
@@ -332,7 +332,7 @@ few_shallow : (tokens : List Token) → length tokens ≤ 64 → IsShallow token
 few_shallow tokens few front inside back w parts is_when closed =
     omega (arith, few, count_by-le-length nests inside, length-append (front ++ w ∷ inside) back, length-append front (w ∷ inside), ap length parts)
 
-ended : (items found : List Item) (rest : List Token) → at_end items rest ≡ Some found → (rest ≡ []) × (items ≡ found)
+ended : (items found : List Item) (rest : List Token) → cond (is_empty rest) (Some items) None ≡ Some found → (rest ≡ []) × (items ≡ found)
 ended items found [] e = (refl, some_is items found e)
 ended items found (t ∷ ts) e = absurd (cc e)
 

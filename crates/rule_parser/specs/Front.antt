@@ -75,6 +75,16 @@ abbrev pub Gives : {X Y : Type 0} → (X → Y) → (after : List model.Token) �
 Gives view after (Some x) read = read ≡ Some (view x, after)
 Gives view after None read = read ≡ None
 
+-- the same where no tokens are left
+abbrev pub GivesAll : {X Y : Type 0} → (X → Y) → Option X → Option Y → Type 0
+GivesAll view (Some x) read = read ≡ Some (view x)
+GivesAll view None read = read ≡ None
+
+-- no tokens are left
+abbrev pub is_empty : List model.Token → Bool
+is_empty [] = true
+is_empty (t ∷ ts) = false
+
 -- a token of the class
 unfoldable pub token_at : Class → List model.Token → Option (model.Token × List model.Token)
 token_at wanted [] = None

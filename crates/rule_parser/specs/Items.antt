@@ -4,7 +4,7 @@ use Rattle.lc_model.specs.Text.Token.{Token}
 use Rattle.lc_model.specs.Text.Syntax as syntax
 use Rattle.lc_model.specs.Text.Class as class
 use Rattle.lc_model.specs.Text.Class.{word, sign, field_type, state, event_kind, comparison}
-use Rattle.rule_parser.specs.Front.{◌>>=◌, token_at, value_at, number_at, string_at, labelled_at, option_at}
+use Rattle.rule_parser.specs.Front.{◌>>=◌, is_empty, token_at, value_at, number_at, string_at, labelled_at, option_at}
 
 -- a packet
 unfoldable pub packet_at : List Token → Option (syntax.PacketItem × List Token)
@@ -66,15 +66,10 @@ rule_at tokens = do
     condition = condition.0;
   }, end.1)
 
--- the items, where nothing follows them
-abbrev pub at_end : List syntax.Item → List Token → Option (List syntax.Item)
-at_end items [] = Some items
-at_end items (t ∷ ts) = None
-
 -- a packet, a field and such a rule, and nothing more
 unfoldable pub items_at : List Token → Option (List syntax.Item)
 items_at tokens = do
   p ← packet_at tokens
   f ← field_at p.1
   r ← rule_at f.1
-  at_end (syntax.Packet p.0 ∷ syntax.Field f.0 ∷ syntax.Rule r.0 ∷ []) r.1
+  if is_empty r.1 then Some (syntax.Packet p.0 ∷ syntax.Field f.0 ∷ syntax.Rule r.0 ∷ []) else None

@@ -4,3 +4,4 @@ pub mod Syntax
 pub mod Front
 pub mod Items
 pub mod Reading
+pub mod Soundness

@@ -6,7 +6,7 @@ ghost use Rattle.lc_model.specs.Text.Class as class;
 ghost use Rattle.lc_model.specs.Text.Class.{comparison, event_kind, field_type, state};
 ghost use Rattle.rule_lexer.specs.Token.{tokens_of, token_of, HasItsKind};
 ghost use Rattle.rule_parser.specs.Syntax.{name_of, number_of};
-ghost use Rattle.rule_parser.specs.Front.{Gives, IsNext, begins, class_of, is_plain, labelled_at, number_at, option_at, string_at, token_at, value_at};
+ghost use Rattle.rule_parser.specs.Front.{Gives, IsNext, begins, class_of, is_empty, is_plain, labelled_at, number_at, option_at, string_at, token_at, value_at};
 
 use crate::syntax::{Name, Number};
 use lc_model::{ApMode, CmpOp, EventKind, FieldType};
@@ -50,6 +50,13 @@ impl<'t, 'a> Cursor<'t, 'a> {
         ensures { result ≡ tokens_of tokens.now }
     {
         Cursor { tokens, count: 0 }
+    }
+
+    /// Whether all tokens are read.
+    pub fn is_at_end(&self) -> bool
+        ensures { result ≡ is_empty self.now }
+    {
+        self.count >= self.tokens.len()
     }
 
     /// The next token, if there is one.

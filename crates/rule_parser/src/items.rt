@@ -1,13 +1,16 @@
 //! The items of a text, from its tokens. Nothing is judged but which token follows which.
 
-ghost use Rattle.std.specs.Prelude.{◌≡◌};
-ghost use Rattle.rule_parser.specs.Syntax.{comparison_of, field_of, packet_of, rule_of};
-ghost use Rattle.rule_parser.specs.Front.{Gives};
-ghost use Rattle.rule_parser.specs.Items.{comparison_at, field_at, packet_at, rule_at};
+ghost use Rattle.std.specs.Prelude.{◌≡◌, ℕ, List, All, IfSome, MatchOption};
+ghost use Rattle.lc_model.specs.Text.Syntax.{Item};
+ghost use Rattle.rule_lexer.specs.Token.{tokens_of, HasItsKind};
+ghost use Rattle.rule_parser.specs.Syntax.{comparison_of, field_of, items_of, packet_of, rule_of};
+ghost use Rattle.rule_parser.specs.Front.{Gives, GivesAll};
+ghost use Rattle.rule_parser.specs.Items.{comparison_at, field_at, items_at, packet_at, rule_at};
+ghost use Rattle.rule_parser.specs.Reading.{ParsesOneComparison};
 
 use crate::cursor::Cursor;
-use crate::syntax::{Comparison, FieldItem, PacketItem, RuleItem};
-use rule_lexer::TokenKind;
+use crate::syntax::{Comparison, FieldItem, Items, PacketItem, RuleItem};
+use rule_lexer::{Token, TokenKind};
 
 /// `packet NAME = mid NUMBER length NUMBER ;`
 #[tactic(auto, unfolding(crate::specs::Items::packet_at))]
@@ -85,4 +88,35 @@ fn rule_item<'a>(tokens: &mut Cursor<'_, 'a>) -> Option<RuleItem<'a>>
         text,
         condition,
     })
+}
+
+/// The items from left to right, up to the last token.
+#[tactic(auto, unfolding(crate::specs::Items::items_at))]
+fn read<'a>(tokens: &[Token<'a>]) -> Option<Items<'a>>
+    requires { All HasItsKind tokens.now }
+    ensures { GivesAll items_of result (items_at (tokens_of tokens.now)) }
+{
+    let mut tokens = Cursor::new(tokens);
+    let packet = packet_item(&mut tokens)?;
+    let field = field_item(&mut tokens)?;
+    let rule = rule_item(&mut tokens)?;
+    if tokens.is_at_end() {
+        Some(Items {
+            packet,
+            field,
+            rule,
+        })
+    } else {
+        None
+    }
+}
+
+/// The items that the tokens are, where they are a packet, a field and a rule with one comparison, in this order, without
+/// a report or parentheses. `None` where they are anything else.
+pub fn items<'a>(tokens: &[Token<'a>]) -> Option<Items<'a>>
+    requires { All HasItsKind tokens.now }
+    ensures parses { IfSome result (λ found. ParsesOneComparison (tokens_of tokens.now) (items_of found)) }
+    ensures accepts { (items : List Item) → ParsesOneComparison (tokens_of tokens.now) items → MatchOption result ⊥ (λ found. items_of found ≡ items) }
+{
+    read(tokens)
 }

@@ -5,6 +5,7 @@
 mod cursor;
 mod error;
 mod items;
+mod soundness;
 mod syntax;
 
 pub use error::ParseError;

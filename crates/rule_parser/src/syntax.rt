@@ -1,5 +1,7 @@
 //! What the items of a rule text say, before names are replaced by what they name.
 
+ghost use Rattle.std.specs.Prelude.{◌^◌, ◌<◌, nat_abs};
+
 use lc_model::{ApMode, CmpOp, EventKind, FieldType};
 
 /// A name, with the number of bytes of the text before it.
@@ -14,6 +16,7 @@ pub struct Name<'a> {
 pub struct Number {
     pub at: usize,
     pub value: i64,
+    ghost of_32_bits: { nat_abs value < 2 ^ 32 },
 }
 
 /// `packet NAME = mid NUMBER length NUMBER ;`
