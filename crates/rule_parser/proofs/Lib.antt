@@ -2,3 +2,4 @@ pub mod PlainKinds
 pub mod Fronts
 pub mod Taken
 pub mod Again
+pub mod Clean

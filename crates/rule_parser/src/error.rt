@@ -1,13 +1,11 @@
 //! Why a text isn't parsed.
 
 ghost use Rattle.std.specs.Prelude.{◌≡◌};
-ghost use Rattle.rule_lexer.specs.declared.error.LexError as lexer;
-ghost use Rattle.rule_lexer.specs.declared.error.LexError.TheVariants as lex_error;
 ghost use Rattle.rule_parser.specs.declared.error.ParseError.TheVariants.{Memory};
 ghost use Rattle.rule_parser.specs.Fault.{parse_error_of};
 
 use rule_lexer::LexError;
-use std::alloc::AllocFailed;
+use std::alloc::{AllocError, AllocFailed};
 use thiserror::Error;
 
 /// Why a text has no rule.
@@ -25,6 +23,14 @@ impl<T: Drop> From<AllocFailed<T>> for ParseError {
     ghost from_gives = { λ _ e. e ≡ Memory };
 
     fn from(_failed: AllocFailed<T>) -> ParseError {
+        ParseError::Memory
+    }
+}
+
+impl From<AllocError> for ParseError {
+    ghost from_gives = { λ _ e. e ≡ Memory };
+
+    fn from(_error: AllocError) -> ParseError {
         ParseError::Memory
     }
 }

@@ -5,7 +5,10 @@
 mod cursor;
 mod error;
 mod items;
+mod meaning;
+mod parser;
 mod soundness;
 mod syntax;
 
 pub use error::ParseError;
+pub use parser::parse_one;

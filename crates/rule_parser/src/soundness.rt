@@ -9,7 +9,7 @@ ghost use Rattle.lc_model.specs.Field.{full_mask, is_in_type};
 ghost use Rattle.lc_model.specs.Packet.{reserved_mids};
 ghost use Rattle.lc_model.specs.Text.Syntax as model;
 ghost use Rattle.lc_model.specs.Text.Meaning as meaning;
-ghost use Rattle.lc_model.specs.Text.Meaning.{compare_faults, fault_if, fault_outside, faults, field_faults, field_named, is_earlier, is_outside, name_faults, packet_faults, packet_named, rule_faults};
+ghost use Rattle.lc_model.specs.Text.Meaning.{compare_faults, fault_if, fault_outside, faults, faults_of, field_faults, field_named, is_earlier, is_outside, name_faults, packet_faults, packet_named, rule_faults};
 ghost use Rattle.rule_parser.specs.Syntax.{field_of, items_of, name_of, number_of, packet_of, rule_of};
 ghost use Rattle.rule_parser.specs.Soundness.{is_clean};
 
@@ -163,14 +163,31 @@ fn is_rule_sound(items: &Items) -> bool
         && is_comparison_sound(items)
 }
 
+/// Whether nothing of the packet is refused.
+fn is_packet_accepted(items: &Items) -> bool
+    ensures { result ≡ is_clean (faults_of (items_of items.now) (model.Packet (packet_of items.now.packet))) }
+{
+    is_new(items, &items.packet.name) && is_packet_sound(&items.packet)
+}
+
+/// Whether nothing of the field is refused.
+fn is_field_accepted(items: &Items) -> bool
+    ensures { result ≡ is_clean (faults_of (items_of items.now) (model.Field (field_of items.now.field))) }
+{
+    is_new(items, &items.field.name) && is_field_sound(items)
+}
+
+/// Whether nothing of the rule is refused.
+fn is_rule_accepted(items: &Items) -> bool
+    ensures { result ≡ is_clean (faults_of (items_of items.now) (model.Rule (rule_of items.now.rule))) }
+{
+    is_new(items, &items.rule.name) && is_rule_sound(items)
+}
+
 /// Whether nothing of the items is refused.
+#[tactic(auto, using(crate::proofs::Clean::faults_clean))]
 pub fn is_sound(items: &Items) -> bool
     ensures { result ≡ is_clean (faults (items_of items.now)) }
 {
-    is_new(items, &items.packet.name)
-        && is_packet_sound(&items.packet)
-        && is_new(items, &items.field.name)
-        && is_field_sound(items)
-        && is_new(items, &items.rule.name)
-        && is_rule_sound(items)
+    is_packet_accepted(items) && is_field_accepted(items) && is_rule_accepted(items)
 }
