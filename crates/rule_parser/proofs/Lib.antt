@@ -3,3 +3,4 @@ pub mod Fronts
 pub mod Taken
 pub mod Again
 pub mod Clean
+pub mod Accepted
