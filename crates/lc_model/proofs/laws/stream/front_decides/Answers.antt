@@ -1,0 +1,5 @@
+use Rattle.lc_model.proofs.Streams.{front_decides}
+use Rattle.lc_model.proofs.laws.stream.front_decides.Goals as goal
+
+pub returns : goal.returns
+returns c = front_decides
