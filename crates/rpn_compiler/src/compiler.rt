@@ -60,7 +60,9 @@ pub fn lower(alloc: Global, text: &[u8]) -> Result<Lowered, CompileError>
 {
     rules_are_within_ranges();
     let rules = parse_one(alloc, text)?;
-    let term = only_term(rules.rules.as_slice()).ok_or(CompileError::NotYet)?;
+    let Some(term) = only_term(rules.rules.as_slice()) else {
+        return Err(CompileError::NotYet);
+    };
     Ok(Lowered {
         rules,
         terms: single(alloc, term)?,
