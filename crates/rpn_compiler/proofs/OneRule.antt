@@ -1,6 +1,6 @@
 -- What a text that is one comparison says, and what its rule is compiled to.
-use Rattle.std.proofs.Common.{◌≡◌, refl, sym, ◌∙◌, ap, ℕ, Bool, true, false, cond, ◌&&◌, List, [], ◌∷◌, Option, Some, None, bytes_eq}
-use Rattle.std.specs.Prelude.{find, filter_map, option_map, option_and_then, unwrap_or, position, map, is_none, Result, Ok, Err, IsErrAnd, MatchResult}
+use Rattle.std.proofs.Common.{◌≡◌, refl, sym, ◌∙◌, ap, ℕ, Bool, true, false, ◌&&◌, List, [], ◌∷◌, Option, Some, None}
+use Rattle.std.specs.Prelude.{option_map, option_and_then, unwrap_or, position, is_none, Result, Ok, Err, IsErrAnd, MatchResult}
 use Rattle.std.specs.List.{AllByRecursion}
 use Rattle.lc_model.specs.declared.field.Term.{Term}
 use Rattle.lc_model.specs.declared.field.CmpOp.{CmpOp}
@@ -12,7 +12,7 @@ use Rattle.lc_model.specs.Text.Meaning.{packet_named, field_named, term_of, cond
 use Rattle.lc_model.specs.Text.Reading.{ReadsOneComparison, Reads, is_comparison, is_one_comparison}
 use Rattle.lc_model.specs.Tables.Equation.{same_term, number_in, equal_word}
 use Rattle.lc_model.specs.Tables.Compiling.{text_order_limits}
-use Rattle.lc_model.specs.Tables.Lowering.{Lowers, equation_in}
+use Rattle.lc_model.specs.Tables.Lowering.{Lowers}
 use Rattle.lc_model.specs.Laws.Reading.{IsWithinRanges}
 use Rattle.rule_parser.specs.declared.error.ParseError.{ParseError}
 use Rattle.rule_parser.specs.declared.error.ParseError.TheVariants as parser

@@ -1,5 +1,5 @@
 -- The kind of a token decides of which classes it is.
-use Rattle.std.proofs.Common.{◌≡◌, refl, sym, ◌∙◌, ap, subst, ℕ, Bool, true, false, cond, not, ◌&&◌, ◌||◌, ◌==◌, IsTrue, List, [], ◌∷◌, length, Option, Some, None, is_some, option_map, unwrap_or, codes, bytes_eq, arith}
+use Rattle.std.proofs.Common.{◌≡◌, refl, sym, ◌∙◌, ap, subst, ℕ, Bool, true, false, cond, not, ◌&&◌, ◌||◌, ◌==◌, List, [], ◌∷◌, length, Option, Some, None, is_some, option_map, unwrap_or, codes, bytes_eq, arith}
 use Rattle.std.specs.Prelude.{find, nat_le, nat_lt, take, ℤ}
 use Rattle.std.specs.List.{list_any, list_all}
 use Rattle.std.specs.Char.{is_ascii_digit}
@@ -16,7 +16,7 @@ use Rattle.lc_model.specs.Text.Token.{is_letter, is_word, is_word_byte, is_sign,
 use Rattle.lc_model.specs.Text.Class as class
 use Rattle.lc_model.specs.Text.Class.{Class, fits, is_name, is_reserved, other_words, field_type, state, event_kind, comparison}
 use Rattle.rule_lexer.specs.declared.token.TokenKind.{TokenKind}
-use Rattle.rule_lexer.specs.declared.token.TokenKind.TheVariants.{Packet, Field, Rule, Mid, Length, At, Mask, Stale, Fails, Sequence, Event, Report, When, Or, Xor, And, Not, FieldKind, State, Level, Name, Number, Text, Equals, Semicolon, Open, Close, Compare}
+use Rattle.rule_lexer.specs.declared.token.TokenKind.TheVariants.{FieldKind, State, Level, Name, Number, Text, Compare}
 use Rattle.rule_lexer.specs.Token.{IsKind}
 use Rattle.rule_lexer.specs.Fitting.{spelling, kind_fits, IsOfGrammar}
 use Rattle.rule_lexer.specs.Laws.{KindsDecideClasses}

@@ -1,11 +1,10 @@
 -- What is known of items of which nothing is refused.
-use Rattle.std.proofs.Common.{◌≡◌, refl, sym, ◌∙◌, ap, ℕ, ◌^◌, ◌<◌, ◌≤◌, Bool, true, false, cond, ◌||◌, List, [], ◌∷◌, ◌++◌, Option, Some, None, ℤ, pos, negsuc, bytes_eq, arith}
-use Rattle.std.specs.Prelude.{nat_abs, nat_lt, int_lt, is_none}
+use Rattle.std.proofs.Common.{◌≡◌, refl, ℕ, ◌≤◌, Bool, true, false, cond, ◌||◌, List, [], ◌∷◌, ◌++◌, Some, None, ℤ, pos, negsuc, bytes_eq, arith}
+use Rattle.std.specs.Prelude.{nat_abs, int_lt, is_none}
 use Rattle.std.proofs.lemmas.Bool.Decides.{nat_tests}
 use Rattle.lc_model.specs.Condition.{Watch}
-use Rattle.lc_model.specs.Rule.{NamedRule}
 use Rattle.lc_model.specs.Text.Syntax as model
-use Rattle.lc_model.specs.Text.Meaning.{TextFault, faults, faults_of, fault_if, fault_outside, name_faults, packet_faults, field_faults, rule_faults, compare_faults, condition_faults, packet_named, field_named, named_rule, rules_in, term_of}
+use Rattle.lc_model.specs.Text.Meaning.{TextFault, faults, faults_of, fault_if, fault_outside, name_faults, packet_faults, field_faults, rule_faults, compare_faults, condition_faults, named_rule, rules_in, term_of}
 use Rattle.rule_parser.specs.declared.syntax.Items.{Items}
 use Rattle.rule_parser.specs.Syntax.{field_of, items_of, name_of, number_of, packet_of, rule_of}
 use Rattle.rule_parser.specs.Soundness.{is_clean}

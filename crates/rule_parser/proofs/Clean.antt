@@ -1,5 +1,5 @@
 -- Checks without a fault.
-use Rattle.std.proofs.Common.{◌≡◌, refl, sym, ◌∙◌, ap, ℕ, ◌≤◌, Bool, true, false, not, ◌&&◌, ◌||◌, List, [], ◌∷◌, ◌++◌, ℤ, pos, arith}
+use Rattle.std.proofs.Common.{◌≡◌, refl, ◌∙◌, ap, ℕ, ◌≤◌, Bool, true, false, not, ◌&&◌, ◌||◌, List, [], ◌∷◌, ◌++◌, ℤ, pos, arith}
 use Rattle.std.specs.Prelude.{◌+ℤ◌, int_lt, int_le}
 use Rattle.std.proofs.lemmas.Int.{ints}
 use Rattle.lc_model.specs.declared.field.FieldType.{FieldType}

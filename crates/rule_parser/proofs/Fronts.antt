@@ -1,5 +1,5 @@
 -- What stands in front of tokens, by the kind of the first.
-use Rattle.std.proofs.Common.{◌≡◌, refl, sym, ◌∙◌, ap, subst, ℕ, zero, suc, ◌+◌, ◌-◌, ◌<◌, ◌≤◌, ◌^◌, Bool, true, false, cond, ◌&&◌, ◌==◌, ltb, List, [], ◌∷◌, All, length, get_or, take, drop, Option, Some, None, option_map, ℤ, is_some, codes, bytes_eq, arith, add-one}
+use Rattle.std.proofs.Common.{◌≡◌, refl, sym, ◌∙◌, ap, subst, ℕ, zero, suc, ◌+◌, ◌<◌, ◌≤◌, ◌^◌, Bool, true, false, cond, ◌&&◌, ◌==◌, ltb, List, [], ◌∷◌, All, length, get_or, take, drop, Option, Some, None, option_map, ℤ, codes, bytes_eq, arith, add-one}
 use Rattle.std.specs.Prelude.{nat_le, nat_lt, nat_abs}
 use Rattle.std.proofs.Math.Seq.{drop-cons}
 use Rattle.std.proofs.lemmas.List.{drop_all}
@@ -9,7 +9,6 @@ use Rattle.lc_model.specs.Text.Token as model
 use Rattle.lc_model.specs.Text.Token.{is_string, is_closed, string_text, number, magnitude, magnitude_text, with_sign, at_most_32_bits}
 use Rattle.lc_model.specs.Text.Class as class
 use Rattle.lc_model.specs.Text.Class.{Class, fits}
-use Rattle.lc_model.specs.Text.Syntax as syntax
 use Rattle.lc_model.specs.declared.field.FieldType.{FieldType}
 use Rattle.lc_model.specs.declared.field.CmpOp.{CmpOp}
 use Rattle.lc_model.specs.declared.mode.ApMode.{ApMode}

@@ -1,10 +1,8 @@
 -- What is read in front of tokens derives from them.
-use Rattle.std.proofs.Common.{◌≡◌, refl, sym, ◌∙◌, ap, subst, ℕ, ◌+◌, ◌≤◌, Bool, true, false, cond, ◌&&◌, ◌||◌, List, [], ◌∷◌, ◌++◌, length, length-append, Option, Some, None, ℤ, option_map, codes, append_assoc, append-nil, arith}
+use Rattle.std.proofs.Common.{◌≡◌, refl, sym, ◌∙◌, ap, subst, ℕ, ◌+◌, ◌≤◌, Bool, true, false, cond, ◌&&◌, ◌||◌, List, [], ◌∷◌, ◌++◌, length, length-append, Option, Some, None, option_map, codes, append_assoc, arith}
 use Rattle.std.specs.List.{list_any}
 use Rattle.std.proofs.lemmas.List.Folds.{list_any-append}
-use Rattle.std.proofs.lemmas.Option.{some_pair_parts}
 use Rattle.std.proofs.lemmas.Slice.Eq.{bytes_eq-Decides}
-use Rattle.lc_model.specs.declared.field.FieldType.{FieldType}
 use Rattle.lc_model.specs.declared.field.CmpOp.{CmpOp}
 use Rattle.lc_model.specs.Text.Token.{Token, is_sign, string_text}
 use Rattle.lc_model.specs.Text.Syntax as syntax
@@ -111,7 +109,7 @@ option_takes wanted before x e = step (begins wanted before) e
           parts.0 ∷ parts.1 ∷ [],
           parts.2 ∙ ap (λ p. parts.0 ∷ parts.1 ∷ p.1) same,
           subst (DerivesOption wanted (parts.0 ∷ parts.1 ∷ [])) (ap Some parts.5 ∙ ap (λ p. p.0) same)
-          (DerivesOption.present (next parts.3 (next parts.4 done))),
+              (DerivesOption.present (next parts.3 (next parts.4 done))),
         )
 
     step : (b : Bool) → cond b (option_map (λ n. (Some n.0, n.1)) (labelled_at wanted before)) (Some (None, before)) ≡ Some x →

@@ -1,5 +1,5 @@
 -- The items in front of some tokens, from left to right. This project's own.
-use Rattle.std.specs.Prelude.{ℕ, Bool, true, false, if◌then◌else◌, List, [], ◌∷◌, Option, Some, None, length, ◌==◌}
+use Rattle.std.specs.Prelude.{if◌then◌else◌, List, [], ◌∷◌, Option, Some, None, length}
 use Rattle.lc_model.specs.Text.Token.{Token}
 use Rattle.lc_model.specs.Text.Syntax as syntax
 use Rattle.lc_model.specs.Text.Class as class
@@ -54,17 +54,20 @@ rule_at tokens = do
   when ← token_at (word "when") text.1
   condition ← comparison_at when.1
   end ← token_at (sign ";") condition.1
-  Some (record {
-    name = name.0;
-    mode = mode.0;
-    fails = fails.0;
-    sequence = sequence.0;
-    event_kind = kind.0;
-    event_id = id.0;
-    text = text.0;
-    report = None;
-    condition = condition.0;
-  }, end.1)
+  Some (
+    record {
+      name = name.0;
+      mode = mode.0;
+      fails = fails.0;
+      sequence = sequence.0;
+      event_kind = kind.0;
+      event_id = id.0;
+      text = text.0;
+      report = None;
+      condition = condition.0;
+    },
+    end.1,
+  )
 
 -- a packet, a field and such a rule, and nothing more
 unfoldable pub items_at : List Token → Option (List syntax.Item)

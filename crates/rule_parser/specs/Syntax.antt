@@ -1,5 +1,5 @@
 -- The items of the program, as those of the grammar. This project's own.
-use Rattle.std.specs.Prelude.{ℕ, List, [], ◌∷◌, None, option_map}
+use Rattle.std.specs.Prelude.{List, [], ◌∷◌, None, option_map}
 use Rattle.lc_model.specs.Text.Token.{Token}
 use Rattle.lc_model.specs.Text.Syntax as model
 use Rattle.rule_parser.specs.declared.syntax.Name.{Name}

@@ -87,7 +87,11 @@ impl<'t, 'a> Cursor<'t, 'a> {
         ensures { Gives token_of self.new result (token_at (class_of kind) self.old) }
     {
         let token = self.next()?;
-        if token.kind == kind { Some(token) } else { None }
+        if token.kind == kind {
+            Some(token)
+        } else {
+            None
+        }
     }
 
     pub fn name(&mut self) -> Option<Name<'a>>

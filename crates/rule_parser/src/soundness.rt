@@ -18,14 +18,17 @@ use lc_model::FieldType;
 
 /// The message ids of telemetry.
 const FIRST_TELEMETRY_MID: u32 = 0x0800;
+
 const LAST_TELEMETRY_MID: u32 = 0x0FFF;
 
 /// The message ids of the host's own telemetry, which no rule watches.
 const EVENT_MID: i64 = 0x0808;
+
 const LC_HOUSEKEEPING_MID: i64 = 0x08A7;
 
 /// A packet's least and most bytes.
 const SHORTEST_PACKET: u32 = 12;
+
 const LONGEST_PACKET: u32 = 2_048;
 
 /// The least event id of a rule.

@@ -1,4 +1,4 @@
-use Rattle.std.proofs.Common.{◌≡◌, sym, ◌∙◌, ap, arith}
+use Rattle.std.proofs.Common.{◌≡◌, sym, ◌∙◌, ap}
 use Rattle.rule_parser.specs.Front.{begins, class_of}
 use Rattle.rule_parser.proofs.PlainKinds.{is_same, same_decides, of_grammar}
 use Rattle.rule_parser.proofs.Fronts.{begins_at_end, begins_first, is_next, none_left}

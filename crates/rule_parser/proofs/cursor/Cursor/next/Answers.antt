@@ -1,5 +1,4 @@
-use Rattle.std.proofs.Common.{sym, subst}
-use Rattle.rule_parser.specs.Front.{IsNext}
+use Rattle.std.proofs.Common.{sym}
 use Rattle.rule_parser.proofs.Fronts.{is_next}
 use Rattle.rule_parser.proofs.cursor.Cursor.next.Goals as goal
 

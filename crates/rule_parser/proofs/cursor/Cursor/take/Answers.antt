@@ -1,4 +1,4 @@
-use Rattle.std.proofs.Common.{◌≡◌, sym, ◌∙◌, ap, true, false}
+use Rattle.std.proofs.Common.{◌≡◌, sym, ◌∙◌, true, false}
 use Rattle.rule_parser.specs.Front.{class_of}
 use Rattle.rule_parser.proofs.PlainKinds.{is_same, same_decides, of_grammar}
 use Rattle.rule_parser.proofs.Fronts.{nothing_at, taken_at}
