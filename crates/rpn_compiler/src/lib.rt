@@ -4,6 +4,8 @@
 mod compiler;
 mod error;
 mod lowered;
+#[cfg(test)]
+mod tests;
 
 pub use compiler::lower;
 pub use error::CompileError;

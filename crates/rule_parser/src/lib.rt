@@ -9,6 +9,8 @@ mod meaning;
 mod parser;
 mod soundness;
 mod syntax;
+#[cfg(test)]
+mod tests;
 
 pub use error::ParseError;
 pub use parser::parse_one;
