@@ -1,1 +1,4 @@
+-- What the compiler's contracts cite.
+pub mod Fault
 pub mod Lowered
+pub mod OneTerm

@@ -1,8 +1,12 @@
-//! The ground compiler of rules: what is compiled of a rule text.
+//! The ground compiler of rules: a rule text becomes its rules, their watchpoints, and the words of each rule's equation.
 #![tactic(auto)]
 
-mod compile;
+mod compiler;
+mod error;
 mod lowered;
+#[cfg(test)]
+mod tests;
 
-pub use compile::{CompileError, lower};
+pub use compiler::lower;
+pub use error::CompileError;
 pub use lowered::Lowered;

@@ -1,0 +1,191 @@
+//! A place between the tokens of a text, and what stands behind it.
+
+ghost use Rattle.std.specs.Prelude.{◌≡◌, ◌≤◌, All, IsTrue, length, option_map};
+ghost use Rattle.lc_model.specs.Text.Token.{string_text};
+ghost use Rattle.lc_model.specs.Text.Class as class;
+ghost use Rattle.lc_model.specs.Text.Class.{comparison, event_kind, field_type, state};
+ghost use Rattle.rule_lexer.specs.Token.{tokens_of, token_of, HasItsKind};
+ghost use Rattle.rule_parser.specs.Syntax.{name_of, number_of};
+ghost use Rattle.rule_parser.specs.Front.{Gives, IsNext, begins, class_of, is_empty, is_plain, labelled_at, number_at, option_at, string_at, token_at, value_at};
+
+use crate::syntax::{Name, Number};
+use lc_model::{ApMode, CmpOp, EventKind, FieldType};
+use rule_lexer::laws::kinds_decide_classes;
+use rule_lexer::{Token, TokenKind};
+use std::marker::Model;
+
+/// What stands between the first byte and the last.
+fn inner<'a>(text: &'a [u8]) -> &'a [u8]
+    requires { 2 ≤ length text.now }
+    ensures { result.now ≡ string_text text.now }
+{
+    &text[1..text.len() - 1]
+}
+
+/// The tokens that aren't read yet. Contracts see them as the text's parts that are left. A step that answers `None` may
+/// have read a token: nothing is read behind it.
+#[derive(Drop)]
+pub struct Cursor<'t, 'a> {
+    tokens: &'t [Token<'a>],
+    /// How many are read.
+    count: usize,
+}
+
+impl<'t, 'a> Model for Cursor<'t, 'a> {
+    ghost use Rattle.std.specs.Prelude.{List, All, drop};
+    ghost use Rattle.lc_model.specs.Text.Token.{Token};
+    ghost use Rattle.rule_lexer.specs.Token.{tokens_of, HasItsKind};
+
+    ghost Value = { List Token };
+
+    ghost view = { λ c. tokens_of (drop c.count c.tokens.now) };
+
+    ghost invariant = { λ c. All HasItsKind c.tokens.now };
+}
+
+impl<'t, 'a> Cursor<'t, 'a> {
+    /// Before the first token.
+    pub fn new(tokens: &'t [Token<'a>]) -> Cursor<'t, 'a>
+        requires { All HasItsKind tokens.now }
+        ensures { result ≡ tokens_of tokens.now }
+    {
+        Cursor { tokens, count: 0 }
+    }
+
+    /// Whether all tokens are read.
+    pub fn is_at_end(&self) -> bool
+        ensures { result ≡ is_empty self.now }
+    {
+        self.count >= self.tokens.len()
+    }
+
+    /// The next token, if there is one.
+    fn next(&mut self) -> Option<Token<'a>>
+        ensures { IsNext self.old self.new result }
+    {
+        kinds_decide_classes();
+        let token = *self.tokens.get(self.count)?;
+        self.count += 1;
+        Some(token)
+    }
+
+    /// Whether the next token is of this kind: a reserved word, a sign, a name or a string.
+    fn begins(&self, kind: TokenKind) -> bool
+        requires { IsTrue (is_plain kind) }
+        ensures { result ≡ begins (class_of kind) self.now }
+    {
+        kinds_decide_classes();
+        match self.tokens.get(self.count) {
+            Some(token) => token.kind == kind,
+            None => false,
+        }
+    }
+
+    /// The next token, which is to be of this kind: a reserved word, a sign, a name or a string.
+    pub fn take(&mut self, kind: TokenKind) -> Option<Token<'a>>
+        requires { IsTrue (is_plain kind) }
+        ensures { Gives token_of self.new result (token_at (class_of kind) self.old) }
+    {
+        let token = self.next()?;
+        if token.kind == kind {
+            Some(token)
+        } else {
+            None
+        }
+    }
+
+    pub fn name(&mut self) -> Option<Name<'a>>
+        ensures { Gives name_of self.new result (token_at class.Name self.old) }
+    {
+        let token = self.take(TokenKind::Name)?;
+        Some(Name {
+            at: token.at,
+            text: token.text,
+        })
+    }
+
+    pub fn number(&mut self) -> Option<Number>
+        ensures { Gives number_of self.new result (number_at self.old) }
+    {
+        let token = self.next()?;
+        match token.kind {
+            TokenKind::Number(value) => Some(Number {
+                at: token.at,
+                value,
+            }),
+            _ => None,
+        }
+    }
+
+    pub fn field_type(&mut self) -> Option<FieldType>
+        ensures { Gives (λ kind. kind) self.new result (value_at class.FieldKind field_type self.old) }
+    {
+        let token = self.next()?;
+        match token.kind {
+            TokenKind::FieldKind(kind) => Some(kind),
+            _ => None,
+        }
+    }
+
+    pub fn state(&mut self) -> Option<ApMode>
+        ensures { Gives (λ mode. mode) self.new result (value_at class.State state self.old) }
+    {
+        let token = self.next()?;
+        match token.kind {
+            TokenKind::State(mode) => Some(mode),
+            _ => None,
+        }
+    }
+
+    pub fn level(&mut self) -> Option<EventKind>
+        ensures { Gives (λ kind. kind) self.new result (value_at class.Level event_kind self.old) }
+    {
+        let token = self.next()?;
+        match token.kind {
+            TokenKind::Level(kind) => Some(kind),
+            _ => None,
+        }
+    }
+
+    pub fn comparison(&mut self) -> Option<CmpOp>
+        ensures { Gives (λ op. op) self.new result (value_at class.Compare comparison self.old) }
+    {
+        let token = self.next()?;
+        match token.kind {
+            TokenKind::Compare(op) => Some(op),
+            _ => None,
+        }
+    }
+
+    /// What stands between the quotes of a string.
+    #[tactic(auto, unfolding(crate::specs::Front::string_at))]
+    pub fn string(&mut self) -> Option<&'a [u8]>
+        ensures { Gives (λ text. text.now) self.new result (string_at self.old) }
+    {
+        let text = self.take(TokenKind::Text)?.text;
+        Some(inner(text))
+    }
+
+    /// A reserved word and a number.
+    #[tactic(auto, unfolding(crate::specs::Front::labelled_at))]
+    pub fn labelled(&mut self, word: TokenKind) -> Option<Number>
+        requires { IsTrue (is_plain word) }
+        ensures { Gives number_of self.new result (labelled_at (class_of word) self.old) }
+    {
+        self.take(word)?;
+        self.number()
+    }
+
+    /// A reserved word and a number, or nothing where the word doesn't stand next.
+    #[tactic(auto, unfolding(crate::specs::Front::option_at))]
+    pub fn optional(&mut self, word: TokenKind) -> Option<Option<Number>>
+        requires { IsTrue (is_plain word) }
+        ensures { Gives (option_map number_of) self.new result (option_at (class_of word) self.old) }
+    {
+        if self.begins(word) {
+            Some(Some(self.labelled(word)?))
+        } else {
+            Some(None)
+        }
+    }
+}

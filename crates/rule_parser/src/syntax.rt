@@ -1,0 +1,69 @@
+//! What the items of a rule text say, before names are replaced by what they name.
+
+ghost use Rattle.std.specs.Prelude.{◌^◌, ◌<◌, nat_abs};
+
+use lc_model::{ApMode, CmpOp, EventKind, FieldType};
+
+/// A name, with the number of bytes of the text before it.
+#[derive(Clone, Copy, Debug)]
+pub struct Name<'a> {
+    pub at: usize,
+    pub text: &'a [u8],
+}
+
+/// A number, with the number of bytes of the text before it.
+#[derive(Clone, Copy, Debug)]
+pub struct Number {
+    pub at: usize,
+    pub value: i64,
+    ghost of_32_bits: { nat_abs value < 2 ^ 32 },
+}
+
+/// `packet NAME = mid NUMBER length NUMBER ;`
+#[derive(Clone, Copy, Debug)]
+pub struct PacketItem<'a> {
+    pub name: Name<'a>,
+    pub mid: Number,
+    pub length: Number,
+}
+
+/// `field NAME = PACKET TYPE at NUMBER [mask NUMBER] [stale NUMBER] ;`
+#[derive(Clone, Copy, Debug)]
+pub struct FieldItem<'a> {
+    pub name: Name<'a>,
+    pub packet: Name<'a>,
+    pub kind: FieldType,
+    pub offset: Number,
+    pub mask: Option<Number>,
+    pub stale: Option<Number>,
+}
+
+/// `FIELD OPERATOR NUMBER`
+#[derive(Clone, Copy, Debug)]
+pub struct Comparison<'a> {
+    pub field: Name<'a>,
+    pub op: CmpOp,
+    pub value: Number,
+}
+
+/// `rule NAME STATE fails NUMBER sequence NUMBER event LEVEL NUMBER STRING when COMPARISON ;`
+#[derive(Clone, Copy, Debug)]
+pub struct RuleItem<'a> {
+    pub name: Name<'a>,
+    pub mode: ApMode,
+    pub fails: Number,
+    pub sequence: Number,
+    pub event_kind: EventKind,
+    pub event_id: Number,
+    /// The bytes between the quotes.
+    pub text: &'a [u8],
+    pub condition: Comparison<'a>,
+}
+
+/// The items of a text in the order packet, field, rule.
+#[derive(Clone, Copy, Debug)]
+pub struct Items<'a> {
+    pub packet: PacketItem<'a>,
+    pub field: FieldItem<'a>,
+    pub rule: RuleItem<'a>,
+}
