@@ -7,9 +7,9 @@ use Rattle.lc_model.specs.Tables.HalvesAndBytes.{Text}
 use Rattle.lc_model.specs.Host.FixedTables.{fixed_output}
 use Rattle.lc_model.specs.Host.Stream.{StreamEntry, End, Whole, Bad}
 use Rattle.lc_model.specs.Host.Stream as stream
-use Rattle.rpn_compiler.specs.declared.compile.CompileError.{CompileError}
-use Rattle.rpn_compiler.specs.declared.compile.CompileError.TheVariants.{NotYet}
-use Rattle.rpn_compiler.specs.declared.compile.CompileError.TheVariants as compiler
+use Rattle.rpn_compiler.specs.declared.error.CompileError.{CompileError}
+use Rattle.rpn_compiler.specs.declared.error.CompileError.TheVariants.{NotYet}
+use Rattle.rpn_compiler.specs.declared.error.CompileError.TheVariants as compiler
 use Rattle.flight_run.specs.declared.error.Report.{Report}
 use Rattle.flight_run.specs.declared.error.RunError.{RunError}
 use Rattle.flight_run.specs.declared.error.RunError.TheVariants.{Compile, BadRecord, Truncated, Read, Write, ReadBound, Memory}
