@@ -35,7 +35,7 @@ bytes-append c (Sequence number ∷ requests) more =
     ∙ sym (append_assoc (sequence_request (c % 16384) number) (request_bytes (c + 1) requests) (request_bytes (count_after (c + 1) requests) more))
     ∙ ap (λ (sent : List (List ℕ)). (sequence_request (c % 16384) number ++ request_bytes (c + 1) requests) ++ concat sent)
     (sent_alike (count_after (c + 1) requests) (count_after ((c + 1) % 16384) requests) more
-        (after_alike (c + 1) ((c + 1) % 16384) requests (within (c + 1))))
+    (after_alike (c + 1) ((c + 1) % 16384) requests (within (c + 1))))
 
 -- the count after some requests and more
 pub count_after-append : (c : ℕ) (requests more : List Request) → count_after c (requests ++ more) ≡ count_after (count_after c requests) more

@@ -81,8 +81,8 @@ unfolding output_from
 output-more start now entries written entry body is ran =
     ap (λ (r : Kept × List ℕ). r.1)
     (ap (λ packets. all_handled packets start) (packets-more entries entry body is)
-        ∙ all_handled-more (filter_map packet_in entries) body start
-        ∙ (λ i. ((handled body (ran i).0).0, (ran i).1 ++ (handled body (ran i).0).1)))
+    ∙ all_handled-more (filter_map packet_in entries) body start
+    ∙ (λ i. ((handled body (ran i).0).0, (ran i).1 ++ (handled body (ran i).0).1)))
 
 module _ (decides : FrontDecides) where
   -- a record in front
@@ -228,8 +228,8 @@ module _ (decides : FrontDecides) where
         found =
             ap (λ (r : List StreamEntry × End). r.0)
             (so_far.are step.taken
-                ∙ ap (λ bytes. behind so_far.entries (rest_of (count + 1) bytes)) (sym (append-nil step.taken))
-                ∙ ap (behind so_far.entries) (record_comes step.taken step.body (count + 1) step.is []))
+            ∙ ap (λ bytes. behind so_far.entries (rest_of (count + 1) bytes)) (sym (append-nil step.taken))
+            ∙ ap (behind so_far.entries) (record_comes step.taken step.body (count + 1) step.is []))
 
         ran : output_from start (so_far.entries ++ entry ∷ []) ≡ so_far.written ++ (handled step.body kept).1
         ran = output-more start kept so_far.entries so_far.written entry step.body refl so_far.ran

@@ -71,11 +71,11 @@ module _ (terms : List Term) (rules : List Actionpoint) (watch : List WatchResul
 
       by_test : (b : Bool) → takes request n ≡ b → AreSampled request n (rule ∷ others) before (point ∷ after)
       by_test true is = rw is (
-        (λ i. (
-          (sampled_from request (n + 1) (length others) (one i).0).0,
-          (one i).1 ++ (sampled_from request (n + 1) (length others) (one i).0).1,
-        ))
-        ∙ (λ i. ((regrouped (here n rule point).0 i).0, (here n rule point).1 ++ (regrouped (here n rule point).0 i).1)))
+          (λ i. (
+            (sampled_from request (n + 1) (length others) (one i).0).0,
+            (one i).1 ++ (sampled_from request (n + 1) (length others) (one i).0).1,
+          ))
+          ∙ (λ i. ((regrouped (here n rule point).0 i).0, (here n rule point).1 ++ (regrouped (here n rule point).0 i).1)))
       by_test false is = rw is (λ i. ((regrouped point i).0, (regrouped point i).1))
 
   all_sampled : (request : SampleRequest) (n : ℕ) (before_rules others : List Actionpoint) (before after : List (Point Tally)) →
@@ -87,12 +87,12 @@ module _ (terms : List Term) (rules : List Actionpoint) (watch : List WatchResul
   all_sampled request n before_rules (rule ∷ others) before (point ∷ after) split at_rules at_point as_many =
       one_more request n rule others before after point
       (subst (λ m. after_sample m (at_points (before ++ point ∷ after)) ≡ (at_points (before ++ (here m rule point).0 ∷ after), (here m rule point).1)) at_rules
-          (one_sampled before_rules others rule before after point split (at_point ∙ sym at_rules)))
+      (one_sampled before_rules others rule before after point split (at_point ∙ sym at_rules)))
       (λ p. all_sampled request (n + 1) (before_rules ++ rule ∷ []) others (before ++ p ∷ []) after
-          (split ∙ sym (append_assoc before_rules (rule ∷ []) others))
-          (length-append before_rules (rule ∷ []) ∙ ap (λ m. m + 1) at_rules)
-          (length-append before (p ∷ []) ∙ ap (λ m. m + 1) at_point)
-          (omega (arith, as_many)))
+      (split ∙ sym (append_assoc before_rules (rule ∷ []) others))
+      (length-append before_rules (rule ∷ []) ∙ ap (λ m. m + 1) at_rules)
+      (length-append before (p ∷ []) ∙ ap (λ m. m + 1) at_point)
+      (omega (arith, as_many)))
 
   -- all of them
   pub sampled_alike : (request : SampleRequest) (points : List (Point Tally)) → length points ≡ length rules →

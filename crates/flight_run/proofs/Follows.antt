@@ -119,10 +119,10 @@ module _ (agrees : SamePacketStep fixed_halves) (settles : StaysSettled fixed_ha
     taken is = or_cases (is_telemetry_mid (message_id packet)) (message_id packet == sample_mid) _
         (and_second (is_none (stream_fault packet)) (is_telemetry_mid (message_id packet) || message_id packet == sample_mid) is)
         (λ telemetry. subst (GoOn text (lc_packet by_lists fixed_halves packet lc)) (sym (on_telemetry packet (watching text watch points) (is, telemetry)))
-            (by_steps _ (telemetry_alike text watch points packet telemetry)))
+        (by_steps _ (telemetry_alike text watch points packet telemetry)))
         (λ sample. let mid : message_id packet ≡ sample_mid = number_is (message_id packet) sample_mid sample in
-            subst (GoOn text (lc_packet by_lists fixed_halves packet lc)) (sym (on_sample packet (watching text watch points) (record { taken = is; mid = mid })))
-            (by_steps _ (sample_alike text watch points (as_many text lc watch points follows) packet mid)))
+        subst (GoOn text (lc_packet by_lists fixed_halves packet lc)) (sym (on_sample packet (watching text watch points) (record { taken = is; mid = mid })))
+        (by_steps _ (sample_alike text watch points (as_many text lc watch points follows) packet mid)))
 
     pub go_on : GoOn text (fixed_step packet lc) (after_arrival packet (watching text watch points))
     go_on = by_test (is_taken packet) refl

@@ -101,8 +101,7 @@ module _ (one_reading : AtMostOneReading) (source : List ℕ) (d : Devices) wher
     by_outcome (Ok report) calm outcome =
         let all : outcome.bytes ≡ whole = took_all whole outcome.bytes d.left_after (took_known whole d.left d.left_after outcome.bytes left outcome.so.took) outcome.at_the_end in
         let same : (records outcome.bytes).0 ≡ (records whole).0 = ap (λ bytes. (records bytes).0) all in
-        let ends : (records whole).1 ≡ Whole = ap (λ bytes. (records bytes).1) (sym all) ∙ outcome.whole in
-        (
+        let ends : (records whole).1 ≡ Whole = ap (λ bytes. (records bytes).1) (sym all) ∙ outcome.whole in (
           over_all outcome.bytes outcome.so same,
           (λ i. Ok (record {
             records = (outcome.records_counted ∙ ap length same) i;
@@ -112,16 +111,14 @@ module _ (one_reading : AtMostOneReading) (source : List ℕ) (d : Devices) wher
         )
     by_outcome (Err (BadRecord n)) calm outcome =
         let begins : Begins whole outcome.bytes d.left_after = took_known whole d.left d.left_after outcome.bytes left outcome.so.took in
-        let found : records whole ≡ ((records outcome.bytes).0, Bad n) = ap records begins.all ∙ outcome.bad begins.rest in
-        (
+        let found : records whole ≡ ((records outcome.bytes).0, Bad n) = ap records begins.all ∙ outcome.bad begins.rest in (
           over_all outcome.bytes outcome.so (sym (ap (λ (r : List StreamEntry × End). r.0) found)),
           ap (λ e. answer ((records whole).0, e) (length (fixed_output (record { source = source; rules = rules }) (records whole).0)))
               (sym (ap (λ (r : List StreamEntry × End). r.1) found)),
         )
     by_outcome (Err (Truncated n)) calm outcome =
         let all : outcome.bytes ≡ whole = took_all whole outcome.bytes d.left_after (took_known whole d.left d.left_after outcome.bytes left outcome.so.took) outcome.at_the_end in
-        let ends : (records whole).1 ≡ stream.Truncated n = ap (λ bytes. (records bytes).1) (sym all) ∙ outcome.cut in
-        (
+        let ends : (records whole).1 ≡ stream.Truncated n = ap (λ bytes. (records bytes).1) (sym all) ∙ outcome.cut in (
           over_all outcome.bytes outcome.so (ap (λ bytes. (records bytes).0) all),
           ap (λ e. answer ((records whole).0, e) (length (fixed_output (record { source = source; rules = rules }) (records whole).0))) (sym ends),
         )

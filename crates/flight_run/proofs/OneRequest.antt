@@ -127,8 +127,7 @@ pub send_as : (c : ℕ) (requests : List Request) → c < 16384 → HasAtMostOne
 send_as c [] small one = (refl, refl)
 send_as c (Event sender id kind text ∷ requests) small one = send_as c requests small one
 send_as c (Sequence number ∷ requests) small one =
-    let same : c % 16384 ≡ c = omega (arith, small) in
-    (
+    let same : c % 16384 ≡ c = omega (arith, small) in (
       no_count ((c + 1) % 16384) requests one,
       ap (λ bytes. sequence_request (c % 16384) number ++ bytes) (no_bytes (c + 1) requests one) ∙ append-nil (sequence_request (c % 16384) number)
           ∙ ap (λ n. sequence_request n number) same,

@@ -47,7 +47,7 @@ module _ (request : SampleRequest) (rules : ℕ) (first : Kept) (n : ℕ) (now :
         ∙ ap (continued bytes) (with_taken request n (rules - (n + 1)) now.count now.watcher taken)
         ∙ regrouped (with_requests now.count (after_sample n now.watcher)).1
         (with_requests (with_requests now.count (after_sample n now.watcher)).0.count
-            (sampled_from request (n + 1) (rules - (n + 1)) (with_requests now.count (after_sample n now.watcher)).0.watcher))
+        (sampled_from request (n + 1) (rules - (n + 1)) (with_requests now.count (after_sample n now.watcher)).0.watcher))
         ∙ (λ i. continued (sym is_more i) (with_requests (sym is_after i).count (sampled_from request (n + 1) (rules - (n + 1)) (sym is_after i).watcher)));
   }
     where

@@ -37,7 +37,7 @@ module _ (agrees : SamePacketStep fixed_halves) (settles : StaysSettled fixed_ha
       let is_sensible : IsSensible fixed_halves (halves_of text) =
       sensible version_1_layouts text (in_range text.rules (ranges text.source text.rules reads)) in
       sym (all_follow agrees settles text is_sensible (filter_map packet_in entries) (lc_from_start (Some (halves_of text)))
-          (by_counts.unseen (terms_of text.rules)) (map fresh_point (actions text.rules)) 0 (follows_from_start text))
+      (by_counts.unseen (terms_of text.rules)) (map fresh_point (actions text.rules)) 0 (follows_from_start text))
 
   -- how such a run ends
   pub ends_as_called : (text : Text) → Reads text.source text.rules → (kept : Kept) → kept ≡ at_start text.rules → (d : Devices) (result : Result Report RunError) →

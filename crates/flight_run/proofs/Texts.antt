@@ -127,7 +127,7 @@ module _ (text : Text) (watch : List WatchResult) (points : List (Point Tally)) 
   sampled_step : length points ≡ length (actions text.rules) → (r : Result SampleRequest Refusal) →
       StepsAlike text
       (unless_refused (now_with text watch points) (r >>= λ request. Ok (option_map_or (sampled_by by_counts fixed_halves request (now_with text watch points))
-          (in_force fixed_halves (now_with text watch points)) (now_with text watch points, []))))
+      (in_force fixed_halves (now_with text watch points)) (now_with text watch points, []))))
       (sampled (watching text watch points) r)
   unfolding sampled
   sampled_step as_many (Err refusal) = record {
@@ -144,8 +144,10 @@ module _ (text : Text) (watch : List WatchResult) (points : List (Point Tally)) 
       ≡ sampled_by by_counts fixed_halves request (now_with text watch points) (halves_of text) =
       ap (λ pair. option_map_or (sampled_by by_counts fixed_halves request (now_with text watch points)) pair (now_with text watch points, [])) (is_in_force text watch points) in
       let program : sampled_from request 0 (length (actions text.rules)) (watching text watch points)
-      ≡ (watching text watch (sampled_points by_counts request (terms_of text.rules) Active watch 0 (actions text.rules) points).0,
-          (sampled_points by_counts request (terms_of text.rules) Active watch 0 (actions text.rules) points).1) =
+      ≡ (
+        watching text watch (sampled_points by_counts request (terms_of text.rules) Active watch 0 (actions text.rules) points).0,
+        (sampled_points by_counts request (terms_of text.rules) Active watch 0 (actions text.rules) points).1,
+      ) =
       sampled_alike (terms_of text.rules) (actions text.rules) watch request points as_many in
       record {
         watch = if request.ages then by_counts.aged (terms_of text.rules) watch else watch;

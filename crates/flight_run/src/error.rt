@@ -17,7 +17,7 @@ pub struct Report {
 }
 
 /// Why a run did not come to the end of its stream. Records count from 1.
-#[derive(Debug, Drop, Error)]
+#[derive(Clone, Copy, Debug, PartialEq, Eq, Error)]
 pub enum RunError {
     /// A rule text does not compile; nothing was read.
     #[error("text {text}: {error}")]

@@ -24,7 +24,8 @@ pub struct Flight {
 fn is_taken(request: &SampleRequest, rule: usize) -> bool
     ensures { result ≡ takes (request_of request.now) rule }
 {
-    request.first == 0xFFFF || usize::from(request.first) <= rule && rule <= usize::from(request.last)
+    request.first == 0xFFFF
+        || usize::from(request.first) <= rule && rule <= usize::from(request.last)
 }
 
 impl Flight {

@@ -1,5 +1,7 @@
 //! The low-volts rule, and the packets that it is shown by.
 
+ghost use Rattle.std.specs.Prelude.{◌≤◌, length};
+
 use std::alloc::{AllocError, Global};
 
 /// One rule: two samples in a row with a voltage below 2,400 request command sequence 7.
@@ -7,8 +9,8 @@ pub const TEXT: &str = "packet P = mid 0x0883 length 16; \
     field V = P u16be at 12 stale 2; \
     rule LOW active fails 2 sequence 7 event error 1001 \"low volts\" when V < 2400;";
 
-/// A packet's record of a stream begins so, at 100 seconds: kind 1, seconds, subseconds, and two of four bytes of length.
-const RECORD_HEADER: [u8; 9] = [1, 0, 0, 0, 100, 0, 0, 0, 0];
+/// A packet's record begins so, at 100 seconds: kind 1, seconds, subseconds.
+const RECORD_BEGIN: [u8; 7] = [1, 0, 0, 0, 100, 0, 0];
 
 /// Telemetry with message id 0x0883 and this voltage behind its twelve bytes of header.
 pub fn volts(value: u16) -> [u8; 16] {
@@ -18,18 +20,24 @@ pub fn volts(value: u16) -> [u8; 16] {
 
 /// The request to sample all rules.
 pub fn sample() -> [u8; 16] {
-    [0x18, 0xA6, 0xC0, 0, 0, 9, 0, 0x88, 0xFF, 0xFF, 0xFF, 0xFF, 0, 0, 0, 0]
+    [
+        0x18, 0xA6, 0xC0, 0, 0, 9, 0, 0x88, 0xFF, 0xFF, 0xFF, 0xFF, 0, 0, 0, 0,
+    ]
 }
 
 /// The request to sample all rules and let the watchpoints age.
 pub fn aging_sample() -> [u8; 16] {
-    [0x18, 0xA6, 0xC0, 0, 0, 9, 0, 0x89, 0xFF, 0xFF, 0xFF, 0xFF, 0, 1, 0, 0]
+    [
+        0x18, 0xA6, 0xC0, 0, 0, 9, 0, 0x89, 0xFF, 0xFF, 0xFF, 0xFF, 0, 1, 0, 0,
+    ]
 }
 
 /// Adds a packet's record to a stream.
-pub fn push_packet(stream: &mut Vec<u8>, packet: &[u8; 16]) -> Result<(), AllocError> {
-    stream.extend_from_slice(&RECORD_HEADER)?;
-    stream.extend_from_slice(&[0, 16])?;
+pub fn push_packet(stream: &mut Vec<u8>, packet: &[u8]) -> Result<(), AllocError>
+    requires { length packet.now ≤ 65536 }
+{
+    stream.extend_from_slice(&RECORD_BEGIN)?;
+    stream.extend_from_slice(&(packet.len() as u32).to_be_bytes())?;
     stream.extend_from_slice(packet)
 }
 

@@ -2,20 +2,21 @@
 //! that its rules call for go out.
 #![tactic(auto)]
 
-mod packet;
-mod intake;
-mod outgoing;
-mod sending;
-mod flight;
 mod error;
+mod flight;
+mod intake;
+mod low_volts;
+mod outgoing;
+mod packet;
 mod run;
 mod run_one;
-mod low_volts;
+mod sending;
+#[cfg(test)]
+mod tests;
 
 use crate::packet::REQUEST_SIZE;
-use lc_model::{Limited, Pieces};
-
 pub use error::{Report, RunError};
+use lc_model::{Limited, Pieces};
 pub use run_one::run_one;
 
 /// Runs the low-volts rule over two failing samples, and prints each sequence request in hexadecimal on a line.
@@ -24,7 +25,12 @@ fn main(rt: HostRuntime) -> anyhow::Result<()> {
     let mut room = [0; 4 * REQUEST_SIZE];
     let mut reader = Pieces::new(stream.as_slice(), 8_192);
     let mut writer = Limited::new(&mut room, 4 * REQUEST_SIZE);
-    run_one(rt.alloc(), low_volts::TEXT.as_bytes(), &mut reader, &mut writer)?;
+    run_one(
+        rt.alloc(),
+        low_volts::TEXT.as_bytes(),
+        &mut reader,
+        &mut writer,
+    )?;
     for request in writer.bytes().chunks(REQUEST_SIZE) {
         for byte in request {
             print!(rt; "{byte:02x}")?;

@@ -116,7 +116,20 @@ pub fn sequence_request(count: u16, number: u16) -> [u8; REQUEST_SIZE]
 {
     let [count_high, count_low] = (0xC000 + count).to_be_bytes();
     let [number_high, number_low] = number.to_be_bytes();
-    let mut packet = [0x18, 0xA9, count_high, count_low, 0, 5, 4, 0, number_high, number_low, 0, 0];
+    let mut packet = [
+        0x18,
+        0xA9,
+        count_high,
+        count_low,
+        0,
+        5,
+        4,
+        0,
+        number_high,
+        number_low,
+        0,
+        0,
+    ];
     packet[7] = 0xFF ^ parity(&packet);
     packet
 }

@@ -61,7 +61,13 @@ fn compile_and_fly<R: ByteSource, W: ByteSink>(
     let mut flight = ready(alloc, lowered)?;
     let mut outgoing = Outgoing::new(alloc)?;
     let mut buffer = vec![in alloc; 0; LONGEST_BODY]?;
-    run::fly(&mut flight, buffer.as_mut_slice(), &mut outgoing, reader, writer)
+    run::fly(
+        &mut flight,
+        buffer.as_mut_slice(),
+        &mut outgoing,
+        reader,
+        writer,
+    )
 }
 
 /// Compiles a rule text, and handles the packets of a stream by its rules from the start: each sequence request that they

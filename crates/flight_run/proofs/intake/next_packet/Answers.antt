@@ -17,7 +17,7 @@ returns-in_err-filled-2-clause-stopped g c =
     c.if-header-ne-PACKET.false c.body_size-size.ensures c.if-size-gt-LONGEST_BODY.false in
     let within : c.body_size-size.result ≤ length c.args.buffer.now = omega (arith, c.requires.room) in
     rw (p.1, p.2) (body_stops c.fill.new.buffer h _ _ c.in_err-filled-2.ensures.broken
-        (length-take-le c.body_size-size.result c.args.buffer.now within ∙ c.body_size-size.ensures))
+    (length-take-le c.body_size-size.result c.args.buffer.now within ∙ c.body_size-size.ensures))
 
 pub returns-then-filled-size-clause-stopped : goal.returns-then-filled-size-clause-stopped
 returns-then-filled-size-clause-stopped g c =
@@ -36,8 +36,7 @@ returns-clause-next g c =
     let room : length c.fill-2.new.buffer ≡ c.body_size-size.result = c.fill-2.auto.buffer ∙ length-take-le c.body_size-size.result c.args.buffer.now within in
     let behind = drop c.body_size-size.result c.args.buffer.now in
     let body : take c.body_size-size.result (c.fill-2.new.buffer ++ behind) ≡ c.fill-2.new.buffer =
-    subst (λ n. take n (c.fill-2.new.buffer ++ behind) ≡ c.fill-2.new.buffer) room (take-append_seam c.fill-2.new.buffer behind) in
-    (
+    subst (λ n. take n (c.fill-2.new.buffer ++ behind) ≡ c.fill-2.new.buffer) room (take-append_seam c.fill-2.new.buffer behind) in (
       omega (arith, room, length-append c.fill-2.new.buffer behind),
       subst (TakesRecord _ _ _ _) (sym body)
           (body_is_taken c.fill.new.buffer h c.in_ok-filled-2.filled c.fill-2.new.buffer c.in_ok-filled-2.ensures.filled (room ∙ c.body_size-size.ensures)

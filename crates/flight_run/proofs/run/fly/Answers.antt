@@ -16,8 +16,7 @@ loop-count-init g c = (
 
 pub loop-count-preserved : goal.loop-count-preserved
 loop-count-preserved g c =
-    let step = rw c.in-Ok-Some.field-0-is at c.in-Ok-Some.ensures.goes_on in
-    (
+    let step = rw c.in-Ok-Some.field-0-is at c.in-Ok-Some.ensures.goes_on in (
       c.advance.auto.buffer ∙ c.loop-count.invariant.0,
       step.no_read_failed,
       step.no_write_failed,

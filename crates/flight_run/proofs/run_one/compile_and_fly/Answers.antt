@@ -15,5 +15,5 @@ pub returns : goal.returns
 returns g c =
     begun _ _ _ _ c.in-Ok.ensures.reads
     (ends_as_called (c.limit_checker_agrees_on_texts.ensures.packet version_1_layouts) (c.limit_checker_agrees_on_texts.ensures.settled version_1_layouts)
-        c.halves_are_sensible.ensures c.rules_are_within_ranges.ensures
-        (record { source = c.args.text.now; rules = c.in-Ok.lowered.rules.rules }) (as_reading _ _ c.in-Ok.ensures.reads) _ c.in_ok-flight.ensures _ _ c.fly.ensures)
+    c.halves_are_sensible.ensures c.rules_are_within_ranges.ensures
+    (record { source = c.args.text.now; rules = c.in-Ok.lowered.rules.rules }) (as_reading _ _ c.in-Ok.ensures.reads) _ c.in_ok-flight.ensures _ _ c.fly.ensures)

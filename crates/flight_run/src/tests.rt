@@ -1,0 +1,292 @@
+//! Runs of one rule over whole streams: the bytes that go out, and how each run ends.
+//!
+//! Want of memory: `rt try --test --fail-alloc N`, for N from 1 on, refuses the Nth allocation of each test's process. A test
+//! then fails with "out of memory" until N is past its last allocation, and none of them fails otherwise.
+
+use crate::low_volts::{TEXT, aging_sample, push_packet, sample, two_failing_samples, volts};
+use crate::{Report, RunError, run_one};
+use lc_model::{ByteSink, ByteSource, Limited, Pieces};
+use rpn_compiler::CompileError;
+use std::alloc::Global;
+use std::test::Fail;
+
+/// The request of sequence 7, with sequence count 0.
+const REQUEST: [u8; 12] = [0x18, 0xA9, 0xC0, 0, 0, 5, 4, 0x88, 0, 7, 0, 0];
+
+/// Bytes of a record of sixteen bytes of packet.
+const RECORD: usize = 27;
+
+/// The answer of a run over a stream in pieces, and how many bytes the writer took into the room.
+fn run(
+    alloc: Global,
+    text: &[u8],
+    stream: &[u8],
+    room: &mut [u8],
+) -> (Result<Report, RunError>, usize) {
+    let limit = room.len();
+    let mut reader = Pieces::new(stream, 99);
+    let mut writer = Limited::new(room, limit);
+    let answer = run_one(alloc, text, &mut reader, &mut writer);
+    (answer, writer.bytes().len())
+}
+
+/// The stream of these packets.
+fn stream_of(alloc: Global, packets: &[[u8; 16]]) -> Result<Vec<u8>, Fail> {
+    let mut stream = Vec::new(alloc);
+    for packet in packets {
+        push_packet(&mut stream, packet)?;
+    }
+    Ok(stream)
+}
+
+#[test]
+fn two_failing_samples_request_the_sequence(rt: HostRuntime) -> Result<(), Fail> {
+    let stream = two_failing_samples(rt.alloc())?;
+    let mut room = [0; 64];
+    let (answer, taken) = run(rt.alloc(), TEXT.as_bytes(), stream.as_slice(), &mut room);
+    assert_eq!(rt;
+        answer,
+        Ok(Report {
+            records: 4,
+            bytes: 12
+        })
+    );
+    assert_eq!(rt; taken, 12);
+    assert_eq!(rt; &room[..12], REQUEST.as_slice());
+    Ok(())
+}
+
+#[test]
+fn passive_after_its_request(rt: HostRuntime) -> Result<(), Fail> {
+    let packets = [
+        volts(2399),
+        sample(),
+        volts(2399),
+        sample(),
+        volts(2399),
+        sample(),
+    ];
+    let stream = stream_of(rt.alloc(), &packets)?;
+    let mut room = [0; 64];
+    let (answer, taken) = run(rt.alloc(), TEXT.as_bytes(), stream.as_slice(), &mut room);
+    assert_eq!(rt;
+        answer,
+        Ok(Report {
+            records: 6,
+            bytes: 12
+        })
+    );
+    assert_eq!(rt; taken, 12);
+    assert_eq!(rt; &room[..12], REQUEST.as_slice());
+    Ok(())
+}
+
+#[test]
+fn no_limit_missed(rt: HostRuntime) -> Result<(), Fail> {
+    let packets = [volts(2400), sample(), volts(2400), sample()];
+    let stream = stream_of(rt.alloc(), &packets)?;
+    let mut room = [0; 64];
+    let (answer, _) = run(rt.alloc(), TEXT.as_bytes(), stream.as_slice(), &mut room);
+    assert_eq!(rt;
+        answer,
+        Ok(Report {
+            records: 4,
+            bytes: 0
+        })
+    );
+    Ok(())
+}
+
+#[test]
+fn stale_after_two_agings(rt: HostRuntime) -> Result<(), Fail> {
+    let packets = [volts(2399), aging_sample(), aging_sample(), aging_sample()];
+    let stream = stream_of(rt.alloc(), &packets)?;
+    let mut room = [0; 64];
+    let (answer, taken) = run(rt.alloc(), TEXT.as_bytes(), stream.as_slice(), &mut room);
+    assert_eq!(rt;
+        answer,
+        Ok(Report {
+            records: 4,
+            bytes: 12
+        })
+    );
+    assert_eq!(rt; taken, 12);
+    assert_eq!(rt; &room[..12], REQUEST.as_slice());
+    Ok(())
+}
+
+#[test]
+fn a_packet_too_short_for_the_field_is_an_error(rt: HostRuntime) -> Result<(), Fail> {
+    let short = [0x08, 0x83, 0xC0, 0, 0, 6, 0, 0, 0, 0, 0, 0, 9];
+    let mut stream = Vec::new(rt.alloc());
+    for packet in [short.as_slice(), &sample(), &sample()] {
+        push_packet(&mut stream, packet)?;
+    }
+    let mut room = [0; 64];
+    let (answer, _) = run(rt.alloc(), TEXT.as_bytes(), stream.as_slice(), &mut room);
+    assert_eq!(rt;
+        answer,
+        Ok(Report {
+            records: 3,
+            bytes: 0
+        })
+    );
+    Ok(())
+}
+
+#[test]
+fn other_packets_lead_to_nothing(rt: HostRuntime) -> Result<(), Fail> {
+    // A voltage of another packet, a part of a packet, a request of rule 1 alone, a range that ends before it begins.
+    let mut another = volts(2399);
+    another[1] = 0x84;
+    let mut part = volts(2399);
+    part[2] = 0;
+    let mut rule_1 = sample();
+    rule_1[8..12].copy_from_slice(&[0, 1, 0, 1]);
+    let mut empty_range = sample();
+    empty_range[8..12].copy_from_slice(&[0, 5, 0, 4]);
+    let packets = [
+        another,
+        part,
+        sample(),
+        volts(2399),
+        rule_1,
+        empty_range,
+        sample(),
+    ];
+    let stream = stream_of(rt.alloc(), &packets)?;
+    let mut room = [0; 64];
+    let (answer, _) = run(rt.alloc(), TEXT.as_bytes(), stream.as_slice(), &mut room);
+    assert_eq!(rt;
+        answer,
+        Ok(Report {
+            records: 7,
+            bytes: 0
+        })
+    );
+    Ok(())
+}
+
+#[test]
+fn an_empty_stream_has_no_records(rt: HostRuntime) {
+    let mut room = [0; 64];
+    let (answer, taken) = run(rt.alloc(), TEXT.as_bytes(), &[], &mut room);
+    assert_eq!(rt;
+        answer,
+        Ok(Report {
+            records: 0,
+            bytes: 0
+        })
+    );
+    assert_eq!(rt; taken, 0);
+}
+
+#[test]
+fn a_refused_text_reads_nothing(rt: HostRuntime) -> Result<(), Fail> {
+    let stream = two_failing_samples(rt.alloc())?;
+    let mut room = [0; 64];
+    let mut reader = Pieces::new(stream.as_slice(), 99);
+    let mut writer = Limited::new(&mut room, 64);
+    let answer = run_one(rt.alloc(), b"@", &mut reader, &mut writer);
+    let error = CompileError::NotYet;
+    assert_eq!(rt; answer, Err(RunError::Compile { text: 0, error }));
+    assert_eq!(rt; reader.reads(), 0);
+    assert_eq!(rt; writer.bytes().len(), 0);
+    Ok(())
+}
+
+#[test]
+fn pieces_make_no_difference(rt: HostRuntime) -> Result<(), Fail> {
+    let stream = two_failing_samples(rt.alloc())?;
+    for most in [1, 7, 1000] {
+        let mut room = [0; 64];
+        let mut reader = Pieces::new(stream.as_slice(), most);
+        let mut writer = Limited::new(&mut room, 64);
+        let answer = run_one(rt.alloc(), TEXT.as_bytes(), &mut reader, &mut writer);
+        assert_eq!(rt;
+            answer,
+            Ok(Report {
+                records: 4,
+                bytes: 12
+            }),
+            "pieces of {most}"
+        );
+        assert_eq!(rt; writer.bytes(), REQUEST.as_slice(), "pieces of {most}");
+    }
+    Ok(())
+}
+
+#[test]
+fn a_stream_cut_in_each_byte(rt: HostRuntime) -> Result<(), Fail> {
+    let stream = two_failing_samples(rt.alloc())?;
+    assert_eq!(rt; stream.len(), 4 * RECORD);
+    for cut in 0..4 * RECORD {
+        let mut room = [0; 64];
+        let (answer, taken) = run(rt.alloc(), TEXT.as_bytes(), &stream[..cut], &mut room);
+        let whole = (cut / RECORD) as u64;
+        let wanted = if cut % RECORD == 0 {
+            Ok(Report {
+                records: whole,
+                bytes: 0,
+            })
+        } else {
+            Err(RunError::Truncated { n: whole + 1 })
+        };
+        assert_eq!(rt; answer, wanted, "cut at {cut}");
+        assert_eq!(rt; taken, 0, "cut at {cut}");
+    }
+    Ok(())
+}
+
+#[test]
+fn a_bad_record_ends_the_run(rt: HostRuntime) -> Result<(), Fail> {
+    // Kinds that no packet has, and a body that is too long.
+    for header in [
+        [2, 0, 0, 0, 100, 0, 0, 0, 0, 0, 0],
+        [3, 0, 0, 0, 100, 0, 0, 0, 0, 0, 40],
+        [0, 0, 0, 0, 100, 0, 0, 0, 0, 0, 16],
+        [1, 0, 0, 0, 100, 0, 0, 0, 1, 0, 1],
+    ] {
+        let mut stream = two_failing_samples(rt.alloc())?;
+        stream.extend_from_slice(&header)?;
+        push_packet(&mut stream, &sample())?;
+        let mut room = [0; 64];
+        let (answer, taken) = run(rt.alloc(), TEXT.as_bytes(), stream.as_slice(), &mut room);
+        assert_eq!(rt; answer, Err(RunError::BadRecord { n: 5 }), "{header:?}");
+        assert_eq!(rt; taken, 12, "{header:?}");
+    }
+    Ok(())
+}
+
+#[test]
+fn a_reader_that_fails_at_each_read(rt: HostRuntime) -> Result<(), Fail> {
+    let stream = two_failing_samples(rt.alloc())?;
+    // By single bytes there is one read for each byte, and one that finds the end.
+    for read in 1..=4 * RECORD as u64 + 1 {
+        let mut room = [0; 64];
+        let mut reader = Pieces::failing_at(stream.as_slice(), 1, read);
+        let mut writer = Limited::new(&mut room, 64);
+        let answer = run_one(rt.alloc(), TEXT.as_bytes(), &mut reader, &mut writer);
+        assert_eq!(rt; answer, Err(RunError::Read), "read {read}");
+        let wanted = if read > 4 * RECORD as u64 { 12 } else { 0 };
+        assert_eq!(rt; writer.bytes().len(), wanted, "read {read}");
+        assert_eq!(rt; reader.reads(), read);
+    }
+    Ok(())
+}
+
+#[test]
+fn a_writer_that_fails_behind_each_byte(rt: HostRuntime) -> Result<(), Fail> {
+    let stream = two_failing_samples(rt.alloc())?;
+    for limit in 0..12 {
+        let mut room = [0; 12];
+        let mut reader = Pieces::new(stream.as_slice(), 99);
+        let mut writer = Limited::new(&mut room, limit);
+        let answer = run_one(rt.alloc(), TEXT.as_bytes(), &mut reader, &mut writer);
+        let sent = limit as u128;
+        assert_eq!(rt; answer, Err(RunError::Write { sent }));
+        assert_eq!(rt; writer.bytes(), &REQUEST[..limit]);
+        assert!(rt; writer.failed());
+    }
+    Ok(())
+}
