@@ -1,13 +1,13 @@
 -- What a packet leads to, by what it is to the Limit Checker.
-use Rattle.std.proofs.Common.{◌≡◌, refl, sym, ◌∙◌, ap, ℕ, ◌≤◌, Bool, true, false, not, ◌&&◌, ◌==◌, nat_le, List, [], Result, Ok, Err, IsErr, ◌⊎◌, inl, inr, arith}
+use Rattle.std.proofs.Common.{◌≡◌, refl, ◌∙◌, ap, ℕ, ◌≤◌, Bool, true, false, ◌&&◌, ◌==◌, nat_le, List, [], Result, Ok, Err, IsErr, inl, inr, arith}
 use Rattle.lc_model.specs.Packet.{message_id, function_code, payload, is_telemetry_mid, sample_mid}
 use Rattle.lc_model.specs.Refusal.{Refusal}
 use Rattle.lc_model.specs.Command.{SampleRequest, sample_request}
 use Rattle.lc_model.specs.Events.Request.{Request}
 use Rattle.lc_model.specs.Host.FixedTables.{is_taken}
 use Rattle.limit_checker.specs.Watcher.{Watcher, after_packet}
-use Rattle.flight_run.specs.declared.packet.Arrival.TheVariants.{Telemetry, Sample, Nothing}
-use Rattle.flight_run.specs.Arrival.{request_of, IsSampling, IsSampleRequest, IsArrival}
+use Rattle.flight_run.specs.declared.packet.Arrival.TheVariants.{Telemetry, Nothing}
+use Rattle.flight_run.specs.Arrival.{IsSampling, IsArrival}
 use Rattle.flight_run.specs.Flight.{Kept, sampled, after_arrival, with_requests, handled}
 
 and_second : (a b : Bool) → (a && b) ≡ true → b ≡ true

@@ -1,5 +1,5 @@
 -- Sequence counts, and the bytes of requests one after the other.
-use Rattle.std.proofs.Common.{◌≡◌, refl, sym, ◌∙◌, ap, subst, ℕ, ◌+◌, ◌%◌, ◌<◌, List, [], ◌∷◌, ◌++◌, arith, append_assoc, append-nil}
+use Rattle.std.proofs.Common.{◌≡◌, refl, sym, ◌∙◌, ap, ℕ, ◌+◌, ◌%◌, List, [], ◌∷◌, ◌++◌, arith, append_assoc}
 use Rattle.std.specs.List.{concat}
 use Rattle.lc_model.specs.Events.Request.{Request, Event, Sequence}
 use Rattle.lc_model.specs.Events.Outgoing.{sequence_request}

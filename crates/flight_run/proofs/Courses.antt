@@ -1,15 +1,14 @@
 -- A run, record by record.
-use Rattle.std.proofs.Common.{◌≡◌, refl, sym, ◌∙◌, ap, subst, ℕ, suc, ◌+◌, ◌<◌, ◌≤◌, ◌^◌, Bool, true, false, List, [], ◌∷◌, ◌++◌, length, take, Option, Some, None, arith, append_assoc, append-nil, length-append}
-use Rattle.std.specs.Prelude.{filter_map, Err, Ok}
+use Rattle.std.proofs.Common.{◌≡◌, refl, sym, ◌∙◌, ap, subst, ℕ, ◌+◌, ◌<◌, false, List, [], ◌∷◌, ◌++◌, length, take, Option, Some, arith, append_assoc, append-nil, length-append}
+use Rattle.std.specs.Prelude.{filter_map, Err}
 use Rattle.std.proofs.lemmas.List.Elements.{filter_map-append}
 use Rattle.std.proofs.Math.Seq.{take-append-add}
-use Rattle.std.specs.Io.KnownBytes.{Appends, Consumes, IsAtEnd}
+use Rattle.std.specs.Io.KnownBytes.{Appends, Consumes}
 use Rattle.std.proofs.KnownBytes.{Appends-nil, Appends-trans, Consumes-nil, Consumes-trans}
 use Rattle.lc_model.specs.Host.Stream.{StreamEntry, End, Whole, Bad, Packet, Front, Nothing, Record, NoRecord, CutRecord, packets_alone, front, records_by_front, records_numbered}
 use Rattle.lc_model.specs.Host.Stream as stream
 use Rattle.lc_model.specs.Host.FixedTables.{packet_in}
 use Rattle.lc_model.specs.Laws.Stream.{FrontDecides}
-use Rattle.flight_run.specs.declared.error.Report.{Report}
 use Rattle.flight_run.specs.declared.error.RunError.{RunError}
 use Rattle.flight_run.specs.declared.intake.Stop.{Stop}
 use Rattle.flight_run.specs.declared.intake.Stop.TheVariants as stop
@@ -17,7 +16,7 @@ use Rattle.flight_run.specs.declared.run.Halt.{Halt}
 use Rattle.flight_run.specs.declared.run.Halt.TheVariants.{Stopped, Unsent}
 use Rattle.flight_run.specs.Intake.{IsPart, IsRecord}
 use Rattle.flight_run.specs.Flight.{Kept, handled, all_handled}
-use Rattle.flight_run.specs.Outcome.{Devices, records, TookAndWrote, Completes, MeetsNoRecord, MeetsTheEnd, FailsToRead, ReachesTheBound, FailsToWrite, IsOutcome}
+use Rattle.flight_run.specs.Outcome.{Devices, records, TookAndWrote, Completes, IsOutcome}
 use Rattle.flight_run.specs.Course.{output_from, Advances, Lands, HaltsUnread, HaltsUnsent, Halts, ended_by}
 
 -- the records of the bytes from the one with this number on

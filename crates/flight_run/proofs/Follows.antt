@@ -1,23 +1,22 @@
 -- Over all packets, the program sends what the definitions ask for.
-use Rattle.std.proofs.Common.{◌≡◌, refl, sym, ◌∙◌, ap, subst, ℕ, suc, Bool, true, false, not, cond, ◌&&◌, ◌||◌, ◌==◌, if◌then◌else◌, List, [], ◌∷◌, ◌++◌, length, map, Option, Some, None, is_none, arith}
+use Rattle.std.proofs.Common.{◌≡◌, refl, sym, ◌∙◌, ap, subst, ℕ, suc, Bool, true, false, ◌&&◌, ◌||◌, ◌==◌, List, [], ◌∷◌, ◌++◌, length, map, Some, is_none, arith}
 use Rattle.std.proofs.lemmas.List.{length-map}
 use Rattle.std.specs.Option.{option_map_or}
 use Rattle.lc_model.specs.Rule.{Actionpoint}
 use Rattle.lc_model.specs.Packet.{message_id, stream_fault, is_telemetry_mid, sample_mid}
 use Rattle.lc_model.specs.Tables.Equation.{terms_of}
 use Rattle.lc_model.specs.Tables.Half.{actions}
-use Rattle.lc_model.specs.Tables.Interpretation.{Pair}
 use Rattle.lc_model.specs.Tables.HalvesAndBytes.{Text, TextImage}
 use Rattle.lc_model.specs.Events.Request.{Request}
 use Rattle.lc_model.specs.LimitChecker.Past.{Past}
-use Rattle.lc_model.specs.LimitChecker.Steps.{Point, by_lists, in_force, paired, fresh_points, lc_packet}
+use Rattle.lc_model.specs.LimitChecker.Steps.{Point, by_lists, in_force, paired, lc_packet}
 use Rattle.lc_model.specs.Host.World.{Lc}
 use Rattle.lc_model.specs.Host.FixedTables.{halves_of, fixed_halves, lc_from_start, is_taken, fixed_step, fixed_requests}
 use Rattle.lc_model.specs.Kept.Summary.{WatchResult, Tally, LcNow, lc_now, now_by, tallied}
 use Rattle.lc_model.specs.Kept.Next.{by_counts}
 use Rattle.lc_model.specs.Laws.LimitChecker.{InForceIsSensible, IsSensible, IsSettled, SamePacketStep, StaysSettled}
-use Rattle.limit_checker.specs.Watcher.{Watcher, fresh, fresh_point}
-use Rattle.flight_run.specs.Flight.{Kept, after_arrival, count_after, request_bytes, with_requests, handled, all_handled}
+use Rattle.limit_checker.specs.Watcher.{Watcher, fresh_point}
+use Rattle.flight_run.specs.Flight.{after_arrival, count_after, request_bytes, handled, all_handled}
 use Rattle.flight_run.proofs.Counting.{bytes-append}
 use Rattle.flight_run.proofs.Arrivals.{not_taken, on_telemetry, on_sample}
 use Rattle.flight_run.proofs.Texts.{watching, now_with, is_in_force, SendsAlike, same_requests, StepsAlike, telemetry_alike, sample_alike}

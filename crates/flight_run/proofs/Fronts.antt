@@ -1,7 +1,7 @@
 -- What stands in front of a stream, by the header of a record and what follows it.
-use Rattle.std.proofs.Common.{◌≡◌, ◌≢◌, ◌⊎◌, inl, inr, refl, sym, ap, ◌∙◌, subst, ℕ, ◌+◌, ◌<◌, ◌≤◌, Bool, true, false, not, cond, ◌&&◌, ◌==◌, nat_lt, nat_le, get_or, List, [], ◌∷◌, ◌++◌, length, take, drop, Option, Some, None, append_assoc, append-nil, arith, drop_at, length-append}
+use Rattle.std.proofs.Common.{◌≡◌, ◌≢◌, ◌⊎◌, inl, inr, refl, sym, ap, ◌∙◌, subst, ℕ, ◌+◌, ◌<◌, ◌≤◌, Bool, true, false, ◌==◌, nat_lt, nat_le, get_or, List, [], ◌∷◌, ◌++◌, length, take, drop, arith, drop_at, length-append}
 use lib.Seq.{take-append_seam}
-use Rattle.lc_model.specs.Host.Stream.{Front, Nothing, Record, NoRecord, CutRecord, Packet, header_size, body_size, moment_of, packets_alone, fits_body, contents_of, record_of, front}
+use Rattle.lc_model.specs.Host.Stream.{Record, NoRecord, CutRecord, Packet, header_size, body_size, moment_of, packets_alone, fits_body, contents_of, record_of, front}
 use Rattle.flight_run.specs.Intake.{IsPart}
 
 less : (m n : ℕ) → m < n → nat_lt m n ≡ true

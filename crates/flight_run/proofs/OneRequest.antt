@@ -1,5 +1,5 @@
 -- A sampled rule requests at most one sequence.
-use Rattle.std.proofs.Common.{◌≡◌, refl, ◌∙◌, ap, subst, ℕ, ◌+◌, ◌%◌, ◌<◌, Bool, true, false, cond, ◌&&◌, not, nat_le, List, [], ◌∷◌, ◌++◌, slice_get, Option, Some, None, arith, append-nil}
+use Rattle.std.proofs.Common.{◌≡◌, refl, ◌∙◌, ap, ℕ, ◌+◌, ◌%◌, ◌<◌, Bool, true, false, cond, ◌&&◌, not, nat_le, List, [], ◌∷◌, ◌++◌, slice_get, Option, Some, None, arith, append-nil}
 use Rattle.std.specs.Prelude.{⊤}
 use Rattle.lc_model.specs.declared.field.Term.{Term}
 use Rattle.lc_model.specs.declared.mode.LcMode.{LcMode}
@@ -16,7 +16,7 @@ use Rattle.lc_model.specs.LimitChecker.Reaction.{Reaction, failure_requests}
 use Rattle.lc_model.specs.LimitChecker.Steps.{Point, is_disabled, is_sampled, sampled_point}
 use Rattle.lc_model.specs.Kept.Summary.{WatchResult, Tally}
 use Rattle.lc_model.specs.Kept.Next.{by_counts, is_last, next_on_failure, next_reaction, next_turn_reports, tally_after}
-use Rattle.limit_checker.specs.Watcher.{Watcher, point_after, sample_with, after_sample, sequence_in}
+use Rattle.limit_checker.specs.Watcher.{Watcher, sample_with, after_sample, sequence_in}
 use Rattle.flight_run.specs.Flight.{count_after, request_bytes}
 
 -- no sequence is requested

@@ -1,5 +1,5 @@
 -- The bytes of a sequence request.
-use Rattle.std.proofs.Common.{◌≡◌, refl, ap, sym, subst, ◌∙◌, ℕ, ◌+◌, List, [], ◌∷◌, get_or}
+use Rattle.std.proofs.Common.{◌≡◌, ◌∙◌, ℕ, ◌+◌, List, [], ◌∷◌, get_or}
 use Rattle.std.specs.Prelude.{bit_xor}
 use Rattle.std.specs.Int.{w16, to_be_bytes}
 use Rattle.std.specs.Int.Bits.{xor_zero_r}

@@ -1,5 +1,5 @@
 -- A part of a slice that was written: what stands in front of its end.
-use Rattle.std.proofs.Common.{◌≡◌, ℕ, ◌+◌, ◌-◌, ◌≤◌, ◌<◌, List, ◌++◌, arith, length, take, slice_range, sym, ap, ◌∙◌, le_refl, drop_at, length-take-le, take_all, drop, length-drop}
+use Rattle.std.proofs.Common.{◌≡◌, ℕ, ◌+◌, ◌-◌, ◌≤◌, List, ◌++◌, arith, length, take, slice_range, sym, ap, ◌∙◌, le_refl, drop_at, length-take-le, take_all, drop, length-drop}
 use Rattle.std.proofs.lemmas.Slice.{take-put_mid_below}
 use borrow.Rule.Slice.PartMut.{put_mid, post_of}
 use lib.Seq.{take-add, take-append-le}

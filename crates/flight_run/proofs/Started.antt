@@ -1,8 +1,8 @@
 -- What goes out of a run that starts with a rule text is what the definitions call for.
-use Rattle.std.proofs.Common.{◌≡◌, refl, sym, ◌∙◌, ap, subst, ℕ, ◌<◌, ◌≤◌, ◌^◌, List, [], ◌∷◌, length, map, Some, Result, arith}
+use Rattle.std.proofs.Common.{◌≡◌, sym, ◌∙◌, subst, ℕ, List, [], ◌∷◌, map, Some, Result}
 use Rattle.std.specs.Prelude.{filter_map}
 use Rattle.std.specs.List.{AllByRecursion}
-use Rattle.lc_model.specs.Rule.{Actionpoint, NamedRule}
+use Rattle.lc_model.specs.Rule.{NamedRule}
 use Rattle.lc_model.specs.Text.Reading.{Reads}
 use Rattle.lc_model.specs.Tables.Equation.{terms_of}
 use Rattle.lc_model.specs.Tables.Half.{actions}
@@ -21,7 +21,6 @@ use Rattle.flight_run.specs.Flight.{Kept, at_start}
 use Rattle.flight_run.specs.Outcome.{Devices, IsOutcome}
 use Rattle.flight_run.specs.Course.{output_from}
 use Rattle.flight_run.proofs.Follows.{follows_from_start, all_follow}
-use Rattle.flight_run.proofs.Texts.{watching}
 
 in_range : (rules : List NamedRule) → AllByRecursion (λ (rule : NamedRule). IsWithinRanges rule.action) rules → AllByRecursion IsInRange (actions rules)
 in_range [] all = tt

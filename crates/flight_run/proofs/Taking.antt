@@ -1,11 +1,11 @@
 -- What the steps of taking a record leave, put together.
-use Rattle.std.proofs.Common.{◌≡◌, refl, sym, ap, ◌∙◌, subst, ℕ, ◌<◌, ◌≤◌, Bool, get_or, List, [], ◌∷◌, ◌++◌, length, take, Option, arith, take_all, length-take-le}
+use Rattle.std.proofs.Common.{◌≡◌, sym, ◌∙◌, subst, ℕ, ◌<◌, ◌≤◌, Bool, get_or, List, ◌++◌, length, take, Option, arith, take_all, length-take-le}
 use Rattle.std.specs.Io.KnownBytes.{Consumes}
 use Rattle.std.proofs.KnownBytes.{Consumes-trans}
 use Rattle.lc_model.specs.Host.Stream.{packets_alone, front, body_size, moment_of}
 use Rattle.flight_run.specs.declared.intake.Stop.{Stop}
 use Rattle.flight_run.specs.declared.intake.Stop.TheVariants.{Bad, Truncated, Fault, Bound}
-use Rattle.flight_run.specs.Intake.{Breaks, Fills, IsPart, IsRecord, StopsHere, TakesRecord}
+use Rattle.flight_run.specs.Intake.{Breaks, Fills, IsPart, StopsHere, TakesRecord}
 use Rattle.flight_run.proofs.Fronts.{part_of_header, cut_body, record_in_front}
 
 -- a part of a record, where reading broke off

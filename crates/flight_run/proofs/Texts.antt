@@ -1,28 +1,23 @@
 -- With a rule text in force, the program's numbers follow the Limit Checker of the definitions.
-use Rattle.std.proofs.Common.{◌≡◌, refl, sym, ◌∙◌, ap, subst, ℕ, ◌+◌, ◌≤◌, Bool, true, false, not, cond, ◌&&◌, ◌==◌, nat_le, if◌then◌else◌, List, [], ◌∷◌, ◌++◌, length, map, Option, Some, None, Result, Ok, Err, arith}
+use Rattle.std.proofs.Common.{◌≡◌, refl, sym, ◌∙◌, ap, subst, ℕ, ◌≤◌, Bool, true, false, cond, ◌&&◌, ◌==◌, nat_le, if◌then◌else◌, List, [], ◌∷◌, length, Some, Result, Ok, Err, arith}
 use Rattle.std.proofs.lemmas.Slice.Eq.{bytes_eq-Decides}
 use Rattle.std.specs.Prelude.{bytes_eq}
-use Rattle.std.specs.List.{AllByRecursion, concat}
 use Rattle.std.specs.Option.{option_map_or}
 use Rattle.lc_model.specs.declared.mode.LcMode.TheVariants.{Active}
-use Rattle.lc_model.specs.declared.kind.Kind.TheVariants.{Wdt, Adt}
-use Rattle.lc_model.specs.Rule.{Actionpoint, NamedRule}
 use Rattle.lc_model.specs.Packet.{message_id, function_code, payload, is_telemetry_mid, lc_command_mid, lc_housekeeping_request_mid, sample_mid}
 use Rattle.lc_model.specs.Refusal.{Refusal, ◌>>=◌}
 use Rattle.lc_model.specs.Command.{SampleRequest, sample_request}
 use Rattle.lc_model.specs.Tables.Equation.{terms_of}
 use Rattle.lc_model.specs.Tables.Half.{actions}
 use Rattle.lc_model.specs.Tables.Slot.{in_use}
-use Rattle.lc_model.specs.Tables.Interpretation.{Pair}
 use Rattle.lc_model.specs.Tables.HalvesAndBytes.{Text, TextImage}
-use Rattle.lc_model.specs.Events.Request.{Request, Event, Sequence, short_packet, lc_command_refused}
-use Rattle.lc_model.specs.LimitChecker.Steps.{LimitChecker, Point, in_force, is_short, sampled_points, sampled_by, watched, lc_sample, lc_telemetry, unless_refused, lc_packet}
-use Rattle.lc_model.specs.Host.World.{Lc}
-use Rattle.lc_model.specs.Host.FixedTables.{halves_of, fixed_halves, lc_from_start, is_taken, fixed_step, fixed_requests}
-use Rattle.lc_model.specs.Kept.Summary.{WatchResult, Tally, LcNow, lc_now, tallied}
+use Rattle.lc_model.specs.Events.Request.{Request, short_packet}
+use Rattle.lc_model.specs.LimitChecker.Steps.{Point, in_force, is_short, sampled_points, sampled_by, watched, lc_sample, lc_telemetry, unless_refused, lc_packet}
+use Rattle.lc_model.specs.Host.FixedTables.{halves_of, fixed_halves}
+use Rattle.lc_model.specs.Kept.Summary.{WatchResult, Tally, LcNow}
 use Rattle.lc_model.specs.Kept.Next.{by_counts}
-use Rattle.limit_checker.specs.Watcher.{Watcher, fresh, fresh_point, after_packet, after_aging}
-use Rattle.flight_run.specs.Flight.{Kept, sampled, sampled_from, after_arrival, count_after, request_bytes, with_requests, handled, all_handled}
+use Rattle.limit_checker.specs.Watcher.{Watcher, after_packet, after_aging}
+use Rattle.flight_run.specs.Flight.{sampled, sampled_from, count_after, request_bytes}
 use Rattle.flight_run.proofs.Following.{sampled_alike}
 
 module _ (text : Text) where

@@ -1,6 +1,6 @@
 -- What a packet that comes in is to the Limit Checker. The sample request is that of the cFS Limit Checker user's guide; its
 -- layout is this project's own.
-use Rattle.std.specs.Prelude.{◌≡◌, ℕ, ◌==◌, ◌⊎◌, IsTrue, IsFalse, IsErr, List, Option, Some, None, Ok}
+use Rattle.std.specs.Prelude.{◌≡◌, ℕ, ◌⊎◌, IsTrue, IsFalse, IsErr, List, Option, Some, None, Ok}
 use Rattle.lc_model.specs.Packet.{message_id, function_code, payload, is_telemetry_mid, sample_mid}
 use Rattle.lc_model.specs.Command as command
 use Rattle.lc_model.specs.Host.FixedTables.{is_taken}

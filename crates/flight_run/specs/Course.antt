@@ -1,6 +1,6 @@
 -- A run between two records.
-use Rattle.std.specs.Prelude.{◌≡◌, ℕ, ◌+◌, ◌^◌, ◌<◌, ◌≤◌, Bool, true, false, List, [], ◌∷◌, ◌++◌, length, take, filter_map, Option, Some, None, Result, Ok, Err}
-use Rattle.std.specs.Io.KnownBytes.{Appends, Consumes, IsAtEnd}
+use Rattle.std.specs.Prelude.{◌≡◌, ℕ, ◌+◌, ◌<◌, ◌≤◌, true, false, List, length, take, filter_map, Option, Some, None}
+use Rattle.std.specs.Io.KnownBytes.{Appends, Consumes}
 use Rattle.lc_model.specs.Host.Stream.{StreamEntry}
 use Rattle.lc_model.specs.Host.FixedTables.{packet_in}
 use Rattle.flight_run.specs.declared.intake.Stop.{Stop}

@@ -1,5 +1,5 @@
 -- What the program keeps between two packets, and what a packet makes of it, in the Limit Checker's numbers.
-use Rattle.std.specs.Prelude.{ℕ, zero, suc, ◌+◌, ◌%◌, ◌==◌, Bool, not, List, [], ◌∷◌, ◌++◌, length, if◌then◌else◌, Result, Ok, Err}
+use Rattle.std.specs.Prelude.{ℕ, zero, suc, ◌+◌, ◌%◌, ◌==◌, not, List, [], ◌∷◌, ◌++◌, length, if◌then◌else◌, Result, Ok, Err}
 use Rattle.std.specs.List.{concat}
 use Rattle.lc_model.specs.Packet.{message_id, function_code, payload, sample_mid}
 use Rattle.lc_model.specs.Refusal.{Refusal}

@@ -1,5 +1,5 @@
 -- How a run ends, and what it leaves of its stream and of its output. The format of streams is this project's own.
-use Rattle.std.specs.Prelude.{◌≡◌, ℕ, ◌+◌, ◌^◌, ◌<◌, Bool, true, false, List, ◌++◌, length, take, Option, Result, Ok, Err}
+use Rattle.std.specs.Prelude.{◌≡◌, ℕ, ◌^◌, ◌<◌, Bool, true, false, List, ◌++◌, length, take, Option, Result, Ok, Err}
 use Rattle.std.specs.Io.KnownBytes.{Appends, Consumes, IsAtEnd}
 use Rattle.lc_model.specs.Host.Stream.{StreamEntry, End, Whole, Bad, packets_alone, records_of_kinds}
 use Rattle.lc_model.specs.Host.Stream as stream

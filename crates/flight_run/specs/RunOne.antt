@@ -1,9 +1,8 @@
 -- What `run_one` answers and leaves: a rule text is compiled, and the packets of a stream are handled by its rules from the
 -- start. The format of streams is this project's own.
-use Rattle.std.specs.Prelude.{◌≡◌, ◌≢◌, ℕ, ◌^◌, ◌<◌, false, List, ◌++◌, length, Option, Some, Result, Ok, Err}
+use Rattle.std.specs.Prelude.{◌≡◌, ◌≢◌, ℕ, ◌^◌, ◌<◌, false, List, ◌++◌, length, Some, Result, Ok, Err}
 use Rattle.lc_model.specs.Rule.{NamedRule}
 use Rattle.lc_model.specs.Text.Reading.{ReadsOneComparison}
-use Rattle.lc_model.specs.Tables.HalvesAndBytes.{Text}
 use Rattle.lc_model.specs.Host.FixedTables.{fixed_output}
 use Rattle.lc_model.specs.Host.Stream.{StreamEntry, End, Whole, Bad}
 use Rattle.lc_model.specs.Host.Stream as stream
@@ -12,7 +11,7 @@ use Rattle.rpn_compiler.specs.declared.error.CompileError.TheVariants.{NotYet}
 use Rattle.rpn_compiler.specs.declared.error.CompileError.TheVariants as compiler
 use Rattle.flight_run.specs.declared.error.Report.{Report}
 use Rattle.flight_run.specs.declared.error.RunError.{RunError}
-use Rattle.flight_run.specs.declared.error.RunError.TheVariants.{Compile, BadRecord, Truncated, Read, Write, ReadBound, Memory}
+use Rattle.flight_run.specs.declared.error.RunError.TheVariants.{Compile, BadRecord, Truncated, Memory}
 use Rattle.flight_run.specs.Outcome.{Devices, IsOutcome, records}
 
 -- nothing was read and nothing written

@@ -1,4 +1,4 @@
-use Rattle.std.proofs.Common.{rules, ◌≡◌, ◌-◌, ◌≤◌, subst, sym, length, take, arith}
+use Rattle.std.proofs.Common.{rules, ◌-◌, subst, length}
 use Rattle.std.specs.Io.KnownBytes.{Consumes}
 use Rattle.std.proofs.KnownBytes.{Consumes-trans}
 use Rattle.flight_run.proofs.Slices.{take-put_mid}

@@ -1,4 +1,4 @@
-use Rattle.std.proofs.Common.{rules, ◌≡◌, refl, sym, ◌∙◌, subst, ◌<◌, ◌≤◌, ◌++◌, length, take, drop, arith, length-append, length-take-le}
+use Rattle.std.proofs.Common.{rules, ◌≡◌, refl, sym, ◌∙◌, subst, ◌≤◌, ◌++◌, length, take, drop, arith, length-append, length-take-le}
 use lib.Seq.{take-append_seam}
 use Rattle.std.proofs.lemmas.Result.{err_from_is_err_and}
 use Rattle.flight_run.specs.Intake.{TakesRecord}

@@ -1,4 +1,4 @@
-use Rattle.std.proofs.Common.{rules, ◌≡◌, refl, sym, ◌∙◌, ap, subst, ◌+◌, ◌*◌, ◌<◌, ◌≤◌, false, length, Err, arith}
+use Rattle.std.proofs.Common.{refl, ◌∙◌, arith}
 use Rattle.flight_run.specs.Kept.{kept_of}
 use Rattle.flight_run.proofs.Courses.{nothing_yet, one_more, lands, halts}
 use Rattle.flight_run.proofs.run.fly.Goals as goal

@@ -1,6 +1,5 @@
-use Rattle.std.proofs.Common.{rules, ◌≡◌, refl, sym, ◌∙◌, ap, subst, Err}
+use Rattle.std.proofs.Common.{refl}
 use Rattle.lc_model.specs.Tables.Image.{version_1_layouts}
-use Rattle.flight_run.specs.RunOne.{IsRun}
 use Rattle.flight_run.proofs.Headline.{as_reading, refused, begun}
 use Rattle.flight_run.proofs.Started.{ends_as_called}
 use Rattle.flight_run.proofs.run_one.compile_and_fly.Goals as goal

@@ -1,5 +1,5 @@
-use Rattle.std.proofs.Common.{rules, ◌≡◌, refl, sym, ◌∙◌, ap, List, [], ℕ, Ok}
-use Rattle.flight_run.specs.Flight.{Kept, sampled, with_requests}
+use Rattle.std.proofs.Common.{sym, ◌∙◌, ap, List, ℕ}
+use Rattle.flight_run.specs.Flight.{Kept, sampled}
 use Rattle.flight_run.specs.Kept.{kept_of}
 use Rattle.flight_run.proofs.Arrivals.{on_telemetry, on_sample, on_nothing, handled_by}
 use Rattle.flight_run.proofs.flight.Flight.handle.Goals as goal

@@ -1,5 +1,5 @@
-use Rattle.std.proofs.Common.{rules, ◌≡◌, refl, sym, ◌∙◌, ap, subst, ◌<◌, ◌≤◌, if◌then◌else◌, List, [], length, ℕ, Bool, Ok, arith}
-use Rattle.limit_checker.specs.Watcher.{Watcher, after_aging}
+use Rattle.std.proofs.Common.{rules, refl, sym, ◌∙◌, ap, subst, if◌then◌else◌, List, length, ℕ, arith}
+use Rattle.limit_checker.specs.Watcher.{after_aging}
 use Rattle.flight_run.specs.declared.flight.Flight.{Flight}
 use Rattle.flight_run.specs.Arrival.{request_of}
 use Rattle.flight_run.specs.Flight.{Kept}

@@ -1,6 +1,6 @@
-use Rattle.std.proofs.Common.{rules, ◌≡◌, refl, sym, ◌∙◌, ap, subst, ◌<◌, ◌≤◌, ◌^◌, length, ◌++◌, List, Option, Some, None, arith, append-nil}
+use Rattle.std.proofs.Common.{sym, ◌∙◌, ap, subst, ◌≤◌, length, ◌++◌, List, append-nil}
 use Rattle.lc_model.specs.Rule.{Actionpoint}
-use Rattle.limit_checker.specs.Watcher.{Watcher, after_sample, sequence_in}
+use Rattle.limit_checker.specs.Watcher.{Watcher, after_sample}
 use Rattle.flight_run.proofs.OneRequest.{SendAs, send_as, sample_requests, sample_keeps_rules}
 use Rattle.flight_run.proofs.flight.Flight.sample_rule.Goals as goal
 
