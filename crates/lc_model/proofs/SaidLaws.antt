@@ -33,7 +33,7 @@ bytes_in_front (suc n) (b ∷ bytes) all = (all.0, bytes_in_front n bytes all.1)
 entry_bytes_are : (l : Layout) (image : List ℕ) (n : ℕ) → AreBytes image → AreBytes (entry_at l image n)
 entry_bytes_are l image n all = bytes_in_front (entry_length l) (drop (40 + n * entry_length l) image) (bytes_behind (40 + n * entry_length l) image all)
 
-all_append : {A : Type 0} (P : A → Type 0) (xs ys : List A) → AllByRecursion P xs → AllByRecursion P ys → AllByRecursion P (xs ++ ys)
+pub all_append : {A : Type 0} (P : A → Type 0) (xs ys : List A) → AllByRecursion P xs → AllByRecursion P ys → AllByRecursion P (xs ++ ys)
 all_append P [] ys a b = b
 all_append P (x ∷ xs) ys a b = (a.0, all_append P xs ys a.1 b)
 
