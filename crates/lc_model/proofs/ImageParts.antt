@@ -1,6 +1,6 @@
 -- A sound image is its preamble and its entries, one behind another, with blank ones behind those that are used.
 use Rattle.std.proofs.Common.{◌≡◌, refl, sym, ◌∙◌, ap, ℕ, zero, suc, ◌+◌, ◌-◌, ◌*◌, ◌<◌, ◌≤◌, Bool, true, false, not, ◌||◌, ◌&&◌, if◌then◌else◌, nat_lt, ◌==◌, List, [], ◌∷◌, ◌++◌, length, map, flat_map, take, drop, replicate, slice_range, bytes_eq, Option, Some, None, arith, append_assoc, append-nil, length-append, length-drop, length-take-le, take-add, take_all, drop-drop, suc-mul, zero-mul}
-use Rattle.std.specs.List.{AllByRecursion, AllZip}
+use Rattle.std.specs.List.{AllByRecursion}
 use Rattle.std.proofs.lemmas.List.{map-append, length-map, replicate_more}
 use Rattle.std.proofs.lemmas.List.Concat.{flat_map-append}
 use Rattle.std.proofs.lemmas.List.Folds.{drop_split}
@@ -16,6 +16,7 @@ use Rattle.lc_model.proofs.SoundImages.{SoundParts, two_at}
 
 -- ---- what is listed of the numbers below one
 
+-- there are as many
 length_numbers : (k : ℕ) → length (numbers_below k) ≡ k
 length_numbers zero = refl
 length_numbers (suc k) = omega (arith, length-append (numbers_below k) (k ∷ []), length_numbers k)
@@ -23,6 +24,7 @@ length_numbers (suc k) = omega (arith, length-append (numbers_below k) (k ∷ []
 pub length_listed : {A : Type 0} (f : ℕ → A) (k : ℕ) → length (map f (numbers_below k)) ≡ k
 length_listed f k = length-map (numbers_below k) f ∙ length_numbers k
 
+-- what is the same of each of them makes the same list
 pub same_below : {A : Type 0} (f g : ℕ → A) (k : ℕ) → ((n : ℕ) → n < k → f n ≡ g n) → map f (numbers_below k) ≡ map g (numbers_below k)
 same_below f g zero same = refl
 same_below f g (suc k) same =
@@ -96,25 +98,32 @@ pub record SoundPreamble (l : Layout) (image : List ℕ) : Type 0 where
   pub watchpoints : watchpoint_count image ≤ table_entries
   pub one_count : is_kind (kind_of l) Wdt ≡ true → own_count image ≡ watchpoint_count image
 
+-- too many of one or the other
+abbrev too_many : List ℕ → Bool
+too_many image = nat_lt table_entries (own_count image) || nat_lt table_entries (watchpoint_count image)
+
+-- a WDT image with two counts
+abbrev two_counts : Layout → List ℕ → Bool
+two_counts l image = is_kind (kind_of l) Wdt && not (own_count image == watchpoint_count image)
+
+-- the tests of a preamble
+abbrev preamble_tests : Layout → List ℕ → List (Bool × ℕ)
+preamble_tests l image =
+    (not (u16_at image 0 == version_of l), 61)
+    ∷ (not (u16_at image 2 == kind_code (kind_of l)), 62)
+    ∷ (too_many image || two_counts l image, 64) ∷ []
+
 pub sound_preamble : (l : Layout) (image : List ℕ) → preamble_code l image ≡ None → SoundPreamble l image
 sound_preamble l image sound =
-    let tests = none_stands (
-      (not (u16_at image 0 == version_of l), 61)
-      ∷ (not (u16_at image 2 == kind_code (kind_of l)), 62)
-      ∷ (
-        nat_lt table_entries (own_count image) || nat_lt table_entries (watchpoint_count image)
-            || (is_kind (kind_of l) Wdt && not (own_count image == watchpoint_count image)),
-        64,
-      ) ∷ []) sound in
-    let few : (nat_lt table_entries (own_count image) || nat_lt table_entries (watchpoint_count image)) ≡ false =
-    or_first (nat_lt table_entries (own_count image) || nat_lt table_entries (watchpoint_count image)) (is_kind (kind_of l) Wdt && not (own_count image == watchpoint_count image)) tests.1.1.0 in
+    let tests : AllByRecursion (λ t. t.0 ≡ false) (preamble_tests l image) = none_stands (preamble_tests l image) sound in
+    let few : too_many image ≡ false = or_first (too_many image) (two_counts l image) tests.1.1.0 in
+    let one : two_counts l image ≡ false = or_second (too_many image) (two_counts l image) tests.1.1.0 in
     record {
       version = equal _ _ (not_false (u16_at image 0 == version_of l) tests.0);
       kind = equal _ _ (not_false (u16_at image 2 == kind_code (kind_of l)) tests.1.0);
       own = at_least _ _ (or_first (nat_lt table_entries (own_count image)) (nat_lt table_entries (watchpoint_count image)) few);
       watchpoints = at_least _ _ (or_second (nat_lt table_entries (own_count image)) (nat_lt table_entries (watchpoint_count image)) few);
-      one_count = λ is. equal _ _ (both_or (is_kind (kind_of l) Wdt) (own_count image == watchpoint_count image)
-      (or_second (nat_lt table_entries (own_count image) || nat_lt table_entries (watchpoint_count image)) (is_kind (kind_of l) Wdt && not (own_count image == watchpoint_count image)) tests.1.1.0) is);
+      one_count = λ is. equal _ _ (both_or (is_kind (kind_of l) Wdt) (own_count image == watchpoint_count image) one is);
     }
 
 -- the preamble is spelled by what is read of it
@@ -158,11 +167,13 @@ behind_is_blank l image n sound more =
     by_test true e is = (bytes_eq-Decides (entry_at l image n) (blank_entry l)).0 e
     by_test false e is = absurd (cc is)
 
+-- room for the preamble
 at_least_40 : (l : Layout) {n : ℕ} → image_length l ≡ n → 40 ≤ n
 at_least_40 Watchpoints size = omega (arith, size)
 at_least_40 Actionpoints size = omega (arith, size)
 at_least_40 WideActionpoints size = omega (arith, size)
 
+-- room for all entries
 body_long : (l : Layout) (image : List ℕ) → image_length l ≡ length image → length (drop 40 image) ≡ table_entries * entry_length l
 body_long Watchpoints image size = omega (arith, length-drop 40 image, size)
 body_long Actionpoints image size = omega (arith, length-drop 40 image, size)
@@ -177,6 +188,7 @@ body_again l image k own few long blank =
     ∙ ap (flat_map (λ e. e)) (same_behind (entry_at l image) own (blank_entry l) (k - own) k (omega (arith, few)) blank
     ∙ ap (λ n. map (entry_at l image) (numbers_below own) ++ replicate (k - n) (blank_entry l)) (sym (length_listed (entry_at l image) own)))
 
+-- the image is spelled by its parts
 pub image_again : {layouts : List Layout} {kind : Kind} (image : List ℕ) → AllByRecursion (λ b. b < 256) image → (parts : SoundParts layouts kind image) →
     image ≡ preamble parts.layout (own_count image) (watchpoint_count image) (hash_of image)
     ++ filled parts.layout (map (entry_at parts.layout image) (numbers_below (own_count image)))

@@ -1,17 +1,16 @@
 -- What is computed of a sound matching pair of images is what it says.
-use Rattle.std.proofs.Common.{◌≡◌, refl, sym, ◌∙◌, ap, subst, ℕ, zero, suc, ◌*◌, ◌+◌, ◌<◌, ◌≤◌, ◌^◌, true, false, List, [], ◌∷◌, ◌++◌, length, map, flat_map, take, drop, Some, None, Option, arith, append-nil}
+use Rattle.std.proofs.Common.{◌≡◌, refl, sym, ◌∙◌, ap, subst, ℕ, zero, suc, ◌*◌, ◌+◌, ◌<◌, ◌≤◌, true, List, [], ◌∷◌, ◌++◌, length, map, flat_map, take, drop, Some, arith, append-nil}
 use Rattle.std.specs.List.{AllByRecursion, AllZip}
 use Rattle.std.proofs.lemmas.List.{map-append}
 use Rattle.std.proofs.lemmas.Simd.{map-map}
 use Rattle.std.proofs.lemmas.List.Concat.{flat_map-append}
 use Rattle.lc_model.specs.declared.field.Term.{Term}
 use Rattle.lc_model.specs.declared.kind.Kind.TheVariants.{Wdt, Adt}
-use Rattle.lc_model.specs.Rule.{Actionpoint}
 use Rattle.lc_model.specs.Codes.{table_entries, is_kind}
 use Rattle.lc_model.specs.Tables.Equation.{SpellsInOrder}
-use Rattle.lc_model.specs.Tables.Image.{Layout, Watchpoints, Actionpoints, WideActionpoints, kind_of, words_in, entry_length, image_length, preamble, filled, term_bytes, TableEntry, entry_bytes, FitsWatchpoint, FitsEntry, wdt_image, adt_image, own_count, watchpoint_count, hash_of, entry_at, all_words, words_before_equal, actionpoint_code, used_code, numbers_below, layout_of, IsSound}
-use Rattle.lc_model.specs.Tables.Half.{IsEntryOf, HasActionpoints, IsMatch, Says}
-use Rattle.lc_model.specs.Tables.Spelled.{spelled_term, spelled_terms, spelled_condition, spelled_rule, spelled_rule_if, spelled_by_layout, spelled_rules}
+use Rattle.lc_model.specs.Tables.Image.{Layout, Watchpoints, Actionpoints, WideActionpoints, kind_of, words_in, entry_length, image_length, preamble, filled, term_bytes, TableEntry, entry_bytes, FitsWatchpoint, FitsEntry, wdt_image, adt_image, own_count, watchpoint_count, hash_of, entry_at, all_words, words_before_equal, actionpoint_code, used_code, numbers_below}
+use Rattle.lc_model.specs.Tables.Half.{IsEntryOf, HasActionpoints}
+use Rattle.lc_model.specs.Tables.Spelled.{spelled_term, spelled_terms, spelled_condition, spelled_rule, spelled_rule_if, spelled_by_layout}
 use Rattle.lc_model.specs.Laws.Tables.{IsWhatIsSaid}
 use Rattle.lc_model.proofs.SpellsOnce.{computed}
 use Rattle.lc_model.proofs.FileLaws.{bytes_behind}
@@ -30,6 +29,7 @@ bytes_in_front zero bytes all = tt
 bytes_in_front (suc n) [] all = tt
 bytes_in_front (suc n) (b ∷ bytes) all = (all.0, bytes_in_front n bytes all.1)
 
+-- an entry of bytes is bytes
 entry_bytes_are : (l : Layout) (image : List ℕ) (n : ℕ) → AreBytes image → AreBytes (entry_at l image n)
 entry_bytes_are l image n all = bytes_in_front (entry_length l) (drop (40 + n * entry_length l) image) (bytes_behind (40 + n * entry_length l) image all)
 
@@ -72,6 +72,7 @@ pub record SaysWatchpoints (wdt : List ℕ) : Type 0 where
   pub count : length (spelled_terms wdt) ≡ watchpoint_count wdt
   pub few : length (spelled_terms wdt) ≤ table_entries
 
+-- it says those that are computed
 says_watchpoints : {layouts : List Layout} (wdt : List ℕ) → AreBytes wdt → (parts : SoundParts layouts Wdt wdt) → parts.layout ≡ Watchpoints → SaysWatchpoints wdt
 says_watchpoints wdt all parts is = record {
   again = image_again wdt all parts ∙ (λ i. preamble (is i) (length_again i) (same_count i) (hash_of wdt) ++ filled (is i) (map (entry_at (is i) wdt) (numbers_below (own_count wdt))))
@@ -107,11 +108,13 @@ says_watchpoints wdt all parts is = record {
 
 -- ---- actionpoints
 
+-- in a layout of actionpoints
 of_adt : (l : Layout) → is_kind Adt (kind_of l) ≡ true → (count : ℕ) (e : List ℕ) → (used_code l count e ≡ actionpoint_code count e) × (entry_length l ≡ 46 + 2 * words_in l)
 of_adt Watchpoints is count e = absurd (cc is)
 of_adt Actionpoints is count e = (refl, refl)
 of_adt WideActionpoints is count e = (refl, refl)
 
+-- what a sound ADT image says over these terms
 says_actionpoints : {layouts : List Layout} (terms : List Term) (adt : List ℕ) → AreBytes adt → (parts : SoundParts layouts Adt adt) →
     length terms ≤ table_entries → length terms ≡ watchpoint_count adt →
     HasActionpoints (SpellsInOrder terms) (hash_of adt) (length terms) (spelled_by_layout (Some parts.layout) terms adt) adt
@@ -153,10 +156,10 @@ says_actionpoints terms adt all parts few count = (l, entries, again, fit, said)
         (λ n. spelled_rule_if (entry_at l adt n) (spelled_condition terms (words_before_equal (all_words (entry_at l adt n)))))
         (λ n. read_entry (entry_at l adt n)) (own_count adt)
         (λ n below. (
-            spelled_rule (entry_at l adt n) (each n below).condition,
-            ap (spelled_rule_if (entry_at l adt n)) (computed terms (omega (arith, few)) (each n below).spells),
-            (refl, (each n below).spells),
-          ))
+          spelled_rule (entry_at l adt n) (each n below).condition,
+          ap (spelled_rule_if (entry_at l adt n)) (computed terms (omega (arith, few)) (each n below).spells),
+          (refl, (each n below).spells),
+        ))
 
 -- ---- both
 

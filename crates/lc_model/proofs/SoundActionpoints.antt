@@ -1,5 +1,5 @@
 -- A sound entry of an actionpoint is spelled by the actionpoint that is read of it.
-use Rattle.std.proofs.Common.{◌≡◌, ◌≢◌, refl, sym, ◌∙◌, ap, ℕ, zero, suc, ◌+◌, ◌-◌, ◌*◌, ◌<◌, ◌≤◌, Bool, true, false, not, ◌&&◌, ◌||◌, nat_lt, nat_le, ◌==◌, List, [], ◌∷◌, ◌++◌, length, flat_map, take, drop, take_while, replicate, slice_index, slice_range, Some, None, arith, length-drop, length-take-le, take-append-drop}
+use Rattle.std.proofs.Common.{◌≡◌, ◌≢◌, refl, sym, ◌∙◌, ap, ℕ, zero, suc, ◌+◌, ◌-◌, ◌*◌, ◌<◌, ◌≤◌, Bool, true, false, not, ◌&&◌, ◌||◌, nat_lt, nat_le, ◌==◌, List, [], ◌∷◌, ◌++◌, length, flat_map, drop, take_while, replicate, slice_index, slice_range, None, arith, length-drop, length-take-le}
 use Rattle.std.specs.List.{AllByRecursion, list_any, list_all}
 use Rattle.std.specs.Int.{is_in_range}
 use Rattle.std.proofs.lemmas.List.Folds.{drop_split}
@@ -41,6 +41,7 @@ less m n e = grind (arith, e)
 
 -- ---- codes
 
+-- a state's code, and an event type's
 state_again : (n : ℕ) → 1 ≤ n → n ≤ 3 → state_code (state_of_code n) ≡ n
 state_again zero low high = absurd (omega (arith, low))
 state_again (suc zero) low high = refl
@@ -162,6 +163,7 @@ actionpoint_tests count e =
     ∷ equation_tests count (words_before_equal (all_words e))
     ++ (u16_at e 6 == 0 || u16_at e 8 == 0, 81) ∷ []
 
+-- an entry without a fault is one
 pub actionpoint_again : (l : Layout) (terms : List Term) (e : List ℕ) → length terms ≤ table_entries → AllByRecursion (λ b. b < 256) e →
     length e ≡ 46 + 2 * words_in l → actionpoint_code (length terms) e ≡ None → IsActionpoint l terms e
 actionpoint_again l terms e few all long sound =

@@ -1,5 +1,5 @@
 -- The text and the words of a sound actionpoint entry are spelled by what is read of them.
-use Rattle.std.proofs.Common.{◌≡◌, ◌≢◌, refl, sym, ◌∙◌, ap, subst, ℕ, zero, suc, ◌+◌, ◌-◌, ◌*◌, ◌<◌, ◌≤◌, ◌^◌, Bool, true, false, not, cond, ◌&&◌, ◌||◌, true≢false, nat_lt, nat_le, ◌==◌, List, [], ◌∷◌, ◌++◌, length, flat_map, take, drop, take_while, replicate, arith}
+use Rattle.std.proofs.Common.{◌≡◌, ◌≢◌, refl, sym, ◌∙◌, ap, subst, ℕ, zero, suc, ◌+◌, ◌-◌, ◌*◌, ◌<◌, ◌≤◌, ◌^◌, Bool, true, false, not, cond, ◌&&◌, ◌||◌, true≢false, nat_le, ◌==◌, List, [], ◌∷◌, ◌++◌, length, flat_map, take, drop, take_while, replicate, arith}
 use Rattle.std.specs.List.{AllByRecursion, list_any, list_all, position_or_len, before_first, after_first}
 use Rattle.std.proofs.lemmas.List.Sums.{take_while-cons}
 use Rattle.lc_model.specs.Bytes.{u16, u16_at}
@@ -70,6 +70,7 @@ zeros (b ∷ bytes) e =
 
 -- ---- texts
 
+-- a byte of a text is neither zero nor above a byte
 text_byte : (b : ℕ) → is_text_byte b ≡ true → (0 < b) × (b < 2 ^ 8)
 text_byte b e =
     let range : (nat_le 0x20 b && nat_le b 0x7E) ≡ true = left (nat_le 0x20 b && nat_le b 0x7E) (not (b == quote)) e in
@@ -83,9 +84,11 @@ pub record IsTextField (field : List ℕ) : Type 0 where
   pub each : AllByRecursion (λ b. (0 < b) × (b < 2 ^ 8)) (name_in field)
   pub long : length (name_in field) ≡ length (take_while is_text_byte field)
 
+-- behind the text bytes stand zeros alone
 abbrev HasZerosBehind : List ℕ → Type 0
 HasZerosBehind field = list_all (◌==◌ 0) (drop (length (take_while is_text_byte field)) field) ≡ true
 
+-- such a field is spelled by the text that is read of it
 pub text_again : (field : List ℕ) → HasZerosBehind field → IsTextField field
 text_again [] behind = record { again = refl; each = tt; long = refl }
 text_again (b ∷ bytes) behind = by_test (is_text_byte b) refl (text_again bytes)
@@ -126,6 +129,7 @@ pub record HoldsWords (count : ℕ) (bytes : List ℕ) : Type 0 where
   pub each : AllByRecursion (λ w. w < 2 ^ 16) (words_from bytes)
   pub long : length (words_from bytes) ≡ count
 
+-- two bytes for each word hold so many
 pub words_again : (count : ℕ) (bytes : List ℕ) → AllByRecursion (λ b. b < 256) bytes → length bytes ≡ 2 * count → HoldsWords count bytes
 words_again zero [] all long = record { again = refl; each = tt; long = refl }
 words_again (suc n) [] all long = absurd (omega (arith, long))
@@ -146,6 +150,7 @@ pub record IsWordField (ws : List ℕ) : Type 0 where
   pub each : AllByRecursion (λ w. (w < 2 ^ 16) × (w ≢ equal_word)) (words_before_equal ws)
   pub short : length (words_before_equal ws) < length ws
 
+-- words with an EQUAL, and zeros behind the first one, are spelled by those before it
 pub equation_again : (ws : List ℕ) → AllByRecursion (λ w. w < 2 ^ 16) ws → list_any (◌==◌ equal_word) ws ≡ true →
     list_all (◌==◌ 0) (words_after_equal ws) ≡ true → IsWordField ws
 equation_again [] all ends behind = absurd (cc ends)
