@@ -49,7 +49,7 @@ same_records kinds texts (suc most) zero number (b ∷ bytes) few enough = absur
 same_records kinds texts (suc most) (suc more) number bytes few enough =
     alike (records_from kinds texts most (number + 1)) (records_from kinds texts more (number + 1)) number (front kinds texts bytes)
     (λ entry rest is. same_records kinds texts most more (number + 1) rest
-        (omega (arith, shorter kinds texts bytes entry rest is, few)) (omega (arith, shorter kinds texts bytes entry rest is, enough)))
+    (omega (arith, shorter kinds texts bytes entry rest is, few)) (omega (arith, shorter kinds texts bytes entry rest is, enough)))
 
 pub front_decides : FrontDecides
 front_decides kinds texts number [] = refl
@@ -57,4 +57,4 @@ front_decides kinds texts number (b ∷ bytes) =
     alike (records_from kinds texts (length bytes) (number + 1)) (λ rest. records_from kinds texts (length rest) (number + 1) rest) number
     (front kinds texts (b ∷ bytes))
     (λ entry rest is. same_records kinds texts (length bytes) (length rest) (number + 1) rest
-        (omega (arith, shorter kinds texts (b ∷ bytes) entry rest is)) (omega arith))
+    (omega (arith, shorter kinds texts (b ∷ bytes) entry rest is)) (omega arith))

@@ -1,13 +1,18 @@
 //! Equations: words that spell conditions.
 
 ghost use Rattle.lc_model.specs.Condition.{condition_of};
-ghost use Rattle.lc_model.specs.Laws.Equations.{IsLight, LoweredWordsRun, NeedIsMostWaiting, SoundWordsSpell, WordsRun, WordsSpellConditions};
+ghost use Rattle.lc_model.specs.Laws.Equations.{EquationsAreSpelled, IsLight, LoweredWordsRun, NeedIsMostWaiting, SoundWordsSpell, WordsRun, WordsSpellConditions};
 
 use crate::condition::Cond;
 
 /// The words of a condition spell it, and have its need.
 pub fn words_spell_conditions()
     ensures { WordsSpellConditions }
+{}
+
+/// The equations over some watchpoints are the words that spell conditions over them, each with its condition's need.
+pub fn equations_are_spelled()
+    ensures { EquationsAreSpelled }
 {}
 
 /// The need of an equation is the most operands that wait behind any front of it.

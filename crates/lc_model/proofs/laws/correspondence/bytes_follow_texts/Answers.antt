@@ -1,0 +1,5 @@
+use Rattle.lc_model.proofs.SpellingLaws.{bytes_follow_texts}
+use Rattle.lc_model.proofs.laws.correspondence.bytes_follow_texts.Goals as goal
+
+pub returns : goal.returns
+returns c = bytes_follow_texts
