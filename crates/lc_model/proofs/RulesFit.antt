@@ -1,5 +1,5 @@
 -- The rules that a text says fit the fields of a table.
-use Rattle.std.proofs.Common.{◌≡◌, ◌≢◌, refl, ap, subst, ℕ, zero, suc, ◌+◌, ◌-◌, ◌<◌, ◌≤◌, ◌^◌, Bool, true, false, cond, ◌&&◌, ◌||◌, ◌==◌, nat_lt, nat_le, IsTrue, List, [], ◌∷◌, ◌++◌, length, take, drop, flat_map, Option, Some, None, option_map, ℤ, pos, negsuc, int_lt, nat_abs, codes, bytes_eq, arith}
+use Rattle.std.proofs.Common.{◌≡◌, ◌≢◌, refl, subst, ℕ, zero, suc, ◌+◌, ◌-◌, ◌<◌, ◌≤◌, ◌^◌, Bool, true, false, cond, ◌&&◌, ◌||◌, ◌==◌, nat_lt, nat_le, IsTrue, List, [], ◌∷◌, ◌++◌, length, take, flat_map, Option, Some, None, option_map, ℤ, pos, negsuc, int_lt, nat_abs, codes, bytes_eq, arith}
 use Rattle.std.specs.List.{AllByRecursion}
 use Rattle.std.specs.Option.{option_map_or}
 use Rattle.std.proofs.lemmas.List.{length-take-le}
@@ -10,11 +10,10 @@ use Rattle.lc_model.specs.Condition.{Condition}
 use Rattle.lc_model.specs.Rule.{NamedRule}
 use Rattle.lc_model.specs.Text.Token.{Token, is_text_byte, is_string, is_closed, quote, string_text}
 use Rattle.lc_model.specs.Text.Syntax.{Number, ReportItem, RuleItem, Item, Packet, Field, Rule}
-use Rattle.lc_model.specs.Text.Class.{Class, Text, Fits, Phrase, next, state}
+use Rattle.lc_model.specs.Text.Class.{Text, Fits, Phrase, next, state}
 use Rattle.lc_model.specs.Text.Grammar as grammar
 use Rattle.lc_model.specs.Text.Grammar.{rule_phrase, DerivesItem, DerivesFile}
 use Rattle.lc_model.specs.Text.Meaning.{fault_outside, name_faults, faults_of, condition_faults, rule_faults, report_faults, report_of, option_map_two, condition_in, named_rule, rules_in, Means}
-use Rattle.lc_model.specs.Text.Reading.{Reads}
 use Rattle.lc_model.specs.Laws.Reading.{IsWithinRanges, RulesAreWithinRanges}
 use Rattle.lc_model.proofs.TermsFit.{none_first, none_second, not_refused}
 

@@ -1,6 +1,5 @@
 -- What stands in front of a stream decides its records.
 use Rattle.std.proofs.Common.{◌≡◌, refl, ap, subst, ℕ, zero, suc, ◌+◌, ◌<◌, ◌≤◌, Bool, true, false, not, cond, nat_lt, List, [], ◌∷◌, length, take, drop, Option, Some, None, arith, length-drop}
-use Rattle.lc_model.specs.declared.record.Moment.{Moment}
 use Rattle.lc_model.specs.Host.Stream.{StreamEntry, End, Contents, Front, Nothing, Record, NoRecord, CutRecord, header_size, body_size, fits_body, contents_of, moment_of, record_of, front, records_by_front, records_from}
 use Rattle.lc_model.specs.Laws.Stream.{FrontDecides}
 
