@@ -10,7 +10,9 @@ ghost use Rattle.lc_model.specs.Laws.Tables.{IsTableFile};
 ghost use Rattle.table_file.specs.Error.{Answers};
 
 use crate::error::FileError;
+use crate::name::front_name;
 use crate::numbers::read_u32;
+use lc_model::laws::tables::files_have_one_spelling;
 use std::marker::Model;
 
 /// `cFE1`, by which a cFE file is known.
@@ -55,6 +57,62 @@ impl<'a> TableFile<'a> {
         self.spacecraft
     }
 
+    /// The processor that the file is for.
+    pub fn processor(&self) -> u32
+        ensures { result ≡ self.now.processor }
+    {
+        self.processor
+    }
+
+    /// The application that wrote the file.
+    pub fn application(&self) -> u32
+        ensures { result ≡ self.now.application }
+    {
+        self.application
+    }
+
+    /// When the file was written: the seconds.
+    pub fn seconds(&self) -> u32
+        ensures { result ≡ self.now.seconds }
+    {
+        self.seconds
+    }
+
+    /// When the file was written: the parts of a second.
+    pub fn subseconds(&self) -> u32
+        ensures { result ≡ self.now.subseconds }
+    {
+        self.subseconds
+    }
+
+    /// What the file says of itself, in 32 bytes.
+    pub fn description(&self) -> &'a [u8]
+        ensures { result.now ≡ self.now.description }
+    {
+        self.description
+    }
+
+    /// The table header's first field, which nothing uses.
+    pub fn reserved(&self) -> u32
+        ensures { result ≡ self.now.reserved }
+    {
+        self.reserved
+    }
+
+    /// The field with the table's name, 40 bytes.
+    pub fn name_field(&self) -> &'a [u8]
+        ensures { result.now ≡ self.now.name_field }
+    {
+        self.name_field
+    }
+
+    /// The name of the table that the file is for: the bytes before the field's first zero byte, or all of them.
+    pub fn name(&self) -> &'a [u8]
+        ensures { result.now ≡ name_in self.now.name_field }
+    {
+        front_name(self.name_field)
+    }
+
     /// The image, as it stands in the file.
     pub fn image(&self) -> &'a [u8]
         ensures { result.now ≡ self.now.image }
@@ -63,11 +121,9 @@ impl<'a> TableFile<'a> {
     }
 }
 
-/// Opens a table file.
-///
-/// Errors: the first of the headers' faults, in the order of `FileError`; never `Memory`.
-pub fn open(bytes: &[u8]) -> Result<TableFile<'_>, FileError>
-    ensures exact { Answers result (opened bytes.now) }
+/// The fields at their places, where the headers are a table file's.
+fn read_headers(bytes: &[u8]) -> Result<TableFile<'_>, FileError>
+    ensures { Answers result (opened bytes.now) }
 {
     if bytes.len() < HEADERS_LENGTH {
         return Err(FileError::ShortFile);
@@ -98,4 +154,19 @@ pub fn open(bytes: &[u8]) -> Result<TableFile<'_>, FileError>
         name_field: &bytes[76..116],
         image: &bytes[HEADERS_LENGTH..],
     })
+}
+
+/// Opens a table file. The fields are those at their places; the image is the slice behind the headers.
+///
+/// Errors: the first fault of the headers, in the order of `FileError`; never `Memory`.
+pub fn open(bytes: &[u8]) -> Result<TableFile<'_>, FileError>
+    // Each file has the answer that it means.
+    ensures exact { Answers result (opened bytes.now) }
+    // What is opened is spelled so, byte for byte.
+    ensures spelled { IfOk result (λ file. IsTableFile file × (bytes.now ≡ file_bytes file)) }
+    // What is spelled so is opened, with the same fields.
+    ensures again { (file : model.TableFile) → IsTableFile file → bytes.now ≡ file_bytes file → result ≡ Ok file }
+{
+    files_have_one_spelling();
+    read_headers(bytes)
 }

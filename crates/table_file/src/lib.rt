@@ -4,6 +4,7 @@
 mod error;
 mod file;
 mod layout;
+mod name;
 mod numbers;
 
 pub use error::FileError;
