@@ -10,9 +10,11 @@ mod layout;
 mod name;
 mod numbers;
 mod output;
+mod wrapping;
 
 pub use encode::{encode_adt, encode_wdt};
 pub use error::FileError;
 pub use file::{TableFile, open};
 pub use image::{AdtImage, TableEntry, WdtImage};
 pub use layout::Layout;
+pub use wrapping::{table_name, wrap};
