@@ -1,3 +1,5 @@
 pub mod Opening
 pub mod Appending
 pub mod Headers
+pub mod Blank
+pub mod Words

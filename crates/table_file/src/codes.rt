@@ -2,6 +2,8 @@
 
 ghost use Rattle.std.specs.Prelude.{◌≡◌};
 ghost use Rattle.lc_model.specs.Codes as model;
+ghost use Rattle.lc_model.specs.Tables.Image.{type_of_code};
+ghost use Rattle.lc_model.specs.Tables.Spelled.{operator_of_code, state_of_code, event_of_code};
 
 use lc_model::{ApMode, CmpOp, EventKind, FieldType, Kind};
 
@@ -68,5 +70,61 @@ pub fn kind_code(kind: Kind) -> u16
     match kind {
         Kind::Wdt => 1,
         Kind::Adt => 2,
+    }
+}
+
+/// The type of a field with this number.
+pub fn field_type_of(code: u8) -> Option<FieldType>
+    ensures { result ≡ type_of_code code }
+{
+    match code {
+        1 => Some(FieldType::U8),
+        2 => Some(FieldType::I8),
+        3 => Some(FieldType::U16Be),
+        4 => Some(FieldType::U16Le),
+        5 => Some(FieldType::I16Be),
+        6 => Some(FieldType::I16Le),
+        7 => Some(FieldType::U32Be),
+        8 => Some(FieldType::U32Le),
+        9 => Some(FieldType::I32Be),
+        10 => Some(FieldType::I32Le),
+        _ => None,
+    }
+}
+
+/// The comparison with this number, or `<` where none has it.
+pub fn operator_of(code: u8) -> CmpOp
+    ensures { result ≡ operator_of_code code }
+{
+    match code {
+        2 => CmpOp::LessOrEqual,
+        3 => CmpOp::NotEqual,
+        4 => CmpOp::Equal,
+        5 => CmpOp::GreaterOrEqual,
+        6 => CmpOp::Greater,
+        _ => CmpOp::Less,
+    }
+}
+
+/// The state with this number that an actionpoint may begin in, or active where none has it.
+pub fn state_of(code: u8) -> ApMode
+    ensures { result ≡ state_of_code code }
+{
+    match code {
+        2 => ApMode::Passive,
+        3 => ApMode::Disabled,
+        _ => ApMode::Active,
+    }
+}
+
+/// The event type with this number, or debug where none has it.
+pub fn event_kind_of(code: u16) -> EventKind
+    ensures { result ≡ event_of_code code }
+{
+    match code {
+        2 => EventKind::Information,
+        3 => EventKind::Error,
+        4 => EventKind::Critical,
+        _ => EventKind::Debug,
     }
 }

@@ -11,6 +11,7 @@ ghost use Rattle.table_file.specs.Layout.{layout_of};
 ghost use Rattle.table_file.specs.Parts.{entry_numbers};
 ghost use Rattle.table_file.specs.declared.error.FileError.TheVariants.{Memory};
 
+use crate::actionpoint::EQUAL_WORD;
 use crate::codes::{event_code, kind_code, operator_code, state_code, type_code};
 use crate::error::FileError;
 use crate::image::{AdtImage, TableEntry, WdtImage};
@@ -19,8 +20,6 @@ use crate::output::{push_u16, push_u32, push_words, push_zeros};
 use lc_model::Term;
 use std::alloc::{AllocError, Global};
 
-/// Ends an equation.
-const EQUAL_WORD: u16 = 0xFF05;
 
 /// A comparison's number in 32 bits, in two's complement.
 fn value_bits(term: &Term) -> u32
