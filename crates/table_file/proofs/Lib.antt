@@ -3,3 +3,4 @@ pub mod Appending
 pub mod Headers
 pub mod Blank
 pub mod Words
+pub mod Entries

@@ -5,7 +5,7 @@ ghost use Rattle.std.specs.List.{AllByRecursion, flat_map};
 ghost use Rattle.lc_model.specs.Codes.{table_entries};
 ghost use Rattle.lc_model.specs.Field.{is_in_type};
 ghost use Rattle.lc_model.specs.Bytes.{u16, zero_filled};
-ghost use Rattle.lc_model.specs.Tables.Image.{Actionpoints, FitsWatchpoint, FitsEntry, preamble, blank_entry, term_bytes, entry_bytes, bits_32, wdt_image, adt_image, words_in};
+ghost use Rattle.lc_model.specs.Tables.Image.{Watchpoints, Actionpoints, image_length, FitsWatchpoint, FitsEntry, preamble, blank_entry, term_bytes, entry_bytes, bits_32, wdt_image, adt_image, words_in};
 ghost use Rattle.lc_model.specs.Tables.Equation.{equal_word};
 ghost use Rattle.table_file.specs.Layout.{layout_of};
 ghost use Rattle.table_file.specs.Parts.{entry_numbers};
@@ -154,6 +154,7 @@ pub fn encode_wdt(alloc: Global, image: &WdtImage) -> Result<Vec<u8>, FileError>
     requires few { length image.now.watchpoints.items ≤ table_entries }
     requires fit { AllByRecursion FitsWatchpoint image.now.watchpoints.items }
     ensures bytes { IfOk result (λ bytes. bytes.items ≡ wdt_image image.now.hash image.now.watchpoints.items) }
+    ensures length { IfOk result (λ bytes. length bytes.items ≡ image_length Watchpoints) }
     ensures refused { IfErr result (λ error. error ≡ Memory) }
 {
     let layout = Layout::Watchpoints;
@@ -173,6 +174,7 @@ pub fn encode_adt(alloc: Global, image: &AdtImage) -> Result<Vec<u8>, FileError>
     requires few { length image.now.actionpoints.items ≤ table_entries }
     requires fit { AllByRecursion (FitsEntry Actionpoints) image.now.actionpoints.items }
     ensures bytes { IfOk result (λ bytes. bytes.items ≡ adt_image Actionpoints image.now.hash image.now.watchpoint_count image.now.actionpoints.items) }
+    ensures length { IfOk result (λ bytes. length bytes.items ≡ image_length Actionpoints) }
     ensures refused { IfErr result (λ error. error ≡ Memory) }
 {
     let layout = Layout::Actionpoints;

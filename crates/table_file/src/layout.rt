@@ -1,6 +1,6 @@
 //! The layouts of table images (this project's own).
 
-ghost use Rattle.std.specs.Prelude.{◌≡◌};
+ghost use Rattle.std.specs.Prelude.{◌≡◌, option_map};
 ghost use Rattle.lc_model.specs.Tables.Image as model;
 ghost use Rattle.table_file.specs.Layout.{layout_of};
 
@@ -68,6 +68,21 @@ impl Layout {
         match self {
             Layout::Watchpoints => 4_264,
             Layout::Actionpoints => 15_176,
+        }
+    }
+
+    /// The layout of the images of a table that have this image's length, if there is one.
+    pub fn of_image(kind: Kind, image: &[u8]) -> Option<Layout>
+        ensures { option_map layout_of result ≡ model.layout_of model.version_1_layouts kind image.now }
+    {
+        let layout = match kind {
+            Kind::Wdt => Layout::Watchpoints,
+            Kind::Adt => Layout::Actionpoints,
+        };
+        if image.len() == layout.image_length() {
+            Some(layout)
+        } else {
+            None
         }
     }
 }
