@@ -20,7 +20,6 @@ use crate::output::{push_u16, push_u32, push_words, push_zeros};
 use lc_model::Term;
 use std::alloc::{AllocError, Global};
 
-
 /// A comparison's number in 32 bits, in two's complement.
 fn value_bits(term: &Term) -> u32
     requires { IsTrue (is_in_type term.now.kind term.now.value) }
@@ -137,7 +136,11 @@ fn push_watchpoints(out: &mut Vec<u8>, terms: &[Term]) -> Result<(), AllocError>
 }
 
 /// The entries of actionpoints, in order.
-fn push_actionpoints(out: &mut Vec<u8>, layout: Layout, entries: &[TableEntry]) -> Result<(), AllocError>
+fn push_actionpoints(
+    out: &mut Vec<u8>,
+    layout: Layout,
+    entries: &[TableEntry],
+) -> Result<(), AllocError>
     requires { AllByRecursion (FitsEntry (layout_of layout)) entries.now }
     ensures { OnOk result (out.new.items ≡ out.old.items ++ flat_map (entry_bytes (layout_of layout)) entries.now) }
 {

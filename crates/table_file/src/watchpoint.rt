@@ -35,16 +35,10 @@ fn is_signed(kind: FieldType) -> bool
     ensures { result ≡ model.is_signed kind }
 {
     match kind {
-        FieldType::I8
-        | FieldType::I16Be
-        | FieldType::I16Le
-        | FieldType::I32Be
-        | FieldType::I32Le => true,
-        FieldType::U8
-        | FieldType::U16Be
-        | FieldType::U16Le
-        | FieldType::U32Be
-        | FieldType::U32Le => false,
+        FieldType::I8 | FieldType::I16Be | FieldType::I16Le | FieldType::I32Be | FieldType::I32Le =>
+            true,
+        FieldType::U8 | FieldType::U16Be | FieldType::U16Le | FieldType::U32Be | FieldType::U32Le =>
+            false,
     }
 }
 

@@ -15,6 +15,7 @@ use std::alloc::{AllocError, Global};
 
 /// The spacecraft and the processor that files are written for (this project's own).
 const SPACECRAFT: u32 = 66;
+
 const PROCESSOR: u32 = 1;
 
 /// The bytes of the field with the table's name.
