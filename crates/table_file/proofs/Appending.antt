@@ -1,5 +1,5 @@
 -- What is written in several parts.
-use Rattle.std.proofs.Common.{◌≡◌, refl, sym, ◌∙◌, ap, ℕ, zero, suc, ◌+◌, ◌-◌, ◌*◌, ◌<◌, ◌≤◌, List, [], ◌∷◌, ◌++◌, length, get_or, take, map, replicate, arith, append_assoc, length-append}
+use Rattle.std.proofs.Common.{◌≡◌, refl, sym, ◌∙◌, ap, ℕ, zero, suc, ◌+◌, ◌-◌, ◌*◌, ◌<◌, List, [], ◌∷◌, ◌++◌, length, get_or, take, map, replicate, arith, append_assoc, length-append}
 use Rattle.std.specs.List.{flat_map}
 use Rattle.std.proofs.lemmas.Grind.{flat_map-append}
 use Rattle.std.proofs.lemmas.List.{length-map, take_more, flat_map_more}
@@ -7,7 +7,7 @@ use Rattle.std.proofs.lemmas.List.Folds.{flat_map-map}
 use Rattle.lc_model.specs.declared.field.Term.{Term}
 use Rattle.lc_model.specs.Bytes.{u16, u32, zero_filled}
 use Rattle.lc_model.specs.Codes.{type_code, operator_code, state_code, event_code, table_entries}
-use Rattle.lc_model.specs.Tables.Image.{Layout, TableEntry, bits_32, term_bytes, entry_bytes, filled, blank_entry}
+use Rattle.lc_model.specs.Tables.Image.{Layout, TableEntry, bits_32, term_bytes, filled, blank_entry}
 use Rattle.table_file.specs.Parts.{entry_numbers}
 
 -- a watchpoint's entry

@@ -1,5 +1,5 @@
 -- Entries that aren't used.
-use Rattle.std.proofs.Common.{◌≡◌, refl, sym, ◌∙◌, ap, subst, ℕ, zero, suc, ◌-◌, Bool, ◌&&◌, ◌==◌, List, [], ◌∷◌, length, drop, replicate, bytes_eq, arith, slice_index}
+use Rattle.std.proofs.Common.{◌≡◌, refl, sym, ap, subst, ℕ, zero, suc, ◌&&◌, ◌==◌, List, [], ◌∷◌, length, drop, replicate, bytes_eq, arith, slice_index}
 use Rattle.std.specs.List.{list_all}
 use Rattle.lc_model.specs.Tables.Image.{Layout, Watchpoints, Actionpoints, WideActionpoints, entry_length, blank_entry}
 

@@ -1,4 +1,3 @@
-use Rattle.std.proofs.Common.{refl, length}
 use Rattle.lc_model.specs.Tables.Equation.{equal_word}
 use Rattle.lc_model.specs.Tables.Image.{words_in}
 use Rattle.table_file.specs.Layout.{layout_of}
