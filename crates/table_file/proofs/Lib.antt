@@ -1,0 +1,6 @@
+pub mod Opening
+pub mod Appending
+pub mod Headers
+pub mod Blank
+pub mod Words
+pub mod Entries

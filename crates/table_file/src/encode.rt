@@ -1,0 +1,191 @@
+//! Images as bytes (this project's own layouts).
+
+ghost use Rattle.std.specs.Prelude.{◌≡◌, ◌+◌, ◌≤◌, ◌<◌, ◌++◌, [], ◌∷◌, length, IfErr, IfOk, IsTrue, OnOk, ℤ, pos, negsuc, replicate};
+ghost use Rattle.std.specs.List.{AllByRecursion, flat_map};
+ghost use Rattle.lc_model.specs.Codes.{table_entries};
+ghost use Rattle.lc_model.specs.Field.{is_in_type};
+ghost use Rattle.lc_model.specs.Bytes.{u16, zero_filled};
+ghost use Rattle.lc_model.specs.Tables.Image.{Watchpoints, Actionpoints, image_length, FitsWatchpoint, FitsEntry, preamble, blank_entry, term_bytes, entry_bytes, bits_32, wdt_image, adt_image, words_in};
+ghost use Rattle.lc_model.specs.Tables.Equation.{equal_word};
+ghost use Rattle.table_file.specs.Layout.{layout_of};
+ghost use Rattle.table_file.specs.Parts.{entry_numbers};
+ghost use Rattle.table_file.specs.declared.error.FileError.TheVariants.{Memory};
+
+use crate::actionpoint::EQUAL_WORD;
+use crate::codes::{event_code, kind_code, operator_code, state_code, type_code};
+use crate::error::FileError;
+use crate::image::{AdtImage, TableEntry, WdtImage};
+use crate::layout::{ENTRIES, Layout};
+use crate::output::{push_u16, push_u32, push_words, push_zeros};
+use lc_model::Term;
+use std::alloc::{AllocError, Global};
+
+/// A comparison's number in 32 bits, in two's complement.
+fn value_bits(term: &Term) -> u32
+    requires { IsTrue (is_in_type term.now.kind term.now.value) }
+    ensures { result ≡ bits_32 term.now.value }
+{
+    if term.value < 0 {
+        (term.value + 0x1_0000_0000) as u32
+    } else {
+        term.value as u32
+    }
+}
+
+/// Version, kind, counts and hash.
+fn push_preamble(
+    out: &mut Vec<u8>,
+    layout: Layout,
+    own_count: u16,
+    watchpoint_count: u16,
+    hash: &[u8; 32],
+) -> Result<(), AllocError>
+    ensures { OnOk result (out.new.items ≡ out.old.items ++ preamble (layout_of layout) own_count watchpoint_count hash.now) }
+{
+    push_u16(out, layout.version())?;
+    push_u16(out, kind_code(layout.kind()))?;
+    push_u16(out, own_count)?;
+    push_u16(out, watchpoint_count)?;
+    out.extend_from_slice(hash)?;
+    Ok(())
+}
+
+/// A watchpoint's entry.
+fn push_watchpoint(out: &mut Vec<u8>, term: &Term) -> Result<(), AllocError>
+    requires { FitsWatchpoint term.now }
+    ensures { OnOk result (out.new.items ≡ out.old.items ++ term_bytes term.now) }
+{
+    out.push(type_code(term.kind))?;
+    out.push(operator_code(term.op))?;
+    push_u16(out, term.mid)?;
+    push_u32(out, term.offset)?;
+    push_u32(out, term.mask)?;
+    push_u32(out, 0)?;
+    push_u32(out, term.stale)?;
+    push_u32(out, value_bits(term))?;
+    Ok(())
+}
+
+/// An actionpoint's numbers, in front of its text.
+fn push_numbers(out: &mut Vec<u8>, entry: &TableEntry) -> Result<(), AllocError>
+    ensures { OnOk result (out.new.items ≡ out.old.items ++ entry_numbers entry.now) }
+{
+    out.push(state_code(entry.mode))?;
+    out.push(entry.report.passive)?;
+    push_u16(out, entry.report.pass_to_fail)?;
+    push_u16(out, entry.report.fail_to_pass)?;
+    push_u16(out, entry.sequence)?;
+    push_u16(out, entry.fails)?;
+    push_u16(out, event_code(entry.event_kind))?;
+    push_u16(out, entry.event_id)?;
+    Ok(())
+}
+
+/// An event's text, filled up by zeros to 32 bytes.
+fn push_text(out: &mut Vec<u8>, text: &[u8]) -> Result<(), AllocError>
+    requires { length text.now ≤ 32 }
+    ensures { OnOk result (out.new.items ≡ out.old.items ++ zero_filled 32 text.now) }
+{
+    out.extend_from_slice(text)?;
+    push_zeros(out, 32 - text.len())?;
+    Ok(())
+}
+
+/// An equation and EQUAL, filled up by zeros to the layout's words.
+fn push_equation(out: &mut Vec<u8>, layout: Layout, words: &[u16]) -> Result<(), AllocError>
+    requires { length words.now < words_in (layout_of layout) }
+    ensures { OnOk result (out.new.items ≡ out.old.items ++ flat_map u16 (zero_filled (words_in (layout_of layout)) (words.now ++ equal_word ∷ []))) }
+{
+    push_words(out, words)?;
+    push_u16(out, EQUAL_WORD)?;
+    push_zeros(out, 2 * (layout.words() - words.len() - 1))?;
+    Ok(())
+}
+
+/// An actionpoint's entry.
+fn push_actionpoint(out: &mut Vec<u8>, layout: Layout, entry: &TableEntry) -> Result<(), AllocError>
+    requires { FitsEntry (layout_of layout) entry.now }
+    ensures { OnOk result (out.new.items ≡ out.old.items ++ entry_bytes (layout_of layout) entry.now) }
+{
+    push_numbers(out, entry)?;
+    push_text(out, entry.text.as_slice())?;
+    push_equation(out, layout, entry.words.as_slice())?;
+    Ok(())
+}
+
+/// Entries that aren't used.
+fn push_blank_entries(out: &mut Vec<u8>, layout: Layout, count: usize) -> Result<(), AllocError>
+    ensures { OnOk result (out.new.items ≡ out.old.items ++ flat_map (λ e. e) (replicate count (blank_entry (layout_of layout)))) }
+{
+    for _ in 0..count {
+        out.push(0xFF)?;
+        push_zeros(out, layout.entry_length() - 1)?;
+    }
+    Ok(())
+}
+
+/// The entries of watchpoints, and blank ones up to the end.
+fn push_watchpoints(out: &mut Vec<u8>, terms: &[Term]) -> Result<(), AllocError>
+    requires { AllByRecursion FitsWatchpoint terms.now }
+    ensures { OnOk result (out.new.items ≡ out.old.items ++ flat_map term_bytes terms.now) }
+{
+    for term in terms {
+        push_watchpoint(out, term)?;
+    }
+    Ok(())
+}
+
+/// The entries of actionpoints, in order.
+fn push_actionpoints(
+    out: &mut Vec<u8>,
+    layout: Layout,
+    entries: &[TableEntry],
+) -> Result<(), AllocError>
+    requires { AllByRecursion (FitsEntry (layout_of layout)) entries.now }
+    ensures { OnOk result (out.new.items ≡ out.old.items ++ flat_map (entry_bytes (layout_of layout)) entries.now) }
+{
+    for entry in entries {
+        push_actionpoint(out, layout, entry)?;
+    }
+    Ok(())
+}
+
+/// The image of a table of watchpoints, 4,264 bytes.
+///
+/// Errors: `Memory` alone.
+pub fn encode_wdt(alloc: Global, image: &WdtImage) -> Result<Vec<u8>, FileError>
+    requires few { length image.now.watchpoints.items ≤ table_entries }
+    requires fit { AllByRecursion FitsWatchpoint image.now.watchpoints.items }
+    ensures bytes { IfOk result (λ bytes. bytes.items ≡ wdt_image image.now.hash image.now.watchpoints.items) }
+    ensures length { IfOk result (λ bytes. length bytes.items ≡ image_length Watchpoints) }
+    ensures refused { IfErr result (λ error. error ≡ Memory) }
+{
+    let layout = Layout::Watchpoints;
+    let terms = image.watchpoints.as_slice();
+    let count = terms.len() as u16;
+    let mut out = Vec::with_capacity(alloc, layout.image_length())?;
+    push_preamble(&mut out, layout, count, count, &image.hash)?;
+    push_watchpoints(&mut out, terms)?;
+    push_blank_entries(&mut out, layout, ENTRIES - terms.len())?;
+    Ok(out)
+}
+
+/// The image of a table of actionpoints, 15,176 bytes.
+///
+/// Errors: `Memory` alone.
+pub fn encode_adt(alloc: Global, image: &AdtImage) -> Result<Vec<u8>, FileError>
+    requires few { length image.now.actionpoints.items ≤ table_entries }
+    requires fit { AllByRecursion (FitsEntry Actionpoints) image.now.actionpoints.items }
+    ensures bytes { IfOk result (λ bytes. bytes.items ≡ adt_image Actionpoints image.now.hash image.now.watchpoint_count image.now.actionpoints.items) }
+    ensures length { IfOk result (λ bytes. length bytes.items ≡ image_length Actionpoints) }
+    ensures refused { IfErr result (λ error. error ≡ Memory) }
+{
+    let layout = Layout::Actionpoints;
+    let entries = image.actionpoints.as_slice();
+    let count = entries.len() as u16;
+    let mut out = Vec::with_capacity(alloc, layout.image_length())?;
+    push_preamble(&mut out, layout, count, image.watchpoint_count, &image.hash)?;
+    push_actionpoints(&mut out, layout, entries)?;
+    push_blank_entries(&mut out, layout, ENTRIES - entries.len())?;
+    Ok(out)
+}

@@ -1,0 +1,172 @@
+//! Table files: a cFE file header, a table header and an image (cFE user's guide, table services; which fields are read
+//! is this project's own).
+
+ghost use Rattle.std.specs.Prelude.{◌≡◌, ◌≤◌, Ok, IfOk, length};
+ghost use Rattle.lc_model.specs.Bytes.{u32_at};
+ghost use Rattle.lc_model.specs.Name.{name_in};
+ghost use Rattle.lc_model.specs.Tables.File as model;
+ghost use Rattle.lc_model.specs.Tables.File.{file_bytes, opened};
+ghost use Rattle.lc_model.specs.Laws.Tables.{IsTableFile};
+ghost use Rattle.table_file.specs.Error.{Answers};
+
+use crate::error::FileError;
+use crate::name::front_name;
+use crate::numbers::read_u32;
+use lc_model::laws::tables::files_have_one_spelling;
+use std::marker::Model;
+
+/// `cFE1`, by which a cFE file is known.
+pub const CONTENT_TYPE: u32 = 0x6346_4531;
+
+/// A table (this project's own).
+pub const SUBTYPE: u32 = 8;
+
+/// The bytes of the cFE file header.
+pub const FILE_HEADER_LENGTH: u32 = 64;
+
+/// The bytes of both headers, before the image.
+pub const HEADERS_LENGTH: usize = 116;
+
+/// A file that was opened: each field that may have more than one value, as read, and the image, a slice of the file.
+#[derive(Debug, Drop)]
+pub struct TableFile<'a> {
+    spacecraft: u32,
+    processor: u32,
+    application: u32,
+    seconds: u32,
+    subseconds: u32,
+    description: &'a [u8],
+    reserved: u32,
+    name_field: &'a [u8],
+    image: &'a [u8],
+}
+
+impl<'a> Model for TableFile<'a> {
+    ghost use Rattle.lc_model.specs.Tables.File.{TableFile};
+
+    ghost Value = { TableFile };
+
+    ghost view = { λ f. record { spacecraft = f.spacecraft; processor = f.processor; application = f.application; seconds = f.seconds; subseconds = f.subseconds; description = f.description.now; reserved = f.reserved; name_field = f.name_field.now; image = f.image.now } };
+}
+
+impl<'a> TableFile<'a> {
+    /// The spacecraft that the file is for.
+    pub fn spacecraft(&self) -> u32
+        ensures { result ≡ self.now.spacecraft }
+    {
+        self.spacecraft
+    }
+
+    /// The processor that the file is for.
+    pub fn processor(&self) -> u32
+        ensures { result ≡ self.now.processor }
+    {
+        self.processor
+    }
+
+    /// The application that wrote the file.
+    pub fn application(&self) -> u32
+        ensures { result ≡ self.now.application }
+    {
+        self.application
+    }
+
+    /// When the file was written: the seconds.
+    pub fn seconds(&self) -> u32
+        ensures { result ≡ self.now.seconds }
+    {
+        self.seconds
+    }
+
+    /// When the file was written: the parts of a second.
+    pub fn subseconds(&self) -> u32
+        ensures { result ≡ self.now.subseconds }
+    {
+        self.subseconds
+    }
+
+    /// What the file says of itself, in 32 bytes.
+    pub fn description(&self) -> &'a [u8]
+        ensures { result.now ≡ self.now.description }
+    {
+        self.description
+    }
+
+    /// The table header's first field, which nothing uses.
+    pub fn reserved(&self) -> u32
+        ensures { result ≡ self.now.reserved }
+    {
+        self.reserved
+    }
+
+    /// The field with the table's name, 40 bytes.
+    pub fn name_field(&self) -> &'a [u8]
+        ensures { result.now ≡ self.now.name_field }
+    {
+        self.name_field
+    }
+
+    /// The name of the table that the file is for: the bytes before the field's first zero byte, or all of them.
+    pub fn name(&self) -> &'a [u8]
+        ensures { result.now ≡ name_in self.now.name_field }
+    {
+        front_name(self.name_field)
+    }
+
+    /// The image, as it stands in the file.
+    pub fn image(&self) -> &'a [u8]
+        ensures { result.now ≡ self.now.image }
+    {
+        self.image
+    }
+}
+
+/// The fields at their places, where the headers are a table file's.
+fn read_headers(bytes: &[u8]) -> Result<TableFile<'_>, FileError>
+    ensures { Answers result (opened bytes.now) }
+{
+    if bytes.len() < HEADERS_LENGTH {
+        return Err(FileError::ShortFile);
+    }
+    if read_u32(bytes, 0) != CONTENT_TYPE {
+        return Err(FileError::NotCfe);
+    }
+    if read_u32(bytes, 4) != SUBTYPE {
+        return Err(FileError::WrongSubtype);
+    }
+    if read_u32(bytes, 8) != FILE_HEADER_LENGTH {
+        return Err(FileError::HeaderLength);
+    }
+    if read_u32(bytes, 68) != 0 {
+        return Err(FileError::PartialLoad);
+    }
+    if read_u32(bytes, 72) as usize != bytes.len() - HEADERS_LENGTH {
+        return Err(FileError::SizeMismatch);
+    }
+    Ok(TableFile {
+        spacecraft: read_u32(bytes, 12),
+        processor: read_u32(bytes, 16),
+        application: read_u32(bytes, 20),
+        seconds: read_u32(bytes, 24),
+        subseconds: read_u32(bytes, 28),
+        description: &bytes[32..64],
+        reserved: read_u32(bytes, 64),
+        name_field: &bytes[76..116],
+        image: &bytes[HEADERS_LENGTH..],
+    })
+}
+
+/// Opens a table file. The fields are those at their places; the image is the slice behind the headers.
+///
+/// Errors: the first fault of the headers, in the order of `FileError`; never `Memory`.
+pub fn open(bytes: &[u8]) -> Result<TableFile<'_>, FileError>
+    // Each file has the answer that it means.
+    ensures exact { Answers result (opened bytes.now) }
+    // What is opened is spelled so, byte for byte.
+    ensures spelled { IfOk result (λ file. IsTableFile file × (bytes.now ≡ file_bytes file)) }
+    // What is spelled so is opened, with the same fields.
+    ensures again { (file : model.TableFile) → IsTableFile file → bytes.now ≡ file_bytes file → result ≡ Ok file }
+{
+    files_have_one_spelling();
+    read_headers(bytes)
+}

@@ -1,0 +1,29 @@
+//! Table files and images of the Limit Checker's two tables: writing them, opening them, and reading their fields.
+#![tactic(auto)]
+
+mod actionpoint;
+mod codes;
+mod encode;
+mod entry;
+mod error;
+mod file;
+mod image;
+mod layout;
+mod name;
+mod numbers;
+mod output;
+pub mod preamble;
+#[cfg(test)]
+mod tests;
+mod watchpoint;
+mod wrapping;
+
+pub use actionpoint::{ActionpointEntry, EQUAL_WORD};
+pub use encode::{encode_adt, encode_wdt};
+pub use entry::{entry_bytes, is_blank};
+pub use error::FileError;
+pub use file::{TableFile, open};
+pub use image::{AdtImage, TableEntry, WdtImage};
+pub use layout::Layout;
+pub use watchpoint::WatchpointEntry;
+pub use wrapping::{table_name, wrap};

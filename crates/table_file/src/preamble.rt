@@ -1,0 +1,49 @@
+//! The fields in front of an image's entries. Each of these wants an image of 40 bytes at least.
+
+ghost use Rattle.std.specs.Prelude.{◌≡◌, ◌≤◌, length};
+ghost use Rattle.lc_model.specs.Bytes.{u16_at};
+ghost use Rattle.lc_model.specs.Tables.Image as model;
+ghost use Rattle.lc_model.specs.Tables.Image.{preamble_length};
+
+use crate::layout::PREAMBLE_LENGTH;
+use crate::numbers::read_u16;
+
+/// The layout's version.
+pub fn version(image: &[u8]) -> u16
+    requires { preamble_length ≤ length image.now }
+    ensures { result ≡ u16_at image.now 0 }
+{
+    read_u16(image, 0)
+}
+
+/// The number of the table's kind.
+pub fn kind_code(image: &[u8]) -> u16
+    requires { preamble_length ≤ length image.now }
+    ensures { result ≡ u16_at image.now 2 }
+{
+    read_u16(image, 2)
+}
+
+/// How many entries are used.
+pub fn own_count(image: &[u8]) -> u16
+    requires { preamble_length ≤ length image.now }
+    ensures { result ≡ model.own_count image.now }
+{
+    read_u16(image, 4)
+}
+
+/// How many watchpoints the rule text has.
+pub fn watchpoint_count(image: &[u8]) -> u16
+    requires { preamble_length ≤ length image.now }
+    ensures { result ≡ model.watchpoint_count image.now }
+{
+    read_u16(image, 6)
+}
+
+/// The SHA-256 of the rule text, 32 bytes.
+pub fn hash(image: &[u8]) -> &[u8]
+    requires { preamble_length ≤ length image.now }
+    ensures { result.now ≡ model.hash_of image.now }
+{
+    &image[8..PREAMBLE_LENGTH]
+}

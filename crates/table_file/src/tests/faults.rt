@@ -1,0 +1,102 @@
+//! Files that don't open: the first fault, in the order of the headers' fields.
+
+use super::{changed, low_volts_adt_file, low_volts_wdt_file, refused};
+use crate::error::FileError;
+use crate::file::open;
+use std::process::Abort;
+use std::test::*;
+
+/// Bytes that are wrong, each with its fault, in order: all but the last byte of a field, and the last one, too.
+const WRONG: [(usize, u8, FileError); 11] = [
+    (0, 0x62, FileError::NotCfe),
+    (3, 0x30, FileError::NotCfe),
+    (4, 0x01, FileError::WrongSubtype),
+    (7, 0x09, FileError::WrongSubtype),
+    (8, 0x01, FileError::HeaderLength),
+    (11, 63, FileError::HeaderLength),
+    (68, 0x01, FileError::PartialLoad),
+    (70, 0x01, FileError::PartialLoad),
+    (71, 0x01, FileError::PartialLoad),
+    (72, 0x01, FileError::SizeMismatch),
+    (75, 0xA9, FileError::SizeMismatch),
+];
+
+#[test]
+fn one_field_is_wrong(rt: HostRuntime) -> Result<(), Fail> {
+    let file = low_volts_wdt_file(rt.alloc())?;
+    for (place, byte, fault) in WRONG {
+        refused(&rt, &changed(rt.alloc(), &file, &[(place, byte)])?, fault);
+    }
+    Ok(())
+}
+
+#[test]
+fn of_two_the_first_counts(rt: HostRuntime) -> Result<(), Fail> {
+    let file = low_volts_wdt_file(rt.alloc())?;
+    for (place, byte, fault) in WRONG {
+        for (other, wrong, _) in WRONG {
+            if place < other {
+                let both = changed(rt.alloc(), &file, &[(place, byte), (other, wrong)])?;
+                refused(&rt, &both, fault);
+            }
+        }
+    }
+    Ok(())
+}
+
+/// Each shorter file: without whole headers it is too short, whatever stands there; else its size is wrong.
+fn cut<R: Abort>(rt: &R, file: &[u8]) {
+    for length in 0..file.len() {
+        let fault = if length < 116 {
+            FileError::ShortFile
+        } else {
+            FileError::SizeMismatch
+        };
+        refused(rt, &file[..length], fault);
+    }
+}
+
+#[test]
+fn shorter_files(rt: HostRuntime) -> Result<(), Fail> {
+    cut(&rt, &low_volts_wdt_file(rt.alloc())?);
+    cut(&rt, &low_volts_adt_file(rt.alloc())?);
+    refused(&rt, &[0xFF; 115], FileError::ShortFile);
+    refused(&rt, &[0xFF; 116], FileError::NotCfe);
+    Ok(())
+}
+
+#[test]
+fn a_longer_file(rt: HostRuntime) -> Result<(), Fail> {
+    let mut file = low_volts_wdt_file(rt.alloc())?;
+    file.push(0)?;
+    refused(&rt, &file, FileError::SizeMismatch);
+    Ok(())
+}
+
+/// Headers alone, with 0 as the number of bytes, are the file of an empty image.
+#[test]
+fn an_empty_image(rt: HostRuntime) -> Result<(), Fail> {
+    let file = low_volts_wdt_file(rt.alloc())?;
+    let headers = changed(rt.alloc(), &file, &[(74, 0), (75, 0)])?;
+    match headers.get(..116).map(open) {
+        Some(Ok(opened)) => assert!(rt; opened.image().is_empty()),
+        _ => panic!(&rt; "not opened"),
+    }
+    Ok(())
+}
+
+#[test]
+fn codes(rt: HostRuntime) {
+    let rows = [
+        (FileError::ShortFile, Some(51)),
+        (FileError::NotCfe, Some(52)),
+        (FileError::WrongSubtype, Some(53)),
+        (FileError::HeaderLength, Some(54)),
+        (FileError::PartialLoad, Some(55)),
+        (FileError::SizeMismatch, Some(56)),
+        (FileError::Memory, None),
+    ];
+    for (error, code) in rows {
+        assert_eq!(rt; error.code(), code, "of {error:?}");
+    }
+}

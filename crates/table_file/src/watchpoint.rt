@@ -1,0 +1,161 @@
+//! The fields of a watchpoint's entry.
+
+ghost use Rattle.std.specs.Prelude.{◌≡◌, ◌<◌, length, slice_index};
+ghost use Rattle.lc_model.specs.Bytes.{u16_at, u32_at};
+ghost use Rattle.lc_model.specs.Codes.{table_entries};
+ghost use Rattle.lc_model.specs.Field as model;
+ghost use Rattle.lc_model.specs.Tables.Image.{Watchpoints, image_length, entry_at, type_of_code, number_of_bits_32};
+ghost use Rattle.lc_model.specs.Tables.Spelled.{operator_of_code, spelled_term};
+
+use crate::codes::{field_type_of, operator_of};
+use crate::entry::entry_bytes;
+use crate::layout::Layout;
+use crate::numbers::{read_u16, read_u32};
+use lc_model::{CmpOp, FieldType, Term};
+use std::marker::Model;
+
+/// The entry of a watchpoint, 24 bytes of an image. Contracts see the bytes.
+#[derive(Debug, Drop)]
+pub struct WatchpointEntry<'a> {
+    bytes: &'a [u8],
+}
+
+impl<'a> Model for WatchpointEntry<'a> {
+    ghost use Rattle.std.specs.Prelude.{◌≡◌, ℕ, List, length};
+
+    ghost Value = { List ℕ };
+
+    ghost view = { λ e. e.bytes.now };
+
+    ghost invariant = { λ e. length e.bytes.now ≡ 24 };
+}
+
+/// Whether the type has negative numbers.
+fn is_signed(kind: FieldType) -> bool
+    ensures { result ≡ model.is_signed kind }
+{
+    match kind {
+        FieldType::I8 | FieldType::I16Be | FieldType::I16Le | FieldType::I32Be | FieldType::I32Le =>
+            true,
+        FieldType::U8 | FieldType::U16Be | FieldType::U16Le | FieldType::U32Be | FieldType::U32Le =>
+            false,
+    }
+}
+
+/// The number that 32 bits are, in two's complement where the type has negative numbers.
+fn value_of(kind: FieldType, bits: u32) -> i64
+    ensures { result ≡ number_of_bits_32 kind bits }
+{
+    if is_signed(kind) && bits >= 0x8000_0000 {
+        bits as i64 - 0x1_0000_0000
+    } else {
+        bits as i64
+    }
+}
+
+impl<'a> WatchpointEntry<'a> {
+    /// Entry `number` of an image.
+    pub fn of(image: &'a [u8], number: usize) -> WatchpointEntry<'a>
+        requires whole { length image.now ≡ image_length Watchpoints }
+        requires within { number < table_entries }
+        ensures { result ≡ entry_at Watchpoints image.now number }
+    {
+        WatchpointEntry {
+            bytes: entry_bytes(Layout::Watchpoints, image, number),
+        }
+    }
+
+    /// The number of the field's type.
+    pub fn type_code(&self) -> u8
+        ensures { result ≡ slice_index self.now 0 }
+    {
+        self.bytes[0]
+    }
+
+    /// The field's type, where its number is one's.
+    pub fn field_type(&self) -> Option<FieldType>
+        ensures { result ≡ type_of_code (slice_index self.now 0) }
+    {
+        field_type_of(self.bytes[0])
+    }
+
+    /// The number of the comparison.
+    pub fn operator_code(&self) -> u8
+        ensures { result ≡ slice_index self.now 1 }
+    {
+        self.bytes[1]
+    }
+
+    /// The comparison; `<` where its number is none's.
+    pub fn operator(&self) -> CmpOp
+        ensures { result ≡ operator_of_code (slice_index self.now 1) }
+    {
+        operator_of(self.bytes[1])
+    }
+
+    /// The message id of the packets that have the field.
+    pub fn message_id(&self) -> u16
+        ensures { result ≡ u16_at self.now 2 }
+    {
+        read_u16(self.bytes, 2)
+    }
+
+    /// Bytes before the field, from the packet's first byte.
+    pub fn offset(&self) -> u32
+        ensures { result ≡ u32_at self.now 4 }
+    {
+        read_u32(self.bytes, 4)
+    }
+
+    /// The field's bits that count.
+    pub fn mask(&self) -> u32
+        ensures { result ≡ u32_at self.now 8 }
+    {
+        read_u32(self.bytes, 8)
+    }
+
+    /// What is to be 0.
+    pub fn zero_field(&self) -> u32
+        ensures { result ≡ u32_at self.now 12 }
+    {
+        read_u32(self.bytes, 12)
+    }
+
+    /// Agings after which the result is stale; 0 means never.
+    pub fn stale(&self) -> u32
+        ensures { result ≡ u32_at self.now 16 }
+    {
+        read_u32(self.bytes, 16)
+    }
+
+    /// The number that the field is compared with, in 32 bits.
+    pub fn value_bits(&self) -> u32
+        ensures { result ≡ u32_at self.now 20 }
+    {
+        read_u32(self.bytes, 20)
+    }
+
+    /// The number that the field is compared with, if its type is this one.
+    pub fn value(&self, kind: FieldType) -> i64
+        ensures { result ≡ number_of_bits_32 kind (u32_at self.now 20) }
+    {
+        value_of(kind, self.value_bits())
+    }
+
+    /// The watchpoint that a sound entry says. Of another one the type is `u8` and the comparison `<` where they have no
+    /// number of one.
+    pub fn term(&self) -> Term
+        ensures { result ≡ spelled_term self.now }
+    {
+        let kind = self.field_type().unwrap_or(FieldType::U8);
+        Term {
+            kind,
+            mid: self.message_id(),
+            offset: self.offset(),
+            mask: self.mask(),
+            stale: self.stale(),
+            op: self.operator(),
+            value: self.value(kind),
+        }
+    }
+}
