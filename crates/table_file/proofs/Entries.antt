@@ -77,7 +77,7 @@ long_words : (ws : List ℕ) → length (flat_map u16 ws) ≡ 2 * length ws
 long_words [] = refl
 long_words (w ∷ ws) = omega (arith, long_words ws)
 
-length-zero_filled : (size : ℕ) (xs : List ℕ) → length xs ≤ size → length (zero_filled size xs) ≡ size
+pub length-zero_filled : (size : ℕ) (xs : List ℕ) → length xs ≤ size → length (zero_filled size xs) ≡ size
 length-zero_filled size xs fits = omega (arith, length-append xs (replicate (size - length xs) 0), length-replicate {A = ℕ} (size - length xs) 0, fits)
 
 entry_long : (l : Layout) (e : TableEntry) → FitsEntry l e → length (entry_bytes l e) ≡ 46 + 2 * words_in l
@@ -87,7 +87,7 @@ entry_long l e fits =
     let all : length (zero_filled (words_in l) words) ≡ words_in l = length-zero_filled (words_in l) words (omega (arith, some, fits.words_length)) in
     omega (arith, length-append (zero_filled 32 e.text) (flat_map u16 (zero_filled (words_in l) words)), long_words (zero_filled (words_in l) words), all, length-zero_filled 32 e.text (omega (arith, fits.text_length)))
 
-entries_long_of : (l : Layout) → 46 + 2 * words_in l ≡ entry_length l → (entries : List TableEntry) → AllByRecursion (FitsEntry l) entries → AreLong (entry_length l) (map (entry_bytes l) entries)
+pub entries_long_of : (l : Layout) → 46 + 2 * words_in l ≡ entry_length l → (entries : List TableEntry) → AllByRecursion (FitsEntry l) entries → AreLong (entry_length l) (map (entry_bytes l) entries)
 entries_long_of l is [] all = tt
 entries_long_of l is (e ∷ entries) all = (entry_long l e all.0 ∙ is, entries_long_of l is entries all.1)
 

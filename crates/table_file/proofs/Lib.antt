@@ -4,3 +4,6 @@ pub mod Headers
 pub mod Blank
 pub mod Words
 pub mod Entries
+pub mod EntriesAgain
+pub mod WatchpointsAgain
+pub mod ActionpointsAgain

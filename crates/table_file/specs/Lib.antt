@@ -1,3 +1,4 @@
 pub mod Error
 pub mod Layout
 pub mod Parts
+pub mod Laws

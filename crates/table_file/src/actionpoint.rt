@@ -1,14 +1,12 @@
 //! The fields of an actionpoint's entry.
 
-ghost use Rattle.std.specs.Prelude.{◌≡◌, ◌+◌, ◌*◌, ◌<◌, ◌≤◌, ◌==◌, length, slice_index, slice_range};
-ghost use Rattle.std.specs.List.{position_or_len};
+ghost use Rattle.std.specs.Prelude.{◌≡◌, ◌<◌, length, slice_index, slice_range};
 ghost use Rattle.lc_model.specs.declared.kind.Kind.TheVariants.{Adt};
 ghost use Rattle.lc_model.specs.declared.rule.Report.{Report};
 ghost use Rattle.lc_model.specs.Bytes.{u16_at};
 ghost use Rattle.lc_model.specs.Codes.{table_entries};
 ghost use Rattle.lc_model.specs.Name.{name_in};
-ghost use Rattle.lc_model.specs.Tables.Equation.{equal_word};
-ghost use Rattle.lc_model.specs.Tables.Image.{kind_of, image_length, entry_length, entry_at, all_words, words_before_equal};
+ghost use Rattle.lc_model.specs.Tables.Image.{kind_of, image_length, entry_at, all_words, words_before_equal};
 ghost use Rattle.lc_model.specs.Tables.Spelled.{state_of_code, event_of_code};
 ghost use Rattle.table_file.specs.Layout.{layout_of};
 
@@ -71,7 +69,11 @@ impl<'a> ActionpointEntry<'a> {
 
     /// The most events for a failure while passive, and for turns from pass to fail and from fail to pass.
     pub fn report(&self) -> Report
-        ensures { result ≡ record { passive = slice_index self.now 1; pass_to_fail = u16_at self.now 2; fail_to_pass = u16_at self.now 4 } }
+        ensures { result ≡ record {
+          passive = slice_index self.now 1;
+          pass_to_fail = u16_at self.now 2;
+          fail_to_pass = u16_at self.now 4;
+        } }
     {
         Report {
             passive: self.bytes[1],

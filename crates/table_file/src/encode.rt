@@ -1,6 +1,6 @@
 //! Images as bytes (this project's own layouts).
 
-ghost use Rattle.std.specs.Prelude.{◌≡◌, ◌+◌, ◌≤◌, ◌<◌, ◌++◌, [], ◌∷◌, length, IfErr, IfOk, IsTrue, OnOk, ℤ, pos, negsuc, replicate};
+ghost use Rattle.std.specs.Prelude.{◌≡◌, ◌≤◌, ◌<◌, ◌++◌, [], ◌∷◌, length, IfErr, IfOk, IsTrue, OnOk, replicate};
 ghost use Rattle.std.specs.List.{AllByRecursion, flat_map};
 ghost use Rattle.lc_model.specs.Codes.{table_entries};
 ghost use Rattle.lc_model.specs.Field.{is_in_type};
@@ -94,7 +94,8 @@ fn push_text(out: &mut Vec<u8>, text: &[u8]) -> Result<(), AllocError>
 /// An equation and EQUAL, filled up by zeros to the layout's words.
 fn push_equation(out: &mut Vec<u8>, layout: Layout, words: &[u16]) -> Result<(), AllocError>
     requires { length words.now < words_in (layout_of layout) }
-    ensures { OnOk result (out.new.items ≡ out.old.items ++ flat_map u16 (zero_filled (words_in (layout_of layout)) (words.now ++ equal_word ∷ []))) }
+    ensures { OnOk result (out.new.items ≡ out.old.items
+        ++ flat_map u16 (zero_filled (words_in (layout_of layout)) (words.now ++ equal_word ∷ []))) }
 {
     push_words(out, words)?;
     push_u16(out, EQUAL_WORD)?;
@@ -176,7 +177,8 @@ pub fn encode_wdt(alloc: Global, image: &WdtImage) -> Result<Vec<u8>, FileError>
 pub fn encode_adt(alloc: Global, image: &AdtImage) -> Result<Vec<u8>, FileError>
     requires few { length image.now.actionpoints.items ≤ table_entries }
     requires fit { AllByRecursion (FitsEntry Actionpoints) image.now.actionpoints.items }
-    ensures bytes { IfOk result (λ bytes. bytes.items ≡ adt_image Actionpoints image.now.hash image.now.watchpoint_count image.now.actionpoints.items) }
+    ensures bytes { IfOk result (λ bytes. bytes.items
+        ≡ adt_image Actionpoints image.now.hash image.now.watchpoint_count image.now.actionpoints.items) }
     ensures length { IfOk result (λ bytes. length bytes.items ≡ image_length Actionpoints) }
     ensures refused { IfErr result (λ error. error ≡ Memory) }
 {

@@ -1,8 +1,7 @@
 //! Table files: a cFE file header, a table header and an image (cFE user's guide, table services; which fields are read
 //! is this project's own).
 
-ghost use Rattle.std.specs.Prelude.{◌≡◌, ◌≤◌, Ok, IfOk, length};
-ghost use Rattle.lc_model.specs.Bytes.{u32_at};
+ghost use Rattle.std.specs.Prelude.{◌≡◌, Ok, IfOk};
 ghost use Rattle.lc_model.specs.Name.{name_in};
 ghost use Rattle.lc_model.specs.Tables.File as model;
 ghost use Rattle.lc_model.specs.Tables.File.{file_bytes, opened};
@@ -46,7 +45,17 @@ impl<'a> Model for TableFile<'a> {
 
     ghost Value = { TableFile };
 
-    ghost view = { λ f. record { spacecraft = f.spacecraft; processor = f.processor; application = f.application; seconds = f.seconds; subseconds = f.subseconds; description = f.description.now; reserved = f.reserved; name_field = f.name_field.now; image = f.image.now } };
+    ghost view = { λ f. record {
+      spacecraft = f.spacecraft;
+      processor = f.processor;
+      application = f.application;
+      seconds = f.seconds;
+      subseconds = f.subseconds;
+      description = f.description.now;
+      reserved = f.reserved;
+      name_field = f.name_field.now;
+      image = f.image.now;
+    } };
 }
 
 impl<'a> TableFile<'a> {

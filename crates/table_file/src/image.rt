@@ -46,5 +46,14 @@ impl Model for TableEntry {
 
     ghost Value = { TableEntry };
 
-    ghost view = { λ e. record { mode = e.mode; report = e.report; sequence = e.sequence; fails = e.fails; event_kind = e.event_kind; event_id = e.event_id; text = e.text; words = e.words.items } };
+    ghost view = { λ e. record {
+      mode = e.mode;
+      report = e.report;
+      sequence = e.sequence;
+      fails = e.fails;
+      event_kind = e.event_kind;
+      event_id = e.event_id;
+      text = e.text;
+      words = e.words.items;
+    } };
 }

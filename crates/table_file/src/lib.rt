@@ -8,6 +8,7 @@ mod entry;
 mod error;
 mod file;
 mod image;
+pub mod laws;
 mod layout;
 mod name;
 mod numbers;

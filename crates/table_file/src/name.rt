@@ -1,6 +1,6 @@
 //! Names and texts in fields of fixed size.
 
-ghost use Rattle.std.specs.Prelude.{◌≡◌, ◌≤◌, ◌==◌, length};
+ghost use Rattle.std.specs.Prelude.{◌≡◌, ◌==◌};
 ghost use Rattle.std.specs.List.{position_or_len};
 ghost use Rattle.lc_model.specs.Name.{name_in};
 

@@ -1,8 +1,7 @@
 //! The file that is written for an image.
 
-ghost use Rattle.std.specs.Prelude.{◌≡◌, ◌≤◌, ◌++◌, length, replicate, Ok, IfErr, IfOk, OnOk};
-ghost use Rattle.lc_model.specs.Bytes.{u32, zero_filled};
-ghost use Rattle.lc_model.specs.Tables.File.{content_type, subtype, file_header_length, file_bytes, opened, table_name, wrapped};
+ghost use Rattle.std.specs.Prelude.{◌≡◌, ◌≤◌, ◌++◌, length, Ok, IfErr, IfOk, OnOk};
+ghost use Rattle.lc_model.specs.Tables.File.{file_bytes, opened, table_name, wrapped};
 ghost use Rattle.table_file.specs.Parts.{file_header, table_header};
 ghost use Rattle.table_file.specs.declared.error.FileError.TheVariants.{Memory};
 

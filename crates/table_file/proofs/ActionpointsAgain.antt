@@ -1,0 +1,130 @@
+-- A table of actionpoints that was written is read again.
+use Rattle.std.proofs.Common.{◌≡◌, ◌≢◌, refl, ◌∙◌, ap, ℕ, zero, suc, ◌+◌, ◌-◌, ◌*◌, ◌<◌, ◌^◌, Bool, true, false, not, ◌==◌, cond, List, [], ◌∷◌, ◌++◌, length, get_or, take, drop, map, replicate, arith, append_assoc}
+use Rattle.std.specs.List.{flat_map, before_first, prefix_len, AllByRecursion}
+use Rattle.std.specs.Int.{w16, from_be_bytes}
+use Rattle.std.proofs.lemmas.Nat.{from_be_bytes-to_be_bytes_2}
+use Rattle.std.proofs.lemmas.List.{length-map, take_at, drop_at}
+use Rattle.lc_model.specs.declared.kind.Kind.TheVariants.{Adt}
+use Rattle.lc_model.specs.declared.mode.ApMode.{ApMode}
+use Rattle.lc_model.specs.declared.mode.ApMode.TheVariants.{Active, Passive, Disabled, PermOff}
+use Rattle.lc_model.specs.declared.rule.EventKind.{EventKind}
+use Rattle.lc_model.specs.declared.rule.EventKind.TheVariants.{Debug, Information, Error, Critical}
+use Rattle.lc_model.specs.Bytes.{u16, zero_filled}
+use Rattle.lc_model.specs.Codes.{state_code, event_code}
+use Rattle.lc_model.specs.Name.{name_in}
+use Rattle.lc_model.specs.Tables.Equation.{equal_word}
+use Rattle.lc_model.specs.Tables.Image.{Layout, Watchpoints, Actionpoints, WideActionpoints, kind_of, entry_length, words_in, TableEntry, entry_bytes, FitsEntry, adt_image, entry_at, numbers_below, filled, words_from, words_before_equal}
+use Rattle.lc_model.specs.Tables.Spelled.{state_of_code, event_of_code}
+use Rattle.table_file.specs.Laws.{entry_in, FitsTable, ActionpointsAreReadAgain}
+use Rattle.table_file.proofs.Entries.{AreLong, entries_long_of, length-zero_filled}
+use Rattle.table_file.proofs.EntriesAgain.{entry_again, listed, at_place, preamble_again}
+
+state_again : (m : ApMode) → m ≢ PermOff → state_of_code (state_code m) ≡ m
+state_again Active begins = refl
+state_again Passive begins = refl
+state_again Disabled begins = refl
+state_again PermOff begins = absurd (begins refl)
+
+event_again : (k : EventKind) → event_of_code (from_be_bytes w16 (u16 (event_code k))) ≡ k
+event_again = elim [ Debug ↦ refl | Information ↦ refl | Error ↦ refl | Critical ↦ refl ]
+
+-- ---- what stands before the first of a kind
+
+before_at : (p : ℕ → Bool) (xs : List ℕ) (z : ℕ) (rest : List ℕ) → AllByRecursion (λ x. p x ≡ false) xs → p z ≡ true → before_first p (xs ++ z ∷ rest) ≡ xs
+before_at p [] z rest none here =
+    let more : ℕ = prefix_len (λ x. not (p x)) rest in
+    ap (λ b. take (cond (not b) (1 + more) 0) (z ∷ rest)) here
+before_at p (x ∷ xs) z rest none here =
+    let front : ℕ = prefix_len (λ x. not (p x)) (xs ++ z ∷ rest) in
+    let one : 1 + front ≡ suc front = omega arith in
+    (λ i. take (cond (not (none.0 i)) (1 + front) 0) (x ∷ (xs ++ z ∷ rest)))
+    ∙ ap (λ k. take k (x ∷ (xs ++ z ∷ rest))) one ∙ ap (λ (s : List ℕ). x ∷ s) (before_at p xs z rest none.1 here)
+
+not_zero : (text : List ℕ) → AllByRecursion (λ b. (0 < b) × (b < 2 ^ 8)) text → AllByRecursion (λ b. (b == 0) ≡ false) text
+not_zero [] all = tt
+not_zero (b ∷ text) all = (grind (arith, all.0.0), not_zero text all.1)
+
+zeros_behind : (size : ℕ) (xs : List ℕ) → length xs < size → zero_filled size xs ≡ xs ++ 0 ∷ replicate (size - length xs - 1) 0
+zeros_behind size xs short =
+    let more : size - length xs ≡ suc (size - length xs - 1) = omega (arith, short) in
+    ap (λ n. xs ++ replicate n 0) more
+
+text_again : (text : List ℕ) → length text < 32 → AllByRecursion (λ b. (0 < b) × (b < 2 ^ 8)) text → name_in (zero_filled 32 text) ≡ text
+text_again text short all = ap name_in (zeros_behind 32 text short) ∙ before_at (λ b. b == 0) text 0 _ (not_zero text all) refl
+
+-- ---- words
+
+words_again : (ws : List ℕ) → AllByRecursion (λ w. w < 2 ^ 16) ws → words_from (flat_map u16 ws) ≡ ws
+words_again [] all = refl
+words_again (w ∷ ws) all = λ i. from_be_bytes-to_be_bytes_2 w all.0 i ∷ words_again ws all.1 i
+
+small_append : (xs ys : List ℕ) → AllByRecursion (λ w. w < 2 ^ 16) xs → AllByRecursion (λ w. w < 2 ^ 16) ys → AllByRecursion (λ w. w < 2 ^ 16) (xs ++ ys)
+small_append [] ys a b = b
+small_append (x ∷ xs) ys a b = (a.0, small_append xs ys a.1 b)
+
+small_zeros : (n : ℕ) → AllByRecursion (λ w. w < 2 ^ 16) (replicate n 0)
+small_zeros zero = tt
+small_zeros (suc n) = (omega arith, small_zeros n)
+
+not_equal : (ws : List ℕ) → AllByRecursion (λ w. (w < 2 ^ 16) × (w ≢ equal_word)) ws → AllByRecursion (λ w. (w == equal_word) ≡ false) ws
+not_equal [] all = tt
+not_equal (w ∷ ws) all = (grind (arith, all.0.1), not_equal ws all.1)
+
+small_words : (ws : List ℕ) → AllByRecursion (λ w. (w < 2 ^ 16) × (w ≢ equal_word)) ws → AllByRecursion (λ w. w < 2 ^ 16) ws
+small_words [] all = tt
+small_words (w ∷ ws) all = (all.0.0, small_words ws all.1)
+
+equation_again : (size : ℕ) (ws : List ℕ) → AllByRecursion (λ w. (w < 2 ^ 16) × (w ≢ equal_word)) ws →
+    words_before_equal (words_from (flat_map u16 (zero_filled size (ws ++ equal_word ∷ [])))) ≡ ws
+equation_again size ws all =
+    let zeros : List ℕ = replicate (size - length (ws ++ equal_word ∷ [])) 0 in
+    let small : AllByRecursion (λ w. w < 2 ^ 16) ((ws ++ equal_word ∷ []) ++ zeros) =
+    small_append (ws ++ equal_word ∷ []) zeros (small_append ws (equal_word ∷ []) (small_words ws all) (omega arith, tt)) (small_zeros _) in
+    ap words_before_equal (words_again ((ws ++ equal_word ∷ []) ++ zeros) small ∙ append_assoc ws (equal_word ∷ []) zeros)
+    ∙ before_at (λ w. w == equal_word) ws equal_word zeros (not_equal ws all) refl
+
+-- ---- one entry
+
+entry_read : (l : Layout) (e : TableEntry) → FitsTable l e → entry_in (entry_bytes l e) ≡ e
+entry_read l e is =
+    let text : List ℕ = zero_filled 32 e.text in
+    let words : List ℕ = flat_map u16 (zero_filled (words_in l) (e.words ++ equal_word ∷ [])) in
+    let long : length text ≡ 32 = length-zero_filled 32 e.text (omega (arith, is.fits.text_length)) in
+    let text_is : name_in (take 32 (text ++ words)) ≡ e.text = ap name_in (take_at text words 32 long) ∙ text_again e.text is.fits.text_length is.fits.text in
+    let words_are : words_before_equal (words_from (drop 32 (text ++ words))) ≡ e.words =
+    ap (λ (s : List ℕ). words_before_equal (words_from s)) (drop_at text words 32 long) ∙ equation_again (words_in l) e.words is.fits.words in
+    let state_is : state_of_code (state_code e.mode) ≡ e.mode = state_again e.mode is.begins in
+    let turns_down = from_be_bytes-to_be_bytes_2 e.report.pass_to_fail is.fits.pass_to_fail in
+    let turns_up = from_be_bytes-to_be_bytes_2 e.report.fail_to_pass is.fits.fail_to_pass in
+    let sequence_is = from_be_bytes-to_be_bytes_2 e.sequence is.fits.sequence in
+    let fails_is = from_be_bytes-to_be_bytes_2 e.fails is.fits.fails in
+    let id_is = from_be_bytes-to_be_bytes_2 e.event_id is.fits.event_id in
+    λ i. record {
+      mode = state_is i;
+      report = record { passive = e.report.passive; pass_to_fail = turns_down i; fail_to_pass = turns_up i };
+      sequence = sequence_is i;
+      fails = fails_is i;
+      event_kind = event_again e.event_kind i;
+      event_id = id_is i;
+      text = text_is i;
+      words = words_are i;
+    }
+
+fits_all : (l : Layout) (entries : List TableEntry) → AllByRecursion (FitsTable l) entries → AllByRecursion (FitsEntry l) entries
+fits_all l [] all = tt
+fits_all l (e ∷ entries) all = (all.0.fits, fits_all l entries all.1)
+
+long_entry : (l : Layout) → kind_of l ≡ Adt → 46 + 2 * words_in l ≡ entry_length l
+long_entry Watchpoints e = absurd (cc e)
+long_entry Actionpoints e = refl
+long_entry WideActionpoints e = refl
+
+pub actionpoints_again : ActionpointsAreReadAgain
+actionpoints_again l hash watchpoints entries kind long small few fits =
+    let image : List ℕ = adt_image l hash watchpoints entries in
+    let all : AreLong (entry_length l) (map (entry_bytes l) entries) = entries_long_of l (long_entry l kind) entries (fits_all l entries fits) in
+    let preamble_is = preamble_again l (length entries) watchpoints hash (filled l (map (entry_bytes l) entries)) long few small in
+    let each : (i : ℕ) (d : TableEntry) → i < length entries → entry_in (entry_at l image i) ≡ get_or entries i d =
+    λ i d within. ap entry_in (entry_again l (entry_bytes l) (length entries) watchpoints hash entries i d long all (length-map entries (entry_bytes l)) few within)
+    ∙ entry_read l (get_or entries i d) (at_place (FitsTable l) entries i d fits within) in
+    (preamble_is, ap (λ n. map (λ i. entry_in (entry_at l image i)) (numbers_below n)) preamble_is.own_is ∙ listed _ entries each)

@@ -1,0 +1,52 @@
+-- The laws of images: what is written is read again.
+use Rattle.std.specs.Prelude.{◌≡◌, ◌≢◌, ℕ, ◌<◌, ◌≤◌, ◌^◌, List, length, map, slice_index, slice_range}
+use Rattle.std.specs.List.{AllByRecursion}
+use Rattle.lc_model.specs.declared.field.Term.{Term}
+use Rattle.lc_model.specs.declared.kind.Kind.TheVariants.{Adt}
+use Rattle.lc_model.specs.declared.mode.ApMode.TheVariants.{PermOff}
+use Rattle.lc_model.specs.Bytes.{u16_at}
+use Rattle.lc_model.specs.Codes.{table_entries}
+use Rattle.lc_model.specs.Name.{name_in}
+use Rattle.lc_model.specs.Tables.Image.{Layout, kind_of, TableEntry, FitsWatchpoint, FitsEntry, wdt_image, adt_image, own_count, watchpoint_count, hash_of, entry_at, all_words, words_before_equal, numbers_below}
+use Rattle.lc_model.specs.Tables.Spelled.{state_of_code, event_of_code, spelled_terms}
+
+-- the fields of a preamble
+pub record HasPreamble (image hash : List ℕ) (own watchpoints : ℕ) : Type 0 where
+  pub hash_is : hash_of image ≡ hash
+  pub own_is : own_count image ≡ own
+  pub watchpoints_are : watchpoint_count image ≡ watchpoints
+
+-- what the readers find in the entry of an actionpoint
+abbrev pub entry_in : List ℕ → TableEntry
+entry_in e = record {
+  mode = state_of_code (slice_index e 0);
+  report = record { passive = slice_index e 1; pass_to_fail = u16_at e 2; fail_to_pass = u16_at e 4 };
+  sequence = u16_at e 6;
+  fails = u16_at e 8;
+  event_kind = event_of_code (u16_at e 10);
+  event_id = u16_at e 12;
+  text = name_in (slice_range e 14 46);
+  words = words_before_equal (all_words e);
+}
+
+-- and in all entries that are used
+abbrev pub entries_in : Layout → List ℕ → List TableEntry
+entries_in l image = map (λ n. entry_in (entry_at l image n)) (numbers_below (own_count image))
+
+-- a table of watchpoints that was written is read again
+abbrev pub WatchpointsAreReadAgain : Type 0
+WatchpointsAreReadAgain = (hash : List ℕ) (terms : List Term) → length hash ≡ 32 → length terms ≤ table_entries →
+    AllByRecursion FitsWatchpoint terms →
+    HasPreamble (wdt_image hash terms) hash (length terms) (length terms) × (spelled_terms (wdt_image hash terms) ≡ terms)
+
+-- what a table of actionpoints can say: none is off for good from the start
+pub record FitsTable (l : Layout) (e : TableEntry) : Type 0 where
+  pub fits : FitsEntry l e
+  pub begins : e.mode ≢ PermOff
+
+-- a table of actionpoints that was written is read again
+abbrev pub ActionpointsAreReadAgain : Type 0
+ActionpointsAreReadAgain = (l : Layout) (hash : List ℕ) (watchpoints : ℕ) (entries : List TableEntry) → kind_of l ≡ Adt →
+    length hash ≡ 32 → watchpoints < 2 ^ 16 → length entries ≤ table_entries → AllByRecursion (FitsTable l) entries →
+    HasPreamble (adt_image l hash watchpoints entries) hash (length entries) watchpoints
+    × (entries_in l (adt_image l hash watchpoints entries) ≡ entries)
