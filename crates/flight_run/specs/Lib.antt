@@ -1,4 +1,5 @@
 -- What the contracts of the program cite.
+pub mod Error
 pub mod Intake
 pub mod Sending
 pub mod Arrival

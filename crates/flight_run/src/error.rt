@@ -1,6 +1,7 @@
 //! How a run ends.
 
 ghost use Rattle.std.specs.Prelude.{◌≡◌};
+ghost use Rattle.flight_run.specs.Error.{error_code};
 ghost use Rattle.flight_run.specs.declared.error.RunError.TheVariants.{Memory};
 
 use rpn_compiler::CompileError;
@@ -47,5 +48,21 @@ impl From<AllocError> for RunError {
 
     fn from(_error: AllocError) -> RunError {
         RunError::Memory
+    }
+}
+
+impl RunError {
+    /// The number of what ended the run, 141 to 145. Want of memory has none, and a text's refusal has the compiler's.
+    pub fn code(self) -> Option<u8>
+        ensures { result ≡ error_code self }
+    {
+        match self {
+            RunError::BadRecord { .. } => Some(141),
+            RunError::Truncated { .. } => Some(142),
+            RunError::Read => Some(143),
+            RunError::Write { .. } => Some(144),
+            RunError::ReadBound => Some(145),
+            RunError::Compile { .. } | RunError::Memory => None,
+        }
     }
 }

@@ -11,7 +11,6 @@ mod packet;
 mod run;
 mod run_one;
 mod sending;
-mod speed;
 #[cfg(test)]
 mod tests;
 
@@ -19,14 +18,9 @@ use crate::packet::REQUEST_SIZE;
 pub use error::{Report, RunError};
 use lc_model::{Limited, Pieces};
 pub use run_one::run_one;
-use std::env;
 
-/// Runs the low-volts rule over two failing samples, and prints each sequence request in hexadecimal on a line. With the
-/// word `measure` it measures a long run instead.
+/// Runs the low-volts rule over two failing samples, and prints each sequence request in hexadecimal on a line.
 fn main(rt: HostRuntime) -> anyhow::Result<()> {
-    if env::args(&rt)?.nth(1).as_deref() == Some("measure") {
-        return speed::measure(&rt);
-    }
     let stream = low_volts::two_failing_samples(rt.alloc())?;
     let mut room = [0; 4 * REQUEST_SIZE];
     let mut reader = Pieces::new(stream.as_slice(), 8_192);

@@ -196,6 +196,23 @@ fn a_refused_text_reads_nothing(rt: HostRuntime) -> Result<(), Fail> {
 }
 
 #[test]
+fn what_ends_a_run_has_a_number(rt: HostRuntime) {
+    let error = CompileError::NotYet;
+    let table = [
+        (RunError::BadRecord { n: 1 }, Some(141)),
+        (RunError::Truncated { n: 1 }, Some(142)),
+        (RunError::Read, Some(143)),
+        (RunError::Write { sent: 0 }, Some(144)),
+        (RunError::ReadBound, Some(145)),
+        (RunError::Memory, None),
+        (RunError::Compile { text: 0, error }, None),
+    ];
+    for (error, code) in table {
+        assert_eq!(rt; error.code(), code, "{error}");
+    }
+}
+
+#[test]
 fn pieces_make_no_difference(rt: HostRuntime) -> Result<(), Fail> {
     let stream = two_failing_samples(rt.alloc())?;
     for most in [1, 7, 1000] {
