@@ -1,7 +1,8 @@
 //! Runs of one rule over whole streams: the bytes that go out, and how each run ends.
 //!
 //! Want of memory: `rt try --test --fail-alloc N`, for N from 1 on, refuses the Nth allocation of each test's process. A test
-//! then fails with "out of memory" until N is past its last allocation, and none of them fails otherwise.
+//! then fails with "out of memory" until N is past its last allocation, and none of them fails otherwise;
+//! `want_of_memory_touches_nothing` never fails.
 
 use crate::low_volts::{TEXT, aging_sample, push_packet, sample, two_failing_samples, volts};
 use crate::{Report, RunError, run_one};
@@ -210,6 +211,30 @@ fn what_ends_a_run_has_a_number(rt: HostRuntime) {
     for (error, code) in table {
         assert_eq!(rt; error.code(), code, "{error}");
     }
+}
+
+/// The record of a packet without bytes. It is an array, so that the run alone allocates.
+const EMPTY_RECORD: [u8; 11] = [1, 0, 0, 0, 100, 0, 0, 0, 0, 0, 0];
+
+#[test]
+fn want_of_memory_touches_nothing(rt: HostRuntime) {
+    let mut room = [0; 12];
+    let mut reader = Pieces::new(&EMPTY_RECORD, 99);
+    let mut writer = Limited::new(&mut room, 12);
+    match run_one(rt.alloc(), TEXT.as_bytes(), &mut reader, &mut writer) {
+        Ok(report) => assert_eq!(rt;
+            report,
+            Report {
+                records: 1,
+                bytes: 0
+            }
+        ),
+        Err(error) => {
+            assert_eq!(rt; error, RunError::Memory);
+            assert_eq!(rt; reader.reads(), 0);
+        }
+    }
+    assert_eq!(rt; writer.bytes().len(), 0);
 }
 
 #[test]
