@@ -52,7 +52,8 @@ impl From<AllocError> for RunError {
 }
 
 impl RunError {
-    /// The number of what ended the run, 141 to 145. Want of memory has none, and a text's refusal has the compiler's.
+    /// The number of what ended the run, 141 to 145. Want of memory has none, nor has a text's refusal, which is the
+    /// compiler's.
     pub fn code(self) -> Option<u8>
         ensures { result ≡ error_code self }
     {
