@@ -5,8 +5,9 @@ use Rattle.std.proofs.lemmas.Bool.Decides.{nat_tests}
 use Rattle.lc_model.specs.Condition.{Watch}
 use Rattle.lc_model.specs.Text.Syntax as model
 use Rattle.lc_model.specs.Text.Meaning.{TextFault, faults, faults_of, fault_if, fault_outside, name_faults, packet_faults, field_faults, rule_faults, compare_faults, condition_faults, named_rule, rules_in, term_of}
-use Rattle.rule_parser.specs.declared.syntax.Items.{Items}
-use Rattle.rule_parser.specs.Syntax.{field_of, items_of, name_of, number_of, packet_of, rule_of}
+use Rattle.rule_parser.specs.declared.one_comparison.Items.{Items}
+use Rattle.rule_parser.specs.Syntax.{field_of, name_of, number_of, packet_of}
+use Rattle.rule_parser.specs.OneComparison.{items_of, rule_of}
 use Rattle.rule_parser.specs.Soundness.{is_clean}
 
 front_is_empty : {A : Type 0} (xs ys : List A) → xs ++ ys ≡ [] → xs ≡ []

@@ -7,8 +7,9 @@ use Rattle.lc_model.specs.declared.field.FieldType.TheVariants.{U8}
 use Rattle.lc_model.specs.Field.{width}
 use Rattle.lc_model.specs.Text.Syntax as model
 use Rattle.lc_model.specs.Text.Meaning.{TextFault, faults, faults_of}
-use Rattle.rule_parser.specs.declared.syntax.Items.{Items}
-use Rattle.rule_parser.specs.Syntax.{field_of, items_of, packet_of, rule_of}
+use Rattle.rule_parser.specs.declared.one_comparison.Items.{Items}
+use Rattle.rule_parser.specs.Syntax.{field_of, packet_of}
+use Rattle.rule_parser.specs.OneComparison.{items_of, rule_of}
 use Rattle.rule_parser.specs.Soundness.{is_clean}
 
 pub is_clean-append : (xs ys : List TextFault) → is_clean (xs ++ ys) ≡ (is_clean xs && is_clean ys)

@@ -1,14 +1,19 @@
 -- The items of the program, as those of the grammar. This project's own.
-use Rattle.std.specs.Prelude.{List, [], ◌∷◌, None, option_map}
+use Rattle.std.specs.Prelude.{List, map, option_map}
 use Rattle.lc_model.specs.Text.Token.{Token}
+use Rattle.lc_model.specs.Condition.{And, Or, Xor}
 use Rattle.lc_model.specs.Text.Syntax as model
 use Rattle.rule_parser.specs.declared.syntax.Name.{Name}
 use Rattle.rule_parser.specs.declared.syntax.Number.{Number}
 use Rattle.rule_parser.specs.declared.syntax.PacketItem.{PacketItem}
 use Rattle.rule_parser.specs.declared.syntax.FieldItem.{FieldItem}
 use Rattle.rule_parser.specs.declared.syntax.Comparison.{Comparison}
+use Rattle.rule_parser.specs.declared.syntax.Expression.{Expression}
+use Rattle.rule_parser.specs.declared.syntax.Expression.TheVariants as tree
+use Rattle.rule_parser.specs.declared.syntax.ReportItem.{ReportItem}
 use Rattle.rule_parser.specs.declared.syntax.RuleItem.{RuleItem}
-use Rattle.rule_parser.specs.declared.syntax.Items.{Items}
+use Rattle.rule_parser.specs.declared.syntax.Item.{Item}
+use Rattle.rule_parser.specs.declared.syntax.Item.TheVariants as item
 
 -- the token that a name is
 abbrev pub name_of : Name → Token
@@ -37,7 +42,23 @@ field_of f = record {
 abbrev pub comparison_of : Comparison → model.Expression
 comparison_of c = model.Compare (name_of c.field) c.op (number_of c.value)
 
--- a rule without a report
+-- a condition
+abbrev pub expression_of : Expression → model.Expression
+expression_of (tree.Compare c) = comparison_of c
+expression_of (tree.Not' p e) = model.Not (expression_of e)
+expression_of (tree.And' p a q b) = model.Join And (expression_of a) (expression_of b)
+expression_of (tree.Or' p a q b) = model.Join Or (expression_of a) (expression_of b)
+expression_of (tree.Xor' p a q b) = model.Join Xor (expression_of a) (expression_of b)
+
+-- the most reports of each kind
+abbrev pub report_of : ReportItem → model.ReportItem
+report_of r = record {
+  passive = number_of r.passive;
+  pass_to_fail = number_of r.pass_to_fail;
+  fail_to_pass = number_of r.fail_to_pass;
+}
+
+-- a rule
 abbrev pub rule_of : RuleItem → model.RuleItem
 rule_of r = record {
   name = name_of r.name;
@@ -47,10 +68,16 @@ rule_of r = record {
   event_kind = r.event_kind;
   event_id = number_of r.event_id;
   text = r.text.now;
-  report = None;
-  condition = comparison_of r.condition;
+  report = option_map report_of r.report;
+  condition = expression_of r.condition;
 }
 
+-- an item
+abbrev pub item_of : Item → model.Item
+item_of (item.Packet p) = model.Packet (packet_of p)
+item_of (item.Field f) = model.Field (field_of f)
+item_of (item.Rule r) = model.Rule (rule_of r)
+
 -- the items, in order
-abbrev pub items_of : Items → List model.Item
-items_of i = model.Packet (packet_of i.packet) ∷ model.Field (field_of i.field) ∷ model.Rule (rule_of i.rule) ∷ []
+abbrev pub items_of : List Item → List model.Item
+items_of = map item_of

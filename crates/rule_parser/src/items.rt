@@ -3,13 +3,15 @@
 ghost use Rattle.std.specs.Prelude.{◌≡◌, ℕ, List, All, IfSome, MatchOption};
 ghost use Rattle.lc_model.specs.Text.Syntax.{Item};
 ghost use Rattle.rule_lexer.specs.Token.{tokens_of, HasItsKind};
-ghost use Rattle.rule_parser.specs.Syntax.{comparison_of, field_of, items_of, packet_of, rule_of};
+ghost use Rattle.rule_parser.specs.Syntax.{comparison_of, field_of, packet_of};
+ghost use Rattle.rule_parser.specs.OneComparison.{items_of, rule_of};
 ghost use Rattle.rule_parser.specs.Front.{Gives, GivesAll};
 ghost use Rattle.rule_parser.specs.Items.{comparison_at, field_at, items_at, packet_at, rule_at};
 ghost use Rattle.rule_parser.specs.Reading.{ParsesOneComparison};
 
 use crate::cursor::Cursor;
-use crate::syntax::{Comparison, FieldItem, Items, PacketItem, RuleItem};
+use crate::one_comparison::{Items, OneRule};
+use crate::syntax::{Comparison, FieldItem, PacketItem};
 use rule_lexer::{Token, TokenKind};
 
 /// `packet NAME = mid NUMBER length NUMBER ;`
@@ -63,7 +65,7 @@ fn comparison<'a>(tokens: &mut Cursor<'_, 'a>) -> Option<Comparison<'a>>
 
 /// `rule NAME STATE fails NUMBER sequence NUMBER event LEVEL NUMBER STRING when COMPARISON ;`
 #[tactic(auto, unfolding(crate::specs::Items::rule_at))]
-fn rule_item<'a>(tokens: &mut Cursor<'_, 'a>) -> Option<RuleItem<'a>>
+fn rule_item<'a>(tokens: &mut Cursor<'_, 'a>) -> Option<OneRule<'a>>
     ensures { Gives rule_of tokens.new result (rule_at tokens.old) }
 {
     tokens.take(TokenKind::Rule)?;
@@ -78,7 +80,7 @@ fn rule_item<'a>(tokens: &mut Cursor<'_, 'a>) -> Option<RuleItem<'a>>
     tokens.take(TokenKind::When)?;
     let condition = comparison(tokens)?;
     tokens.take(TokenKind::Semicolon)?;
-    Some(RuleItem {
+    Some(OneRule {
         name,
         mode,
         fails,

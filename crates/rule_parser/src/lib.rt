@@ -6,6 +6,7 @@ mod cursor;
 mod error;
 mod items;
 mod meaning;
+mod one_comparison;
 mod parser;
 mod soundness;
 mod syntax;
@@ -14,3 +15,4 @@ mod tests;
 
 pub use error::ParseError;
 pub use parser::parse_one;
+pub use syntax::{Comparison, Expression, FieldItem, Item, Name, Number, PacketItem, ReportItem, RuleFile, RuleItem};

@@ -3,10 +3,12 @@
 ghost use Rattle.std.specs.Prelude.{◌≡◌, Some, [], ◌∷◌, IfOk, nat_abs, ◌<◌, ◌^◌};
 ghost use Rattle.lc_model.specs.Rule.{rule_of};
 ghost use Rattle.lc_model.specs.Text.Meaning.{Means, faults, term_of};
-ghost use Rattle.rule_parser.specs.Syntax.{field_of, items_of, number_of, packet_of};
+ghost use Rattle.rule_parser.specs.Syntax.{field_of, number_of, packet_of};
+ghost use Rattle.rule_parser.specs.OneComparison.{items_of};
 
 use crate::soundness::full_mask;
-use crate::syntax::{Items, Number};
+use crate::one_comparison::Items;
+use crate::syntax::Number;
 use lc_model::{Bytes, Cond, Report, Rule, Term};
 use std::alloc::{AllocError, Global};
 

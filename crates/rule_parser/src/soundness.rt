@@ -10,10 +10,12 @@ ghost use Rattle.lc_model.specs.Packet.{reserved_mids};
 ghost use Rattle.lc_model.specs.Text.Syntax as model;
 ghost use Rattle.lc_model.specs.Text.Meaning as meaning;
 ghost use Rattle.lc_model.specs.Text.Meaning.{compare_faults, fault_if, fault_outside, faults, faults_of, field_faults, field_named, is_earlier, is_outside, name_faults, packet_faults, packet_named, rule_faults};
-ghost use Rattle.rule_parser.specs.Syntax.{field_of, items_of, name_of, number_of, packet_of, rule_of};
+ghost use Rattle.rule_parser.specs.Syntax.{field_of, name_of, number_of, packet_of};
+ghost use Rattle.rule_parser.specs.OneComparison.{items_of, rule_of};
 ghost use Rattle.rule_parser.specs.Soundness.{is_clean};
 
-use crate::syntax::{FieldItem, Items, Name, Number, PacketItem};
+use crate::one_comparison::Items;
+use crate::syntax::{FieldItem, Name, Number, PacketItem};
 use lc_model::FieldType;
 
 /// The message ids of telemetry.

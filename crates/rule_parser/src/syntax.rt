@@ -46,8 +46,26 @@ pub struct Comparison<'a> {
     pub value: Number,
 }
 
-/// `rule NAME STATE fails NUMBER sequence NUMBER event LEVEL NUMBER STRING when COMPARISON ;`
+/// The most reports of each kind.
 #[derive(Clone, Copy, Debug)]
+pub struct ReportItem {
+    pub passive: Number,
+    pub pass_to_fail: Number,
+    pub fail_to_pass: Number,
+}
+
+/// A condition over fields that are named.
+#[derive(Debug, Drop)]
+pub enum Expression<'a> {
+    Compare(Comparison<'a>),
+    Not(Box<Expression<'a>>),
+    And(Box<Expression<'a>>, Box<Expression<'a>>),
+    Or(Box<Expression<'a>>, Box<Expression<'a>>),
+    Xor(Box<Expression<'a>>, Box<Expression<'a>>),
+}
+
+/// `rule NAME STATE fails NUMBER sequence NUMBER event LEVEL NUMBER STRING [report NUMBER NUMBER NUMBER] when CONDITION ;`
+#[derive(Debug, Drop)]
 pub struct RuleItem<'a> {
     pub name: Name<'a>,
     pub mode: ApMode,
@@ -57,13 +75,21 @@ pub struct RuleItem<'a> {
     pub event_id: Number,
     /// The bytes between the quotes.
     pub text: &'a [u8],
-    pub condition: Comparison<'a>,
+    pub report: Option<ReportItem>,
+    pub condition: Expression<'a>,
 }
 
-/// The items of a text in the order packet, field, rule.
-#[derive(Clone, Copy, Debug)]
-pub struct Items<'a> {
-    pub packet: PacketItem<'a>,
-    pub field: FieldItem<'a>,
-    pub rule: RuleItem<'a>,
+/// One item of a rule text.
+#[derive(Debug, Drop)]
+pub enum Item<'a> {
+    Packet(PacketItem<'a>),
+    Field(FieldItem<'a>),
+    Rule(RuleItem<'a>),
+}
+
+/// What a rule text says, before names are replaced by what they name: its items in the text's order, each name and number
+/// with the number of bytes before it.
+#[derive(Debug, Drop)]
+pub struct RuleFile<'a> {
+    pub items: Vec<Item<'a>>,
 }

@@ -2,9 +2,9 @@ use Rattle.std.proofs.Common.{◌≡◌, sym, ◌∙◌, Option, Some, None, Lis
 use Rattle.std.specs.Prelude.{IfSome, MatchOption}
 use Rattle.lc_model.specs.Text.Token.{Token}
 use Rattle.lc_model.specs.Text.Syntax.{Item}
-use Rattle.rule_parser.specs.declared.syntax.Items.{Items}
+use Rattle.rule_parser.specs.declared.one_comparison.Items.{Items}
 use Rattle.rule_lexer.specs.Token.{tokens_of}
-use Rattle.rule_parser.specs.Syntax.{items_of}
+use Rattle.rule_parser.specs.OneComparison.{items_of}
 use Rattle.rule_parser.specs.Front.{GivesAll}
 use Rattle.rule_parser.specs.Items.{items_at}
 use Rattle.rule_parser.specs.Reading.{ParsesOneComparison}

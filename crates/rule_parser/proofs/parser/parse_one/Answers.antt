@@ -1,6 +1,6 @@
 use Rattle.std.proofs.Common.{◌≡◌, ◌∙◌, sym, true}
 use Rattle.lc_model.specs.Text.Meaning.{faults}
-use Rattle.rule_parser.specs.Syntax.{items_of}
+use Rattle.rule_parser.specs.OneComparison.{items_of}
 use Rattle.rule_parser.specs.Soundness.{is_clean}
 use Rattle.rule_parser.proofs.Accepted.{clean_is_empty}
 use Rattle.rule_parser.proofs.parser.parse_one.Goals as goal
