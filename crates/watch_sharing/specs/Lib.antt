@@ -1,0 +1,3 @@
+-- What the contracts of sharing cite.
+pub mod Fault
+pub mod Numbering

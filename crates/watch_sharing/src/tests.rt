@@ -1,0 +1,169 @@
+//! Which mentions are one watchpoint, and their numbers.
+
+use crate::error::ShareError;
+use crate::shared::Shared;
+use crate::sharing::share;
+use lc_model::{
+    ApMode, Bytes, CmpOp, Cond, EventKind, FieldType, Report, Rule, RuleSet, Rules, Term,
+};
+use std::alloc::Global;
+use std::process::Abort;
+
+/// A voltage below this number.
+fn below(value: i64) -> Term {
+    Term {
+        kind: FieldType::U16Be,
+        mid: 0x0883,
+        offset: 12,
+        mask: 0xFFFF,
+        stale: 2,
+        op: CmpOp::Less,
+        value,
+    }
+}
+
+/// A rule with this condition.
+fn rule(alloc: Global, cond: Cond) -> Result<Rule, ShareError> {
+    Ok(Rule {
+        name: Bytes::from_vec(b"LOW".to_vec(alloc)?),
+        mode: ApMode::Active,
+        fails: 2,
+        sequence: 7,
+        event_kind: EventKind::Error,
+        event_id: 1_001,
+        text: Bytes::from_vec(b"low volts".to_vec(alloc)?),
+        report: Report {
+            passive: 0,
+            pass_to_fail: 0,
+            fail_to_pass: 0,
+        },
+        cond,
+    })
+}
+
+/// What is shared among rules, each of which is one comparison with a term.
+fn shared_among(alloc: Global, terms: &[Term]) -> Result<Shared, ShareError> {
+    let mut rules = Vec::new(alloc);
+    for term in terms {
+        rules.push(rule(alloc, Cond::Watch(*term))?)?;
+    }
+    share(
+        alloc,
+        &RuleSet {
+            rules: Rules::from_vec(rules),
+        },
+    )
+}
+
+/// What is shared among rules with so many different numbers, one each.
+fn shared_among_numbers(alloc: Global, count: i64) -> Result<Shared, ShareError> {
+    let mut terms = Vec::new(alloc);
+    for value in 0..count {
+        terms.push(below(value))?;
+    }
+    shared_among(alloc, terms.as_slice())
+}
+
+/// The rule `V < 2400`, and another `V < 2400 or V < 2399`.
+fn two_rules(alloc: Global) -> Result<Shared, ShareError> {
+    let either = Cond::Or(
+        Box::new(alloc, Cond::Watch(below(2_400)))?,
+        Box::new(alloc, Cond::Watch(below(2_399)))?,
+    );
+    let mut rules = Vec::new(alloc);
+    rules.push(rule(alloc, Cond::Watch(below(2_400)))?)?;
+    rules.push(rule(alloc, either)?)?;
+    share(
+        alloc,
+        &RuleSet {
+            rules: Rules::from_vec(rules),
+        },
+    )
+}
+
+/// These are the numbers of the rule's mentions.
+fn mentions<R: Abort>(rt: &R, shared: &Shared, rule: usize, expected: &[u16]) {
+    match shared.mentions.get(rule) {
+        Some(numbers) => assert_eq!(rt; numbers.as_slice(), expected),
+        None => panic!(rt; "no rule {rule}"),
+    }
+}
+
+#[test]
+fn two_rules_share_a_watchpoint(rt: HostRuntime) -> Result<(), ShareError> {
+    let shared = two_rules(rt.alloc())?;
+    assert_eq!(rt;
+        shared.terms.as_slice(),
+        [below(2_400), below(2_399)].as_slice()
+    );
+    assert_eq!(rt; shared.mentions.len(), 2);
+    mentions(&rt, &shared, 0, [0].as_slice());
+    mentions(&rt, &shared, 1, [0, 1].as_slice());
+    Ok(())
+}
+
+#[test]
+fn each_part_makes_another_watchpoint(rt: HostRuntime) -> Result<(), ShareError> {
+    let term = below(2_400);
+    let terms = [
+        term,
+        Term {
+            kind: FieldType::U16Le,
+            ..term
+        },
+        Term {
+            mid: 0x0884,
+            ..term
+        },
+        Term { offset: 14, ..term },
+        Term {
+            mask: 0xFFFE,
+            ..term
+        },
+        Term { stale: 3, ..term },
+        Term {
+            op: CmpOp::LessOrEqual,
+            ..term
+        },
+        Term {
+            value: -2_400,
+            ..term
+        },
+        term,
+    ];
+    let shared = shared_among(rt.alloc(), terms.as_slice())?;
+    assert_eq!(rt; shared.terms.as_slice(), &terms[..8]);
+    mentions(&rt, &shared, 7, [7].as_slice());
+    mentions(&rt, &shared, 8, [0].as_slice());
+    Ok(())
+}
+
+#[test]
+fn a_full_table_and_one_more(rt: HostRuntime) -> Result<(), ShareError> {
+    let shared = shared_among_numbers(rt.alloc(), 176)?;
+    assert_eq!(rt; shared.terms.len(), 176);
+    mentions(&rt, &shared, 175, [175].as_slice());
+    match shared_among_numbers(rt.alloc(), 177) {
+        Ok(_) => panic!(rt; "177 watchpoints are shared"),
+        Err(error) => assert_eq!(rt; error, ShareError::TooManyWatchpoints),
+    }
+    Ok(())
+}
+
+#[test]
+fn no_rules(rt: HostRuntime) -> Result<(), ShareError> {
+    let shared = shared_among_numbers(rt.alloc(), 0)?;
+    assert_eq!(rt; shared.terms.len(), 0);
+    assert_eq!(rt; shared.mentions.len(), 0);
+    Ok(())
+}
+
+/// Where an allocation fails, the answer is `Memory`, and no other: `rt try --test --fail-alloc N`, for each N up to the
+/// number of allocations, has one of them refused here.
+#[test]
+fn all_watchpoints_or_no_memory(rt: HostRuntime) {
+    match two_rules(rt.alloc()) {
+        Ok(shared) => assert_eq!(rt; shared.terms.len(), 2),
+        Err(error) => assert_eq!(rt; error, ShareError::Memory),
+    }
+}
