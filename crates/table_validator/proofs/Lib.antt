@@ -1,0 +1,4 @@
+pub mod Reading
+pub mod FirstFault
+pub mod Soundness
+pub mod Chosen

@@ -1,0 +1,1 @@
+//! Images that are sound, and each fault.
