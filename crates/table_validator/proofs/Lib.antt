@@ -1,4 +1,5 @@
 pub mod Reading
-pub mod FirstFault
-pub mod Soundness
 pub mod Chosen
+pub mod FirstFault
+pub mod Evaluated
+pub mod Soundness

@@ -8,13 +8,13 @@ use Rattle.lc_model.specs.declared.kind.Kind.TheVariants.{Wdt, Adt}
 use Rattle.lc_model.specs.declared.field.FieldType.{FieldType}
 use Rattle.lc_model.specs.declared.field.FieldType.TheVariants.{U8}
 use Rattle.lc_model.specs.Bytes.{u16_at, u32_at}
-use Rattle.lc_model.specs.Codes.{operator_code, kind_code, is_kind, table_entries}
+use Rattle.lc_model.specs.Codes.{operator_code, state_code, event_code, kind_code, is_kind, table_entries}
 use Rattle.lc_model.specs.Field.{full_mask, is_in_type}
 use Rattle.lc_model.specs.Packet.{is_telemetry_mid, event_mid, lc_housekeeping_mid, reserved_mids}
 use Rattle.lc_model.specs.Tables.Equation.{equal_word, IsEquation}
 use Rattle.lc_model.specs.Tables.Image as model
 use Rattle.lc_model.specs.Tables.Image.{Watchpoints, Actionpoints, WideActionpoints, image_length, own_count, watchpoint_count, entry_at, entry_code, used_code, preamble_code, IsSound, version_1_layouts, all_words, words_before_equal, words_after_equal, type_of_code, number_of_bits_32, is_text_field, first_code, equation_tests, most_waiting, actionpoint_code, watchpoint_code}
-use Rattle.lc_model.specs.Tables.Spelled.{operator_of_code, spelled_term}
+use Rattle.lc_model.specs.Tables.Spelled.{spelled_term, state_of_code, event_of_code}
 use Rattle.lc_model.proofs.SoundWords.{none_stands, stands_none, or_first, or_second, at_least, sound_words_spell}
 use Rattle.lc_model.proofs.SoundImages.{SoundParts, sound_parts, operator_again}
 use Rattle.table_file.specs.declared.layout.Layout.{Layout}
@@ -22,6 +22,7 @@ use Rattle.table_file.specs.declared.layout.Layout.TheVariants as layouts
 use Rattle.table_file.specs.Layout.{layout_of}
 use Rattle.table_validator.specs.Sound.{IsSoundWatchpoint, IsSoundEquation, IsSoundActionpoint, HasSoundWatchpoints, HasSoundActionpoints}
 use Rattle.table_validator.proofs.Reading.{ends_before}
+use Rattle.table_validator.proofs.Evaluated.{sound_equation}
 
 -- ---- tests
 
@@ -111,10 +112,21 @@ sound_watchpoint e sound =
 
 -- ---- actionpoints
 
-sound_equation : (count : ℕ) (ws : List ℕ) → count ≤ table_entries → first_code (equation_tests count ws) ≡ None → IsSoundEquation count ws
-sound_equation count ws few passes =
-    let spelled : (k : ℕ) × (k ≤ most_waiting) × IsEquation count ws k = (sound_words_spell count ws few).0 passes in
-    record { passes = passes; need = spelled.0; few = spelled.1; spells = spelled.2 }
+-- a state's code, and an event type's
+state_again : (n : ℕ) → 1 ≤ n → n ≤ 3 → state_code (state_of_code n) ≡ n
+state_again zero low high = absurd (omega (arith, low))
+state_again (suc zero) low high = refl
+state_again (suc (suc zero)) low high = refl
+state_again (suc (suc (suc zero))) low high = refl
+state_again (suc (suc (suc (suc n)))) low high = absurd (omega (arith, high))
+
+event_again : (n : ℕ) → 1 ≤ n → n ≤ 4 → event_code (event_of_code n) ≡ n
+event_again zero low high = absurd (omega (arith, low))
+event_again (suc zero) low high = refl
+event_again (suc (suc zero)) low high = refl
+event_again (suc (suc (suc zero))) low high = refl
+event_again (suc (suc (suc (suc zero)))) low high = refl
+event_again (suc (suc (suc (suc (suc n))))) low high = absurd (omega (arith, high))
 
 -- the tests of an entry
 abbrev actionpoint_tests : ℕ → List ℕ → List (Bool × ℕ)
@@ -133,7 +145,14 @@ sound_actionpoint count e few sound =
     let tests : AllByRecursion (λ t. t.0 ≡ false) (actionpoint_tests count e) = none_stands (actionpoint_tests count e) sound in
     let behind = tests.1.1.1.1.1 in
     let last : (u16_at e 6 == 0 || u16_at e 8 == 0) ≡ false = behind.1.1.1.1.1.0 in
+    let state : Within 1 3 (slice_index e 0) = within 1 3 (slice_index e 0) tests.0 in
+    let event : Within 1 4 (u16_at e 10) = within 1 4 (u16_at e 10) (or_first (not (is_in_range 1 4 (u16_at e 10))) (nat_lt (u16_at e 12) 1_000) tests.1.0) in
     record {
+      has_state = state_again (slice_index e 0) state.from state.to;
+      has_event = event_again (u16_at e 10) event.from event.to;
+      event_id = at_least (u16_at e 12) 1_000 (or_second (not (is_in_range 1 4 (u16_at e 10))) (nat_lt (u16_at e 12) 1_000) tests.1.0);
+      text = not_false (is_text_field (slice_range e 14 46)) tests.1.1.0;
+      nothing_behind = not_false (list_all (◌==◌ 0) (words_after_equal (all_words e))) tests.1.1.1.1.0;
       equation = sound_equation count ws few (stands_none (equation_tests count ws)
       (behind.0, (behind.1.0, (behind.1.1.0, (behind.1.1.1.0, (behind.1.1.1.1.0, tt))))));
       ends = ends_before (all_words e) (not_false (list_any (◌==◌ equal_word) (all_words e)) tests.1.1.1.0);
