@@ -1,18 +1,17 @@
 //! Images that are sound, and the test by which they come to be known so.
 
-ghost use Rattle.std.specs.Prelude.{◌≡◌, length, IfOk};
+ghost use Rattle.std.specs.Prelude.{◌≡◌, ◌<◌, IfOk};
 ghost use Rattle.lc_model.specs.declared.kind.Kind.TheVariants.{Wdt, Adt};
-ghost use Rattle.lc_model.specs.Tables.Image.{IsSound, fault_of, image_length, kind_of, version_1_layouts};
-ghost use Rattle.table_file.specs.Layout.{layout_of};
+ghost use Rattle.lc_model.specs.Tables.Image.{Watchpoints, Actionpoints, IsSound, entry_at, fault_of, own_count, version_1_layouts, watchpoint_count};
 ghost use Rattle.table_validator.specs.Fault.{refusal};
-ghost use Rattle.table_validator.specs.Sound.{HasSoundActionpoints, HasSoundWatchpoints};
+ghost use Rattle.table_validator.specs.Sound.{HasSoundActionpoints, HasSoundWatchpoints, IsSoundActionpoint, IsSoundWatchpoint};
 
 use crate::entry::entry_fault;
 use crate::fault::{FaultCode, TableFault};
 use crate::preamble::preamble_fault;
 use lc_model::Kind;
 use std::marker::Model;
-use table_file::{ENTRIES, Layout};
+use table_file::{ActionpointEntry, ENTRIES, Layout, WatchpointEntry};
 
 /// A sound image, lent from the bytes that it stands in. Contracts see its kind and its bytes.
 #[derive(Debug, Drop)]
@@ -43,14 +42,6 @@ impl<'a> ValidImage<'a> {
         self.layout.kind()
     }
 
-    /// The layout by which `table_file` reads the image.
-    pub fn layout(&self) -> Layout
-        ensures kind { kind_of (layout_of result) ≡ self.now.kind }
-        ensures size { length self.now.bytes ≡ image_length (layout_of result) }
-    {
-        self.layout
-    }
-
     /// The image, as it was handed in.
     ///
     /// Of a table of watchpoints each used entry has a type, a comparison and a message id that may be watched, and its
@@ -63,6 +54,26 @@ impl<'a> ValidImage<'a> {
         ensures actionpoints { self.now.kind ≡ Adt → HasSoundActionpoints self.now.bytes }
     {
         self.bytes
+    }
+
+    /// The entry of a watchpoint that is used, in a table of watchpoints.
+    pub fn watchpoint(&self, number: usize) -> WatchpointEntry<'a>
+        requires kind { self.now.kind ≡ Wdt }
+        requires used { number < own_count self.now.bytes }
+        ensures entry { result ≡ entry_at Watchpoints self.now.bytes number }
+        ensures sound { IsSoundWatchpoint result }
+    {
+        WatchpointEntry::of(self.image(), number)
+    }
+
+    /// The entry of an actionpoint that is used, in a table of actionpoints.
+    pub fn actionpoint(&self, number: usize) -> ActionpointEntry<'a>
+        requires kind { self.now.kind ≡ Adt }
+        requires used { number < own_count self.now.bytes }
+        ensures entry { result ≡ entry_at Actionpoints self.now.bytes number }
+        ensures sound { IsSoundActionpoint (watchpoint_count self.now.bytes) result }
+    {
+        ActionpointEntry::of(Layout::Actionpoints, self.image(), number)
     }
 }
 

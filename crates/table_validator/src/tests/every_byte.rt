@@ -1,0 +1,106 @@
+//! Both images of the text with each byte set to 0xFF in turn; the answers were worked out by hand, field by field.
+
+use super::{ACTIONPOINT, PREAMBLE, WATCHPOINT, adt, answer, wdt};
+use crate::WHOLE_IMAGE;
+use lc_model::Kind;
+use std::alloc::AllocError;
+use std::process::Abort;
+use std::test::*;
+
+/// Version, kind and counts; the hash may be any.
+fn preamble_answer(place: usize) -> Option<(u8, u16)> {
+    match place {
+        0 | 1 => Some((61, WHOLE_IMAGE)),
+        2 | 3 => Some((62, WHOLE_IMAGE)),
+        4..=7 => Some((64, WHOLE_IMAGE)),
+        _ => None,
+    }
+}
+
+/// The first byte of a blank entry is 0xFF, and each other one 0.
+fn blank_answer(length: usize, place: usize) -> Option<(u8, u16)> {
+    if length == 0 || place % length == 0 {
+        None
+    } else {
+        Some((65, (place / length) as u16))
+    }
+}
+
+/// By the place behind the preamble.
+fn watchpoint_answer(place: usize) -> Option<(u8, u16)> {
+    match place {
+        0 => Some((66, 0)),
+        1 => Some((67, 0)),
+        // 0xFF83 is no telemetry, 0x08FF is.
+        2 => Some((68, 0)),
+        // The mask's low bytes are 0xFF.
+        8 | 9 => Some((69, 0)),
+        12..=15 => Some((65, 0)),
+        // 0xFF60 and 0x09FF are numbers of 16 bits.
+        20 | 21 => Some((70, 0)),
+        0..WATCHPOINT => None,
+        _ => blank_answer(WATCHPOINT, place),
+    }
+}
+
+fn actionpoint_answer(place: usize) -> Option<(u8, u16)> {
+    match place {
+        0 => Some((71, 0)),
+        // Event ids 0xFFE9 and 0x03FF aren't below 1,000.
+        10 | 11 => Some((72, 0)),
+        14..=45 => Some((73, 0)),
+        // 0xFF00 and 0x00FF are no words.
+        46 | 47 => Some((76, 0)),
+        // 0xFFFF in the place of EQUAL, whose high byte is 0xFF.
+        49 => Some((74, 0)),
+        50..=85 => Some((75, 0)),
+        0..ACTIONPOINT => None,
+        _ => blank_answer(ACTIONPOINT, place),
+    }
+}
+
+/// The image with 0xFF at this place has this answer.
+fn with_one_byte<R: Abort>(
+    rt: &R,
+    kind: Kind,
+    image: &mut [u8],
+    place: usize,
+    expected: Option<(u8, u16)>,
+) {
+    if place < image.len() {
+        let byte = image[place];
+        image[place] = 0xFF;
+        assert_eq!(rt; answer(kind, image), expected, "at {place}");
+        image[place] = byte;
+    }
+}
+
+#[test]
+fn of_the_watchpoints(rt: HostRuntime) -> Result<(), AllocError> {
+    let mut image = wdt(rt.alloc(), 1)?;
+    assert_eq!(rt; image.len(), 4_264);
+    for place in 0..4_264 {
+        let expected = if place < PREAMBLE {
+            preamble_answer(place)
+        } else {
+            watchpoint_answer(place - PREAMBLE)
+        };
+        with_one_byte(&rt, Kind::Wdt, &mut image, place, expected);
+    }
+    Ok(())
+}
+
+#[test]
+fn of_the_actionpoints(rt: HostRuntime) -> Result<(), AllocError> {
+    let mut image = adt(rt.alloc(), 1)?;
+    assert_eq!(rt; image.len(), 15_176);
+    for place in 0..15_176 {
+        let expected = if place < PREAMBLE {
+            preamble_answer(place)
+        } else {
+            actionpoint_answer(place - PREAMBLE)
+        };
+        with_one_byte(&rt, Kind::Adt, &mut image, place, expected);
+    }
+    Ok(())
+}
