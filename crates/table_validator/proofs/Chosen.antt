@@ -33,11 +33,11 @@ in_front e =
 abbrev pub at_end : List ℕ → List (Bool × ℕ)
 at_end e = (u16_at e 6 == 0 || u16_at e 8 == 0, 81) ∷ []
 
-pub none_in_front : (e : List ℕ) (state event text : Bool) → state ≡ not (is_in_range 1 3 (slice_index e 0)) → state ≡ false →
+pub none_in_front : (e : List ℕ) (state event text : Bool) → state ≡ is_in_range 1 3 (slice_index e 0) → state ≡ true →
     event ≡ (not (is_in_range 1 4 (u16_at e 10)) || nat_lt (u16_at e 12) 1_000) → event ≡ false → text ≡ is_text_field (slice_range e 14 46) → text ≡ true →
     first_code (in_front e) ≡ None
-none_in_front e state event text state_is state_not event_is event_not text_is text_so =
-    ap first_code (λ i. ((sym state_is ∙ state_not) i, 71) ∷ ((sym event_is ∙ event_not) i, 72) ∷ (not ((sym text_is ∙ text_so) i), 73) ∷ [])
+none_in_front e state event text state_is state_so event_is event_not text_is text_so =
+    ap first_code (λ i. (not ((sym state_is ∙ state_so) i), 71) ∷ ((sym event_is ∙ event_not) i, 72) ∷ (not ((sym text_is ∙ text_so) i), 73) ∷ [])
 
 -- behind tests in front that don't stand, the words' code counts, and then the last test
 module _ (count : ℕ) (e : List ℕ) (none : first_code (in_front e) ≡ None) where

@@ -23,7 +23,7 @@ const FIRST_EVENT_ID: u16 = 1_000;
 fn is_text_byte(byte: u8) -> bool
     ensures { result ≡ token.is_text_byte byte }
 {
-    0x20 <= byte && byte <= 0x7E && byte != b'"'
+    (0x20..=0x7E).contains(&byte) && byte != b'"'
 }
 
 /// How many bytes of a text the field begins with.
@@ -48,19 +48,18 @@ fn is_text_field(field: &[u8]) -> bool
     length < TEXT_FIELD && are_zeros(&field[length..])
 }
 
-/// Whether no actionpoint may begin in the state with this number.
-fn is_unknown_state(code: u8) -> bool
-    ensures { result ≡ not (is_in_range 1 3 code) }
+/// Whether an actionpoint may begin in the state with this number.
+fn is_state(code: u8) -> bool
+    ensures { result ≡ is_in_range 1 3 code }
 {
-    code < 1 || 3 < code
+    (1..=3).contains(&code)
 }
 
 /// Whether the entry's event has no type, or an id below 1,000.
 fn has_wrong_event(entry: &ActionpointEntry<'_>) -> bool
     ensures { result ≡ (not (is_in_range 1 4 (u16_at entry.now 10)) || nat_lt (u16_at entry.now 12) 1_000) }
 {
-    let code = entry.event_code();
-    code < 1 || 4 < code || entry.event_id() < FIRST_EVENT_ID
+    !(1..=4).contains(&entry.event_code()) || entry.event_id() < FIRST_EVENT_ID
 }
 
 /// Whether the sequence or the number of fails is 0.
@@ -74,7 +73,7 @@ fn has_zero(entry: &ActionpointEntry<'_>) -> bool
 pub fn actionpoint_fault(entry: &ActionpointEntry<'_>, watchpoints: u16) -> Option<FaultCode>
     ensures { option_map code_number result ≡ actionpoint_code watchpoints entry.now }
 {
-    if is_unknown_state(entry.state_code()) {
+    if !is_state(entry.state_code()) {
         return Some(FaultCode::UnknownState);
     }
     if has_wrong_event(entry) {

@@ -1,6 +1,7 @@
 //! Why an image is refused (the codes are this project's own).
 
 ghost use Rattle.std.specs.Prelude.{◌≡◌};
+ghost use Rattle.lc_model.specs.Tables.Image.{whole_image};
 ghost use Rattle.table_validator.specs.Fault.{code_number};
 
 use thiserror::Error;
@@ -121,7 +122,7 @@ pub struct TableFault {
 impl TableFault {
     /// The fault of the image as a whole.
     pub(crate) fn of_image(code: FaultCode) -> TableFault
-        ensures { result ≡ record { code = code; entry = 65_535 } }
+        ensures { result ≡ record { code = code; entry = whole_image } }
     {
         TableFault {
             code,

@@ -21,39 +21,19 @@ fn full_mask(kind: FieldType) -> u32
 pub fn is_mask_of(kind: FieldType, mask: u32) -> bool
     ensures { result ≡ is_in_range 1 (model.full_mask kind) mask }
 {
-    1 <= mask && mask <= full_mask(kind)
-}
-
-/// The least number of a type.
-fn least(kind: FieldType) -> i64
-    ensures { result ≡ model.least kind }
-{
-    match kind {
-        FieldType::I8 => -0x80,
-        FieldType::I16Be | FieldType::I16Le => -0x8000,
-        FieldType::I32Be | FieldType::I32Le => -0x8000_0000,
-        FieldType::U8 | FieldType::U16Be | FieldType::U16Le | FieldType::U32Be | FieldType::U32Le =>
-            0,
-    }
-}
-
-/// The greatest number of a type.
-fn greatest(kind: FieldType) -> i64
-    ensures { result ≡ model.greatest kind }
-{
-    match kind {
-        FieldType::I8 => 0x7F,
-        FieldType::I16Be | FieldType::I16Le => 0x7FFF,
-        FieldType::I32Be | FieldType::I32Le => 0x7FFF_FFFF,
-        FieldType::U8 => 0xFF,
-        FieldType::U16Be | FieldType::U16Le => 0xFFFF,
-        FieldType::U32Be | FieldType::U32Le => 0xFFFF_FFFF,
-    }
+    (1..=full_mask(kind)).contains(&mask)
 }
 
 /// Whether a number is one of a type's.
 pub fn is_in_type(kind: FieldType, value: i64) -> bool
     ensures { result ≡ model.is_in_type kind value }
 {
-    least(kind) <= value && value <= greatest(kind)
+    match kind {
+        FieldType::U8 => (0..=0xFF).contains(&value),
+        FieldType::I8 => (-0x80..=0x7F).contains(&value),
+        FieldType::U16Be | FieldType::U16Le => (0..=0xFFFF).contains(&value),
+        FieldType::I16Be | FieldType::I16Le => (-0x8000..=0x7FFF).contains(&value),
+        FieldType::U32Be | FieldType::U32Le => (0..=0xFFFF_FFFF).contains(&value),
+        FieldType::I32Be | FieldType::I32Le => (-0x8000_0000..=0x7FFF_FFFF).contains(&value),
+    }
 }

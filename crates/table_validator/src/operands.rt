@@ -13,11 +13,11 @@ const AND: u16 = 0xFF01;
 
 const XOR: u16 = 0xFF03;
 
-/// The negation, which is the last of the operators.
-pub const NOT: u16 = 0xFF04;
+/// The negation, the last of the operators.
+const NOT: u16 = 0xFF04;
 
 /// The most operands that may wait.
-pub const MOST_WAITING: usize = 8;
+const MOST_WAITING: usize = 8;
 
 /// Whether the word is a number of a watchpoint.
 pub fn is_mention(word: u16) -> bool
@@ -30,36 +30,38 @@ pub fn is_mention(word: u16) -> bool
 fn is_binary(word: u16) -> bool
     ensures { result ≡ equation.is_binary word }
 {
-    AND <= word && word <= XOR
+    (AND..=XOR).contains(&word)
 }
 
 /// Whether the word is an operator.
 pub fn is_operator(word: u16) -> bool
     ensures { result ≡ is_in_range 0xFF01 0xFF04 word }
 {
-    AND <= word && word <= NOT
+    (AND..=NOT).contains(&word)
 }
 
 /// How many operands a word takes.
 fn operands_of(word: u16) -> usize
     ensures { result ≡ model.operands_of word }
 {
-    if is_binary(word) {
-        2
-    } else if word == NOT || word == EQUAL_WORD {
-        1
-    } else {
-        0
+    match word {
+        AND..=XOR => 2,
+        NOT | EQUAL_WORD => 1,
+        _ => 0,
     }
 }
 
-/// What a count of operands has met. Those that wait are the mentions less the binary operators, since a mention is one
-/// more and a binary operator makes one of two.
+/// The operands of the words that were counted. Those that wait are the mentions less the binary operators, since a mention
+/// is one more, and a binary operator makes one of two. Where an operand was missing the number says no more, but the
+/// codes that it decides are greater than that of a missing operand.
 #[derive(Clone, Copy, Debug)]
 pub struct OperandCount {
     mentions: usize,
+    /// Binary operators.
     joins: usize,
+    /// Whether a word found fewer operands than it takes.
     pub missing: bool,
+    /// Whether more than eight waited.
     pub crowded: bool,
 }
 

@@ -92,6 +92,11 @@ fn adt(alloc: Global, used: u8) -> Result<Vec<u8>, AllocError> {
     adt_with(alloc, used, 1, &[0, EQUAL])
 }
 
+/// Where an entry of this length begins.
+fn start(length: usize, entry: u16) -> usize {
+    PREAMBLE.saturating_add(length.saturating_mul(entry as usize))
+}
+
 /// Puts bytes to a place of an image.
 fn put(image: &mut Vec<u8>, place: usize, bytes: &[u8]) {
     for index in 0..bytes.len() {

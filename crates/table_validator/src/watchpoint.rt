@@ -11,15 +11,14 @@ use crate::fault::FaultCode;
 use crate::field::{is_in_type, is_mask_of};
 use table_file::WatchpointEntry;
 
-/// The message ids of telemetry, from the first to the last.
+/// The message ids of telemetry, the first and the last.
 const FIRST_TELEMETRY: u16 = 0x0800;
 
 const LAST_TELEMETRY: u16 = 0x0FFF;
 
-/// Event packets, which are the host's own.
+/// The host's own telemetry, which nothing may watch: event packets, and the Limit Checker's housekeeping.
 const EVENT: u16 = 0x0808;
 
-/// The Limit Checker's housekeeping, which is the host's own too.
 const HOUSEKEEPING: u16 = 0x08A7;
 
 /// Whether packets with this message id can't be watched.
@@ -27,17 +26,16 @@ fn is_unwatchable(message_id: u16) -> bool
     ensures { result ≡ (not (is_telemetry_mid message_id)
         || list_any (◌==◌ message_id) reserved_mids) }
 {
-    message_id < FIRST_TELEMETRY
-        || LAST_TELEMETRY < message_id
+    !(FIRST_TELEMETRY..=LAST_TELEMETRY).contains(&message_id)
         || message_id == EVENT
         || message_id == HOUSEKEEPING
 }
 
-/// Whether there is no comparison with this number.
-fn is_unknown_operator(code: u8) -> bool
-    ensures { result ≡ not (is_in_range 1 6 code) }
+/// Whether a comparison has this number.
+fn is_operator(code: u8) -> bool
+    ensures { result ≡ is_in_range 1 6 code }
 {
-    code < 1 || 6 < code
+    (1..=6).contains(&code)
 }
 
 /// The least code of a watchpoint's entry. Mask and comparison value are judged by the type, so not without one.
@@ -50,7 +48,7 @@ pub fn watchpoint_fault(entry: &WatchpointEntry<'_>) -> Option<FaultCode>
     let Some(kind) = entry.field_type() else {
         return Some(FaultCode::UnknownType);
     };
-    if is_unknown_operator(entry.operator_code()) {
+    if !is_operator(entry.operator_code()) {
         return Some(FaultCode::UnknownOperator);
     }
     if is_unwatchable(entry.message_id()) {

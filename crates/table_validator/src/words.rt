@@ -12,7 +12,9 @@ use table_file::{ActionpointEntry, EQUAL_WORD};
 /// What a pass over an entry's words has met.
 #[derive(Clone, Copy, Debug)]
 struct WordScan {
+    /// Whether EQUAL was there.
     ended: bool,
+    /// Whether a word that isn't 0 follows it.
     word_behind: bool,
     unknown_word: bool,
     unknown_watchpoint: bool,

@@ -1,6 +1,6 @@
 //! Each code of an entry: at the first entry and at the last, alone and beside others.
 
-use super::{ACTIONPOINT, PREAMBLE, WATCHPOINT, WORDS, adt, answer, put, wdt};
+use super::{ACTIONPOINT, WATCHPOINT, WORDS, adt, answer, put, start, wdt};
 use lc_model::Kind;
 use std::alloc::AllocError;
 use std::process::Abort;
@@ -58,11 +58,6 @@ const NINE_WAIT: [u8; 36] = [
     0, 0, 0, 0, 0, 0, 0, 0, 0, 0, 0, 0, 0, 0, 0, 0, 0, 0, 0xFF, 1, 0xFF, 1, 0xFF, 1, 0xFF, 1, 0xFF,
     1, 0xFF, 1, 0xFF, 1, 0xFF, 1, 0xFF, 5,
 ];
-
-/// Where an entry of this length begins.
-fn start(length: usize, entry: u16) -> usize {
-    PREAMBLE.saturating_add(length.saturating_mul(entry as usize))
-}
 
 /// The table with these bytes wrong in one entry is refused by this code there.
 fn refused_at<R: Abort>(

@@ -1,6 +1,6 @@
 //! Both images of the text with each byte set to 0xFF in turn; the answers were worked out by hand, field by field.
 
-use super::{ACTIONPOINT, PREAMBLE, WATCHPOINT, adt, answer, wdt};
+use super::{ACTIONPOINT, PREAMBLE, WATCHPOINT, adt, answer, start, wdt};
 use crate::WHOLE_IMAGE;
 use lc_model::Kind;
 use std::alloc::AllocError;
@@ -18,15 +18,11 @@ fn preamble_answer(place: usize) -> Option<(u8, u16)> {
 }
 
 /// The first byte of a blank entry is 0xFF, and each other one 0.
-fn blank_answer(length: usize, place: usize) -> Option<(u8, u16)> {
-    if length == 0 || place % length == 0 {
-        None
-    } else {
-        Some((65, (place / length) as u16))
-    }
+fn blank_answer(entry: u16, place: usize) -> Option<(u8, u16)> {
+    if place == 0 { None } else { Some((65, entry)) }
 }
 
-/// By the place behind the preamble.
+/// By the place in the entry.
 fn watchpoint_answer(place: usize) -> Option<(u8, u16)> {
     match place {
         0 => Some((66, 0)),
@@ -38,8 +34,7 @@ fn watchpoint_answer(place: usize) -> Option<(u8, u16)> {
         12..=15 => Some((65, 0)),
         // 0xFF60 and 0x09FF are numbers of 16 bits.
         20 | 21 => Some((70, 0)),
-        0..WATCHPOINT => None,
-        _ => blank_answer(WATCHPOINT, place),
+        _ => None,
     }
 }
 
@@ -54,8 +49,7 @@ fn actionpoint_answer(place: usize) -> Option<(u8, u16)> {
         // 0xFFFF in the place of EQUAL, whose high byte is 0xFF.
         49 => Some((74, 0)),
         50..=85 => Some((75, 0)),
-        0..ACTIONPOINT => None,
-        _ => blank_answer(ACTIONPOINT, place),
+        _ => None,
     }
 }
 
@@ -79,13 +73,19 @@ fn with_one_byte<R: Abort>(
 fn of_the_watchpoints(rt: HostRuntime) -> Result<(), AllocError> {
     let mut image = wdt(rt.alloc(), 1)?;
     assert_eq!(rt; image.len(), 4_264);
-    for place in 0..4_264 {
-        let expected = if place < PREAMBLE {
-            preamble_answer(place)
-        } else {
-            watchpoint_answer(place - PREAMBLE)
-        };
-        with_one_byte(&rt, Kind::Wdt, &mut image, place, expected);
+    for place in 0..PREAMBLE {
+        with_one_byte(&rt, Kind::Wdt, &mut image, place, preamble_answer(place));
+    }
+    for entry in 0..176 {
+        for place in 0..WATCHPOINT {
+            let expected = if entry == 0 {
+                watchpoint_answer(place)
+            } else {
+                blank_answer(entry, place)
+            };
+            let at = start(WATCHPOINT, entry).saturating_add(place);
+            with_one_byte(&rt, Kind::Wdt, &mut image, at, expected);
+        }
     }
     Ok(())
 }
@@ -94,13 +94,19 @@ fn of_the_watchpoints(rt: HostRuntime) -> Result<(), AllocError> {
 fn of_the_actionpoints(rt: HostRuntime) -> Result<(), AllocError> {
     let mut image = adt(rt.alloc(), 1)?;
     assert_eq!(rt; image.len(), 15_176);
-    for place in 0..15_176 {
-        let expected = if place < PREAMBLE {
-            preamble_answer(place)
-        } else {
-            actionpoint_answer(place - PREAMBLE)
-        };
-        with_one_byte(&rt, Kind::Adt, &mut image, place, expected);
+    for place in 0..PREAMBLE {
+        with_one_byte(&rt, Kind::Adt, &mut image, place, preamble_answer(place));
+    }
+    for entry in 0..176 {
+        for place in 0..ACTIONPOINT {
+            let expected = if entry == 0 {
+                actionpoint_answer(place)
+            } else {
+                blank_answer(entry, place)
+            };
+            let at = start(ACTIONPOINT, entry).saturating_add(place);
+            with_one_byte(&rt, Kind::Adt, &mut image, at, expected);
+        }
     }
     Ok(())
 }

@@ -9,7 +9,7 @@ pub returns-in-Some : goal.returns-in-Some
 returns-in-Some c =
     let e = c.args.entry.now in
     let passed : first_code (in_front e) ≡ None =
-    none_in_front e _ _ _ (c.is_unknown_state.ensures ∙ ap (λ n. not (is_in_range 1 3 n)) c.state_code.ensures) c.if-is_unknown_state.false
+    none_in_front e _ _ _ (c.is_state.ensures ∙ ap (is_in_range 1 3) c.state_code.ensures) c.if-not-is_state.false
     c.has_wrong_event.ensures c.if-has_wrong_event.false (c.is_text_field.ensures ∙ ap is_text_field c.text_field.ensures) c.if-not-is_text_field.false in
     sym (by_words c.args.watchpoints e passed (code_number c.in-Some.code) (sym c.words_fault.ensures ∙ ap (option_map code_number) c.in-Some.is))
 
@@ -17,7 +17,7 @@ pub returns-then-has_zero : goal.returns-then-has_zero
 returns-then-has_zero c =
     let e = c.args.entry.now in
     let passed : first_code (in_front e) ≡ None =
-    none_in_front e _ _ _ (c.is_unknown_state.ensures ∙ ap (λ n. not (is_in_range 1 3 n)) c.state_code.ensures) c.if-is_unknown_state.false
+    none_in_front e _ _ _ (c.is_state.ensures ∙ ap (is_in_range 1 3) c.state_code.ensures) c.if-not-is_state.false
     c.has_wrong_event.ensures c.if-has_wrong_event.false (c.is_text_field.ensures ∙ ap is_text_field c.text_field.ensures) c.if-not-is_text_field.false in
     sym (by_end c.args.watchpoints e passed (sym c.words_fault.ensures ∙ ap (option_map code_number) c.in_default.is)
     ∙ ap (λ b. first_code ((b, 81) ∷ [])) (sym c.has_zero.ensures ∙ c.if-has_zero.true))
@@ -26,7 +26,7 @@ pub returns : goal.returns
 returns c =
     let e = c.args.entry.now in
     let passed : first_code (in_front e) ≡ None =
-    none_in_front e _ _ _ (c.is_unknown_state.ensures ∙ ap (λ n. not (is_in_range 1 3 n)) c.state_code.ensures) c.if-is_unknown_state.false
+    none_in_front e _ _ _ (c.is_state.ensures ∙ ap (is_in_range 1 3) c.state_code.ensures) c.if-not-is_state.false
     c.has_wrong_event.ensures c.if-has_wrong_event.false (c.is_text_field.ensures ∙ ap is_text_field c.text_field.ensures) c.if-not-is_text_field.false in
     sym (by_end c.args.watchpoints e passed (sym c.words_fault.ensures ∙ ap (option_map code_number) c.in_default.is)
     ∙ ap (λ b. first_code ((b, 81) ∷ [])) (sym c.has_zero.ensures ∙ c.if-has_zero.false))
