@@ -4,9 +4,9 @@ use Rattle.std.specs.List.{AllByRecursion, list_any}
 use Rattle.lc_model.specs.Codes.{table_entries}
 use Rattle.lc_model.specs.Condition.{Operator, And, Or, Xor}
 use Rattle.lc_model.specs.Tables.Equation.{operator_word, equal_word, waiting, IsEquation}
-use Rattle.lc_model.specs.Tables.Image.{first_code, equation_tests, with_words_before, operands_of, most_waiting}
+use Rattle.lc_model.specs.Tables.Image.{first_code, equation_tests, with_words_before, most_waiting}
 use Rattle.lc_model.proofs.SoundWords.{IsWord, number, negated, joined, none_stands, classified, each_front, at_least, or_first, or_second, unknown, missing, too_few, sound_words_spell}
-use Rattle.table_validator.specs.Sound.{IsMet, IsSoundEquation}
+use Rattle.table_validator.specs.Sound.{IsSoundEquation}
 
 -- what no word shows, this one does not
 of_each : (p : ℕ → Bool) (ws : List ℕ) (n : ℕ) → list_any p ws ≡ false → n < length ws → p (slice_index ws n) ≡ false
@@ -57,7 +57,7 @@ sound_equation count ws few passes =
       spells = spelled.2;
       met = λ n inside. record {
         known = known_word count (slice_index ws n)
-        (classified count (slice_index ws n) (of_each unknown ws n tests.0 inside) (of_each (missing count) ws n tests.1.0 inside));
+            (classified count (slice_index ws n) (of_each unknown ws n tests.0 inside) (of_each (missing count) ws n tests.1.0 inside));
         enough = at_least _ _ (of_step too_few equal_word ws [] n tests.1.1.0 inside);
         few = at_least _ _ (each_front (λ us. nat_lt most_waiting (waiting us)) equal_word ws [] n tests.1.1.1.0 (omega (arith, inside)));
       };

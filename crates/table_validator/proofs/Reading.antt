@@ -1,6 +1,6 @@
 -- What a pass over an entry's words leaves behind the last: the answers of the definitions' tests.
-use Rattle.std.proofs.Common.{◌≡◌, refl, sym, ◌∙◌, ap, subst, ℕ, zero, suc, ◌+◌, ◌-◌, ◌<◌, ◌≤◌, Bool, true, false, not, cond, ◌&&◌, ◌||◌, nat_lt, nat_le, ◌==◌, List, [], ◌∷◌, ◌++◌, length, take, drop, count_by, fold, arith, append-nil, append_assoc}
-use Rattle.std.specs.List.{list_any, list_all, position_or_len, before_first, after_first}
+use Rattle.std.proofs.Common.{◌≡◌, refl, sym, ◌∙◌, ap, subst, ℕ, suc, ◌+◌, ◌-◌, ◌<◌, ◌≤◌, Bool, true, false, not, cond, ◌&&◌, ◌||◌, nat_lt, ◌==◌, List, [], ◌∷◌, ◌++◌, length, take, drop, count_by, fold, arith, append-nil, append_assoc}
+use Rattle.std.specs.List.{list_any, list_all, position_or_len}
 use Rattle.std.proofs.lemmas.List.Sums.{sum_by-append}
 use Rattle.lc_model.specs.Tables.Equation.{equal_word, is_mention, is_binary, waiting}
 use Rattle.lc_model.specs.Tables.Image.{first_code, most_waiting, operands_of, with_words_before, words_before_equal, words_after_equal}
@@ -135,7 +135,7 @@ at_equal : (count : ℕ) (before rest : List ℕ) (u v c d : Bool) (m j : ℕ) �
 at_equal count before rest u v c d m j counts =
     let wait : waiting before ≡ m - j = waits before m j counts in
     let all : fold (word_read count) (scan_before u v c d m j) (equal_word ∷ rest)
-            ≡ scan_behind (not (list_all (◌==◌ 0) rest)) u v (word_counted (record { mentions = m; joins = j; missing = c; crowded = d }) equal_word) =
+    ≡ scan_behind (not (list_all (◌==◌ 0) rest)) u v (word_counted (record { mentions = m; joins = j; missing = c; crowded = d }) equal_word) =
     behind count rest false u v (word_counted (record { mentions = m; joins = j; missing = c; crowded = d }) equal_word) in
     subst (λ (s : WordScan). Leaves count before [] rest u v c d s) (sym all) (record {
       ended = refl;

@@ -1,26 +1,25 @@
 -- What a sound image gives its readers.
-use Rattle.std.proofs.Common.{◌≡◌, ◌≢◌, refl, sym, ◌∙◌, ap, ℕ, zero, suc, ◌<◌, ◌≤◌, Bool, true, false, not, ◌&&◌, ◌||◌, nat_lt, nat_le, ◌==◌, List, [], ◌∷◌, length, Option, Some, None, is_none, unwrap_or, slice_index, slice_range, ◌++◌, IsTrue, cond, arith, true≢false}
+use Rattle.std.proofs.Common.{◌≡◌, ◌≢◌, refl, sym, ◌∙◌, ℕ, zero, suc, ◌<◌, ◌≤◌, Bool, true, false, not, ◌&&◌, ◌||◌, nat_lt, nat_le, ◌==◌, List, [], ◌∷◌, length, Option, Some, None, is_none, unwrap_or, slice_index, slice_range, ◌++◌, arith, true≢false}
 use Rattle.std.specs.List.{AllByRecursion, list_any, list_all}
 use Rattle.std.specs.Option.{option_map_or}
 use Rattle.std.specs.Int.{is_in_range}
-use Rattle.lc_model.specs.declared.kind.Kind.{Kind}
 use Rattle.lc_model.specs.declared.kind.Kind.TheVariants.{Wdt, Adt}
 use Rattle.lc_model.specs.declared.field.FieldType.{FieldType}
 use Rattle.lc_model.specs.declared.field.FieldType.TheVariants.{U8}
 use Rattle.lc_model.specs.Bytes.{u16_at, u32_at}
-use Rattle.lc_model.specs.Codes.{operator_code, state_code, event_code, kind_code, is_kind, table_entries}
+use Rattle.lc_model.specs.Codes.{state_code, event_code, kind_code, is_kind, table_entries}
 use Rattle.lc_model.specs.Field.{full_mask, is_in_type}
 use Rattle.lc_model.specs.Packet.{is_telemetry_mid, event_mid, lc_housekeeping_mid, reserved_mids}
-use Rattle.lc_model.specs.Tables.Equation.{equal_word, IsEquation}
+use Rattle.lc_model.specs.Tables.Equation.{equal_word}
 use Rattle.lc_model.specs.Tables.Image as model
 use Rattle.lc_model.specs.Tables.Image.{Watchpoints, Actionpoints, WideActionpoints, image_length, own_count, watchpoint_count, entry_at, entry_code, used_code, preamble_code, IsSound, version_1_layouts, all_words, words_before_equal, words_after_equal, type_of_code, number_of_bits_32, is_text_field, first_code, equation_tests, most_waiting, actionpoint_code, watchpoint_code}
 use Rattle.lc_model.specs.Tables.Spelled.{spelled_term, state_of_code, event_of_code}
-use Rattle.lc_model.proofs.SoundWords.{none_stands, stands_none, or_first, or_second, at_least, sound_words_spell}
+use Rattle.lc_model.proofs.SoundWords.{none_stands, stands_none, or_first, or_second, at_least}
 use Rattle.lc_model.proofs.SoundImages.{SoundParts, sound_parts, operator_again}
 use Rattle.table_file.specs.declared.layout.Layout.{Layout}
 use Rattle.table_file.specs.declared.layout.Layout.TheVariants as layouts
 use Rattle.table_file.specs.Layout.{layout_of}
-use Rattle.table_validator.specs.Sound.{IsSoundWatchpoint, IsSoundEquation, IsSoundActionpoint, HasSoundWatchpoints, HasSoundActionpoints}
+use Rattle.table_validator.specs.Sound.{IsSoundWatchpoint, IsSoundActionpoint, HasSoundWatchpoints, HasSoundActionpoints}
 use Rattle.table_validator.proofs.Reading.{ends_before}
 use Rattle.table_validator.proofs.Evaluated.{sound_equation}
 
@@ -103,11 +102,11 @@ sound_watchpoint e sound =
       telemetry = not_false (is_telemetry_mid mid) telemetry;
       no_event = differs mid event_mid (or_first (mid == event_mid) (mid == lc_housekeeping_mid || false) others);
       no_housekeeping = differs mid lc_housekeeping_mid
-      (or_first (mid == lc_housekeeping_mid) false (or_second (mid == event_mid) (mid == lc_housekeeping_mid || false) others));
+          (or_first (mid == lc_housekeeping_mid) false (or_second (mid == event_mid) (mid == lc_housekeeping_mid || false) others));
       mask_from = mask.from;
       mask_to = mask.to;
       value = not_false (is_in_type (spelled_term e).kind (spelled_term e).value)
-      (of_type (type_of_code (slice_index e 0)) (λ k. is_in_type k (number_of_bits_32 k (u32_at e 20))) some tests.1.1.1.1.1.0);
+          (of_type (type_of_code (slice_index e 0)) (λ k. is_in_type k (number_of_bits_32 k (u32_at e 20))) some tests.1.1.1.1.1.0);
     }
 
 -- ---- actionpoints
@@ -154,7 +153,7 @@ sound_actionpoint count e few sound =
       text = not_false (is_text_field (slice_range e 14 46)) tests.1.1.0;
       nothing_behind = not_false (list_all (◌==◌ 0) (words_after_equal (all_words e))) tests.1.1.1.1.0;
       equation = sound_equation count ws few (stands_none (equation_tests count ws)
-      (behind.0, (behind.1.0, (behind.1.1.0, (behind.1.1.1.0, (behind.1.1.1.1.0, tt))))));
+          (behind.0, (behind.1.0, (behind.1.1.0, (behind.1.1.1.0, (behind.1.1.1.1.0, tt))))));
       ends = ends_before (all_words e) (not_false (list_any (◌==◌ equal_word) (all_words e)) tests.1.1.1.0);
       sequence = differs (u16_at e 6) 0 (or_first (u16_at e 6 == 0) (u16_at e 8 == 0) last);
       fails = differs (u16_at e 8) 0 (or_second (u16_at e 6 == 0) (u16_at e 8 == 0) last);
@@ -218,7 +217,7 @@ actionpoint_parts image Actionpoints long kind size preamble entries =
       own = few;
       watchpoints = watched;
       each = λ n below. sound_actionpoint (watchpoint_count image) (entry_at Actionpoints image n) watched
-      (used Actionpoints image n below (entries n (omega (arith, below, few))));
+          (used Actionpoints image n below (entries n (omega (arith, below, few))));
     }
 actionpoint_parts image WideActionpoints long kind size preamble entries = absurd (omega (arith, long, size))
 

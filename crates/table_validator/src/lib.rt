@@ -2,17 +2,17 @@
 //! is lent to `table_file`'s readers, and its equations can be evaluated without a further test.
 #![tactic(auto)]
 
-mod fault;
-mod preamble;
-mod field;
-mod watchpoint;
-mod operands;
-mod words;
 mod actionpoint;
 mod entry;
+mod fault;
+mod field;
 mod image;
+mod operands;
+mod preamble;
 #[cfg(test)]
 mod tests;
+mod watchpoint;
+mod words;
 
 pub use fault::{FaultCode, TableFault, WHOLE_IMAGE};
 pub use image::{ValidImage, validate};

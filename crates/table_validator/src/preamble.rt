@@ -17,7 +17,7 @@ fn has_wrong_counts(layout: Layout, image: &[u8]) -> bool
     ensures { result ≡ (nat_lt table_entries (model.own_count image.now)
         || nat_lt table_entries (model.watchpoint_count image.now)
         || (is_kind (kind_of (layout_of layout)) Wdt
-            && not (model.own_count image.now == model.watchpoint_count image.now))) }
+        && not (model.own_count image.now == model.watchpoint_count image.now))) }
 {
     let own = preamble::own_count(image);
     let watchpoints = preamble::watchpoint_count(image);

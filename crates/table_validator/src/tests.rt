@@ -82,7 +82,12 @@ fn actionpoint(alloc: Global, words: &[u16]) -> Result<Vec<u8>, AllocError> {
 }
 
 /// A table of so many actionpoints with these words, over so many watchpoints.
-fn adt_with(alloc: Global, used: u8, watchpoints: u8, words: &[u16]) -> Result<Vec<u8>, AllocError> {
+fn adt_with(
+    alloc: Global,
+    used: u8,
+    watchpoints: u8,
+    words: &[u16],
+) -> Result<Vec<u8>, AllocError> {
     let entry = actionpoint(alloc, words)?;
     table(alloc, 2, used, watchpoints, &entry)
 }

@@ -50,8 +50,8 @@ impl WordScan {
             self.ended = true;
         } else {
             self.unknown_word = self.unknown_word || !(is_mention(word) || is_operator(word));
-            self.unknown_watchpoint =
-                self.unknown_watchpoint || (is_mention(word) && watchpoints <= word);
+            self.unknown_watchpoint = self.unknown_watchpoint
+                || (is_mention(word) && watchpoints <= word);
         }
     }
 

@@ -74,7 +74,11 @@ fn refused_at<R: Abort>(
         Kind::Adt => ACTIONPOINT,
     };
     put(image, start(length, entry).saturating_add(place), bytes);
-    assert_eq!(rt; answer(kind, image), Some((code, entry)), "{bytes:?} at {place}");
+    assert_eq!(rt;
+        answer(kind, image),
+        Some((code, entry)),
+        "{bytes:?} at {place}"
+    );
 }
 
 #[test]

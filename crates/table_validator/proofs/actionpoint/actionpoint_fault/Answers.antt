@@ -1,4 +1,4 @@
-use Rattle.std.proofs.Common.{◌≡◌, sym, ◌∙◌, ap, ℕ, not, None, Some, Option, option_map, List, [], ◌∷◌}
+use Rattle.std.proofs.Common.{◌≡◌, sym, ◌∙◌, ap, None, option_map, [], ◌∷◌}
 use Rattle.std.specs.Int.{is_in_range}
 use Rattle.lc_model.specs.Tables.Image.{first_code, is_text_field}
 use Rattle.table_validator.specs.Fault.{code_number}

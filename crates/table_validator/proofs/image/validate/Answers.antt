@@ -1,4 +1,4 @@
-use Rattle.std.proofs.Common.{◌≡◌, sym, ◌∙◌, ap, subst, ℕ, ◌<◌, Some, None, option_map, arith}
+use Rattle.std.proofs.Common.{◌≡◌, sym, ◌∙◌, ap, subst, Some, None, option_map, arith}
 use Rattle.lc_model.specs.declared.kind.Kind.{Kind}
 use Rattle.lc_model.specs.Tables.Image as model
 use Rattle.lc_model.specs.Tables.Image.{IsSound, fault_of, preamble_code, version_1_layouts}

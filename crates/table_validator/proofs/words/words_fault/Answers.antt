@@ -1,4 +1,4 @@
-use Rattle.std.proofs.Common.{◌≡◌, ◌∙◌, ap, fold, List, ℕ, arith}
+use Rattle.std.proofs.Common.{◌∙◌, ap, fold, List, ℕ, arith}
 use Rattle.std.proofs.Math.Seq.{take_all}
 use Rattle.lc_model.specs.Tables.Image.{first_code, all_words}
 use Rattle.table_validator.specs.declared.words.WordScan.{WordScan}

@@ -1,6 +1,4 @@
-use Rattle.std.proofs.Common.{◌≡◌, ◌∙◌, ap, subst, List, ℕ}
-use Rattle.lc_model.specs.Tables.Image.{kind_of}
-use Rattle.table_file.specs.Layout.{layout_of}
+use Rattle.std.proofs.Common.{◌∙◌, ap, subst, List, ℕ}
 use Rattle.table_validator.specs.Sound.{TableImage, HasSoundWatchpoints, HasSoundActionpoints}
 use Rattle.table_validator.proofs.Soundness.{watchpoints_of, actionpoints_of}
 use Rattle.table_validator.proofs.image.ValidImage.image.Goals as goal
