@@ -42,7 +42,7 @@ impl<'a> ValidImage<'a> {
         self.layout.kind()
     }
 
-    /// The image, as it was handed in.
+    /// The image, as it was handed in, for the readers of `table_file`.
     ///
     /// Of a table of watchpoints each used entry has a type, a comparison and a message id that may be watched, and its
     /// mask and its comparison value are of its type. Of a table of actionpoints the words before EQUAL of each used entry
@@ -56,7 +56,7 @@ impl<'a> ValidImage<'a> {
         self.bytes
     }
 
-    /// The entry of a watchpoint that is used, in a table of watchpoints.
+    /// The watchpoint's entry `number`, from 0. Conditions: the table is of watchpoints, and the entry is used.
     pub fn watchpoint(&self, number: usize) -> WatchpointEntry<'a>
         requires kind { self.now.kind ≡ Wdt }
         requires used { number < own_count self.now.bytes }
@@ -66,7 +66,7 @@ impl<'a> ValidImage<'a> {
         WatchpointEntry::of(self.image(), number)
     }
 
-    /// The entry of an actionpoint that is used, in a table of actionpoints.
+    /// The actionpoint's entry `number`, from 0. Conditions: the table is of actionpoints, and the entry is used.
     pub fn actionpoint(&self, number: usize) -> ActionpointEntry<'a>
         requires kind { self.now.kind ≡ Adt }
         requires used { number < own_count self.now.bytes }
@@ -77,7 +77,8 @@ impl<'a> ValidImage<'a> {
     }
 }
 
-/// Takes an image of a table where it is sound.
+/// Takes the image of a table where it is sound: 4,264 bytes of watchpoints, or 15,176 of actionpoints. Each entry is read
+/// once, and no memory is taken.
 ///
 /// Errors: the image's one fault. The length counts first, then version, kind and counts; then the first entry with a
 /// fault, used or not, and of its faults the one with the least number.
