@@ -1,5 +1,5 @@
 -- The first of many entries that has a fault.
-use Rattle.std.proofs.Common.{◌≡◌, refl, sym, ◌∙◌, ap, subst, ℕ, zero, suc, ◌+◌, ◌<◌, ◌≤◌, ◌⊎◌, inl, inr, List, [], ◌∷◌, ◌++◌, slice_get, filter_map, Option, Some, None, option_map, Bool, true, false, ◌&&◌, ◌==◌, length, arith}
+use Rattle.std.proofs.Common.{◌≡◌, refl, sym, ◌∙◌, ap, subst, ℕ, zero, suc, ◌+◌, ◌<◌, ◌≤◌, ◌⊎◌, inl, inr, List, [], ◌∷◌, ◌++◌, slice_get, filter_map, Option, Some, None, option_map, true, ◌&&◌, ◌==◌, length, arith}
 use Rattle.std.specs.List.{cons_option}
 use Rattle.std.proofs.lemmas.Bool.{cases_lt}
 use Rattle.std.proofs.lemmas.List.Elements.{filter_map-append}
@@ -7,8 +7,9 @@ use Rattle.std.specs.Option.{option_map_or}
 use Rattle.lc_model.specs.declared.kind.Kind.{Kind}
 use Rattle.lc_model.specs.declared.kind.Kind.TheVariants.{Wdt, Adt}
 use Rattle.lc_model.specs.Codes.{is_kind, table_entries}
-use Rattle.lc_model.specs.Tables.Image.{Layout, kind_of, image_length, ImageFault, numbers_below, entry_code, first_entry_fault, preamble_code, image_fault, layout_of, fault_of, wrong_size, version_1_layouts}
+use Rattle.lc_model.specs.Tables.Image.{Layout, kind_of, image_length, ImageFault, numbers_below, entry_code, first_entry_fault, preamble_code, image_fault, layout_of, fault_of, wrong_size, IsSound, version_1_layouts}
 use Rattle.lc_model.proofs.SoundImages.{found_passes}
+use Rattle.table_validator.proofs.Tests.{left, right, equal}
 
 module _ {X : Type 0} (f : ℕ → Option X) where
   none_listed : (n : ℕ) → ((k : ℕ) → k < n → f k ≡ None) → filter_map f (numbers_below n) ≡ []
@@ -54,7 +55,7 @@ entry_found l image n code within none is =
     (ap (option_map (λ code. record { code = code; entry = n })) is)
 
 -- without one it has none
-pub none_found : (l : Layout) (image : List ℕ) → ((k : ℕ) → k < table_entries → entry_code l image k ≡ None) → first_entry_fault l image ≡ None
+none_found : (l : Layout) (image : List ℕ) → ((k : ℕ) → k < table_entries → entry_code l image k ≡ None) → first_entry_fault l image ≡ None
 unfolding fault_at
 none_found l image none = no_first (fault_at l image) table_entries (λ k below. ap (option_map (λ code. record { code = code; entry = k })) (none k below))
 
@@ -75,16 +76,11 @@ pub entries_count : (kind : Kind) (image : List ℕ) (l : Layout) → layout_of 
 entries_count kind image l found none =
     ap (λ o. option_map_or (λ m. image_fault m image (preamble_code m image)) o (Some wrong_size)) found ∙ ap (image_fault l image) none
 
-left : (a b : Bool) → (a && b) ≡ true → a ≡ true
-left true b e = refl
-left false b e = e
-
-right : (a b : Bool) → (a && b) ≡ true → b ≡ true
-right true b e = e
-right false b e = absurd (cc e)
-
-equal : (m n : ℕ) → (m == n) ≡ true → m ≡ n
-equal m n e = grind (arith, e)
+-- without a fault of an entry the image is sound
+pub all_sound : (kind : Kind) (image : List ℕ) (l : Layout) → layout_of version_1_layouts kind image ≡ Some l → preamble_code l image ≡ None →
+    (n : ℕ) → table_entries ≤ n → ((k : ℕ) → k < n → entry_code l image k ≡ None) → IsSound version_1_layouts kind image
+all_sound kind image l found none n all entries =
+    entries_count kind image l found none ∙ none_found l image (λ k below. entries k (omega (arith, below, all)))
 
 same_kind : (kind other : Kind) → is_kind kind other ≡ true → other ≡ kind
 same_kind Wdt Wdt e = refl

@@ -1,5 +1,5 @@
 -- What a pass over an entry's words leaves behind the last: the answers of the definitions' tests.
-use Rattle.std.proofs.Common.{◌≡◌, refl, sym, ◌∙◌, ap, subst, ℕ, suc, ◌+◌, ◌-◌, ◌<◌, ◌≤◌, Bool, true, false, not, cond, ◌&&◌, ◌||◌, nat_lt, ◌==◌, List, [], ◌∷◌, ◌++◌, length, take, drop, count_by, fold, arith, append-nil, append_assoc}
+use Rattle.std.proofs.Common.{◌≡◌, refl, sym, ◌∙◌, ap, subst, ℕ, suc, ◌+◌, ◌-◌, ◌<◌, Bool, true, false, not, cond, ◌&&◌, ◌||◌, nat_lt, ◌==◌, List, [], ◌∷◌, ◌++◌, length, take, drop, count_by, fold, arith, append-nil, append_assoc}
 use Rattle.std.specs.List.{list_any, list_all, position_or_len}
 use Rattle.std.proofs.lemmas.List.Sums.{sum_by-append}
 use Rattle.lc_model.specs.Tables.Equation.{equal_word, is_mention, is_binary, waiting}
@@ -8,8 +8,9 @@ use Rattle.lc_model.proofs.SoundWords.{unknown, missing, too_few, too_many}
 use Rattle.table_validator.specs.declared.operands.OperandCount.{OperandCount}
 use Rattle.table_validator.specs.declared.words.WordScan.{WordScan}
 use Rattle.table_validator.specs.Scan.{operands_waiting, word_counted, unread, word_read, scan_tests, word_tests}
+use Rattle.table_validator.proofs.Tests.{equal, turned}
 
--- ---- tests
+-- ---- truth values
 
 or_false : (a : Bool) → (a || false) ≡ a
 or_false true = refl
@@ -23,12 +24,6 @@ or_and : (a b c : Bool) → ((a || not b) || not c) ≡ (a || not (b && c))
 or_and true b c = refl
 or_and false true c = refl
 or_and false false c = refl
-
-equal : (m n : ℕ) → (m == n) ≡ true → m ≡ n
-equal m n e = grind (arith, e)
-
-turned : (m n : ℕ) → (m == n) ≡ false → (n == m) ≡ false
-turned m n e = grind (arith, e)
 
 -- ---- what stands before and after the first EQUAL
 
@@ -74,6 +69,9 @@ waits ws m j c = λ i. sym c.ms i - sym c.js i
 
 -- ---- a pass
 
+-- Below, u, v, c and d say whether an unknown word, an unknown watchpoint, a missing operand and a ninth one were met so far;
+-- m and j are the mentions and the binary operators so far.
+
 -- before EQUAL
 abbrev scan_before : (u v c d : Bool) (m j : ℕ) → WordScan
 scan_before u v c d m j = record {
@@ -101,8 +99,7 @@ scan_after count w u v c d m j =
     (m + cond (is_mention w) 1 0) (j + cond (is_binary w) 1 0)
 
 one_word : (count w : ℕ) (u v c d : Bool) (m j : ℕ) → (w == equal_word) ≡ false →
-    word_read count (scan_before u v c d m j) w
-    ≡ scan_after count w u v c d m j
+    word_read count (scan_before u v c d m j) w ≡ scan_after count w u v c d m j
 one_word count w u v c d m j e = rw e refl
 
 -- without EQUAL the pass never ends
@@ -204,28 +201,3 @@ words_are_read count ws = go (list_any (◌==◌ equal_word) ws) refl
         leaves count ws [] false false false false 0 0 none_read is in
         ap first_code (λ i. (not ((l.ended ∙ sym is) i), 74) ∷ (l.word_behind i, 75) ∷ (l.unknown_word i, 76) ∷ (l.unknown_watchpoint i, 77)
         ∷ (l.lacks i, 78) ∷ (l.crowds i, 79) ∷ (nat_lt 1 (l.left_over i), 80) ∷ [])
-
--- ---- bounds
-
--- one word more is at most one mention and one binary operator more
-pub few_more : (count : ℕ) (scan : WordScan) (w : ℕ) →
-    ((word_read count scan w).operands.mentions ≤ scan.operands.mentions + 1) × ((word_read count scan w).operands.joins ≤ scan.operands.joins + 1)
-few_more count scan w = go scan.ended (w == equal_word)
-  where
-    one : (b : Bool) (n : ℕ) → n + cond b 1 0 ≤ n + 1
-    one true n = omega arith
-    one false n = omega arith
-
-    counted : ((word_counted scan.operands w).mentions ≤ scan.operands.mentions + 1) × ((word_counted scan.operands w).joins ≤ scan.operands.joins + 1)
-    counted = (one (is_mention w) scan.operands.mentions, one (is_binary w) scan.operands.joins)
-
-    go : (ended equal : Bool) →
-        ((cond ended (record scan { word_behind = scan.word_behind || not (0 == w) }) (cond equal (record scan { ended = true; operands = word_counted scan.operands w })
-        (record scan { unknown_word = scan.unknown_word || unknown w; unknown_watchpoint = scan.unknown_watchpoint || missing count w; operands = word_counted scan.operands w }))).operands.mentions
-        ≤ scan.operands.mentions + 1)
-        × ((cond ended (record scan { word_behind = scan.word_behind || not (0 == w) }) (cond equal (record scan { ended = true; operands = word_counted scan.operands w })
-        (record scan { unknown_word = scan.unknown_word || unknown w; unknown_watchpoint = scan.unknown_watchpoint || missing count w; operands = word_counted scan.operands w }))).operands.joins
-        ≤ scan.operands.joins + 1)
-    go true equal = (omega arith, omega arith)
-    go false true = counted
-    go false false = counted

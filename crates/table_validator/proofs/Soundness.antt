@@ -1,5 +1,5 @@
 -- What a sound image gives its readers.
-use Rattle.std.proofs.Common.{◌≡◌, ◌≢◌, refl, sym, ◌∙◌, ℕ, zero, suc, ◌<◌, ◌≤◌, Bool, true, false, not, ◌&&◌, ◌||◌, nat_lt, nat_le, ◌==◌, List, [], ◌∷◌, length, Option, Some, None, is_none, unwrap_or, slice_index, slice_range, ◌++◌, arith, true≢false}
+use Rattle.std.proofs.Common.{◌≡◌, refl, sym, ℕ, zero, suc, ◌<◌, ◌≤◌, Bool, true, false, not, ◌&&◌, ◌||◌, nat_lt, nat_le, ◌==◌, List, [], ◌∷◌, length, Option, Some, None, is_none, unwrap_or, slice_index, slice_range, ◌++◌, arith}
 use Rattle.std.specs.List.{AllByRecursion, list_any, list_all}
 use Rattle.std.specs.Option.{option_map_or}
 use Rattle.std.specs.Int.{is_in_range}
@@ -20,34 +20,11 @@ use Rattle.table_file.specs.declared.layout.Layout.{Layout}
 use Rattle.table_file.specs.declared.layout.Layout.TheVariants as layouts
 use Rattle.table_file.specs.Layout.{layout_of}
 use Rattle.table_validator.specs.Sound.{IsSoundWatchpoint, IsSoundActionpoint, HasSoundWatchpoints, HasSoundActionpoints}
+use Rattle.table_validator.proofs.Tests.{not_false, left, right, at_most, less, equal, differs}
 use Rattle.table_validator.proofs.Reading.{ends_before}
 use Rattle.table_validator.proofs.Evaluated.{sound_equation}
 
--- ---- tests
-
-not_false : (b : Bool) → not b ≡ false → b ≡ true
-not_false true e = refl
-not_false false e = absurd (cc e)
-
-left : (a b : Bool) → (a && b) ≡ true → a ≡ true
-left true b e = refl
-left false b e = e
-
-right : (a b : Bool) → (a && b) ≡ true → b ≡ true
-right true b e = e
-right false b e = absurd (cc e)
-
-at_most : (m n : ℕ) → nat_le m n ≡ true → m ≤ n
-at_most m n e = grind (arith, e)
-
-less : (m n : ℕ) → m < n → nat_lt m n ≡ true
-less m n below = grind (arith, below)
-
-equal : (m n : ℕ) → (m == n) ≡ true → m ≡ n
-equal m n e = grind (arith, e)
-
-differs : (m n : ℕ) → (m == n) ≡ false → m ≢ n
-differs m n e same = let is : (m == n) ≡ true = grind (arith, same) in true≢false (sym is ∙ e)
+-- ---- ranges
 
 -- a number in a range
 record Within (low high n : ℕ) : Type 0 where

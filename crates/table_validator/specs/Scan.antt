@@ -1,4 +1,4 @@
--- What a pass over an entry's words leaves behind each word.
+-- What a pass over an entry's words leaves behind each word, and the tests that it decides. This project's own.
 use Rattle.std.specs.Prelude.{ℕ, ◌+◌, ◌-◌, Bool, true, false, not, ◌&&◌, ◌||◌, if◌then◌else◌, nat_lt, nat_le, ◌==◌, List, [], ◌∷◌}
 use Rattle.std.specs.List.{list_any, list_all}
 use Rattle.std.specs.Int.{is_in_range}

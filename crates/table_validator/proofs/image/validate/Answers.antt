@@ -4,7 +4,7 @@ use Rattle.lc_model.specs.Tables.Image as model
 use Rattle.lc_model.specs.Tables.Image.{IsSound, fault_of, preamble_code, version_1_layouts}
 use Rattle.table_file.specs.Layout.{layout_of}
 use Rattle.table_validator.specs.Fault.{code_number}
-use Rattle.table_validator.proofs.FirstFault.{entry_found, none_found, one_more, entries_count, IsOf, layout_found}
+use Rattle.table_validator.proofs.FirstFault.{entry_found, one_more, entries_count, all_sound, IsOf, layout_found}
 use Rattle.table_validator.proofs.image.validate.Goals as goal
 
 pub returns-in-Some-entry_fault-clause-exact : goal.returns-in-Some-entry_fault-clause-exact
@@ -28,7 +28,7 @@ returns-clause-exact c =
     let image = c.args.image.now in
     let found : model.layout_of version_1_layouts c.args.kind image ≡ Some l = sym c.of_image.ensures ∙ ap (option_map layout_of) c.in-Some.is in
     let passed : preamble_code l image ≡ None = sym c.preamble_fault.ensures ∙ ap (option_map code_number) c.in_default-preamble_fault.is in
-    sym (entries_count c.args.kind image l found passed ∙ none_found l image (λ k below. c.loop-number.invariant k (omega (arith, below))))
+    sym (all_sound c.args.kind image l found passed c.loop-number.number (omega arith) c.loop-number.invariant)
 
 pub invariant_of-result : goal.invariant_of-result
 invariant_of-result c =
@@ -38,5 +38,5 @@ invariant_of-result c =
     let passed : preamble_code l image ≡ None = sym c.preamble_fault.ensures ∙ ap (option_map code_number) c.in_default-preamble_fault.is in
     let is : IsOf c.args.kind image l = layout_found c.args.kind image l found in
     let sound : IsSound version_1_layouts c.args.kind image =
-    entries_count c.args.kind image l found passed ∙ none_found l image (λ k below. c.loop-number.invariant k (omega (arith, below))) in
+    all_sound c.args.kind image l found passed c.loop-number.number (omega arith) c.loop-number.invariant in
     (subst (λ (kind : Kind). IsSound version_1_layouts kind image) (sym is.of_kind) sound, is.size)
