@@ -1,4 +1,4 @@
-pub mod Tests
+pub mod Decided
 pub mod Reading
 pub mod Chosen
 pub mod FirstFault

@@ -8,7 +8,7 @@ use Rattle.lc_model.proofs.SoundWords.{unknown, missing, too_few, too_many}
 use Rattle.table_validator.specs.declared.operands.OperandCount.{OperandCount}
 use Rattle.table_validator.specs.declared.words.WordScan.{WordScan}
 use Rattle.table_validator.specs.Scan.{operands_waiting, word_counted, unread, word_read, scan_tests, word_tests}
-use Rattle.table_validator.proofs.Tests.{equal, turned}
+use Rattle.table_validator.proofs.Decided.{equal, turned}
 
 -- ---- truth values
 

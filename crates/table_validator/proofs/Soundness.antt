@@ -20,7 +20,7 @@ use Rattle.table_file.specs.declared.layout.Layout.{Layout}
 use Rattle.table_file.specs.declared.layout.Layout.TheVariants as layouts
 use Rattle.table_file.specs.Layout.{layout_of}
 use Rattle.table_validator.specs.Sound.{IsSoundWatchpoint, IsSoundActionpoint, HasSoundWatchpoints, HasSoundActionpoints}
-use Rattle.table_validator.proofs.Tests.{not_false, left, right, at_most, less, equal, differs}
+use Rattle.table_validator.proofs.Decided.{not_false, left, right, at_most, less, equal, differs}
 use Rattle.table_validator.proofs.Reading.{ends_before}
 use Rattle.table_validator.proofs.Evaluated.{sound_equation}
 
