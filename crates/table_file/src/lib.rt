@@ -20,11 +20,12 @@ mod watchpoint;
 mod wrapping;
 
 pub use actionpoint::{ActionpointEntry, EQUAL_WORD};
+pub use codes::kind_code;
 pub use encode::{encode_adt, encode_wdt};
 pub use entry::{entry_bytes, is_blank};
 pub use error::FileError;
 pub use file::{TableFile, open};
 pub use image::{AdtImage, TableEntry, WdtImage};
-pub use layout::Layout;
+pub use layout::{ENTRIES, Layout};
 pub use watchpoint::WatchpointEntry;
 pub use wrapping::{table_name, wrap};

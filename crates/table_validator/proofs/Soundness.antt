@@ -1,0 +1,213 @@
+-- What a sound image gives its readers.
+use Rattle.std.proofs.Common.{◌≡◌, refl, sym, ℕ, zero, suc, ◌<◌, ◌≤◌, Bool, true, false, not, ◌&&◌, ◌||◌, nat_lt, nat_le, ◌==◌, List, [], ◌∷◌, length, Option, Some, None, is_none, unwrap_or, slice_index, slice_range, ◌++◌, arith}
+use Rattle.std.specs.List.{AllByRecursion, list_any, list_all}
+use Rattle.std.specs.Option.{option_map_or}
+use Rattle.std.specs.Int.{is_in_range}
+use Rattle.lc_model.specs.declared.kind.Kind.TheVariants.{Wdt, Adt}
+use Rattle.lc_model.specs.declared.field.FieldType.{FieldType}
+use Rattle.lc_model.specs.declared.field.FieldType.TheVariants.{U8}
+use Rattle.lc_model.specs.Bytes.{u16_at, u32_at}
+use Rattle.lc_model.specs.Codes.{state_code, event_code, kind_code, is_kind, table_entries}
+use Rattle.lc_model.specs.Field.{full_mask, is_in_type}
+use Rattle.lc_model.specs.Packet.{is_telemetry_mid, event_mid, lc_housekeeping_mid, reserved_mids}
+use Rattle.lc_model.specs.Tables.Equation.{equal_word}
+use Rattle.lc_model.specs.Tables.Image as model
+use Rattle.lc_model.specs.Tables.Image.{Watchpoints, Actionpoints, WideActionpoints, image_length, own_count, watchpoint_count, entry_at, entry_code, used_code, preamble_code, IsSound, version_1_layouts, all_words, words_before_equal, words_after_equal, type_of_code, number_of_bits_32, is_text_field, first_code, equation_tests, most_waiting, actionpoint_code, watchpoint_code}
+use Rattle.lc_model.specs.Tables.Spelled.{spelled_term, state_of_code, event_of_code}
+use Rattle.lc_model.proofs.SoundWords.{none_stands, stands_none, or_first, or_second, at_least}
+use Rattle.lc_model.proofs.SoundImages.{SoundParts, sound_parts, operator_again}
+use Rattle.table_file.specs.declared.layout.Layout.{Layout}
+use Rattle.table_file.specs.declared.layout.Layout.TheVariants as layouts
+use Rattle.table_file.specs.Layout.{layout_of}
+use Rattle.table_validator.specs.Sound.{IsSoundWatchpoint, IsSoundActionpoint, HasSoundWatchpoints, HasSoundActionpoints}
+use Rattle.table_validator.proofs.Decided.{not_false, left, right, at_most, less, equal, differs}
+use Rattle.table_validator.proofs.Reading.{ends_before}
+use Rattle.table_validator.proofs.Evaluated.{sound_equation}
+
+-- ---- ranges
+
+-- a number in a range
+record Within (low high n : ℕ) : Type 0 where
+  from : low ≤ n
+  to : n ≤ high
+
+within : (low high n : ℕ) → not (is_in_range low high n) ≡ false → Within low high n
+within low high n e =
+    let range : (nat_le low n && nat_le n high) ≡ true = not_false (nat_le low n && nat_le n high) e in
+    record {
+      from = at_most low n (left (nat_le low n) (nat_le n high) range);
+      to = at_most n high (right (nat_le low n) (nat_le n high) range);
+    }
+
+-- ---- watchpoints
+
+-- the type that is there, and what holds of it
+typed : (o : Option FieldType) → is_none o ≡ false → o ≡ Some (unwrap_or o U8)
+typed None e = absurd (cc e)
+typed (Some k) e = refl
+
+of_type : (o : Option FieldType) (test : FieldType → Bool) → is_none o ≡ false → option_map_or (λ k. not (test k)) o false ≡ false →
+    not (test (unwrap_or o U8)) ≡ false
+of_type None test e passes = absurd (cc e)
+of_type (Some k) test e passes = passes
+
+-- the tests of an entry
+abbrev watchpoint_tests : List ℕ → List (Bool × ℕ)
+watchpoint_tests e =
+    (not (u32_at e 12 == 0), 65)
+    ∷ (is_none (type_of_code (slice_index e 0)), 66)
+    ∷ (not (is_in_range 1 6 (slice_index e 1)), 67)
+    ∷ (not (is_telemetry_mid (u16_at e 2)) || list_any (◌==◌ (u16_at e 2)) reserved_mids, 68)
+    ∷ (option_map_or (λ k. not (is_in_range 1 (full_mask k) (u32_at e 8))) (type_of_code (slice_index e 0)) false, 69)
+    ∷ (option_map_or (λ k. not (is_in_type k (number_of_bits_32 k (u32_at e 20)))) (type_of_code (slice_index e 0)) false, 70) ∷ []
+
+sound_watchpoint : (e : List ℕ) → watchpoint_code e ≡ None → IsSoundWatchpoint e
+sound_watchpoint e sound =
+    let tests : AllByRecursion (λ t. t.0 ≡ false) (watchpoint_tests e) = none_stands (watchpoint_tests e) sound in
+    let some : is_none (type_of_code (slice_index e 0)) ≡ false = tests.1.0 in
+    let operator : Within 1 6 (slice_index e 1) = within 1 6 (slice_index e 1) tests.1.1.0 in
+    let mid : ℕ = u16_at e 2 in
+    let telemetry : not (is_telemetry_mid mid) ≡ false = or_first (not (is_telemetry_mid mid)) (list_any (◌==◌ mid) reserved_mids) tests.1.1.1.0 in
+    let others : (mid == event_mid || (mid == lc_housekeeping_mid || false)) ≡ false =
+    or_second (not (is_telemetry_mid mid)) (list_any (◌==◌ mid) reserved_mids) tests.1.1.1.0 in
+    let mask : Within 1 (full_mask (spelled_term e).kind) (u32_at e 8) =
+    within 1 (full_mask (spelled_term e).kind) (u32_at e 8)
+    (of_type (type_of_code (slice_index e 0)) (λ k. is_in_range 1 (full_mask k) (u32_at e 8)) some tests.1.1.1.1.0) in
+    record {
+      has_type = typed (type_of_code (slice_index e 0)) some;
+      has_operator = operator_again (slice_index e 1) operator.from operator.to;
+      telemetry = not_false (is_telemetry_mid mid) telemetry;
+      no_event = differs mid event_mid (or_first (mid == event_mid) (mid == lc_housekeeping_mid || false) others);
+      no_housekeeping = differs mid lc_housekeeping_mid
+          (or_first (mid == lc_housekeeping_mid) false (or_second (mid == event_mid) (mid == lc_housekeeping_mid || false) others));
+      mask_from = mask.from;
+      mask_to = mask.to;
+      value = not_false (is_in_type (spelled_term e).kind (spelled_term e).value)
+          (of_type (type_of_code (slice_index e 0)) (λ k. is_in_type k (number_of_bits_32 k (u32_at e 20))) some tests.1.1.1.1.1.0);
+    }
+
+-- ---- actionpoints
+
+-- a state's code, and an event type's
+state_again : (n : ℕ) → 1 ≤ n → n ≤ 3 → state_code (state_of_code n) ≡ n
+state_again zero low high = absurd (omega (arith, low))
+state_again (suc zero) low high = refl
+state_again (suc (suc zero)) low high = refl
+state_again (suc (suc (suc zero))) low high = refl
+state_again (suc (suc (suc (suc n)))) low high = absurd (omega (arith, high))
+
+event_again : (n : ℕ) → 1 ≤ n → n ≤ 4 → event_code (event_of_code n) ≡ n
+event_again zero low high = absurd (omega (arith, low))
+event_again (suc zero) low high = refl
+event_again (suc (suc zero)) low high = refl
+event_again (suc (suc (suc zero))) low high = refl
+event_again (suc (suc (suc (suc zero)))) low high = refl
+event_again (suc (suc (suc (suc (suc n))))) low high = absurd (omega (arith, high))
+
+-- the tests of an entry
+abbrev actionpoint_tests : ℕ → List ℕ → List (Bool × ℕ)
+actionpoint_tests count e =
+    (not (is_in_range 1 3 (slice_index e 0)), 71)
+    ∷ (not (is_in_range 1 4 (u16_at e 10)) || nat_lt (u16_at e 12) 1_000, 72)
+    ∷ (not (is_text_field (slice_range e 14 46)), 73)
+    ∷ (not (list_any (◌==◌ equal_word) (all_words e)), 74)
+    ∷ (not (list_all (◌==◌ 0) (words_after_equal (all_words e))), 75)
+    ∷ equation_tests count (words_before_equal (all_words e))
+    ++ (u16_at e 6 == 0 || u16_at e 8 == 0, 81) ∷ []
+
+sound_actionpoint : (count : ℕ) (e : List ℕ) → count ≤ table_entries → actionpoint_code count e ≡ None → IsSoundActionpoint count e
+sound_actionpoint count e few sound =
+    let ws : List ℕ = words_before_equal (all_words e) in
+    let tests : AllByRecursion (λ t. t.0 ≡ false) (actionpoint_tests count e) = none_stands (actionpoint_tests count e) sound in
+    let behind = tests.1.1.1.1.1 in
+    let last : (u16_at e 6 == 0 || u16_at e 8 == 0) ≡ false = behind.1.1.1.1.1.0 in
+    let state : Within 1 3 (slice_index e 0) = within 1 3 (slice_index e 0) tests.0 in
+    let event : Within 1 4 (u16_at e 10) = within 1 4 (u16_at e 10) (or_first (not (is_in_range 1 4 (u16_at e 10))) (nat_lt (u16_at e 12) 1_000) tests.1.0) in
+    record {
+      has_state = state_again (slice_index e 0) state.from state.to;
+      has_event = event_again (u16_at e 10) event.from event.to;
+      event_id = at_least (u16_at e 12) 1_000 (or_second (not (is_in_range 1 4 (u16_at e 10))) (nat_lt (u16_at e 12) 1_000) tests.1.0);
+      text = not_false (is_text_field (slice_range e 14 46)) tests.1.1.0;
+      nothing_behind = not_false (list_all (◌==◌ 0) (words_after_equal (all_words e))) tests.1.1.1.1.0;
+      equation = sound_equation count ws few (stands_none (equation_tests count ws)
+          (behind.0, (behind.1.0, (behind.1.1.0, (behind.1.1.1.0, (behind.1.1.1.1.0, tt))))));
+      ends = ends_before (all_words e) (not_false (list_any (◌==◌ equal_word) (all_words e)) tests.1.1.1.0);
+      sequence = differs (u16_at e 6) 0 (or_first (u16_at e 6 == 0) (u16_at e 8 == 0) last);
+      fails = differs (u16_at e 8) 0 (or_second (u16_at e 6 == 0) (u16_at e 8 == 0) last);
+    }
+
+-- ---- images
+
+-- an entry that is used
+used : (l : model.Layout) (image : List ℕ) (n : ℕ) → n < own_count image → entry_code l image n ≡ None →
+    used_code l (watchpoint_count image) (entry_at l image n) ≡ None
+used l image n below e = rw (less n (own_count image) below) at e
+
+-- the tests of a preamble's counts
+abbrev counts_test : model.Layout → List ℕ → Bool
+counts_test l image =
+    nat_lt table_entries (own_count image) || nat_lt table_entries (watchpoint_count image)
+    || (is_kind (model.kind_of l) Wdt && not (own_count image == watchpoint_count image))
+
+counts : (l : model.Layout) (image : List ℕ) → preamble_code l image ≡ None → counts_test l image ≡ false
+counts l image e =
+    (none_stands ((not (u16_at image 0 == model.version_of l), 61) ∷ (not (u16_at image 2 == kind_code (model.kind_of l)), 62) ∷ (counts_test l image, 64) ∷ []) e).1.1.0
+
+few_own : (l : model.Layout) (image : List ℕ) → counts_test l image ≡ false → own_count image ≤ table_entries
+few_own l image e =
+    at_least table_entries (own_count image) (or_first (nat_lt table_entries (own_count image)) (nat_lt table_entries (watchpoint_count image))
+    (or_first (nat_lt table_entries (own_count image) || nat_lt table_entries (watchpoint_count image)) _ e))
+
+few_watchpoints : (l : model.Layout) (image : List ℕ) → counts_test l image ≡ false → watchpoint_count image ≤ table_entries
+few_watchpoints l image e =
+    at_least table_entries (watchpoint_count image) (or_second (nat_lt table_entries (own_count image)) (nat_lt table_entries (watchpoint_count image))
+    (or_first (nat_lt table_entries (own_count image) || nat_lt table_entries (watchpoint_count image)) _ e))
+
+same_counts : (image : List ℕ) → counts_test Watchpoints image ≡ false → watchpoint_count image ≡ own_count image
+same_counts image e =
+    sym (equal (own_count image) (watchpoint_count image) (not_false (own_count image == watchpoint_count image)
+    (or_second (nat_lt table_entries (own_count image) || nat_lt table_entries (watchpoint_count image)) (not (own_count image == watchpoint_count image)) e)))
+
+watchpoint_parts : (image : List ℕ) (l : model.Layout) → is_kind Wdt (model.kind_of l) ≡ true → image_length l ≡ length image →
+    preamble_code l image ≡ None → ((n : ℕ) → n < table_entries → entry_code l image n ≡ None) → HasSoundWatchpoints image
+watchpoint_parts image Watchpoints kind size preamble entries =
+    let tests : counts_test Watchpoints image ≡ false = counts Watchpoints image preamble in
+    let few : own_count image ≤ table_entries = few_own Watchpoints image tests in
+    record {
+      size = sym size;
+      own = few;
+      same = same_counts image tests;
+      each = λ n below. sound_watchpoint (entry_at Watchpoints image n) (used Watchpoints image n below (entries n (omega (arith, below, few))));
+    }
+watchpoint_parts image Actionpoints kind size preamble entries = absurd (cc kind)
+watchpoint_parts image WideActionpoints kind size preamble entries = absurd (cc kind)
+
+actionpoint_parts : (image : List ℕ) (l : model.Layout) → length image ≡ image_length Actionpoints → is_kind Adt (model.kind_of l) ≡ true →
+    image_length l ≡ length image → preamble_code l image ≡ None → ((n : ℕ) → n < table_entries → entry_code l image n ≡ None) → HasSoundActionpoints image
+actionpoint_parts image Watchpoints long kind size preamble entries = absurd (cc kind)
+actionpoint_parts image Actionpoints long kind size preamble entries =
+    let tests : counts_test Actionpoints image ≡ false = counts Actionpoints image preamble in
+    let few : own_count image ≤ table_entries = few_own Actionpoints image tests in
+    let watched : watchpoint_count image ≤ table_entries = few_watchpoints Actionpoints image tests in
+    record {
+      size = long;
+      own = few;
+      watchpoints = watched;
+      each = λ n below. sound_actionpoint (watchpoint_count image) (entry_at Actionpoints image n) watched
+          (used Actionpoints image n below (entries n (omega (arith, below, few))));
+    }
+actionpoint_parts image WideActionpoints long kind size preamble entries = absurd (omega (arith, long, size))
+
+-- of an image in this layout
+pub watchpoints_of : (l : Layout) (image : List ℕ) → IsSound version_1_layouts (model.kind_of (layout_of l)) image → model.kind_of (layout_of l) ≡ Wdt → HasSoundWatchpoints image
+watchpoints_of layouts.Watchpoints image sound kind =
+    let parts : SoundParts version_1_layouts Wdt image = sound_parts version_1_layouts Wdt image sound in
+    watchpoint_parts image parts.layout parts.of_kind parts.size parts.preamble parts.entries
+watchpoints_of layouts.Actionpoints image sound kind = absurd (cc kind)
+
+pub actionpoints_of : (l : Layout) (image : List ℕ) → IsSound version_1_layouts (model.kind_of (layout_of l)) image → length image ≡ image_length (layout_of l) →
+    model.kind_of (layout_of l) ≡ Adt → HasSoundActionpoints image
+actionpoints_of layouts.Watchpoints image sound long kind = absurd (cc kind)
+actionpoints_of layouts.Actionpoints image sound long kind =
+    let parts : SoundParts version_1_layouts Adt image = sound_parts version_1_layouts Adt image sound in
+    actionpoint_parts image parts.layout long parts.of_kind parts.size parts.preamble parts.entries

@@ -1,0 +1,77 @@
+-- What a sound image gives its readers. This project's own.
+use Rattle.std.specs.Prelude.{◌≡◌, ◌≢◌, ℕ, ◌<◌, ◌≤◌, ◌⊎◌, ◌==◌, List, length, take, Some, None, slice_index, slice_range, IsTrue}
+use Rattle.std.specs.List.{list_all}
+use Rattle.lc_model.specs.declared.kind.Kind.{Kind}
+use Rattle.lc_model.specs.Bytes.{u16_at}
+use Rattle.lc_model.specs.Codes.{operator_code, state_code, event_code, table_entries}
+use Rattle.lc_model.specs.Field.{full_mask, is_in_type}
+use Rattle.lc_model.specs.Packet.{is_telemetry_mid, event_mid, lc_housekeeping_mid}
+use Rattle.lc_model.specs.Tables.Equation.{IsEquation, waiting}
+use Rattle.lc_model.specs.Tables.Image.{Watchpoints, Actionpoints, image_length, own_count, watchpoint_count, entry_at, all_words, words_before_equal, words_after_equal, operands_of, type_of_code, is_text_field, first_code, equation_tests, most_waiting}
+use Rattle.lc_model.specs.Tables.Spelled.{spelled_term, state_of_code, event_of_code}
+
+-- an image, and the table that it is of
+pub record TableImage : Type 0 where
+  pub kind : Kind
+  pub bytes : List ℕ
+
+-- ---- watchpoints
+
+-- the entry of a watchpoint has a type, a comparison and a message id that may be watched, and what the type allows
+pub record IsSoundWatchpoint (e : List ℕ) : Type 0 where
+  pub has_type : type_of_code (slice_index e 0) ≡ Some (spelled_term e).kind
+  pub has_operator : operator_code (spelled_term e).op ≡ slice_index e 1
+  pub telemetry : IsTrue (is_telemetry_mid (spelled_term e).mid)
+  pub no_event : (spelled_term e).mid ≢ event_mid
+  pub no_housekeeping : (spelled_term e).mid ≢ lc_housekeeping_mid
+  pub mask_from : 1 ≤ (spelled_term e).mask
+  pub mask_to : (spelled_term e).mask ≤ full_mask (spelled_term e).kind
+  pub value : IsTrue (is_in_type (spelled_term e).kind (spelled_term e).value)
+
+-- an image of watchpoints
+pub record HasSoundWatchpoints (image : List ℕ) : Type 0 where
+  pub size : length image ≡ image_length Watchpoints
+  pub own : own_count image ≤ table_entries
+  pub same : watchpoint_count image ≡ own_count image
+  pub each : (n : ℕ) → n < own_count image → IsSoundWatchpoint (entry_at Watchpoints image n)
+
+-- ---- equations
+
+-- what an evaluation meets at a word: a watchpoint below the count or an operator, the operands that it takes, and at most
+-- eight that wait
+pub record IsMet (count : ℕ) (ws : List ℕ) (n : ℕ) : Type 0 where
+  pub known : (slice_index ws n < count) ⊎ ((0xFF01 ≤ slice_index ws n) × (slice_index ws n ≤ 0xFF04))
+  pub enough : operands_of (slice_index ws n) ≤ waiting (take n ws)
+  pub few : waiting (take n ws) ≤ most_waiting
+
+-- words that can be evaluated over so many watchpoints: they pass the tests of equations; they spell a condition over
+-- watchpoints below the count, with a need of at most eight; so each word is met, and EQUAL finds one operand
+pub record IsSoundEquation (count : ℕ) (ws : List ℕ) : Type 0 where
+  pub passes : first_code (equation_tests count ws) ≡ None
+  pub need : ℕ
+  pub few : need ≤ most_waiting
+  pub spells : IsEquation count ws need
+  pub met : (n : ℕ) → n < length ws → IsMet count ws n
+  pub one_left : waiting ws ≡ 1
+
+-- ---- actionpoints
+
+-- the entry of an actionpoint has a state, an event and a text, words that end and can be evaluated, and a sequence and a
+-- number of fails
+pub record IsSoundActionpoint (count : ℕ) (e : List ℕ) : Type 0 where
+  pub has_state : state_code (state_of_code (slice_index e 0)) ≡ slice_index e 0
+  pub has_event : event_code (event_of_code (u16_at e 10)) ≡ u16_at e 10
+  pub event_id : 1_000 ≤ u16_at e 12
+  pub text : IsTrue (is_text_field (slice_range e 14 46))
+  pub ends : length (words_before_equal (all_words e)) < length (all_words e)
+  pub nothing_behind : IsTrue (list_all (◌==◌ 0) (words_after_equal (all_words e)))
+  pub equation : IsSoundEquation count (words_before_equal (all_words e))
+  pub sequence : u16_at e 6 ≢ 0
+  pub fails : u16_at e 8 ≢ 0
+
+-- an image of actionpoints
+pub record HasSoundActionpoints (image : List ℕ) : Type 0 where
+  pub size : length image ≡ image_length Actionpoints
+  pub own : own_count image ≤ table_entries
+  pub watchpoints : watchpoint_count image ≤ table_entries
+  pub each : (n : ℕ) → n < own_count image → IsSoundActionpoint (watchpoint_count image) (entry_at Actionpoints image n)

@@ -1,0 +1,92 @@
+//! The faults of an actionpoint's entry.
+
+ghost use Rattle.std.specs.Prelude.{◌≡◌, not, ◌||◌, ◌&&◌, ◌==◌, nat_lt, length, option_map, slice_index, take_while};
+ghost use Rattle.std.specs.List.{list_all};
+ghost use Rattle.std.specs.Int.{is_in_range};
+ghost use Rattle.lc_model.specs.Bytes.{u16_at};
+ghost use Rattle.lc_model.specs.Text.Token as token;
+ghost use Rattle.lc_model.specs.Tables.Image as model;
+ghost use Rattle.lc_model.specs.Tables.Image.{actionpoint_code};
+ghost use Rattle.table_validator.specs.Fault.{code_number};
+
+use crate::fault::FaultCode;
+use crate::words::words_fault;
+use table_file::ActionpointEntry;
+
+/// The bytes of the text's field; at least one zero byte follows the text there.
+const TEXT_FIELD: usize = 32;
+
+/// The least event id: those below are the Limit Checker's own.
+const FIRST_EVENT_ID: u16 = 1_000;
+
+/// Whether a byte may stand in an event's text.
+fn is_text_byte(byte: u8) -> bool
+    ensures { result ≡ token.is_text_byte byte }
+{
+    (0x20..=0x7E).contains(&byte) && byte != b'"'
+}
+
+/// How many bytes of a text the field begins with.
+fn text_length(field: &[u8]) -> usize
+    ensures { result ≡ length (take_while token.is_text_byte field.now) }
+{
+    field.iter().take_while(|byte| is_text_byte(**byte)).count()
+}
+
+/// Whether all bytes are zero.
+fn are_zeros(bytes: &[u8]) -> bool
+    ensures { result ≡ list_all (λ b. b == 0) bytes.now }
+{
+    bytes.iter().all(|byte| *byte == 0)
+}
+
+/// Whether a field holds a text that isn't too long, and then zeros.
+fn is_text_field(field: &[u8]) -> bool
+    ensures { result ≡ model.is_text_field field.now }
+{
+    let length = text_length(field);
+    length < TEXT_FIELD && are_zeros(&field[length..])
+}
+
+/// Whether an actionpoint may begin in the state with this number.
+fn is_state(code: u8) -> bool
+    ensures { result ≡ is_in_range 1 3 code }
+{
+    (1..=3).contains(&code)
+}
+
+/// Whether the entry's event has no type, or an id below 1,000.
+fn has_wrong_event(entry: &ActionpointEntry<'_>) -> bool
+    ensures { result ≡ (not (is_in_range 1 4 (u16_at entry.now 10)) || nat_lt (u16_at entry.now 12) 1_000) }
+{
+    !(1..=4).contains(&entry.event_code()) || entry.event_id() < FIRST_EVENT_ID
+}
+
+/// Whether the sequence or the number of fails is 0.
+fn has_zero(entry: &ActionpointEntry<'_>) -> bool
+    ensures { result ≡ (u16_at entry.now 6 == 0 || u16_at entry.now 8 == 0) }
+{
+    entry.sequence() == 0 || entry.fails() == 0
+}
+
+/// The least code of an actionpoint's entry, in a table over so many watchpoints.
+pub fn actionpoint_fault(entry: &ActionpointEntry<'_>, watchpoints: u16) -> Option<FaultCode>
+    ensures { option_map code_number result ≡ actionpoint_code watchpoints entry.now }
+{
+    if !is_state(entry.state_code()) {
+        return Some(FaultCode::UnknownState);
+    }
+    if has_wrong_event(entry) {
+        return Some(FaultCode::WrongEvent);
+    }
+    if !is_text_field(entry.text_field()) {
+        return Some(FaultCode::WrongText);
+    }
+    if let Some(code) = words_fault(entry, watchpoints) {
+        return Some(code);
+    }
+    if has_zero(entry) {
+        return Some(FaultCode::ZeroSequenceOrFails);
+    }
+    None
+}

@@ -1,0 +1,18 @@
+//! The validator of table images: an image is taken exactly where it is sound, and else its fault is named. What is taken
+//! is lent to `table_file`'s readers, and its equations can be evaluated without a further test.
+#![tactic(auto)]
+
+mod actionpoint;
+mod entry;
+mod fault;
+mod field;
+mod image;
+mod operands;
+mod preamble;
+#[cfg(test)]
+mod tests;
+mod watchpoint;
+mod words;
+
+pub use fault::{FaultCode, TableFault, WHOLE_IMAGE};
+pub use image::{ValidImage, validate};

@@ -1,0 +1,100 @@
+//! The operands that wait while an equation is evaluated, counted.
+
+ghost use Rattle.std.specs.Prelude.{◌≡◌, ◌+◌, ◌<◌, ◌^◌, false};
+ghost use Rattle.std.specs.Int.{is_in_range};
+ghost use Rattle.lc_model.specs.Tables.Equation as equation;
+ghost use Rattle.lc_model.specs.Tables.Image as model;
+ghost use Rattle.table_validator.specs.Scan.{operands_waiting, word_counted};
+
+use table_file::{ENTRIES, EQUAL_WORD};
+
+/// The binary operators, from AND to XOR.
+const AND: u16 = 0xFF01;
+
+const XOR: u16 = 0xFF03;
+
+/// The negation, the last of the operators.
+const NOT: u16 = 0xFF04;
+
+/// The most operands that may wait.
+const MOST_WAITING: usize = 8;
+
+/// Whether the word is a number of a watchpoint.
+pub fn is_mention(word: u16) -> bool
+    ensures { result ≡ equation.is_mention word }
+{
+    (word as usize) < ENTRIES
+}
+
+/// Whether the word is an operator with two operands.
+fn is_binary(word: u16) -> bool
+    ensures { result ≡ equation.is_binary word }
+{
+    (AND..=XOR).contains(&word)
+}
+
+/// Whether the word is an operator.
+pub fn is_operator(word: u16) -> bool
+    ensures { result ≡ is_in_range 0xFF01 0xFF04 word }
+{
+    (AND..=NOT).contains(&word)
+}
+
+/// How many operands a word takes.
+fn operands_of(word: u16) -> usize
+    ensures { result ≡ model.operands_of word }
+{
+    match word {
+        AND..=XOR => 2,
+        NOT | EQUAL_WORD => 1,
+        _ => 0,
+    }
+}
+
+/// The operands of the words that were counted. Those that wait are the mentions less the binary operators, since a mention
+/// is one more, and a binary operator makes one of two. Where an operand was missing the number says no more, but the
+/// codes that it decides are greater than that of a missing operand.
+#[derive(Clone, Copy, Debug)]
+pub struct OperandCount {
+    mentions: usize,
+    /// Binary operators.
+    joins: usize,
+    /// Whether a word found fewer operands than it takes.
+    pub missing: bool,
+    /// Whether more than eight waited.
+    pub crowded: bool,
+}
+
+impl OperandCount {
+    /// Before the first word.
+    pub fn new() -> OperandCount
+        ensures { result ≡ record { mentions = 0; joins = 0; missing = false; crowded = false } }
+    {
+        OperandCount {
+            mentions: 0,
+            joins: 0,
+            missing: false,
+            crowded: false,
+        }
+    }
+
+    /// How many operands wait.
+    pub fn waiting(&self) -> usize
+        ensures { result ≡ operands_waiting self.now }
+    {
+        self.mentions.saturating_sub(self.joins)
+    }
+
+    /// Counts one word more.
+    pub fn count(&mut self, word: u16)
+        requires mentions { self.old.mentions + 1 < 2 ^ 64 }
+        requires joins { self.old.joins + 1 < 2 ^ 64 }
+        ensures { self.new ≡ word_counted self.old word }
+    {
+        let waiting = self.waiting();
+        self.missing = self.missing || waiting < operands_of(word);
+        self.crowded = self.crowded || waiting > MOST_WAITING;
+        self.mentions += usize::from(is_mention(word));
+        self.joins += usize::from(is_binary(word));
+    }
+}

@@ -1,0 +1,112 @@
+//! Both images of the text with each byte set to 0xFF in turn; the answers were worked out by hand, field by field.
+
+use super::{ACTIONPOINT, PREAMBLE, WATCHPOINT, adt, answer, start, wdt};
+use crate::WHOLE_IMAGE;
+use lc_model::Kind;
+use std::alloc::AllocError;
+use std::process::Abort;
+use std::test::*;
+
+/// Version, kind and counts; the hash may be any.
+fn preamble_answer(place: usize) -> Option<(u8, u16)> {
+    match place {
+        0 | 1 => Some((61, WHOLE_IMAGE)),
+        2 | 3 => Some((62, WHOLE_IMAGE)),
+        4..=7 => Some((64, WHOLE_IMAGE)),
+        _ => None,
+    }
+}
+
+/// The first byte of a blank entry is 0xFF, and each other one 0.
+fn blank_answer(entry: u16, place: usize) -> Option<(u8, u16)> {
+    if place == 0 { None } else { Some((65, entry)) }
+}
+
+/// By the place in the entry.
+fn watchpoint_answer(place: usize) -> Option<(u8, u16)> {
+    match place {
+        0 => Some((66, 0)),
+        1 => Some((67, 0)),
+        // 0xFF83 is no telemetry, 0x08FF is.
+        2 => Some((68, 0)),
+        // The mask's low bytes are 0xFF.
+        8 | 9 => Some((69, 0)),
+        12..=15 => Some((65, 0)),
+        // 0xFF60 and 0x09FF are numbers of 16 bits.
+        20 | 21 => Some((70, 0)),
+        _ => None,
+    }
+}
+
+fn actionpoint_answer(place: usize) -> Option<(u8, u16)> {
+    match place {
+        0 => Some((71, 0)),
+        // Event ids 0xFFE9 and 0x03FF aren't below 1,000.
+        10 | 11 => Some((72, 0)),
+        14..=45 => Some((73, 0)),
+        // 0xFF00 and 0x00FF are no words.
+        46 | 47 => Some((76, 0)),
+        // 0xFFFF in the place of EQUAL, whose high byte is 0xFF.
+        49 => Some((74, 0)),
+        50..=85 => Some((75, 0)),
+        _ => None,
+    }
+}
+
+/// The image with 0xFF at this place has this answer.
+fn with_one_byte<R: Abort>(
+    rt: &R,
+    kind: Kind,
+    image: &mut [u8],
+    place: usize,
+    expected: Option<(u8, u16)>,
+) {
+    if place < image.len() {
+        let byte = image[place];
+        image[place] = 0xFF;
+        assert_eq!(rt; answer(kind, image), expected, "at {place}");
+        image[place] = byte;
+    }
+}
+
+#[test]
+fn of_the_watchpoints(rt: HostRuntime) -> Result<(), AllocError> {
+    let mut image = wdt(rt.alloc(), 1)?;
+    assert_eq!(rt; image.len(), 4_264);
+    for place in 0..PREAMBLE {
+        with_one_byte(&rt, Kind::Wdt, &mut image, place, preamble_answer(place));
+    }
+    for entry in 0..176 {
+        for place in 0..WATCHPOINT {
+            let expected = if entry == 0 {
+                watchpoint_answer(place)
+            } else {
+                blank_answer(entry, place)
+            };
+            let at = start(WATCHPOINT, entry).saturating_add(place);
+            with_one_byte(&rt, Kind::Wdt, &mut image, at, expected);
+        }
+    }
+    Ok(())
+}
+
+#[test]
+fn of_the_actionpoints(rt: HostRuntime) -> Result<(), AllocError> {
+    let mut image = adt(rt.alloc(), 1)?;
+    assert_eq!(rt; image.len(), 15_176);
+    for place in 0..PREAMBLE {
+        with_one_byte(&rt, Kind::Adt, &mut image, place, preamble_answer(place));
+    }
+    for entry in 0..176 {
+        for place in 0..ACTIONPOINT {
+            let expected = if entry == 0 {
+                actionpoint_answer(place)
+            } else {
+                blank_answer(entry, place)
+            };
+            let at = start(ACTIONPOINT, entry).saturating_add(place);
+            with_one_byte(&rt, Kind::Adt, &mut image, at, expected);
+        }
+    }
+    Ok(())
+}

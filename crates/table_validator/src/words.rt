@@ -1,0 +1,96 @@
+//! The faults of an actionpoint's words: one pass finds them all, and then the least code is chosen.
+
+ghost use Rattle.std.specs.Prelude.{◌≡◌, ◌+◌, ◌<◌, ◌^◌, option_map};
+ghost use Rattle.lc_model.specs.Tables.Image.{first_code, all_words};
+ghost use Rattle.table_validator.specs.Fault.{code_number};
+ghost use Rattle.table_validator.specs.Scan.{unread, word_read, scan_tests, word_tests};
+
+use crate::fault::FaultCode;
+use crate::operands::{OperandCount, is_mention, is_operator};
+use table_file::{ActionpointEntry, EQUAL_WORD};
+
+/// What a pass over an entry's words has met.
+#[derive(Clone, Copy, Debug)]
+struct WordScan {
+    /// Whether EQUAL was there.
+    ended: bool,
+    /// Whether a word that isn't 0 follows it.
+    word_behind: bool,
+    unknown_word: bool,
+    unknown_watchpoint: bool,
+    operands: OperandCount,
+}
+
+impl WordScan {
+    /// Before the first word.
+    fn new() -> WordScan
+        ensures { result ≡ unread }
+    {
+        WordScan {
+            ended: false,
+            word_behind: false,
+            unknown_word: false,
+            unknown_watchpoint: false,
+            operands: OperandCount::new(),
+        }
+    }
+
+    /// Reads one word more of an equation over so many watchpoints.
+    fn read(&mut self, word: u16, watchpoints: u16)
+        requires mentions { self.old.operands.mentions + 1 < 2 ^ 64 }
+        requires joins { self.old.operands.joins + 1 < 2 ^ 64 }
+        ensures { self.new ≡ word_read watchpoints self.old word }
+    {
+        if self.ended {
+            self.word_behind = self.word_behind || word != 0;
+            return;
+        }
+        self.operands.count(word);
+        if word == EQUAL_WORD {
+            self.ended = true;
+        } else {
+            self.unknown_word = self.unknown_word || !(is_mention(word) || is_operator(word));
+            self.unknown_watchpoint = self.unknown_watchpoint
+                || (is_mention(word) && watchpoints <= word);
+        }
+    }
+
+    /// The least code of what was met.
+    fn fault(&self) -> Option<FaultCode>
+        ensures { option_map code_number result ≡ first_code (scan_tests self.now) }
+    {
+        if !self.ended {
+            return Some(FaultCode::NoEqual);
+        }
+        if self.word_behind {
+            return Some(FaultCode::WordAfterEqual);
+        }
+        if self.unknown_word {
+            return Some(FaultCode::UnknownWord);
+        }
+        if self.unknown_watchpoint {
+            return Some(FaultCode::UnknownWatchpoint);
+        }
+        if self.operands.missing {
+            return Some(FaultCode::MissingOperand);
+        }
+        if self.operands.crowded {
+            return Some(FaultCode::TooManyOperands);
+        }
+        if self.operands.waiting() > 1 {
+            return Some(FaultCode::OperandsLeft);
+        }
+        None
+    }
+}
+
+/// The least code of an entry's words, in a table over so many watchpoints.
+pub fn words_fault(entry: &ActionpointEntry<'_>, watchpoints: u16) -> Option<FaultCode>
+    ensures { option_map code_number result ≡ first_code (word_tests watchpoints (all_words entry.now)) }
+{
+    let mut scan = WordScan::new();
+    for number in 0..entry.word_count() {
+        scan.read(entry.word(number), watchpoints);
+    }
+    scan.fault()
+}
