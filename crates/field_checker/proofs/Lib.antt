@@ -1,0 +1,3 @@
+-- Lemmas of the checker's proofs.
+mod After
+mod Indexing
