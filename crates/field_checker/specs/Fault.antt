@@ -57,4 +57,4 @@ error_code error = option_map (λ (fault : TextFault). fault.code) (text_fault_o
 
 -- want of memory, or the fault that is expected
 abbrev pub IsFaultUnlessMemory : Option TextFault → CheckError → Type 0
-IsFaultUnlessMemory expected error = (error ≡ Memory) ⊎ ((fault : TextFault) × (text_fault_of error ≡ Some fault) × (expected ≡ Some fault))
+IsFaultUnlessMemory expected error = (error ≡ Memory) ⊎ (text_fault_of error ≡ expected)

@@ -59,7 +59,7 @@ impl Faults {
 
     /// Meets the faults of a field's packet, place, mask and stale age.
     #[tactic(auto, using(crate::proofs::After::both_met, crate::proofs::After::nothing_met))]
-    pub fn check_field<'a>(&mut self, names: &Names<'a>, field: &FieldItem<'a>)
+    pub fn check_field<'a>(&mut self, names: &Names<'_, 'a>, field: &FieldItem<'a>)
         ensures { first_of self.new ≡ after (first_of self.old) (field_faults (items_of names.now.items.now) (field_of field.now)) }
     {
         let packet = names.packet(field.packet);

@@ -13,17 +13,17 @@ use std::collections::BTreeMap;
 
 /// What some items declare, by name.
 #[derive(Drop)]
-pub(crate) struct Index<'a> {
+pub(crate) struct Index<'f, 'a> {
     /// The least place at which an item declares the name.
     pub places: BTreeMap<&'a [u8], usize>,
     /// The first packet of the name.
-    pub packets: BTreeMap<&'a [u8], &'a PacketItem<'a>>,
+    pub packets: BTreeMap<&'a [u8], &'f PacketItem<'a>>,
     /// The first field of the name.
-    pub fields: BTreeMap<&'a [u8], &'a FieldItem<'a>>,
+    pub fields: BTreeMap<&'a [u8], &'f FieldItem<'a>>,
 }
 
 /// Puts the value at the name, where none stands there yet.
-fn insert_first<'a, T>(map: &mut BTreeMap<&'a [u8], &'a T>, name: &'a [u8], value: &'a T) -> Result<(), AllocError>
+fn insert_first<'f, 'a, T>(map: &mut BTreeMap<&'a [u8], &'f T>, name: &'a [u8], value: &'f T) -> Result<(), AllocError>
     ensures { OnOk result ((text : List ℕ) → at_name map.new text ≡ option_or (at_name map.old text) (cond (bytes_eq name.now text) (Some value.entry) None)) }
 {
     if !map.contains_key(&name) {
@@ -53,9 +53,9 @@ pub(crate) fn declared_name<'a>(item: &Item<'a>) -> Name<'a>
     }
 }
 
-impl<'a> Index<'a> {
+impl<'f, 'a> Index<'f, 'a> {
     /// The index of no items.
-    pub fn empty(alloc: Global) -> Index<'a>
+    pub fn empty(alloc: Global) -> Index<'f, 'a>
         ensures { IsIndexOf result [] }
     {
         Index {
@@ -66,7 +66,7 @@ impl<'a> Index<'a> {
     }
 
     /// Takes in what one more item declares.
-    pub fn declare(&mut self, item: &'a Item<'a>) -> Result<(), AllocError>
+    pub fn declare(&mut self, item: &'f Item<'a>) -> Result<(), AllocError>
         ensures { (items : List model.Item) → IsIndexOf self.old items → OnOk result (IsIndexOf self.new (items ++ item_of item.now ∷ [])) }
     {
         insert_least(&mut self.places, declared_name(item))?;

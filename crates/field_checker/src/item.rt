@@ -13,7 +13,7 @@ use rule_parser::Item;
 
 impl Faults {
     /// Meets the fault of a name that is declared before.
-    fn check_name<'a>(&mut self, names: &Names<'a>, item: &Item<'a>)
+    fn check_name<'a>(&mut self, names: &Names<'_, 'a>, item: &Item<'a>)
         ensures { first_of self.new ≡ after (first_of self.old) (name_faults (items_of names.now.items.now) (item_of item.now)) }
     {
         let name = declared_name(item);
@@ -26,7 +26,7 @@ impl Faults {
 
     /// Meets the faults of an item.
     #[tactic(auto, using(crate::proofs::After::both_met, crate::proofs::After::nothing_met))]
-    fn check_item<'a>(&mut self, names: &Names<'a>, item: &Item<'a>)
+    fn check_item<'a>(&mut self, names: &Names<'_, 'a>, item: &Item<'a>)
         ensures { first_of self.new ≡ after (first_of self.old) (faults_of (items_of names.now.items.now) (item_of item.now)) }
     {
         self.check_name(names, item);

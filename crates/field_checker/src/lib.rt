@@ -16,5 +16,5 @@ mod checker;
 #[cfg(test)]
 mod tests;
 
-//pub use checker::check;
+pub use checker::check;
 pub use error::CheckError;

@@ -14,15 +14,15 @@ use std::alloc::{AllocError, Global};
 /// The items of a file, with an index of what they declare. A look-up compares at most as many names as the index is
 /// deep, which is logarithmic in their number.
 #[derive(Drop)]
-pub(crate) struct Names<'a> {
-    pub items: &'a [Item<'a>],
-    index: Index<'a>,
+pub(crate) struct Names<'f, 'a> {
+    pub items: &'f [Item<'a>],
+    index: Index<'f, 'a>,
     ghost indexed: { IsIndexOf index (items_of items.now) },
 }
 
-impl<'a> Names<'a> {
+impl<'f, 'a> Names<'f, 'a> {
     /// Indexes the items. It fails only for want of memory.
-    pub fn new(alloc: Global, items: &'a [Item<'a>]) -> Result<Names<'a>, AllocError>
+    pub fn new(alloc: Global, items: &'f [Item<'a>]) -> Result<Names<'f, 'a>, AllocError>
         ensures { IfOk result (λ names. items_of names.items.now ≡ items_of items.now) }
     {
         let mut index = Index::empty(alloc);
@@ -43,14 +43,14 @@ impl<'a> Names<'a> {
     }
 
     /// The first packet of the name.
-    pub fn packet(&self, name: Name<'a>) -> Option<&'a PacketItem<'a>>
+    pub fn packet(&self, name: Name<'a>) -> Option<&'f PacketItem<'a>>
         ensures { option_map (λ p. packet_of p.now) result ≡ packet_named (items_of self.now.items.now) (name_of name.entry) }
     {
         self.index.packets.get(&name.text).copied()
     }
 
     /// The first field of the name.
-    pub fn field(&self, name: Name<'a>) -> Option<&'a FieldItem<'a>>
+    pub fn field(&self, name: Name<'a>) -> Option<&'f FieldItem<'a>>
         ensures { option_map (λ f. field_of f.now) result ≡ field_named (items_of self.now.items.now) (name_of name.entry) }
     {
         self.index.fields.get(&name.text).copied()

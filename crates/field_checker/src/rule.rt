@@ -50,7 +50,7 @@ impl Faults {
     }
 
     /// Meets the fault of a comparison: the field that it names, or else its number.
-    fn check_comparison<'a>(&mut self, names: &Names<'a>, comparison: &Comparison<'a>)
+    fn check_comparison<'a>(&mut self, names: &Names<'_, 'a>, comparison: &Comparison<'a>)
         ensures { first_of self.new ≡ after (first_of self.old) (condition_faults (items_of names.now.items.now) (comparison_of comparison.now)) }
     {
         let value = comparison.value;
@@ -65,7 +65,7 @@ impl Faults {
 
     /// Meets the faults of a condition's comparisons. The recursion is as deep as the condition.
     #[tactic(auto, using(crate::proofs::After::both_met, crate::proofs::After::nothing_met))]
-    fn check_condition<'a>(&mut self, names: &Names<'a>, condition: &Expression<'a>)
+    fn check_condition<'a>(&mut self, names: &Names<'_, 'a>, condition: &Expression<'a>)
         ensures { first_of self.new ≡ after (first_of self.old) (condition_faults (items_of names.now.items.now) (expression_of condition.now)) }
     {
         match condition {
@@ -82,7 +82,7 @@ impl Faults {
 
     /// Meets the faults of a rule's numbers and condition.
     #[tactic(auto, using(crate::proofs::After::both_met, crate::proofs::After::nothing_met))]
-    pub fn check_rule<'a>(&mut self, names: &Names<'a>, rule: &RuleItem<'a>)
+    pub fn check_rule<'a>(&mut self, names: &Names<'_, 'a>, rule: &RuleItem<'a>)
         ensures { first_of self.new ≡ after (first_of self.old) (rule_faults (items_of names.now.items.now) (rule_of rule.now)) }
     {
         let check = Check::NumberRange;
