@@ -50,7 +50,6 @@ impl Fault {
     pub fn precedes(self, other: Fault) -> bool
         ensures { result ≡ precedes (fault_of self) (fault_of other) }
     {
-        self.at < other.at
-            || self.at == other.at && self.check.number() <= other.check.number()
+        self.at < other.at || self.at == other.at && self.check.number() <= other.check.number()
     }
 }

@@ -23,7 +23,11 @@ pub(crate) struct Index<'f, 'a> {
 }
 
 /// Puts the value at the name, where none stands there yet.
-fn insert_first<'f, 'a, T>(map: &mut BTreeMap<&'a [u8], &'f T>, name: &'a [u8], value: &'f T) -> Result<(), AllocError>
+fn insert_first<'f, 'a, T>(
+    map: &mut BTreeMap<&'a [u8], &'f T>,
+    name: &'a [u8],
+    value: &'f T,
+) -> Result<(), AllocError>
     ensures { OnOk result ((text : List ℕ) → at_name map.new text ≡ option_or (at_name map.old text) (cond (bytes_eq name.now text) (Some value.entry) None)) }
 {
     if !map.contains_key(&name) {

@@ -2,17 +2,17 @@
 //! first fault that stops it. Names are looked up in ordered maps, so a check takes time near-linear in the text.
 #![tactic(auto)]
 
+mod checker;
 mod error;
 mod fault;
 mod faults;
-mod index;
-mod names;
-mod packet;
 mod field;
-mod rule;
+mod index;
 mod item;
 mod meaning;
-mod checker;
+mod names;
+mod packet;
+mod rule;
 #[cfg(test)]
 mod tests;
 

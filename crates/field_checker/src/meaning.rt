@@ -12,7 +12,9 @@ ghost use Rattle.rule_parser.specs.Syntax.{comparison_of, expression_of, field_o
 use crate::field::full_mask;
 use crate::names::Names;
 use lc_model::{Bytes, Cond, Report, Rule, Term};
-use rule_parser::{Comparison, Expression, FieldItem, Item, Number, PacketItem, ReportItem, RuleItem};
+use rule_parser::{
+    Comparison, Expression, FieldItem, Item, Number, PacketItem, ReportItem, RuleItem,
+};
 use std::alloc::{AllocError, Global};
 
 /// The bytes, as a value of their own.
@@ -66,7 +68,11 @@ fn term<'a>(names: &Names<'_, 'a>, comparison: &Comparison<'a>) -> Term
 }
 
 /// The condition, with the names replaced by what they name. The recursion is as deep as the condition.
-fn condition<'a>(alloc: Global, names: &Names<'_, 'a>, expression: &Expression<'a>) -> Result<Cond, AllocError>
+fn condition<'a>(
+    alloc: Global,
+    names: &Names<'_, 'a>,
+    expression: &Expression<'a>,
+) -> Result<Cond, AllocError>
     requires accepted { faults (items_of names.now.items.now) ≡ [] }
     requires clean { condition_faults (items_of names.now.items.now) (expression_of expression.now) ≡ [] }
     ensures { IfOk result (λ cond. condition_in (items_of names.now.items.now) (expression_of expression.now) ≡ Some (condition_of cond)) }

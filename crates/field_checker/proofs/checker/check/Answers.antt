@@ -1,6 +1,6 @@
 use Rattle.std.proofs.Common.{◌≡◌, ◌∙◌, ap, sym, Some, None}
 use Rattle.std.specs.Prelude.{option_map}
-use Rattle.lc_model.specs.Text.Meaning.{ first_fault, rules_in}
+use Rattle.lc_model.specs.Text.Meaning.{first_fault, rules_in}
 use Rattle.rule_parser.specs.Syntax.{items_of}
 use Rattle.field_checker.specs.Fault.{fault_of}
 use Rattle.field_checker.proofs.Verdicts.{answered, met, none_first}
