@@ -1,7 +1,8 @@
 //! Each check at both borders.
 
-use super::{LOW_VOLTS, answers, answers_with};
+use super::{LOW_VOLTS, answers, answers_with, checked};
 use crate::error::CheckError;
+use std::process::Abort;
 use std::test::Fail;
 
 #[test]
@@ -213,207 +214,51 @@ fn shortest_packet(rt: HostRuntime) -> Result<(), Fail> {
     )
 }
 
-/// Each type: the last place, mask and numbers that it has, and those next to them.
+/// The number of the fault of a text with a field of this type at a place, with a mask, and a comparison with a number.
+fn code_of<R: Abort + AllocGlobal>(
+    rt: &R,
+    kind: &str,
+    (place, mask, value): (i64, i64, i64),
+) -> Result<Option<u8>, Fail> {
+    let text = format!(in rt.alloc();
+        "packet P = mid 0x0883 length 16; field V = P {kind} at {place} mask {mask}; \
+         rule LOW active fails 2 sequence 7 event error 1001 \"\" when V < {value};"
+    )?;
+    Ok(checked(rt, &text)?.err().and_then(CheckError::code))
+}
+
+/// Each type: its last place in a packet of 16 bytes, its mask of all ones, and its least and greatest number.
+const TYPES: [(&str, i64, i64, i64, i64); 10] = [
+    ("u8", 15, 0xFF, 0, 0xFF),
+    ("i8", 15, 0xFF, -0x80, 0x7F),
+    ("u16be", 14, 0xFFFF, 0, 0xFFFF),
+    ("u16le", 14, 0xFFFF, 0, 0xFFFF),
+    ("i16be", 14, 0xFFFF, -0x8000, 0x7FFF),
+    ("i16le", 14, 0xFFFF, -0x8000, 0x7FFF),
+    ("u32be", 12, 0xFFFF_FFFF, 0, 0xFFFF_FFFF),
+    ("u32le", 12, 0xFFFF_FFFF, 0, 0xFFFF_FFFF),
+    ("i32be", 12, 0xFFFF_FFFF, -0x8000_0000, 0x7FFF_FFFF),
+    ("i32le", 12, 0xFFFF_FFFF, -0x8000_0000, 0x7FFF_FFFF),
+];
+
+/// What a type has is accepted, and what is next to it is refused. (The lexer refuses numbers of over 32 bits.)
 #[test]
 fn types(rt: HostRuntime) -> Result<(), Fail> {
-    let rows = [
-        ("u8 at 15 mask 255; ", "V < 0;", None),
-        ("u8 at 15 mask 255; ", "V < 255;", None),
-        (
-            "u8 at 16 mask 255; ",
-            "V < 0;",
-            Some(CheckError::FieldOutside { at: 51 }),
-        ),
-        (
-            "u8 at 15 mask 256; ",
-            "V < 0;",
-            Some(CheckError::MaskRange { at: 59 }),
-        ),
-        (
-            "u8 at 15 mask 255; ",
-            "V < -1;",
-            Some(CheckError::ConstRange { at: 128 }),
-        ),
-        (
-            "u8 at 15 mask 255; ",
-            "V < 256;",
-            Some(CheckError::ConstRange { at: 128 }),
-        ),
-        ("i8 at 15 mask 255; ", "V < -128;", None),
-        ("i8 at 15 mask 255; ", "V < 127;", None),
-        (
-            "i8 at 16 mask 255; ",
-            "V < -128;",
-            Some(CheckError::FieldOutside { at: 51 }),
-        ),
-        (
-            "i8 at 15 mask 256; ",
-            "V < -128;",
-            Some(CheckError::MaskRange { at: 59 }),
-        ),
-        (
-            "i8 at 15 mask 255; ",
-            "V < -129;",
-            Some(CheckError::ConstRange { at: 128 }),
-        ),
-        (
-            "i8 at 15 mask 255; ",
-            "V < 128;",
-            Some(CheckError::ConstRange { at: 128 }),
-        ),
-        ("u16be at 14 mask 65535; ", "V < 0;", None),
-        ("u16be at 14 mask 65535; ", "V < 65535;", None),
-        (
-            "u16be at 15 mask 65535; ",
-            "V < 0;",
-            Some(CheckError::FieldOutside { at: 54 }),
-        ),
-        (
-            "u16be at 14 mask 65536; ",
-            "V < 0;",
-            Some(CheckError::MaskRange { at: 62 }),
-        ),
-        (
-            "u16be at 14 mask 65535; ",
-            "V < -1;",
-            Some(CheckError::ConstRange { at: 133 }),
-        ),
-        (
-            "u16be at 14 mask 65535; ",
-            "V < 65536;",
-            Some(CheckError::ConstRange { at: 133 }),
-        ),
-        ("u16le at 14 mask 65535; ", "V < 0;", None),
-        ("u16le at 14 mask 65535; ", "V < 65535;", None),
-        (
-            "u16le at 15 mask 65535; ",
-            "V < 0;",
-            Some(CheckError::FieldOutside { at: 54 }),
-        ),
-        (
-            "u16le at 14 mask 65536; ",
-            "V < 0;",
-            Some(CheckError::MaskRange { at: 62 }),
-        ),
-        (
-            "u16le at 14 mask 65535; ",
-            "V < -1;",
-            Some(CheckError::ConstRange { at: 133 }),
-        ),
-        (
-            "u16le at 14 mask 65535; ",
-            "V < 65536;",
-            Some(CheckError::ConstRange { at: 133 }),
-        ),
-        ("i16be at 14 mask 65535; ", "V < -32768;", None),
-        ("i16be at 14 mask 65535; ", "V < 32767;", None),
-        (
-            "i16be at 15 mask 65535; ",
-            "V < -32768;",
-            Some(CheckError::FieldOutside { at: 54 }),
-        ),
-        (
-            "i16be at 14 mask 65536; ",
-            "V < -32768;",
-            Some(CheckError::MaskRange { at: 62 }),
-        ),
-        (
-            "i16be at 14 mask 65535; ",
-            "V < -32769;",
-            Some(CheckError::ConstRange { at: 133 }),
-        ),
-        (
-            "i16be at 14 mask 65535; ",
-            "V < 32768;",
-            Some(CheckError::ConstRange { at: 133 }),
-        ),
-        ("i16le at 14 mask 65535; ", "V < -32768;", None),
-        ("i16le at 14 mask 65535; ", "V < 32767;", None),
-        (
-            "i16le at 15 mask 65535; ",
-            "V < -32768;",
-            Some(CheckError::FieldOutside { at: 54 }),
-        ),
-        (
-            "i16le at 14 mask 65536; ",
-            "V < -32768;",
-            Some(CheckError::MaskRange { at: 62 }),
-        ),
-        (
-            "i16le at 14 mask 65535; ",
-            "V < -32769;",
-            Some(CheckError::ConstRange { at: 133 }),
-        ),
-        (
-            "i16le at 14 mask 65535; ",
-            "V < 32768;",
-            Some(CheckError::ConstRange { at: 133 }),
-        ),
-        ("u32be at 12 mask 4294967295; ", "V < 0;", None),
-        ("u32be at 12 mask 4294967295; ", "V < 4294967295;", None),
-        (
-            "u32be at 13 mask 4294967295; ",
-            "V < 0;",
-            Some(CheckError::FieldOutside { at: 54 }),
-        ),
-        (
-            "u32be at 12 mask 4294967295; ",
-            "V < -1;",
-            Some(CheckError::ConstRange { at: 138 }),
-        ),
-        ("u32le at 12 mask 4294967295; ", "V < 0;", None),
-        ("u32le at 12 mask 4294967295; ", "V < 4294967295;", None),
-        (
-            "u32le at 13 mask 4294967295; ",
-            "V < 0;",
-            Some(CheckError::FieldOutside { at: 54 }),
-        ),
-        (
-            "u32le at 12 mask 4294967295; ",
-            "V < -1;",
-            Some(CheckError::ConstRange { at: 138 }),
-        ),
-        ("i32be at 12 mask 4294967295; ", "V < -2147483648;", None),
-        ("i32be at 12 mask 4294967295; ", "V < 2147483647;", None),
-        (
-            "i32be at 13 mask 4294967295; ",
-            "V < -2147483648;",
-            Some(CheckError::FieldOutside { at: 54 }),
-        ),
-        (
-            "i32be at 12 mask 4294967295; ",
-            "V < -2147483649;",
-            Some(CheckError::ConstRange { at: 138 }),
-        ),
-        (
-            "i32be at 12 mask 4294967295; ",
-            "V < 2147483648;",
-            Some(CheckError::ConstRange { at: 138 }),
-        ),
-        ("i32le at 12 mask 4294967295; ", "V < -2147483648;", None),
-        ("i32le at 12 mask 4294967295; ", "V < 2147483647;", None),
-        (
-            "i32le at 13 mask 4294967295; ",
-            "V < -2147483648;",
-            Some(CheckError::FieldOutside { at: 54 }),
-        ),
-        (
-            "i32le at 12 mask 4294967295; ",
-            "V < -2147483649;",
-            Some(CheckError::ConstRange { at: 138 }),
-        ),
-        (
-            "i32le at 12 mask 4294967295; ",
-            "V < 2147483648;",
-            Some(CheckError::ConstRange { at: 138 }),
-        ),
-    ];
-    for (field, comparison, expected) in rows {
-        let text = format!(in rt.alloc();
-            "packet P = mid 0x0883 length 16; field V = P {field}\
-             rule LOW active fails 2 sequence 7 event error 1001 \"\" when {comparison}"
-        )?;
-        answers(&rt, &text, expected)?;
+    for (kind, place, mask, least, greatest) in TYPES {
+        let rows = [
+            ((place, mask, least), None),
+            ((place, mask, greatest), None),
+            ((place.saturating_add(1), mask, least), Some(25)),
+            ((place, mask.saturating_add(1), least), Some(26)),
+            ((place, mask, least.saturating_sub(1)), Some(27)),
+            ((place, mask, greatest.saturating_add(1)), Some(27)),
+        ];
+        for (row, code) in rows {
+            if row.1 > 0xFFFF_FFFF || row.2 > 0xFFFF_FFFF {
+                continue;
+            }
+            assert_eq!(rt; code_of(&rt, kind, row)?, code, "of {kind} {row:?}");
+        }
     }
     Ok(())
 }
