@@ -1,11 +1,11 @@
 -- What is known of items of which nothing is refused.
-use Rattle.std.proofs.Common.{◌≡◌, refl, sym, ◌∙◌, ap, subst, ◌^◌, ℕ, zero, suc, ◌+◌, ◌<◌, ◌≤◌, Bool, true, false, cond, ◌||◌, List, [], ◌∷◌, ◌++◌, Option, Some, None, ℤ, pos, negsuc, bytes_eq, length, get_or, arith}
-use Rattle.std.specs.Prelude.{nat_abs, int_lt, is_none, find, filter_map, flat_map}
+use Rattle.std.proofs.Common.{◌≡◌, refl, sym, ◌∙◌, ap, subst, ◌^◌, ℕ, zero, suc, ◌+◌, ◌<◌, ◌≤◌, Bool, true, false, cond, ◌||◌, List, [], ◌∷◌, ◌++◌, Option, Some, ℤ, pos, negsuc, bytes_eq, length, get_or, arith}
+use Rattle.std.specs.Prelude.{nat_abs, int_lt, is_none, flat_map}
 use Rattle.std.proofs.lemmas.Bool.Decides.{nat_tests}
 use Rattle.lc_model.specs.Condition.{Operator}
 use Rattle.lc_model.specs.Text.Token.{Token}
 use Rattle.lc_model.specs.Text.Syntax as model
-use Rattle.lc_model.specs.Text.Meaning.{TextFault, fault_if, fault_outside, faults, faults_of, name_faults, packet_faults, field_faults, rule_faults, compare_faults, report_faults, condition_faults, packet_named, field_named, packet_of, field_of}
+use Rattle.lc_model.specs.Text.Meaning.{TextFault, fault_if, fault_outside, faults, faults_of, name_faults, packet_faults, field_faults, condition_faults, packet_named, field_named}
 
 -- ---- lists of faults
 

@@ -1,5 +1,5 @@
 -- What the first fault says of all.
-use Rattle.std.proofs.Common.{◌≡◌, refl, sym, ◌∙◌, ap, subst, inr, ℕ, List, [], ◌∷◌, Option, Some, None}
+use Rattle.std.proofs.Common.{◌≡◌, refl, sym, ◌∙◌, ap, inr, ℕ, List, [], ◌∷◌, Option, Some, None}
 use Rattle.std.specs.Prelude.{option_map}
 use Rattle.lc_model.specs.Text.Syntax.{Item}
 use Rattle.lc_model.specs.Text.Meaning.{TextFault, faults, first_fault}

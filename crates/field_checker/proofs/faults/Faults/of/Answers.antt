@@ -3,7 +3,6 @@ use Rattle.std.specs.Prelude.{flat_map}
 use Rattle.std.proofs.lemmas.List.{take_all}
 use Rattle.std.proofs.lemmas.List.Folds.{flat_map-map}
 use Rattle.lc_model.specs.Text.Meaning.{faults_of}
-use Rattle.rule_parser.specs.declared.syntax.Item.{Item}
 use Rattle.rule_parser.specs.Syntax.{item_of, items_of}
 use Rattle.field_checker.specs.Faults.{after, first_of}
 use Rattle.field_checker.proofs.After.{of_more, nothing_met, both_met, after_all}
