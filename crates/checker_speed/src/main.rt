@@ -45,7 +45,7 @@ fn names_of(alloc: Global, count: usize, size: usize) -> Result<Vec<String>, All
 fn file_of<'a>(alloc: Global, names: &'a [String]) -> Result<RuleFile<'a>, AllocError>
     ensures { IfOk result (λ file. length file.items.items ≡ length names.entry.now + 1) }
 {
-    let number = |value| Number { at: 0, value };
+    let zero = Number { at: 0, value: 0 };
     let packet = Name {
         at: 0,
         text: "P".as_bytes(),
@@ -53,8 +53,11 @@ fn file_of<'a>(alloc: Global, names: &'a [String]) -> Result<RuleFile<'a>, Alloc
     let mut items = Vec::new(alloc);
     items.push(Item::Packet(PacketItem {
         name: packet,
-        mid: number(0x0800),
-        length: number(12),
+        mid: Number {
+            at: 0,
+            value: 0x0800,
+        },
+        length: Number { at: 0, value: 12 },
     }))?;
     for (at, name) in names.iter().enumerate() {
         items.push(Item::Field(FieldItem {
@@ -64,7 +67,7 @@ fn file_of<'a>(alloc: Global, names: &'a [String]) -> Result<RuleFile<'a>, Alloc
             },
             packet,
             kind: FieldType::U8,
-            offset: number(0),
+            offset: zero,
             mask: None,
             stale: None,
         }))?;
