@@ -1,9 +1,10 @@
 -- How the rules of some items are those of the first and those of the others.
 use Rattle.std.proofs.Common.{◌≡◌, refl, sym, ◌∙◌, ap, List, [], ◌∷◌, ◌++◌, Option, Some, None, append_assoc, ℕ, ◌+◌, ◌<◌, length, drop, get_or}
 use Rattle.std.specs.Prelude.{option_map}
-use Rattle.std.proofs.lemmas.List.{drop_more}
+use Rattle.std.proofs.lemmas.List.{drop_more, map-append}
 use Rattle.lc_model.specs.Condition.{Condition}
-use Rattle.lc_model.specs.Rule.{NamedRule}
+use Rattle.lc_model.specs.declared.rule.Rule.{Rule}
+use Rattle.lc_model.specs.Rule.{NamedRule, rule_of, rules_of}
 use Rattle.lc_model.specs.Text.Syntax as model
 use Rattle.lc_model.specs.Text.Meaning.{condition_in, named_rule, option_map_two, rules_in}
 use Rattle.rule_parser.specs.declared.syntax.Item.{Item}
@@ -38,3 +39,7 @@ none_meant items others (item.Rule r) other = absurd (other r refl)
 pub from_index : (xs : List Item) (i : ℕ) (x : Item) → i < length xs → x ≡ get_or xs i x →
     items_of (drop i xs) ≡ item_of x ∷ items_of (drop (i + 1) xs)
 from_index xs i x lt is = ap items_of (drop_more xs i x lt) ∙ ap (λ y. item_of y ∷ items_of (drop (i + 1) xs)) (sym is)
+
+-- the rules after a push
+pub grown : (old new : List Rule) (rule : Rule) → new ≡ old ++ rule ∷ [] → rules_of old ++ rule_of rule ∷ [] ≡ rules_of new
+grown old new rule e = sym (map-append rule_of old (rule ∷ [])) ∙ ap rules_of (sym e)

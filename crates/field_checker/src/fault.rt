@@ -5,7 +5,7 @@ ghost use Rattle.lc_model.specs.Text.Meaning.{precedes};
 ghost use Rattle.field_checker.specs.Fault.{fault_of, number_of_check};
 
 /// What is checked of items.
-#[derive(Clone, Copy, Debug)]
+#[derive(Clone, Copy)]
 pub(crate) enum Check {
     DuplicateName,
     UnknownName,
@@ -38,7 +38,7 @@ impl Check {
 }
 
 /// What is refused: by which check, and the number of bytes of the text before it.
-#[derive(Clone, Copy, Debug)]
+#[derive(Clone, Copy)]
 pub(crate) struct Fault {
     pub check: Check,
     pub at: usize,

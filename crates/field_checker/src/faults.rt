@@ -10,7 +10,7 @@ use crate::fault::{Check, Fault};
 use rule_parser::Number;
 
 /// What the checks met: of all faults the first alone.
-#[derive(Clone, Copy, Debug)]
+#[derive(Clone, Copy)]
 pub(crate) struct Faults {
     pub first: Option<Fault>,
 }

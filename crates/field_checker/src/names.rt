@@ -11,8 +11,8 @@ use crate::index::Index;
 use rule_parser::{FieldItem, Item, Name, PacketItem};
 use std::alloc::{AllocError, Global};
 
-/// The items of a file, with an index of what they declare. A look-up compares at most as many names as the index is
-/// deep, which is logarithmic in their number.
+/// The items of a file, with an index of what they declare. A look-up compares the name with at most a number of others
+/// that is logarithmic in how many there are, whatever the names are.
 #[derive(Drop)]
 pub(crate) struct Names<'f, 'a> {
     pub items: &'f [Item<'a>],

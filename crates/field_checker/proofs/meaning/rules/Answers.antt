@@ -1,6 +1,5 @@
 use Rattle.std.proofs.Common.{◌≡◌, ◌∙◌, ap, sym, [], ◌∷◌, ◌++◌, ◌+◌, drop}
 use Rattle.std.specs.Prelude.{option_map}
-use Rattle.std.proofs.lemmas.List.{map-append}
 use Rattle.std.proofs.lemmas.List.Folds.{flat_map-map}
 use Rattle.lc_model.specs.Rule as named
 use Rattle.lc_model.specs.Rule.{rules_of}
@@ -8,7 +7,7 @@ use Rattle.lc_model.specs.Text.Syntax as model
 use Rattle.lc_model.specs.Text.Meaning.{faults_of, name_faults, rule_faults, rules_in}
 use Rattle.rule_parser.specs.Syntax.{item_of, items_of, rule_of}
 use Rattle.field_checker.proofs.Accepted.{clean_at, rest_is_empty}
-use Rattle.field_checker.proofs.Meant.{one_meant, none_meant, from_index}
+use Rattle.field_checker.proofs.Meant.{one_meant, none_meant, from_index, grown}
 use Rattle.field_checker.proofs.meaning.rules.Goals as goal
 use Rattle.field_checker.proofs.meaning.rules.Goals.{in-Rule+in_ok-rule+in_ok-push, in_default}
 
@@ -38,9 +37,8 @@ loop-item-preserved c =
           ap (λ y. option_map (λ rs. done ++ rs) (rules_in items (item_of y ∷ others))) w.in-Rule.is
           ∙ (one_meant items others done (rule_of w.in-Rule.item) (named.rule_of w.in_ok-rule.field-0) w.in_ok-rule.ensures
           ∙ ap (λ rules. option_map (λ rs. rules ++ rs) (rules_in items others))
-          (sym (map-append named.rule_of c.loop-item.rules.items (w.in_ok-rule.field-0 ∷ []))
-          ∙ ap rules_of (sym w.in_ok-push.ensures.items ∙ ap (λ v. v.items) (sym w.rules-is))))
+          (grown c.loop-item.rules.items c.match-item.rules.items w.in_ok-rule.field-0 (ap (λ v. v.items) w.rules-is ∙ w.in_ok-push.ensures.items)))
       | in_default w ↦
           ap (option_map (λ rs. done ++ rs)) (none_meant items others x w.in_default.not-Rule)
-          ∙ ap (λ v. option_map (λ rs. rules_of v.items ++ rs) (rules_in items others)) (sym w.rules-is)
+          ∙ sym (ap (λ v. option_map (λ rs. rules_of v.items ++ rs) (rules_in items others)) w.rules-is)
     ])
