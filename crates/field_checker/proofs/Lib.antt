@@ -1,0 +1,6 @@
+-- Lemmas of the checker's proofs.
+mod Accepted
+mod After
+mod Indexing
+mod Meant
+mod Verdicts

@@ -1,0 +1,14 @@
+-- The first fault so far. This project's own.
+use Rattle.std.specs.Prelude.{List, [], ◌∷◌, Option, Some, option_map}
+use Rattle.lc_model.specs.Text.Meaning.{TextFault, earlier_of}
+use Rattle.field_checker.specs.Fault.{fault_of}
+use Rattle.field_checker.specs.declared.faults.Faults.{Faults}
+
+-- the first fault that was met
+abbrev pub first_of : Faults → Option TextFault
+first_of f = option_map fault_of f.first
+
+-- the first fault, once these are met too
+unfoldable pub after : Option TextFault → List TextFault → Option TextFault
+after first [] = first
+after first (f ∷ fs) = after (Some (earlier_of f first)) fs

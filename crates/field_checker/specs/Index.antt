@@ -1,0 +1,30 @@
+-- What an index of names is. This project's own.
+use Rattle.std.specs.Prelude.{◌≡◌, ℕ, Bool, false, List, Option, option_map, nat_lt}
+use Rattle.std.specs.Option.{option_map_or}
+use Rattle.std.specs.List.{list_any}
+use Rattle.std.specs.Ordering.{nat_cmp}
+use Rattle.std.specs.Cmp.Lexicographic.{slice_cmp}
+use Rattle.std.specs.BTreeMap.{BTreeMap, get_by}
+use Rattle.lc_model.specs.Text.Syntax as model
+use Rattle.lc_model.specs.Text.Meaning as meaning
+use Rattle.lc_model.specs.Text.Meaning.{is_earlier, packet_named, field_named}
+use Rattle.rule_parser.specs.Syntax.{field_of, packet_of}
+use Rattle.field_checker.specs.declared.index.Index.{Index}
+use denote.Ref.{Bor}
+
+-- what stands at a name
+abbrev pub at_name : {X : Type 0} → BTreeMap (Bor (List ℕ)) X → List ℕ → Option X
+at_name map text = get_by (λ key. slice_cmp nat_cmp text key.now) map
+
+-- a place that is less, if any
+abbrev pub is_before : Option ℕ → ℕ → Bool
+is_before place at = option_map_or (λ least. nat_lt least at) place false
+
+-- the index has the least place of each name, and the first packet and field that it names
+pub record IsIndexOf (index : Index) (items : List model.Item) : Type 0 where
+  pub places : (text : List ℕ) (at : ℕ) →
+      is_before (at_name index.places text) at ≡ list_any (λ other. is_earlier (meaning.name_of other) (record { at = at; text = text })) items
+  pub packets : (text : List ℕ) (at : ℕ) →
+      option_map (λ p. packet_of p.now) (at_name index.packets text) ≡ packet_named items (record { at = at; text = text })
+  pub fields : (text : List ℕ) (at : ℕ) →
+      option_map (λ f. field_of f.now) (at_name index.fields text) ≡ field_named items (record { at = at; text = text })

@@ -1,0 +1,4 @@
+-- What the checker's contracts cite.
+pub mod Fault
+pub mod Faults
+pub mod Index

@@ -1,0 +1,40 @@
+//! A rule text's items become its rules.
+
+ghost use Rattle.std.specs.Prelude.{◌≡◌, List, Some, IfErr, IfOk, MatchResult};
+ghost use Rattle.lc_model.specs.Rule.{NamedRule};
+ghost use Rattle.lc_model.specs.Text.Meaning.{Means, TextFault, faults, first_fault};
+ghost use Rattle.rule_parser.specs.Syntax.{items_of};
+ghost use Rattle.field_checker.specs.declared.error.CheckError.TheVariants.{Memory};
+ghost use Rattle.field_checker.specs.Fault.{IsFaultUnlessMemory};
+
+use crate::error::CheckError;
+use crate::faults::Faults;
+use crate::meaning::rules;
+use crate::names::Names;
+use lc_model::{RuleSet, Rules};
+use rule_parser::RuleFile;
+use std::alloc::Global;
+
+/// The rules that the items of a rule text mean, in the text's order, with each name replaced by what it names. A name
+/// may be used before its declaration; where one is declared twice, the first packet or field of that name counts.
+///
+/// Work: at most five look-ups for each name of the text, declared or used, in maps that are ordered by the names' bytes:
+/// for `n` names in the order of `n log n` comparisons of names, whatever the names are. Memory: the maps, which go at the
+/// end, and the rules. The stack grows with the depth of the conditions.
+///
+/// Errors: of all faults of all items the one at the least place, at one place the one with the least number; `Memory`
+/// where the names or the rules find no room.
+pub fn check(alloc: Global, file: &RuleFile) -> Result<RuleSet, CheckError>
+    ensures means { IfOk result (λ set. Means (items_of file.now.items.items) set.rules) }
+    ensures refused { IfErr result (λ error. IsFaultUnlessMemory (first_fault (faults (items_of file.now.items.items))) error) }
+    ensures accepts { (meant : List NamedRule) → Means (items_of file.now.items.items) meant → MatchResult result (λ set. set.rules ≡ meant) (λ error. error ≡ Memory) }
+    ensures refuses { (fault : TextFault) → first_fault (faults (items_of file.now.items.items)) ≡ Some fault → MatchResult result (λ set. ⊥) (λ error. IsFaultUnlessMemory (Some fault) error) }
+{
+    let names = Names::new(alloc, &file.items)?;
+    if let Some(fault) = Faults::of(&names).first {
+        return Err(fault.into());
+    }
+    Ok(RuleSet {
+        rules: Rules::from_vec(rules(alloc, &names)?),
+    })
+}

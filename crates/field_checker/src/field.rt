@@ -1,0 +1,75 @@
+//! Checks of fields.
+
+ghost use Rattle.std.specs.Prelude.{◌≡◌, [], pos, int_lt, is_none, option_map};
+ghost use Rattle.std.specs.Option.{option_map_or};
+ghost use Rattle.lc_model.specs.Field.{full_mask};
+ghost use Rattle.lc_model.specs.Text.Syntax as model;
+ghost use Rattle.lc_model.specs.Text.Meaning.{fault_if, fault_outside, field_faults, is_outside};
+ghost use Rattle.rule_parser.specs.Syntax.{field_of, items_of, number_of, packet_of};
+ghost use Rattle.field_checker.specs.Faults.{after, first_of};
+
+use crate::fault::Check;
+use crate::faults::Faults;
+use crate::names::Names;
+use lc_model::FieldType;
+use rule_parser::{FieldItem, Number, PacketItem};
+
+/// The mask of all ones.
+pub(crate) fn full_mask(kind: FieldType) -> u32
+    ensures { result ≡ full_mask kind }
+{
+    match kind {
+        FieldType::U8 | FieldType::I8 => 0xFF,
+        FieldType::U16Be | FieldType::U16Le | FieldType::I16Be | FieldType::I16Le => 0xFFFF,
+        FieldType::U32Be | FieldType::U32Le | FieldType::I32Be | FieldType::I32Le => 0xFFFF_FFFF,
+    }
+}
+
+/// Whether a byte of the field is outside its packet, as far as it's known: its packet may be named by no item.
+fn is_outside(field: &FieldItem, packet: Option<&PacketItem>) -> bool
+    ensures { result ≡ is_outside (field_of field.now) (option_map (λ p. packet_of p.now) packet.entry) }
+{
+    let offset = field.offset.value;
+    match packet {
+        Some(packet) => offset < 0 || packet.length.value < offset + field.kind.width() as i64,
+        None => offset < 0,
+    }
+}
+
+impl Faults {
+    /// Meets the fault of a mask, where one is written.
+    #[tactic(auto, using(crate::proofs::After::both_met, crate::proofs::After::nothing_met))]
+    fn check_mask(&mut self, kind: FieldType, mask: Option<Number>)
+        ensures { first_of self.new ≡ after (first_of self.old) (option_map_or (fault_outside 1 (full_mask kind) 26) (option_map number_of mask) []) }
+    {
+        if let Some(mask) = mask {
+            self.refuse_outside(mask, 1, full_mask(kind), Check::MaskRange);
+        }
+    }
+
+    /// Meets the fault of a stale age, where one is written.
+    #[tactic(auto, using(crate::proofs::After::both_met, crate::proofs::After::nothing_met))]
+    fn check_stale(&mut self, stale: Option<Number>)
+        ensures { first_of self.new ≡ after (first_of self.old) (option_map_or (λ (n : model.Number). fault_if (int_lt n.value (pos 0)) 28 n.at) (option_map number_of stale) []) }
+    {
+        if let Some(age) = stale {
+            self.refuse_if(age.value < 0, Check::NumberRange, age.at);
+        }
+    }
+
+    /// Meets the faults of a field's packet, place, mask and stale age.
+    #[tactic(auto, using(crate::proofs::After::both_met, crate::proofs::After::nothing_met))]
+    pub fn check_field<'a>(&mut self, names: &Names<'_, 'a>, field: &FieldItem<'a>)
+        ensures { first_of self.new ≡ after (first_of self.old) (field_faults (items_of names.now.items.now) (field_of field.now)) }
+    {
+        let packet = names.packet(field.packet);
+        self.refuse_if(packet.is_none(), Check::UnknownName, field.packet.at);
+        self.refuse_if(
+            is_outside(field, packet),
+            Check::FieldOutside,
+            field.offset.at,
+        );
+        self.check_mask(field.kind, field.mask);
+        self.check_stale(field.stale);
+    }
+}

@@ -1,0 +1,58 @@
+//! The items of a file, with what their names name.
+
+ghost use Rattle.std.specs.Prelude.{◌≡◌, IfOk, option_map};
+ghost use Rattle.std.specs.List.{list_any};
+ghost use Rattle.lc_model.specs.Text.Meaning as meaning;
+ghost use Rattle.lc_model.specs.Text.Meaning.{is_earlier, packet_named, field_named};
+ghost use Rattle.rule_parser.specs.Syntax.{field_of, items_of, name_of, packet_of};
+ghost use Rattle.field_checker.specs.Index.{IsIndexOf};
+
+use crate::index::Index;
+use rule_parser::{FieldItem, Item, Name, PacketItem};
+use std::alloc::{AllocError, Global};
+
+/// The items of a file, with an index of what they declare. A look-up compares the name with at most a number of others
+/// that is logarithmic in how many there are, whatever the names are.
+#[derive(Drop)]
+pub(crate) struct Names<'f, 'a> {
+    pub items: &'f [Item<'a>],
+    index: Index<'f, 'a>,
+    ghost indexed: { IsIndexOf index (items_of items.now) },
+}
+
+impl<'f, 'a> Names<'f, 'a> {
+    /// Indexes the items. It fails only for want of memory.
+    pub fn new(alloc: Global, items: &'f [Item<'a>]) -> Result<Names<'f, 'a>, AllocError>
+        ensures { IfOk result (λ names. items_of names.items.now ≡ items_of items.now) }
+    {
+        let mut index = Index::empty(alloc);
+        for item in items {
+            index.declare(item)?;
+        }
+        Ok(Names { items, index })
+    }
+
+    /// Whether an item declares the name at a lesser place.
+    pub fn is_declared_before(&self, name: Name<'a>) -> bool
+        ensures { result ≡ list_any (λ other. is_earlier (meaning.name_of other) (name_of name.entry)) (items_of self.now.items.now) }
+    {
+        match self.index.places.get(&name.text) {
+            Some(least) => *least < name.at,
+            None => false,
+        }
+    }
+
+    /// The first packet of the name.
+    pub fn packet(&self, name: Name<'a>) -> Option<&'f PacketItem<'a>>
+        ensures { option_map (λ p. packet_of p.now) result ≡ packet_named (items_of self.now.items.now) (name_of name.entry) }
+    {
+        self.index.packets.get(&name.text).copied()
+    }
+
+    /// The first field of the name.
+    pub fn field(&self, name: Name<'a>) -> Option<&'f FieldItem<'a>>
+        ensures { option_map (λ f. field_of f.now) result ≡ field_named (items_of self.now.items.now) (name_of name.entry) }
+    {
+        self.index.fields.get(&name.text).copied()
+    }
+}

@@ -1,0 +1,57 @@
+//! Checks of packets.
+
+ghost use Rattle.std.specs.Prelude.{◌≡◌, pos};
+ghost use Rattle.std.specs.List.{list_any};
+ghost use Rattle.std.specs.Ordering.{int_eq};
+ghost use Rattle.lc_model.specs.Packet.{reserved_mids};
+ghost use Rattle.lc_model.specs.Text.Meaning.{packet_faults};
+ghost use Rattle.rule_parser.specs.Syntax.{packet_of};
+ghost use Rattle.field_checker.specs.Faults.{after, first_of};
+
+use crate::fault::Check;
+use crate::faults::Faults;
+use rule_parser::{Number, PacketItem};
+
+/// The message ids of telemetry with a secondary header (CCSDS 133.0-B).
+const FIRST_TELEMETRY_MID: u32 = 0x0800;
+
+const LAST_TELEMETRY_MID: u32 = 0x0FFF;
+
+/// The message ids of the host's own telemetry, which no rule watches.
+const EVENT_MID: i64 = 0x0808;
+
+const LC_HOUSEKEEPING_MID: i64 = 0x08A7;
+
+/// A packet's least and most bytes.
+const SHORTEST_PACKET: u32 = 12;
+
+const LONGEST_PACKET: u32 = 2_048;
+
+/// Whether the message id is one of the host's own.
+fn is_reserved(mid: Number) -> bool
+    ensures { result ≡ list_any (λ reserved. int_eq mid.value (pos reserved)) reserved_mids }
+{
+    mid.value == EVENT_MID || mid.value == LC_HOUSEKEEPING_MID
+}
+
+impl Faults {
+    /// Meets the faults of a packet's message id and length.
+    #[tactic(auto, using(crate::proofs::After::both_met, crate::proofs::After::nothing_met))]
+    pub fn check_packet(&mut self, packet: &PacketItem)
+        ensures { first_of self.new ≡ after (first_of self.old) (packet_faults (packet_of packet.now)) }
+    {
+        self.refuse_outside(
+            packet.mid,
+            FIRST_TELEMETRY_MID,
+            LAST_TELEMETRY_MID,
+            Check::MidRange,
+        );
+        self.refuse_if(is_reserved(packet.mid), Check::ReservedMid, packet.mid.at);
+        self.refuse_outside(
+            packet.length,
+            SHORTEST_PACKET,
+            LONGEST_PACKET,
+            Check::LengthRange,
+        );
+    }
+}
