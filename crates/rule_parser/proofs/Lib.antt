@@ -1,4 +1,10 @@
 pub mod PlainKinds
+pub mod Levels
+pub mod Runs
+pub mod Completions
+pub mod Viable
+pub mod Narrow
+pub mod FirstFault
 pub mod Fronts
 pub mod Taken
 pub mod Again

@@ -4,5 +4,6 @@ pub mod Syntax
 pub mod OneComparison
 pub mod Front
 pub mod Items
+pub mod Stack
 pub mod Reading
 pub mod Soundness

@@ -5,6 +5,7 @@
 mod cursor;
 mod error;
 mod items;
+pub mod laws;
 mod meaning;
 mod one_comparison;
 mod parser;
@@ -15,4 +16,7 @@ mod tests;
 
 pub use error::ParseError;
 pub use parser::parse_one;
-pub use syntax::{Comparison, Expression, FieldItem, Item, Name, Number, PacketItem, ReportItem, RuleFile, RuleItem};
+pub use syntax::{
+    Comparison, Expression, FieldItem, Item, Name, Number, PacketItem, ReportItem, RuleFile,
+    RuleItem,
+};
