@@ -5,6 +5,11 @@ pub mod Completions
 pub mod Viable
 pub mod Narrow
 pub mod FirstFault
+pub mod Nesting
+pub mod FaultSteps
+pub mod OneToken
+pub mod Agrees
+pub mod Conditions
 pub mod Fronts
 pub mod Taken
 pub mod Again

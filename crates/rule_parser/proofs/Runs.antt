@@ -40,32 +40,32 @@ word_text letters t fit = (bytes_eq-Decides letters t.text).0 (second (is_word t
 pub sign_text : (letters : List ℕ) (t : Token) → Fits (Class.Sign letters) t → letters ≡ t.text
 sign_text letters t fit = (bytes_eq-Decides letters t.text).0 (second (is_sign t.text) _ fit)
 
-on_packet : (t : Token) → Fits (word "packet") t → step [] t ≡ Some packet_left
+pub on_packet : (t : Token) → Fits (word "packet") t → step [] t ≡ Some packet_left
 on_packet t fit = rw (sym (word_text (codes "packet") t fit)) refl
 
-on_field : (t : Token) → Fits (word "field") t → step [] t ≡ Some field_left
+pub on_field : (t : Token) → Fits (word "field") t → step [] t ≡ Some field_left
 on_field t fit = rw (sym (word_text (codes "field") t fit)) refl
 
-on_rule : (t : Token) → Fits (word "rule") t → step [] t ≡ Some rule_left
+pub on_rule : (t : Token) → Fits (word "rule") t → step [] t ≡ Some rule_left
 on_rule t fit = rw (sym (word_text (codes "rule") t fit)) refl
 
 module _ (t : Token) (c : Class) (s : List Symbol) where
-  on_name : Fits Name t → step (operand c ∷ s) t ≡ Some (one Class.Compare ∷ one Number ∷ after c ∷ s)
+  pub on_name : Fits Name t → step (operand c ∷ s) t ≡ Some (one Class.Compare ∷ one Number ∷ after c ∷ s)
   on_name fit = rw fit refl
 
-  on_not : Fits (word "not") t → step (operand c ∷ s) t ≡ Some (operand c ∷ s)
+  pub on_not : Fits (word "not") t → step (operand c ∷ s) t ≡ Some (operand c ∷ s)
   on_not fit = rw (sym (word_text (codes "not") t fit)) refl
 
-  on_open : Fits (sign "(") t → step (operand c ∷ s) t ≡ Some (operand (sign ")") ∷ after c ∷ s)
+  pub on_open : Fits (sign "(") t → step (operand c ∷ s) t ≡ Some (operand (sign ")") ∷ after c ∷ s)
   on_open fit = rw (sym (sign_text (codes "(") t fit)) refl
 
-  on_join : joins t ≡ true → step (after c ∷ s) t ≡ Some (operand c ∷ s)
+  pub on_join : joins t ≡ true → step (after c ∷ s) t ≡ Some (operand c ∷ s)
   on_join is = ap (λ b. cond b (Some (operand c ∷ s)) (cond (fits c t.text) (Some s) None)) is
 
-  on_close : joins t ≡ false → Fits c t → step (after c ∷ s) t ≡ Some s
+  pub on_close : joins t ≡ false → Fits c t → step (after c ∷ s) t ≡ Some s
   on_close is fit = rw (is, fit) refl
 
-  on_one : Fits c t → step (one c ∷ s) t ≡ Some s
+  pub on_one : Fits c t → step (one c ∷ s) t ≡ Some s
   on_one fit = rw fit refl
 
 pub and_joins : (t : Token) → Fits (word "and") t → joins t ≡ true
