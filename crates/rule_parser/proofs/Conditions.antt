@@ -11,6 +11,7 @@ use Rattle.lc_model.specs.Text.Class.{Class, Name, Number, word, sign, fits, Fit
 use Rattle.lc_model.specs.Text.Grammar as grammar
 use Rattle.lc_model.specs.Text.Grammar.{Part, Derives, number_of}
 use Rattle.lc_model.specs.Text.Reading.{ParseFault, Expected, TooNested}
+use Rattle.rule_lexer.specs.declared.token.TokenKind.{TokenKind}
 use Rattle.rule_parser.specs.declared.error.ParseError.{ParseError}
 use Rattle.rule_parser.specs.declared.error.ParseError.TheVariants as error
 use Rattle.rule_parser.specs.declared.operator.Operator.{Operator}
@@ -224,14 +225,14 @@ at_close before left room rest e k close s =
     (first_false (begins (word "xor") left.tokens) _ others) (first_false (begins (word "or") left.tokens) _ k.ends)
 
 -- a step that reads one token, taken apart
-wanting_ok : {A : Type 0} (wanted what : Class) (R : Token → A → Type 0) (left : Left) (o : Option (A × List Token)) → One wanted R left.tokens o →
+pub wanting_ok : {A : Type 0} (wanted what : Class) (R : Token → A → Type 0) (left : Left) (o : Option (A × List Token)) → One wanted R left.tokens o →
     (x : A × Left) → wanting what left o ≡ Ok x → (t : Token) × (left.tokens ≡ t ∷ x.1.tokens) × Fits wanted t × (x.1.end ≡ left.end)
 wanting_ok wanted what R left None is x e = absurd (cc e)
 wanting_ok wanted what R left (Some y) is x e =
     let same : (y.0, record left { tokens = y.1 }) ≡ x = cc e in
     (is.0, is.1 ∙ ap (λ x. is.0 ∷ x.1.tokens) same, is.2, sym (ap (λ x. x.1.end) same))
 
-wanting_err : {A : Type 0} (wanted what : Class) (R : Token → A → Type 0) (left : Left) (o : Option (A × List Token)) → One wanted R left.tokens o →
+pub wanting_err : {A : Type 0} (wanted what : Class) (R : Token → A → Type 0) (left : Left) (o : Option (A × List Token)) → One wanted R left.tokens o →
     (fault : ParseFault) → wanting what left o ≡ Err fault → (begins wanted left.tokens ≡ false) × (Expected (place_in left.end left.tokens) what ≡ fault)
 wanting_err wanted what R left None is fault e = (is, cc e)
 wanting_err wanted what R left (Some y) is fault e = absurd (cc e)
@@ -334,3 +335,10 @@ compare_stops before l1 l2 room r1 r2 error n m r =
     let a = subst (Agrees {X = Rest} {B = Expression} (inside room) (inside room) (λ x. operand x.0 ∷ x.1) (λ x. after x.0 ∷ x.1) (Derives grammar.nots) before) here
     (agrees_comparison room before n.2 o.2) in
     a (close, s)) error r
+
+-- ---- as the program has them
+
+-- the operator's tokens are of its kind
+pub of_kind : (kind other : TokenKind) (before left : Left) (room rest : ℕ) (r : Result Bool ParseError) → kind ≡ other →
+    Nests (class_of kind) before left room rest r → Nests (class_of other) before left room rest r
+of_kind kind other before left room rest r e n = subst (λ k. Nests (class_of k) before left room rest r) e n

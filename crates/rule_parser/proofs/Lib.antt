@@ -10,6 +10,9 @@ pub mod FaultSteps
 pub mod OneToken
 pub mod Agrees
 pub mod Conditions
+pub mod Heads
+pub mod Files
+pub mod Parsed
 pub mod Fronts
 pub mod Taken
 pub mod Again

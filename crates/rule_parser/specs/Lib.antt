@@ -10,5 +10,6 @@ pub mod Stack
 pub mod Condition
 pub mod Head
 pub mod File
+pub mod Laws
 pub mod Reading
 pub mod Soundness

@@ -1,12 +1,14 @@
 //! The items of a rule text, from its tokens, from left to right.
 
-ghost use Rattle.std.specs.Prelude.{◌≡◌, All, IsFalse, [], MatchResult};
-ghost use Rattle.lc_model.specs.Text.Grammar.{DerivesFile};
+ghost use Rattle.std.specs.Prelude.{All, IsFalse, [], MatchResult};
+ghost use Rattle.lc_model.specs.Text.Class.{Fits, word};
 ghost use Rattle.lc_model.specs.Text.Syntax as model;
+ghost use Rattle.lc_model.specs.Text.Token as text;
 ghost use Rattle.rule_lexer.specs.Token.{tokens_of, HasItsKind};
 ghost use Rattle.rule_parser.specs.Fault.{Refuses};
-ghost use Rattle.rule_parser.specs.File.{StopsAt, TookItem, TookRule};
-ghost use Rattle.rule_parser.specs.Stack.{fault_at, outside, rule_left};
+ghost use Rattle.rule_parser.specs.Front.{is_empty};
+ghost use Rattle.rule_parser.specs.File.{StopsAll, StopsAt, TookAll, TookItem, TookRule};
+ghost use Rattle.rule_parser.specs.Stack.{rule_left};
 ghost use Rattle.rule_parser.specs.Syntax.{item_of, items_of, rule_of};
 
 use crate::condition::condition;
@@ -20,7 +22,7 @@ use std::alloc::Global;
 
 /// A rule, behind `rule`.
 fn rule_item<'a>(alloc: Global, tokens: &mut Reader<'_, 'a>) -> Result<RuleItem<'a>, ParseError>
-    ensures { MatchResult result (λ found. TookRule tokens.old tokens.new (model.Rule (rule_of found))) (Refuses (StopsAt rule_left tokens.old)) }
+    ensures { MatchResult result (λ found. (t : text.Token) → Fits (word "rule") t → TookRule t tokens.old tokens.new (model.Rule (rule_of found))) (Refuses (StopsAt rule_left tokens.old)) }
 {
     let head = rule_head(tokens)?;
     let condition = condition(alloc, tokens)?;
@@ -40,6 +42,7 @@ fn rule_item<'a>(alloc: Global, tokens: &mut Reader<'_, 'a>) -> Result<RuleItem<
 
 /// The item that stands next.
 fn item<'a>(alloc: Global, tokens: &mut Reader<'_, 'a>) -> Result<Item<'a>, ParseError>
+    requires { IsFalse (is_empty tokens.old.tokens) }
     ensures { MatchResult result (λ found. TookItem tokens.old tokens.new (item_of found)) (Refuses (StopsAt [] tokens.old)) }
 {
     if tokens.takes(TokenKind::Packet) {
@@ -57,7 +60,7 @@ fn item<'a>(alloc: Global, tokens: &mut Reader<'_, 'a>) -> Result<Item<'a>, Pars
 /// All items, up to the last token of a text of this length.
 pub fn items<'a>(alloc: Global, tokens: &[Token<'a>], end: usize) -> Result<Vec<Item<'a>>, ParseError>
     requires { All HasItsKind tokens.now }
-    ensures derives { MatchResult result (λ found. DerivesFile (tokens_of tokens.now) (items_of found.items) × (fault_at end outside [] (tokens_of tokens.now) ≡ None)) (Refuses (λ fault. fault_at end outside [] (tokens_of tokens.now) ≡ Some fault)) }
+    ensures { MatchResult result (λ found. TookAll end (tokens_of tokens.now) (items_of found.items)) (Refuses (StopsAll end (tokens_of tokens.now))) }
 {
     let mut reader = Reader::new(tokens, end);
     let mut items = Vec::new(alloc);

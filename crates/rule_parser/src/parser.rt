@@ -13,6 +13,7 @@ ghost use Rattle.rule_parser.specs.declared.error.ParseError.TheVariants.{Memory
 use crate::error::ParseError;
 use crate::file;
 use crate::items::items;
+use crate::laws::tokens_have_at_most_one_parse;
 use crate::meaning::rule;
 use crate::soundness::is_sound;
 use crate::syntax::RuleFile;
@@ -67,6 +68,6 @@ pub fn parse<'a>(alloc: Global, text: &[u8], tokens: &[Token<'a>]) -> Result<Rul
     ensures accepts { (items : List Item) → Parses (tokens_of tokens.now) items → MatchResult result (λ file. items_of file.items.items ≡ items) (λ error. error ≡ Memory) }
     ensures refuses { (fault : ParseFault) → HasParseFault (length text.now) (tokens_of tokens.now) fault → MatchResult result (λ file. ⊥) (Refuses (λ found. found ≡ fault)) }
 {
-    reading::has_one_parse_fault();
+    tokens_have_at_most_one_parse();
     read(alloc, tokens, text.len())
 }
