@@ -85,6 +85,11 @@ abbrev pub is_empty : List model.Token → Bool
 is_empty [] = true
 is_empty (t ∷ ts) = false
 
+-- the place of the first token, or of the end
+abbrev pub place_in : ℕ → List model.Token → ℕ
+place_in end [] = end
+place_in end (t ∷ ts) = t.at
+
 -- a token of the class
 unfoldable pub token_at : Class → List model.Token → Option (model.Token × List model.Token)
 token_at wanted [] = None

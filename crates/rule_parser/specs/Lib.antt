@@ -1,8 +1,15 @@
 -- What the parser's contracts cite.
+pub mod What
 pub mod Fault
 pub mod Syntax
 pub mod OneComparison
 pub mod Front
 pub mod Items
+pub mod Left
+pub mod Stack
+pub mod Condition
+pub mod Head
+pub mod File
+pub mod Laws
 pub mod Reading
 pub mod Soundness

@@ -6,7 +6,7 @@ ghost use Rattle.lc_model.specs.Text.Class as class;
 ghost use Rattle.lc_model.specs.Text.Class.{comparison, event_kind, field_type, state};
 ghost use Rattle.rule_lexer.specs.Token.{tokens_of, token_of, HasItsKind};
 ghost use Rattle.rule_parser.specs.Syntax.{name_of, number_of};
-ghost use Rattle.rule_parser.specs.Front.{Gives, IsNext, begins, class_of, is_empty, is_plain, labelled_at, number_at, option_at, string_at, token_at, value_at};
+ghost use Rattle.rule_parser.specs.Front.{Gives, IsNext, begins, class_of, is_empty, is_plain, labelled_at, number_at, option_at, place_in, string_at, token_at, value_at};
 
 use crate::syntax::{Name, Number};
 use lc_model::{ApMode, CmpOp, EventKind, FieldType};
@@ -59,8 +59,18 @@ impl<'t, 'a> Cursor<'t, 'a> {
         self.count >= self.tokens.len()
     }
 
+    /// The place of the next token, or `end` where all are read.
+    pub fn place(&self, end: usize) -> usize
+        ensures { result ≡ place_in end self.now }
+    {
+        match self.tokens.get(self.count) {
+            Some(token) => token.at,
+            None => end,
+        }
+    }
+
     /// The next token, if there is one.
-    fn next(&mut self) -> Option<Token<'a>>
+    pub fn next(&mut self) -> Option<Token<'a>>
         ensures { IsNext self.old self.new result }
     {
         kinds_decide_classes();
@@ -70,7 +80,7 @@ impl<'t, 'a> Cursor<'t, 'a> {
     }
 
     /// Whether the next token is of this kind: a reserved word, a sign, a name or a string.
-    fn begins(&self, kind: TokenKind) -> bool
+    pub fn begins(&self, kind: TokenKind) -> bool
         requires { IsTrue (is_plain kind) }
         ensures { result ≡ begins (class_of kind) self.now }
     {

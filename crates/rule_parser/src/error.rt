@@ -2,8 +2,9 @@
 
 ghost use Rattle.std.specs.Prelude.{◌≡◌};
 ghost use Rattle.rule_parser.specs.declared.error.ParseError.TheVariants.{Memory};
-ghost use Rattle.rule_parser.specs.Fault.{parse_error_of};
+ghost use Rattle.rule_parser.specs.Fault.{error_code, parse_error_of};
 
+use crate::what::What;
 use rule_lexer::LexError;
 use std::alloc::{AllocError, AllocFailed};
 use thiserror::Error;
@@ -14,7 +15,14 @@ pub enum ParseError {
     /// The text isn't one packet, one field and one rule with one comparison, in this order, or they aren't meant so.
     #[error("the text is no single comparison")]
     NotYet,
-    /// No memory for the tokens or the rule.
+    /// The token at this place, or the text's end, where the grammar wants another: one of this class, or one that may
+    /// stand before it and may be left out.
+    #[error("expected {what} at {at}")]
+    Expected { at: usize, what: What },
+    /// The 65th token of one condition that is `(`, `not`, `and`, `xor` or `or`.
+    #[error("over 64 parentheses and operators in one condition, at {at}")]
+    TooNested { at: usize },
+    /// No memory for the tokens, the rule or the items.
     #[error("out of memory")]
     Memory,
 }
@@ -42,6 +50,19 @@ impl From<LexError> for ParseError {
         match error {
             LexError::Memory => ParseError::Memory,
             _ => ParseError::NotYet,
+        }
+    }
+}
+
+impl ParseError {
+    /// The fault's number, 11 or 12. Want of memory has none, since the text isn't at fault.
+    pub fn code(self) -> Option<u8>
+        ensures { result ≡ error_code self }
+    {
+        match self {
+            ParseError::Expected { .. } => Some(11),
+            ParseError::TooNested { .. } => Some(12),
+            ParseError::NotYet | ParseError::Memory => None,
         }
     }
 }

@@ -6,8 +6,8 @@ ghost use Rattle.lc_model.specs.Text.Meaning.{Means, faults, term_of};
 ghost use Rattle.rule_parser.specs.Syntax.{field_of, number_of, packet_of};
 ghost use Rattle.rule_parser.specs.OneComparison.{items_of};
 
-use crate::soundness::full_mask;
 use crate::one_comparison::Items;
+use crate::soundness::full_mask;
 use crate::syntax::Number;
 use lc_model::{Bytes, Cond, Report, Rule, Term};
 use std::alloc::{AllocError, Global};

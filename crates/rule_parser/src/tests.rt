@@ -1,12 +1,17 @@
 //! Rule texts that say one comparison, and texts that miss it by little, as the rules of the language give them.
 
+mod conditions;
+mod faults;
 mod forms;
 mod meanings;
 mod memory;
+mod nesting;
 
 use crate::error::ParseError;
-use crate::parser::parse_one;
+use crate::parser::{parse, parse_one};
+use crate::syntax::RuleFile;
 use lc_model::{CmpOp, Cond, FieldType, Rule, Term};
+use rule_lexer::lex;
 use std::process::Abort;
 use std::test::Fail;
 
@@ -57,4 +62,26 @@ fn says_with<R: Abort + AllocGlobal>(
     let text = LOW_VOLTS.replace(rt.alloc(), words, others)?;
     says(rt, &text, expected);
     Ok(())
+}
+
+/// The items of a text.
+fn parsed<'a, R: AllocGlobal>(rt: &R, text: &'a [u8]) -> Result<RuleFile<'a>, ParseError> {
+    let tokens = lex(rt.alloc(), text)?;
+    parse(rt.alloc(), text, tokens.as_slice())
+}
+
+/// The text has so many items.
+fn reads<R: Abort + AllocGlobal>(rt: &R, text: &str, count: usize) {
+    match parsed(rt, text.as_bytes()) {
+        Ok(file) => assert_eq!(rt; file.items.len(), count, "of {text}"),
+        Err(error) => panic!(rt; "{error} in {text}"),
+    }
+}
+
+/// The text's first fault is this.
+fn refuses<R: Abort + AllocGlobal>(rt: &R, text: &str, expected: ParseError) {
+    match parsed(rt, text.as_bytes()) {
+        Ok(file) => panic!(rt; "{} items in {text}", file.items.len()),
+        Err(error) => assert_eq!(rt; error, expected, "of {text}"),
+    }
 }

@@ -1,0 +1,92 @@
+-- What is left to be read behind some tokens, as a stack, and the first token that doesn't fit on it. This project's own.
+use Rattle.std.specs.Prelude.{codes, ℕ, zero, suc, Bool, true, false, ◌||◌, if◌then◌else◌, List, [], ◌∷◌, ◌++◌, map, Option, Some, None}
+use Rattle.std.specs.Option.{option_map_or}
+use Rattle.lc_model.specs.Text.Token.{Token}
+use Rattle.lc_model.specs.Text.Class.{Class, Item, Name, Number, State, Level, Text, FieldKind, Operand, Compare, Word, word, sign, fits}
+use Rattle.lc_model.specs.Text.Reading.{ParseFault, Expected, TooNested, nests, ends_item}
+
+-- what may be left: a token of a class; a word and what follows it, which may be left out; the rest of a condition that
+-- begins with an operand, or that begins behind one, with the token behind the condition
+pub data Symbol : Type 0 where
+  one : (class : Class) → Symbol
+  option : (letters : List ℕ) (following : List Class) → Symbol
+  operand after : (close : Class) → Symbol
+
+abbrev pub ones : List Class → List Symbol
+ones = map one
+
+-- a packet behind `packet`
+abbrev pub packet_left : List Symbol
+packet_left = ones (Name ∷ sign "=" ∷ word "mid" ∷ Number ∷ word "length" ∷ Number ∷ sign ";" ∷ [])
+
+-- a field behind `field`
+abbrev pub field_left : List Symbol
+field_left =
+    ones (Name ∷ sign "=" ∷ Name ∷ FieldKind ∷ word "at" ∷ Number ∷ [])
+    ++ option (codes "mask") (Number ∷ []) ∷ option (codes "stale") (Number ∷ []) ∷ one (sign ";") ∷ []
+
+-- a rule behind `rule`
+abbrev pub rule_left : List Symbol
+rule_left =
+    ones (Name ∷ State ∷ word "fails" ∷ Number ∷ word "sequence" ∷ Number ∷ word "event" ∷ Level ∷ Number ∷ Text ∷ [])
+    ++ option (codes "report") (Number ∷ Number ∷ Number ∷ []) ∷ one (word "when") ∷ operand (sign ";") ∷ []
+
+-- an operator between two operands
+abbrev pub joins : Token → Bool
+joins t = fits (word "and") t.text || (fits (word "xor") t.text || fits (word "or") t.text)
+
+-- what is left behind a token, if it fits. With nothing left an item may begin.
+abbrev pub step : List Symbol → Token → Option (List Symbol)
+step [] t =
+    if fits (word "packet") t.text then Some packet_left else
+    if fits (word "field") t.text then Some field_left else
+    if fits (word "rule") t.text then Some rule_left else None
+step (one class ∷ s) t = if fits class t.text then Some s else None
+step (option letters following ∷ s) t = if fits (Word letters) t.text then Some (ones following ++ s) else step s t
+step (operand close ∷ s) t =
+    if fits Name t.text then Some (one Compare ∷ one Number ∷ after close ∷ s) else
+    if fits (word "not") t.text then Some (operand close ∷ s) else
+    if fits (sign "(") t.text then Some (operand (sign ")") ∷ after close ∷ s) else None
+step (after close ∷ s) t = if joins t then Some (operand close ∷ s) else if fits close t.text then Some s else None
+
+-- what is wanted, leaving out what may be left out
+abbrev pub wanted : List Symbol → Class
+wanted [] = Item
+wanted (one class ∷ s) = class
+wanted (option letters following ∷ s) = wanted s
+wanted (operand close ∷ s) = Operand
+wanted (after close ∷ s) = close
+
+-- nothing is left but what may be left out
+abbrev pub is_finished : List Symbol → Bool
+is_finished [] = true
+is_finished (option letters following ∷ s) = is_finished s
+is_finished s = false
+
+-- ---- nesting
+
+-- whether a condition is being read, and how many more of its tokens may nest
+pub data Room : Type 0 where
+  outside : Room
+  inside : (left : ℕ) → Room
+
+-- with one token less
+abbrev pub less : ℕ → Option Room
+less zero = None
+less (suc left) = Some (inside left)
+
+-- behind a token
+abbrev pub narrowed : Room → Token → Option Room
+narrowed outside t = Some (if fits (word "when") t.text then inside 64 else outside)
+narrowed (inside left) t = if ends_item t then Some outside else if nests t then less left else Some (inside left)
+
+-- ---- the first fault
+
+-- the first token that doesn't fit, or that nests too deep; or the end, where something is left
+unfoldable pub fault_at : (end : ℕ) → Room → List Symbol → List Token → Option ParseFault
+fault_at end room s [] = if is_finished s then None else Some (Expected end (wanted s))
+fault_at end room s (t ∷ ts) =
+    option_map_or
+    (λ left. option_map_or (λ narrower. fault_at end narrower left ts) (narrowed room t) (Some (TooNested t.at)))
+    (step s t)
+    (Some (Expected t.at (wanted s)))

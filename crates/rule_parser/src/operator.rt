@@ -1,0 +1,44 @@
+//! The operators between the operands of a condition.
+
+ghost use Rattle.std.specs.Prelude.{◌≡◌, IfOk};
+ghost use Rattle.lc_model.specs.Text.Syntax.{Join};
+ghost use Rattle.rule_parser.specs.Condition.{kind_of_operator, operator_of};
+ghost use Rattle.rule_parser.specs.Syntax.{expression_of};
+
+use crate::syntax::Expression;
+use rule_lexer::TokenKind;
+use std::alloc::{AllocError, Global};
+
+/// What joins operands, the loosest first.
+#[derive(Clone, Copy)]
+pub enum Operator {
+    Or,
+    Xor,
+    And,
+}
+
+impl Operator {
+    /// The kind of its tokens.
+    pub fn kind(self) -> TokenKind
+        ensures { result ≡ kind_of_operator self }
+    {
+        match self {
+            Operator::Or => TokenKind::Or,
+            Operator::Xor => TokenKind::Xor,
+            Operator::And => TokenKind::And,
+        }
+    }
+
+    /// Two operands, joined.
+    pub fn join<'a>(self, alloc: Global, left: Expression<'a>, right: Expression<'a>) -> Result<Expression<'a>, AllocError>
+        ensures { IfOk result (λ joined. expression_of joined ≡ Join (operator_of self) (expression_of left.entry) (expression_of right.entry)) }
+    {
+        let left = Box::new(alloc, left)?;
+        let right = Box::new(alloc, right)?;
+        Ok(match self {
+            Operator::Or => Expression::Or(left, right),
+            Operator::Xor => Expression::Xor(left, right),
+            Operator::And => Expression::And(left, right),
+        })
+    }
+}

@@ -1,0 +1,134 @@
+//! What can be wanted at a place of a rule text.
+
+ghost use Rattle.std.specs.Prelude.{◌≡◌};
+ghost use Rattle.rule_parser.specs.What.{kind_of_sign, kind_of_word};
+
+use rule_lexer::TokenKind;
+use std::fmt;
+
+/// A class of tokens of which one is wanted.
+#[derive(Clone, Copy, Debug, PartialEq, Eq)]
+pub enum What {
+    /// `packet`, `field` or `rule`, which begin an item.
+    Item,
+    /// A word that isn't reserved.
+    Name,
+    Number,
+    /// A string.
+    Text,
+    /// A field's type: `u8`, `i8`, `u16be` and so on.
+    FieldKind,
+    /// `active`, `passive` or `disabled`.
+    State,
+    /// `debug`, `info`, `error` or `critical`.
+    Level,
+    /// What begins an operand of a condition: a name, `not` or `(`.
+    Operand,
+    /// `<`, `<=`, `!=`, `==`, `>=` or `>`.
+    Compare,
+    /// This reserved word.
+    Word(Word),
+    /// This sign.
+    Sign(Sign),
+}
+
+/// A reserved word inside an item that stands for no value.
+#[derive(Clone, Copy, Debug, PartialEq, Eq)]
+pub enum Word {
+    Mid,
+    Length,
+    At,
+    Mask,
+    Stale,
+    Fails,
+    Sequence,
+    Event,
+    Report,
+    When,
+}
+
+/// A sign that stands for no value.
+#[derive(Clone, Copy, Debug, PartialEq, Eq)]
+pub enum Sign {
+    Equals,
+    Semicolon,
+    Close,
+}
+
+impl Word {
+    /// The kind of its tokens.
+    pub fn kind(self) -> TokenKind
+        ensures { result ≡ kind_of_word self }
+    {
+        match self {
+            Word::Mid => TokenKind::Mid,
+            Word::Length => TokenKind::Length,
+            Word::At => TokenKind::At,
+            Word::Mask => TokenKind::Mask,
+            Word::Stale => TokenKind::Stale,
+            Word::Fails => TokenKind::Fails,
+            Word::Sequence => TokenKind::Sequence,
+            Word::Event => TokenKind::Event,
+            Word::Report => TokenKind::Report,
+            Word::When => TokenKind::When,
+        }
+    }
+}
+
+impl Sign {
+    /// The kind of its tokens.
+    pub fn kind(self) -> TokenKind
+        ensures { result ≡ kind_of_sign self }
+    {
+        match self {
+            Sign::Equals => TokenKind::Equals,
+            Sign::Semicolon => TokenKind::Semicolon,
+            Sign::Close => TokenKind::Close,
+        }
+    }
+}
+
+impl fmt::Display for Word {
+    fn fmt<W: fmt::Write>(&self, f: &mut fmt::Formatter<W>) -> fmt::Result {
+        f.write_str(match self {
+            Word::Mid => "mid",
+            Word::Length => "length",
+            Word::At => "at",
+            Word::Mask => "mask",
+            Word::Stale => "stale",
+            Word::Fails => "fails",
+            Word::Sequence => "sequence",
+            Word::Event => "event",
+            Word::Report => "report",
+            Word::When => "when",
+        })
+    }
+}
+
+impl fmt::Display for Sign {
+    fn fmt<W: fmt::Write>(&self, f: &mut fmt::Formatter<W>) -> fmt::Result {
+        f.write_str(match self {
+            Sign::Equals => "=",
+            Sign::Semicolon => ";",
+            Sign::Close => ")",
+        })
+    }
+}
+
+impl fmt::Display for What {
+    fn fmt<W: fmt::Write>(&self, f: &mut fmt::Formatter<W>) -> fmt::Result {
+        match self {
+            What::Item => write!(f, "`packet`, `field` or `rule`"),
+            What::Name => write!(f, "a name"),
+            What::Number => write!(f, "a number"),
+            What::Text => write!(f, "a string"),
+            What::FieldKind => write!(f, "a field type"),
+            What::State => write!(f, "`active`, `passive` or `disabled`"),
+            What::Level => write!(f, "`debug`, `info`, `error` or `critical`"),
+            What::Operand => write!(f, "a name, `not` or `(`"),
+            What::Compare => write!(f, "a comparison"),
+            What::Word(word) => write!(f, "`{word}`"),
+            What::Sign(sign) => write!(f, "`{sign}`"),
+        }
+    }
+}
