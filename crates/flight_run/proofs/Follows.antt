@@ -5,7 +5,7 @@ use Rattle.std.specs.Option.{option_map_or}
 use Rattle.lc_model.specs.Rule.{Actionpoint}
 use Rattle.lc_model.specs.Packet.{message_id, stream_fault, is_telemetry_mid, sample_mid}
 use Rattle.lc_model.specs.Tables.Equation.{terms_of}
-use Rattle.lc_model.specs.Tables.Half.{actions}
+use Rattle.lc_model.specs.Rule.{actions}
 use Rattle.lc_model.specs.Tables.HalvesAndBytes.{Text, TextImage}
 use Rattle.lc_model.specs.Events.Request.{Request}
 use Rattle.lc_model.specs.LimitChecker.Past.{Past}

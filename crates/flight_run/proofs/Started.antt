@@ -5,7 +5,7 @@ use Rattle.std.specs.List.{AllByRecursion}
 use Rattle.lc_model.specs.Rule.{NamedRule}
 use Rattle.lc_model.specs.Text.Reading.{Reads}
 use Rattle.lc_model.specs.Tables.Equation.{terms_of}
-use Rattle.lc_model.specs.Tables.Half.{actions}
+use Rattle.lc_model.specs.Rule.{actions}
 use Rattle.lc_model.specs.Tables.Image.{version_1_layouts}
 use Rattle.lc_model.specs.Tables.HalvesAndBytes.{Text}
 use Rattle.lc_model.specs.Host.Stream.{StreamEntry}

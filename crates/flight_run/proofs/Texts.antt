@@ -8,7 +8,7 @@ use Rattle.lc_model.specs.Packet.{message_id, function_code, payload, is_telemet
 use Rattle.lc_model.specs.Refusal.{Refusal, ◌>>=◌}
 use Rattle.lc_model.specs.Command.{SampleRequest, sample_request}
 use Rattle.lc_model.specs.Tables.Equation.{terms_of}
-use Rattle.lc_model.specs.Tables.Half.{actions}
+use Rattle.lc_model.specs.Rule.{actions}
 use Rattle.lc_model.specs.Tables.Slot.{in_use}
 use Rattle.lc_model.specs.Tables.HalvesAndBytes.{Text, TextImage}
 use Rattle.lc_model.specs.Events.Request.{Request, short_packet}

@@ -8,7 +8,8 @@ use Rattle.lc_model.specs.Events.Request.{Request, Event, Sequence}
 use Rattle.lc_model.specs.Host.FixedTables.{is_taken, sequences_sent}
 use Rattle.lc_model.specs.Rule.{NamedRule}
 use Rattle.lc_model.specs.Tables.Equation.{terms_of}
-use Rattle.limit_checker.specs.Watcher.{Watcher, fresh, actions, after_packet, after_aging, after_sample}
+use Rattle.limit_checker.specs.Watcher.{Watcher, fresh, after_packet, after_aging, after_sample}
+use Rattle.lc_model.specs.Rule.{actions}
 
 -- the Limit Checker, and the sequence count of the next request
 pub record Kept : Type 0 where

@@ -4,7 +4,8 @@ use Rattle.std.specs.List.{AllZip}
 use Rattle.lc_model.specs.Condition.{Condition}
 use Rattle.lc_model.specs.Rule.{Actionpoint}
 use Rattle.lc_model.specs.Tables.Equation.{IsRearranged}
-use Rattle.lc_model.specs.Tables.Half.{actions, Says}
+use Rattle.lc_model.specs.Tables.Half.{Says}
+use Rattle.lc_model.specs.Rule.{actions}
 use Rattle.lc_model.specs.Tables.Spelled.{spelled_terms, spelled_rules}
 use Rattle.lc_model.specs.Laws.Tables.{IsSameRule, HalvesSayTheText}
 use Rattle.lc_model.specs.Laws.Correspondence.{HalvesSpellTheText, BytesAgreeWithTexts, BytesFollowTexts}

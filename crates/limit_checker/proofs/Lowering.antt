@@ -18,7 +18,8 @@ use Rattle.lc_model.specs.LimitChecker.Steps.{Point}
 use Rattle.lc_model.specs.Kept.Summary.{Tally}
 use Rattle.lc_model.specs.Kept.Next.{unseen_result, by_counts}
 use Rattle.limit_checker.specs.declared.actionpoint.Entry.{Entry}
-use Rattle.limit_checker.specs.Watcher.{Watcher, actions, fresh, fresh_point}
+use Rattle.limit_checker.specs.Watcher.{Watcher, fresh, fresh_point}
+use Rattle.lc_model.specs.Rule.{actions}
 use Rattle.limit_checker.specs.Tables.{AreTables, watcher}
 use Rattle.limit_checker.specs.Entry.{rule_with, rule_in, no_condition, IsRunnable}
 use Rattle.limit_checker.specs.Layout.{entry_for, point_for, before_last, words_kept, flat, laid, IsShort, HasShortText}

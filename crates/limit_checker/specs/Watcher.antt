@@ -4,7 +4,7 @@ use Rattle.std.specs.Prelude.{ℕ, not, ◌&&◌, List, [], ◌∷◌, map, if�
 use Rattle.lc_model.specs.declared.field.Term.{Term}
 use Rattle.lc_model.specs.declared.mode.LcMode.{LcMode}
 use Rattle.lc_model.specs.declared.mode.LcMode.TheVariants.{Active}
-use Rattle.lc_model.specs.Rule.{Actionpoint, NamedRule}
+use Rattle.lc_model.specs.Rule.{Actionpoint}
 use Rattle.lc_model.specs.Events.Request.{Request, Event, Sequence}
 use Rattle.lc_model.specs.LimitChecker.Steps.{Point, is_disabled, is_sampled, sampled_point}
 use Rattle.lc_model.specs.Kept.Summary.{WatchResult, Tally}
@@ -31,10 +31,6 @@ fresh terms rules = record {
   watch = by_counts.unseen terms;
   points = map fresh_point rules;
 }
-
--- without their names
-abbrev pub actions : List NamedRule → List Actionpoint
-actions rules = map (λ (rule : NamedRule). rule.action) rules
 
 -- after a packet of telemetry
 abbrev pub after_packet : List ℕ → Watcher → Watcher

@@ -3,7 +3,7 @@
 
 ghost use Rattle.std.specs.Prelude.{◌≡◌, ◌*◌, length, nat_le, if◌then◌else◌, pos, ◌-ℤ◌};
 ghost use Rattle.lc_model.specs.Packet.{message_id as id_of};
-ghost use Rattle.lc_model.specs.Field.{value_of, width, raw, number_of_bits, compares as holds};
+ghost use Rattle.lc_model.specs.Field.{value_of, width, raw, twos_complement, compares as holds};
 
 use lc_model::{CmpOp, FieldType, Term};
 
@@ -49,7 +49,7 @@ fn signed(bits: u32, sign: u32) -> i64
 
 /// What bits say in a type: two's complement where the type is signed.
 fn number_in(kind: FieldType, bits: u32) -> i64
-    ensures { result ≡ number_of_bits kind bits }
+    ensures { result ≡ twos_complement kind bits }
 {
     match kind {
         FieldType::U8 | FieldType::U16Be | FieldType::U16Le | FieldType::U32Be | FieldType::U32Le =>

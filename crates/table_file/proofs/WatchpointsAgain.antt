@@ -10,7 +10,7 @@ use Rattle.lc_model.specs.declared.field.CmpOp.TheVariants.{Less, LessOrEqual, N
 use Rattle.lc_model.specs.declared.field.Term.{Term}
 use Rattle.lc_model.specs.Field.{is_signed, is_in_type, least, greatest}
 use Rattle.lc_model.specs.Codes.{type_code, operator_code}
-use Rattle.lc_model.specs.Tables.Image.{Watchpoints, bits_32, number_of_bits_32, term_bytes, type_of_code, FitsWatchpoint, wdt_image, entry_at, numbers_below, filled}
+use Rattle.lc_model.specs.Tables.Image.{Watchpoints, bits_32, twos_complement_32, term_bytes, type_of_code, FitsWatchpoint, wdt_image, entry_at, numbers_below, filled}
 use Rattle.lc_model.specs.Tables.Spelled.{operator_of_code, spelled_term}
 use Rattle.table_file.specs.Laws.{WatchpointsAreReadAgain}
 use Rattle.table_file.proofs.Entries.{terms_long}
@@ -81,7 +81,7 @@ small_again false n h = refl
 below_zero : (n : ℕ) → n < 2147483648 → pos (4294967295 - n) -ℤ pos 4294967296 ≡ negsuc n
 below_zero n h = omega (arith, ints)
 
-value_again : (k : FieldType) (v : ℤ) → is_in_type k v ≡ true → number_of_bits_32 k (bits_32 v) ≡ v
+value_again : (k : FieldType) (v : ℤ) → is_in_type k v ≡ true → twos_complement_32 k (bits_32 v) ≡ v
 value_again k (pos n) e = small_again (is_signed k) n (high k n e)
 value_again k (negsuc n) e =
     (λ i. number ((low k n e).0 i) (is_above 2147483648 (4294967295 - n) (omega (arith, (low k n e).1)) i) (4294967295 - n)) ∙ below_zero n (low k n e).1
@@ -104,8 +104,8 @@ term_again t fits =
     let masks = from_be_bytes-to_be_bytes_4 t.mask fits.mask in
     let stales = from_be_bytes-to_be_bytes_4 t.stale fits.stale in
     let bits = from_be_bytes-to_be_bytes_4 (bits_32 t.value) (bits_small t.kind t.value fits.value) in
-    let values : number_of_bits_32 t.kind (bits_32 t.value) ≡ t.value = value_again t.kind t.value fits.value in
-    let value_is = (λ i. number_of_bits_32 (kinds i) (bits i)) ∙ values in
+    let values : twos_complement_32 t.kind (bits_32 t.value) ≡ t.value = value_again t.kind t.value fits.value in
+    let value_is = (λ i. twos_complement_32 (kinds i) (bits i)) ∙ values in
     λ i. record { kind = kinds i; mid = mids i; offset = offsets i; mask = masks i; stale = stales i; op = operator_again t.op i; value = value_is i }
 
 pub watchpoints_again : WatchpointsAreReadAgain

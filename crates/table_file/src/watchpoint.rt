@@ -4,7 +4,7 @@ ghost use Rattle.std.specs.Prelude.{◌≡◌, ◌<◌, length, slice_index};
 ghost use Rattle.lc_model.specs.Bytes.{u16_at, u32_at};
 ghost use Rattle.lc_model.specs.Codes.{table_entries};
 ghost use Rattle.lc_model.specs.Field as model;
-ghost use Rattle.lc_model.specs.Tables.Image.{Watchpoints, image_length, entry_at, type_of_code, number_of_bits_32};
+ghost use Rattle.lc_model.specs.Tables.Image.{Watchpoints, image_length, entry_at, type_of_code, twos_complement_32};
 ghost use Rattle.lc_model.specs.Tables.Spelled.{operator_of_code, spelled_term};
 
 use crate::codes::{field_type_of, operator_of};
@@ -44,7 +44,7 @@ fn is_signed(kind: FieldType) -> bool
 
 /// The number that 32 bits are, in two's complement where the type has negative numbers.
 fn value_of(kind: FieldType, bits: u32) -> i64
-    ensures { result ≡ number_of_bits_32 kind bits }
+    ensures { result ≡ twos_complement_32 kind bits }
 {
     if is_signed(kind) && bits >= 0x8000_0000 {
         bits as i64 - 0x1_0000_0000
@@ -137,7 +137,7 @@ impl<'a> WatchpointEntry<'a> {
 
     /// The number that the field is compared with, if its type is this one.
     pub fn value(&self, kind: FieldType) -> i64
-        ensures { result ≡ number_of_bits_32 kind (u32_at self.now 20) }
+        ensures { result ≡ twos_complement_32 kind (u32_at self.now 20) }
     {
         value_of(kind, self.value_bits())
     }
