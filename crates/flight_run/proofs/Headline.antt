@@ -1,53 +1,58 @@
 -- From how a run ends to the theorem.
-use Rattle.std.proofs.Common.{◌≡◌, refl, sym, ◌∙◌, ap, subst, ℕ, List, [], ◌++◌, length, Option, Some, None, Result, Ok, Err, arith, append-nil}
+use Rattle.std.proofs.Common.{◌≡◌, refl, sym, ◌∙◌, ap, subst, inl, inr, ℕ, List, [], ◌++◌, length, Option, Some, None, Result, Ok, Err, arith, append-nil}
 use Rattle.std.specs.Io.KnownBytes.{Appends, Consumes, IsAtEnd}
 use Rattle.lc_model.specs.Rule.{NamedRule}
-use Rattle.lc_model.specs.Text.Reading.{Reads, ReadsOneComparison}
+use Rattle.lc_model.specs.Tables.Compiling.{Limits, Compiles, text_order_limits}
+use Rattle.lc_model.specs.Tables.Compiling as compiling
 use Rattle.lc_model.specs.Host.FixedTables.{fixed_output}
 use Rattle.lc_model.specs.Host.Stream.{StreamEntry, End, Whole, Bad}
 use Rattle.lc_model.specs.Host.Stream as stream
-use Rattle.lc_model.specs.Laws.Reading.{AtMostOneReading}
+use Rattle.lc_model.specs.Laws.Reading.{AtMostOneReading, AtMostOneVerdict}
 use Rattle.rpn_compiler.specs.declared.error.CompileError.{CompileError}
 use Rattle.rpn_compiler.specs.declared.error.CompileError.TheVariants as compiler
+use Rattle.rpn_compiler.specs.Fault.{Refuses}
 use Rattle.flight_run.specs.declared.error.Report.{Report}
 use Rattle.flight_run.specs.declared.error.RunError.{RunError}
 use Rattle.flight_run.specs.declared.error.RunError.TheVariants.{Compile, BadRecord, Truncated, Read, Write, ReadBound, Memory}
 use Rattle.flight_run.specs.Outcome.{Devices, TookAndWrote, IsOutcome, records}
 use Rattle.flight_run.specs.RunOne.{IsUntouched, IsRunOf, IsRun, refusal_of, IsUndisturbed, answer, WritesWhatIsCalledFor}
 
--- a reading in one comparison is a reading
-pub as_reading : (source : List ℕ) (rules : List NamedRule) → ReadsOneComparison source rules → Reads source rules
-as_reading source rules reads = (reads.0, reads.1, reads.2, reads.4, reads.6)
-
 -- ---- how a run begins
 
 -- a text that has no compiled form
-refused_by : (source : List ℕ) (d : Devices) → IsUntouched d → (error : CompileError) →
-    ((rules : List NamedRule) → ReadsOneComparison source rules → error ≡ compiler.Memory) →
+refused_by : (source : List ℕ) (d : Devices) → IsUntouched d → (error : CompileError) → Refuses (compiling.IsRefused text_order_limits source) error →
     IsRun source d (Err (refusal_of error))
-refused_by source d untouched compiler.Memory accepts = untouched
-refused_by source d untouched compiler.NotYet accepts = record {
-  first = refl;
-  why = refl;
-  unread = λ rules reads. cc (accepts rules reads);
-  untouched = untouched;
-}
+refused_by source d untouched error (inl memory) = subst (λ (e : CompileError). IsRun source d (Err (refusal_of e))) (sym memory) untouched
+refused_by source d untouched compiler.Memory (inr known) = untouched
+refused_by source d untouched (compiler.Lex e) (inr (refusal, is, why)) =
+    record { first = refl; refusal = refusal; is = is; why = why; untouched = untouched }
+refused_by source d untouched (compiler.Parse e) (inr (refusal, is, why)) =
+    record { first = refl; refusal = refusal; is = is; why = why; untouched = untouched }
+refused_by source d untouched (compiler.Check e) (inr (refusal, is, why)) =
+    record { first = refl; refusal = refusal; is = is; why = why; untouched = untouched }
+refused_by source d untouched compiler.TooManyWatchpoints (inr (refusal, is, why)) =
+    record { first = refl; refusal = refusal; is = is; why = why; untouched = untouched }
+refused_by source d untouched compiler.TooManyRules (inr (refusal, is, why)) =
+    record { first = refl; refusal = refusal; is = is; why = why; untouched = untouched }
+refused_by source d untouched (compiler.EquationTooLong rule) (inr (refusal, is, why)) =
+    record { first = refl; refusal = refusal; is = is; why = why; untouched = untouched }
+refused_by source d untouched (compiler.TooDeep rule) (inr (refusal, is, why)) =
+    record { first = refl; refusal = refusal; is = is; why = why; untouched = untouched }
 
-pub refused : (source : List ℕ) (d : Devices) → IsUntouched d → (error : CompileError) →
-    ((rules : List NamedRule) → ReadsOneComparison source rules → error ≡ compiler.Memory) →
+pub refused : (source : List ℕ) (d : Devices) → IsUntouched d → (error : CompileError) → Refuses (compiling.IsRefused text_order_limits source) error →
     (answer : RunError) → answer ≡ refusal_of error → IsRun source d (Err answer)
-refused source d untouched error accepts answer is =
-    subst (λ (e : RunError). IsRun source d (Err e)) (sym is) (refused_by source d untouched error accepts)
+refused source d untouched error why answer is =
+    subst (λ (e : RunError). IsRun source d (Err e)) (sym is) (refused_by source d untouched error why)
 
 -- a text that has one
-pub begun : (source : List ℕ) (rules : List NamedRule) (d : Devices) (result : Result Report RunError) → ReadsOneComparison source rules →
+pub begun : (source : List ℕ) (rules : List NamedRule) (d : Devices) (result : Result Report RunError) → Compiles text_order_limits source rules →
     IsOutcome (fixed_output (record { source = source; rules = rules })) d result → IsRun source d result
-begun source rules d (Ok report) reads outcome = record { rules = rules; reads = reads; outcome = outcome }
-begun source rules d (Err (BadRecord n)) reads outcome = record { rules = rules; reads = reads; outcome = outcome }
-begun source rules d (Err (Truncated n)) reads outcome = record { rules = rules; reads = reads; outcome = outcome }
-begun source rules d (Err Read) reads outcome = record { rules = rules; reads = reads; outcome = outcome }
-begun source rules d (Err ReadBound) reads outcome = record { rules = rules; reads = reads; outcome = outcome }
-begun source rules d (Err (Write sent)) reads outcome = record { rules = rules; reads = reads; outcome = outcome }
+begun source rules d (Ok report) reads outcome = record { rules = rules; compiles = reads; outcome = outcome }
+begun source rules d (Err (BadRecord n)) reads outcome = record { rules = rules; compiles = reads; outcome = outcome }
+begun source rules d (Err (Truncated n)) reads outcome = record { rules = rules; compiles = reads; outcome = outcome }
+begun source rules d (Err Read) reads outcome = record { rules = rules; compiles = reads; outcome = outcome }
+begun source rules d (Err ReadBound) reads outcome = record { rules = rules; compiles = reads; outcome = outcome }
+begun source rules d (Err (Write sent)) reads outcome = record { rules = rules; compiles = reads; outcome = outcome }
 begun source rules d (Err (Compile number error)) reads outcome = absurd outcome
 begun source rules d (Err Memory) reads outcome = absurd outcome
 
@@ -77,7 +82,7 @@ took_all whole taken (Some rest) begins ended =
 
 -- ---- the theorem
 
-module _ (one_reading : AtMostOneReading) (source : List ℕ) (d : Devices) where
+module _ (one_reading : AtMostOneReading) (one_verdict : (limits : Limits) (text : List ℕ) → AtMostOneVerdict limits text) (source : List ℕ) (d : Devices) where
   -- all records of the stream, and the output over them
   abbrev Called : List NamedRule → List ℕ → List ℕ → Result Report RunError → Type 0
   Called rules whole before result =
@@ -129,7 +134,7 @@ module _ (one_reading : AtMostOneReading) (source : List ℕ) (d : Devices) wher
 
   of_run : (result : Result Report RunError) → IsRunOf source d result → WritesWhatIsCalledFor source d result
   of_run result run rules whole before reads left gained calm =
-      let same : run.rules ≡ rules = one_reading source run.rules rules (as_reading source run.rules run.reads) (as_reading source rules reads) in
+      let same : run.rules ≡ rules = one_reading source run.rules rules run.compiles.0 reads.0 in
       by_outcome rules whole before left gained result calm
       (subst (λ (said : List NamedRule). IsOutcome (fixed_output (record { source = source; rules = said })) d result) same run.outcome)
 
@@ -140,5 +145,5 @@ module _ (one_reading : AtMostOneReading) (source : List ℕ) (d : Devices) wher
   headline (Err Read) run = of_run (Err Read) run
   headline (Err ReadBound) run = of_run (Err ReadBound) run
   headline (Err (Write sent)) run = of_run (Err (Write sent)) run
-  headline (Err (Compile number error)) run = λ rules whole before reads left gained calm. absurd (run.unread rules reads)
+  headline (Err (Compile number error)) run = λ rules whole before reads left gained calm. absurd ((one_verdict text_order_limits source).not_both rules run.refusal reads run.why)
   headline (Err Memory) run = λ rules whole before reads left gained calm. absurd (calm.memory refl)

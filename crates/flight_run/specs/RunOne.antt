@@ -2,13 +2,15 @@
 -- start. The format of streams is this project's own.
 use Rattle.std.specs.Prelude.{◌≡◌, ◌≢◌, ℕ, ◌^◌, ◌<◌, false, List, ◌++◌, length, Some, Result, Ok, Err}
 use Rattle.lc_model.specs.Rule.{NamedRule}
-use Rattle.lc_model.specs.Text.Reading.{ReadsOneComparison}
+use Rattle.lc_model.specs.Text.Reading.{TextRefusal}
+use Rattle.lc_model.specs.Tables.Compiling.{Compiles, text_order_limits}
+use Rattle.lc_model.specs.Tables.Compiling as compiling
 use Rattle.lc_model.specs.Host.FixedTables.{fixed_output}
 use Rattle.lc_model.specs.Host.Stream.{StreamEntry, End, Whole, Bad}
 use Rattle.lc_model.specs.Host.Stream as stream
 use Rattle.rpn_compiler.specs.declared.error.CompileError.{CompileError}
-use Rattle.rpn_compiler.specs.declared.error.CompileError.TheVariants.{NotYet}
 use Rattle.rpn_compiler.specs.declared.error.CompileError.TheVariants as compiler
+use Rattle.rpn_compiler.specs.Fault as fault
 use Rattle.flight_run.specs.declared.error.Report.{Report}
 use Rattle.flight_run.specs.declared.error.RunError.{RunError}
 use Rattle.flight_run.specs.declared.error.RunError.TheVariants.{Compile, BadRecord, Truncated, Memory}
@@ -22,17 +24,18 @@ pub record IsUntouched (d : Devices) : Type 0 where
   pub gained : d.gained_after ≡ d.gained
   pub no_write_failed : d.write_fails ≡ false
 
--- the text is no text of one comparison, and nothing was read and nothing written
+-- the text does not compile, and this is why; nothing was read and nothing written
 pub record IsRefused (source : List ℕ) (d : Devices) (number : ℕ) (error : CompileError) : Type 0 where
   pub first : number ≡ 0
-  pub why : error ≡ NotYet
-  pub unread : (rules : List NamedRule) → ¬ ReadsOneComparison source rules
+  pub refusal : TextRefusal
+  pub is : fault.refusal_of error ≡ Some refusal
+  pub why : compiling.IsRefused text_order_limits source refusal
   pub untouched : IsUntouched d
 
--- the text says rules, and the run ended so over them
+-- the text compiles and says rules, and the run ended so over them
 pub record IsRunOf (source : List ℕ) (d : Devices) (result : Result Report RunError) : Type 0 where
   pub rules : List NamedRule
-  pub reads : ReadsOneComparison source rules
+  pub compiles : Compiles text_order_limits source rules
   pub outcome : IsOutcome (fixed_output (record { source = source; rules = rules })) d result
 
 -- how a run ends, whatever the text and the stream
@@ -44,7 +47,7 @@ IsRun source d result = IsRunOf source d result
 -- the answer where the text, the only one, has no compiled form
 abbrev pub refusal_of : CompileError → RunError
 refusal_of compiler.Memory = Memory
-refusal_of NotYet = Compile 0 NotYet
+refusal_of error = Compile 0 error
 
 -- ---- the theorem
 
@@ -61,11 +64,11 @@ pub record IsUndisturbed (d : Devices) (result : Result Report RunError) : Type 
   pub few_reads : d.reads < 2 ^ 32
   pub memory : result ≢ Err Memory
 
--- for every text of one comparison and every stream: the writer gained exactly the bytes that the rules call for over the
+-- for every text that compiles and every stream: the writer gained exactly the bytes that the rules call for over the
 -- stream's records, and the answer says how these end
 abbrev pub WritesWhatIsCalledFor : List ℕ → Devices → Result Report RunError → Type 0
 WritesWhatIsCalledFor source d result =
-    (rules : List NamedRule) (stream before : List ℕ) → ReadsOneComparison source rules → d.left ≡ Some stream → d.gained ≡ Some before →
+    (rules : List NamedRule) (stream before : List ℕ) → Compiles text_order_limits source rules → d.left ≡ Some stream → d.gained ≡ Some before →
     IsUndisturbed d result →
     let output : List ℕ = fixed_output (record { source = source; rules = rules }) (records stream).0 in
     (d.gained_after ≡ Some (before ++ output)) × (result ≡ answer (records stream) (length output))

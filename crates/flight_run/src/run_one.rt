@@ -79,8 +79,9 @@ fn compile_and_fly<R: ByteSource, W: ByteSink>(
 /// The text is compiled first, and all memory taken, before anything is read. At most 2^32 reads are made, of at most
 /// 65,547 bytes each; a read or a write that fails is not tried again. What was written before a fault stands.
 ///
-/// Errors: `Compile` for a text that is none of one comparison (text 0), `Memory` before the first read; then `BadRecord`
-/// and `Truncated` with the record's number from 1, `Read`, `Write` with the bytes that the writer took, `ReadBound`.
+/// Errors: `Compile` with the first refusal of a text that doesn't compile (text 0), `Memory`, both before the first read;
+/// then `BadRecord` and `Truncated` with the record's number from 1, `Read`, `Write` with the bytes that the writer took,
+/// `ReadBound`.
 pub fn run_one<R: ByteSource, W: ByteSink>(
     alloc: Global,
     text: &[u8],
@@ -100,5 +101,6 @@ pub fn run_one<R: ByteSource, W: ByteSink>(
         (W.gained writer.old) (W.gained writer.new) (W.has_failed writer.new)) result }
 {
     laws::reading::reads_in_one_way();
+    laws::reading::has_at_most_one_verdict();
     compile_and_fly(alloc, text, reader, writer)
 }

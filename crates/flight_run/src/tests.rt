@@ -4,10 +4,14 @@
 //! then fails with "out of memory" until N is past its last allocation, and none of them fails otherwise;
 //! `want_of_memory_touches_nothing` never fails.
 
+mod long_run;
+mod rules;
+
 use crate::low_volts::{TEXT, aging_sample, push_packet, sample, two_failing_samples, volts};
 use crate::{Report, RunError, run_one};
 use lc_model::{ByteSink, ByteSource, Limited, Pieces};
 use rpn_compiler::CompileError;
+use rule_lexer::LexError;
 use std::alloc::Global;
 use std::test::Fail;
 
@@ -189,7 +193,7 @@ fn a_refused_text_reads_nothing(rt: HostRuntime) -> Result<(), Fail> {
     let mut reader = Pieces::new(stream.as_slice(), 99);
     let mut writer = Limited::new(&mut room, 64);
     let answer = run_one(rt.alloc(), b"@", &mut reader, &mut writer);
-    let error = CompileError::NotYet;
+    let error = CompileError::Lex(LexError::BadByte { at: 0 });
     assert_eq!(rt; answer, Err(RunError::Compile { text: 0, error }));
     assert_eq!(rt; reader.reads(), 0);
     assert_eq!(rt; writer.bytes().len(), 0);
@@ -198,7 +202,7 @@ fn a_refused_text_reads_nothing(rt: HostRuntime) -> Result<(), Fail> {
 
 #[test]
 fn what_ends_a_run_has_a_number(rt: HostRuntime) {
-    let error = CompileError::NotYet;
+    let error = CompileError::TooManyRules;
     let table = [
         (RunError::BadRecord { n: 1 }, Some(141)),
         (RunError::Truncated { n: 1 }, Some(142)),

@@ -1,1 +1,4 @@
-pub mod OneRule
+-- What the compiler proves of rules and texts.
+pub mod Numbered
+pub mod Judging
+pub mod Refused

@@ -1,4 +1,5 @@
 -- What the compiler's contracts cite.
 pub mod Fault
 pub mod Lowered
-pub mod OneTerm
+pub mod Numbered
+pub mod Limits

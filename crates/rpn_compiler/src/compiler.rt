@@ -1,71 +1,78 @@
 //! From a text to its compiled form.
 
-ghost use Rattle.std.specs.Prelude.{◌≡◌, List, [], ◌∷◌, IfOk, MatchResult};
-ghost use Rattle.lc_model.specs.Rule.{NamedRule, rules_of};
-ghost use Rattle.lc_model.specs.Text.Reading.{ReadsOneComparison};
-ghost use Rattle.lc_model.specs.Tables.Equation.{equal_word};
+ghost use Rattle.std.specs.Prelude.{◌≡◌, ◌<◌, List, Some, length, IfErr, IfOk, MatchResult};
+ghost use Rattle.std.specs.List.{AllByRecursion};
+ghost use Rattle.lc_model.specs.Rule.{NamedRule};
+ghost use Rattle.lc_model.specs.Text.Reading.{IsUnreadable, Reads, TextRefusal};
+ghost use Rattle.lc_model.specs.Tables.Compiling.{Compiles, IsRefused, limit_refusal, text_order_limits};
 ghost use Rattle.rpn_compiler.specs.declared.error.CompileError.TheVariants.{Memory};
+ghost use Rattle.rpn_compiler.specs.Fault.{Refuses};
 ghost use Rattle.rpn_compiler.specs.Lowered.{IsLowered};
-ghost use Rattle.rpn_compiler.specs.OneTerm.{only_term};
 
+use crate::equation::equations;
 use crate::error::CompileError;
+use crate::limits;
 use crate::lowered::Lowered;
-use lc_model::laws::reading::rules_are_within_ranges;
-use lc_model::{Cond, Rule, Term};
-use rule_parser::parse_one;
-use std::alloc::{AllocError, Global};
+use field_checker::check;
+use lc_model::RuleSet;
+use lc_model::laws::reading;
+use rule_lexer::lex;
+use rule_parser::parse;
+use std::alloc::Global;
+use watch_sharing::share;
 
-/// The word that ends an equation.
-const EQUAL: u16 = 0xFF05;
-
-/// The term of a single rule whose condition is one comparison.
-fn only_term(rules: &[Rule]) -> Option<Term>
-    ensures { result ≡ only_term (rules_of rules.now) }
+/// The rules that a text says.
+fn read(alloc: Global, text: &[u8]) -> Result<RuleSet, CompileError>
+    ensures reads { IfOk result (λ set. Reads text.now set.rules) }
+    ensures refused { IfErr result (Refuses (IsUnreadable text.now)) }
 {
-    match rules {
-        [rule] => match rule.cond {
-            Cond::Watch(term) => Some(term),
-            _ => None,
-        },
-        _ => None,
-    }
+    let tokens = lex(alloc, text)?;
+    let file = parse(alloc, text, tokens.as_slice())?;
+    Ok(check(alloc, &file)?)
 }
 
-/// A vector with this value alone.
-fn single<T: Drop>(alloc: Global, value: T) -> Result<Vec<T>, CompileError>
-    ensures { MatchResult result (λ found. found.items ≡ value ∷ []) (λ error. error ≡ Memory) }
+/// The watchpoints and equations of rules, within the limits of the tables.
+fn lower_rules(alloc: Global, rules: RuleSet) -> Result<Lowered, CompileError>
+    requires { AllByRecursion (λ (rule : NamedRule). length rule.action.text < 32) rules.rules }
+    ensures rules { IfOk result (λ lowered. lowered.rules.rules ≡ rules.rules) }
+    ensures lowered { IfOk result IsLowered }
+    ensures refused { IfErr result (Refuses (λ refusal. limit_refusal text_order_limits rules.rules ≡ Some refusal)) }
 {
-    let mut values = Vec::with_capacity(alloc, 1)?;
-    values.push(value)?;
-    Ok(values)
+    let shared = share(alloc, &rules)?;
+    limits::judge(rules.rules.as_slice())?;
+    let words = equations(alloc, rules.rules.as_slice(), shared.mentions.as_slice())?;
+    Ok(Lowered {
+        rules,
+        terms: shared.terms,
+        words,
+    })
 }
 
-/// The equation that is the first watchpoint alone.
-fn first_watchpoint(alloc: Global) -> Result<Vec<u16>, AllocError>
-    ensures { IfOk result (λ words. words.items ≡ 0 ∷ equal_word ∷ []) }
+/// The compiled form of a text, or the first refusal.
+fn lower_text(alloc: Global, text: &[u8]) -> Result<Lowered, CompileError>
+    ensures compiles { IfOk result (λ lowered. Compiles text_order_limits text.now lowered.rules.rules) }
+    ensures lowered { IfOk result IsLowered }
+    ensures refused { IfErr result (Refuses (IsRefused text_order_limits text.now)) }
 {
-    [0, EQUAL].to_vec(alloc)
+    reading::rules_are_within_ranges();
+    let rules = read(alloc, text)?;
+    lower_rules(alloc, rules)
 }
 
 /// Compiles a rule text: its rules as the text says them, their watchpoints in order of first mention, and for each rule
-/// the words of its equation, operands first, with EQUAL (0xFF05) at the end.
+/// the words of its equation, operands first in the text's order, with EQUAL (0xFF05) at the end.
 ///
-/// For now a text is compiled where it is one packet, one field and one rule, in this order, where the rule has no report
-/// and its condition is one comparison without parentheses. Any other bytes are `NotYet`; `Memory` comes only where what
-/// is compiled finds no room.
+/// Errors: the first refusal, where the whole text is lexed, then parsed, then checked, and its watchpoints are counted,
+/// its rules, and last the words and waiting operands of each rule. `Memory` comes only where what is compiled finds no
+/// room.
 pub fn lower(alloc: Global, text: &[u8]) -> Result<Lowered, CompileError>
-    ensures reads { IfOk result (λ lowered. ReadsOneComparison text.now lowered.rules.rules) }
+    ensures compiles { IfOk result (λ lowered. Compiles text_order_limits text.now lowered.rules.rules) }
     ensures lowered { IfOk result IsLowered }
-    ensures accepts { (rules : List NamedRule) → ReadsOneComparison text.now rules → MatchResult result (λ lowered. lowered.rules.rules ≡ rules) (λ error. error ≡ Memory) }
+    ensures refused { IfErr result (Refuses (IsRefused text_order_limits text.now)) }
+    ensures accepts { (rules : List NamedRule) → Compiles text_order_limits text.now rules → MatchResult result (λ lowered. lowered.rules.rules ≡ rules) (λ error. error ≡ Memory) }
+    ensures refuses { (refusal : TextRefusal) → IsRefused text_order_limits text.now refusal → MatchResult result (λ _. ⊥) (Refuses (λ found. found ≡ refusal)) }
 {
-    rules_are_within_ranges();
-    let rules = parse_one(alloc, text)?;
-    let Some(term) = only_term(rules.rules.as_slice()) else {
-        return Err(CompileError::NotYet);
-    };
-    Ok(Lowered {
-        rules,
-        terms: single(alloc, term)?,
-        words: single(alloc, first_watchpoint(alloc)?)?,
-    })
+    reading::reads_in_one_way();
+    reading::has_at_most_one_verdict();
+    lower_text(alloc, text)
 }

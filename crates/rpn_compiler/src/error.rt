@@ -1,31 +1,87 @@
 //! Why a text isn't compiled.
 
-ghost use Rattle.std.specs.Prelude.{◌≡◌};
+ghost use Rattle.std.specs.Prelude.{◌≡◌, option_map};
 ghost use Rattle.rpn_compiler.specs.declared.error.CompileError.TheVariants.{Memory};
-ghost use Rattle.rpn_compiler.specs.Fault.{compile_error_of};
+ghost use Rattle.rpn_compiler.specs.Fault.{code_of, error_of_checker, error_of_lexer, error_of_parser, error_of_sharing, refusal_of};
 
+use field_checker::CheckError;
+use rule_lexer::LexError;
 use rule_parser::ParseError;
 use std::alloc::{AllocError, AllocFailed};
 use thiserror::Error;
+use watch_sharing::ShareError;
 
-/// Why a text has no compiled form.
+/// Why a text has no compiled form: the first refusal of the first part of the compiler that has one, each part over the
+/// whole text.
 #[derive(Clone, Copy, Debug, PartialEq, Eq, Error)]
 pub enum CompileError {
-    /// The text isn't one rule with one comparison of one packet's field.
-    #[error("the text is no single comparison")]
-    NotYet,
-    /// No memory for the rule, its watchpoint or its words.
+    /// A token that is none, or a text that is too long: 1 to 5.
+    #[error("{0}")]
+    Lex(LexError),
+    /// A token that continues no reading, or one that nests too deep: 11 and 12.
+    #[error("{0}")]
+    Parse(ParseError),
+    /// A name, a place or a number that isn't right: 21 to 29.
+    #[error("{0}")]
+    Check(CheckError),
+    /// Over 176 distinct watchpoints: 31.
+    #[error("the rules mention over 176 watchpoints")]
+    TooManyWatchpoints,
+    /// Over 176 rules: 41.
+    #[error("there are over 176 rules")]
+    TooManyRules,
+    /// The first rule, counted from 0, that has over 20 words, EQUAL included, or over 8 operands that wait; this one has too
+    /// many words: 42.
+    #[error("the equation of rule {rule} has over 20 words")]
+    EquationTooLong { rule: usize },
+    /// The same, but not too many words: 43.
+    #[error("over 8 operands wait in the equation of rule {rule}")]
+    TooDeep { rule: usize },
+    /// No memory for what is compiled.
     #[error("out of memory")]
     Memory,
 }
 
+impl From<LexError> for CompileError {
+    ghost from_gives = { λ e f. f ≡ error_of_lexer e };
+
+    fn from(error: LexError) -> CompileError {
+        match error {
+            LexError::Memory => CompileError::Memory,
+            error => CompileError::Lex(error),
+        }
+    }
+}
+
 impl From<ParseError> for CompileError {
-    ghost from_gives = { λ e f. f ≡ compile_error_of e };
+    ghost from_gives = { λ e f. f ≡ error_of_parser e };
 
     fn from(error: ParseError) -> CompileError {
         match error {
-            ParseError::NotYet => CompileError::NotYet,
             ParseError::Memory => CompileError::Memory,
+            error => CompileError::Parse(error),
+        }
+    }
+}
+
+impl From<CheckError> for CompileError {
+    ghost from_gives = { λ e f. f ≡ error_of_checker e };
+
+    fn from(error: CheckError) -> CompileError {
+        match error {
+            CheckError::Memory => CompileError::Memory,
+            error => CompileError::Check(error),
+        }
+    }
+}
+
+impl From<ShareError> for CompileError {
+    ghost from_gives = { λ e f. f ≡ error_of_sharing e };
+
+    fn from(error: ShareError) -> CompileError {
+        match error {
+            ShareError::TooManyWatchpoints => CompileError::TooManyWatchpoints,
+            ShareError::Memory => CompileError::Memory,
         }
     }
 }
@@ -43,5 +99,23 @@ impl<T: Drop> From<AllocFailed<T>> for CompileError {
 
     fn from(_failed: AllocFailed<T>) -> CompileError {
         CompileError::Memory
+    }
+}
+
+impl CompileError {
+    /// The refusal's number, 1 to 43. Want of memory has none, since the text isn't at fault.
+    pub fn code(self) -> Option<u8>
+        ensures { result ≡ option_map code_of (refusal_of self) }
+    {
+        match self {
+            CompileError::Lex(error) => error.code(),
+            CompileError::Parse(error) => error.code(),
+            CompileError::Check(error) => error.code(),
+            CompileError::TooManyWatchpoints => Some(31),
+            CompileError::TooManyRules => Some(41),
+            CompileError::EquationTooLong { .. } => Some(42),
+            CompileError::TooDeep { .. } => Some(43),
+            CompileError::Memory => None,
+        }
     }
 }

@@ -1,8 +1,10 @@
-//! The ground compiler of rules: a rule text becomes its rules, their watchpoints, and the words of each rule's equation.
+//! The compiler of rule texts: from a text to its rules, their watchpoints and the words of their equations.
 #![tactic(auto)]
 
 mod compiler;
+mod equation;
 mod error;
+mod limits;
 mod lowered;
 #[cfg(test)]
 mod tests;

@@ -1,150 +1,84 @@
-//! Rule texts with their watchpoint and words, as the rules of the language and the codes of equations give them.
+//! Rule texts with what they are compiled to, and texts that are refused.
+
+mod equations;
+mod limits;
+mod memory;
+mod refusals;
 
 use crate::compiler::lower;
 use crate::error::CompileError;
 use crate::lowered::Lowered;
 use lc_model::{CmpOp, FieldType, Term};
+use std::alloc::{AllocError, Global};
 use std::process::Abort;
-use std::test::Fail;
 
-/// A text that says one comparison.
-const LOW_VOLTS: &str = "packet P = mid 0x0883 length 16; field V = P u16be at 12 stale 2; \
-    rule LOW active fails 2 sequence 7 event error 1001 \"low volts\" when V < 2400;";
+/// A packet and a field of it.
+const DECLARATIONS: &str =
+    "packet P = mid 0x0883 length 16; field V = P u16be at 12 stale 2; ";
 
-/// Its watchpoint.
-const BELOW_2400: Term = Term {
-    kind: FieldType::U16Be,
-    mid: 0x0883,
-    offset: 12,
-    mask: 0xFFFF,
-    stale: 2,
-    op: CmpOp::Less,
-    value: 2400,
-};
+/// What a rule says before its condition.
+const RULE: &str =
+    " active fails 2 sequence 7 event error 1001 \"low volts\" when ";
 
-/// One rule, over this watchpoint alone: its words are the watchpoint's number, 0, and EQUAL, 0xFF05.
-fn has<R: Abort>(rt: &R, lowered: &Lowered, expected: Term, text: &str) {
-    assert_eq!(rt; lowered.rules.rules.as_slice().len(), 1, "of {text}");
-    assert_eq!(rt;
-        lowered.terms.as_slice(),
-        [expected].as_slice(),
-        "of {text}"
-    );
-    match lowered.words.as_slice() {
-        [words] => assert_eq!(rt; words.as_slice(), [0, 0xFF05].as_slice(), "of {text}"),
-        _ => panic!(rt; "no single equation in {text}"),
+/// The field below this number.
+fn below(value: i64) -> Term {
+    Term {
+        kind: FieldType::U16Be,
+        mid: 0x0883,
+        offset: 12,
+        mask: 0xFFFF,
+        stale: 2,
+        op: CmpOp::Less,
+        value,
     }
 }
 
-/// The text is compiled to this watchpoint and its equation, or not at all.
-fn lowers<R: Abort + AllocGlobal>(rt: &R, text: &str, expected: Option<Term>) {
-    match lower(rt.alloc(), text.as_bytes()) {
-        Ok(lowered) => match expected {
-            Some(expected) => has(rt, &lowered, expected, text),
-            None => panic!(rt; "{text} is compiled"),
-        },
-        Err(error) => {
-            assert_eq!(rt; error, CompileError::NotYet, "of {text}");
-            assert_eq!(rt; None, expected, "of {text}");
-        }
+/// The declarations, and a rule with each of these conditions.
+fn text_of(alloc: Global, conditions: &[&str]) -> Result<Vec<u8>, AllocError> {
+    let mut text = DECLARATIONS.as_bytes().to_vec(alloc)?;
+    for (number, condition) in conditions.iter().enumerate() {
+        push_rule(&mut text, number, condition.as_bytes())?;
     }
+    Ok(text)
 }
 
-#[test]
-fn watchpoints_and_words(rt: HostRuntime) -> Result<(), Fail> {
-    let rows = [
-        // as it is, and each part of the watchpoint changed
-        ("LOW", "LOW", Some(BELOW_2400)),
-        (
-            "0x0883",
-            "0x0FFF",
-            Some(Term {
-                mid: 0x0FFF,
-                ..BELOW_2400
-            }),
-        ),
-        (
-            "at 12",
-            "at 14",
-            Some(Term {
-                offset: 14,
-                ..BELOW_2400
-            }),
-        ),
-        (
-            "u16be",
-            "i16le",
-            Some(Term {
-                kind: FieldType::I16Le,
-                ..BELOW_2400
-            }),
-        ),
-        (
-            "stale 2",
-            "mask 0xFF0",
-            Some(Term {
-                mask: 0xFF0,
-                stale: 0,
-                ..BELOW_2400
-            }),
-        ),
-        (
-            "stale 2",
-            "",
-            Some(Term {
-                stale: 0,
-                ..BELOW_2400
-            }),
-        ),
-        (
-            "<",
-            ">=",
-            Some(Term {
-                op: CmpOp::GreaterOrEqual,
-                ..BELOW_2400
-            }),
-        ),
-        (
-            "2400",
-            "0",
-            Some(Term {
-                value: 0,
-                ..BELOW_2400
-            }),
-        ),
-        ("packet", "# a comment\npacket", Some(BELOW_2400)),
-        // one past a border
-        ("0x0883", "0x1000", None),
-        ("0x0883", "0x0808", None),
-        ("at 12", "at 15", None),
-        ("stale 2", "mask 0x10000", None),
-        ("2400", "65536", None),
-        ("fails 2", "fails 0", None),
-        ("1001", "999", None),
-        ("length 16", "length 2049", None),
-        // another form
-        ("when V", "when not V", None),
-        ("V < 2400", "(V < 2400)", None),
-        ("when", "report 1 2 3 when", None),
-        ("2400;", "2400", None),
-        ("packet", "@ packet", None),
-    ];
-    for (words, others, expected) in rows {
-        assert!(rt; LOW_VOLTS.contains(words), "{words}");
-        let text = LOW_VOLTS.replace(rt.alloc(), words, others)?;
-        lowers(&rt, &text, expected);
+/// Adds a rule with a name of its own and this condition.
+fn push_rule(text: &mut Vec<u8>, number: usize, condition: &[u8]) -> Result<(), AllocError> {
+    text.extend_from_slice(b"rule R")?;
+    push_number(text, number)?;
+    text.extend_from_slice(RULE.as_bytes())?;
+    text.extend_from_slice(condition)?;
+    text.extend_from_slice(b"; ")
+}
+
+/// Adds a number below 1,000 in three digits.
+fn push_number(text: &mut Vec<u8>, number: usize) -> Result<(), AllocError> {
+    for place in [100, 10, 1] {
+        text.push(b'0' + (number / place % 10) as u8)?;
     }
-    lowers(&rt, "", None);
     Ok(())
 }
 
-/// Where an allocation fails, the answer is `Memory`, and no other: `rt try --test --fail-alloc N` has each in turn
-/// refused here: the tokens' room and its growths, the rule's room, its name and text, the watchpoint's room, the words
-/// and their room. (The other test asks for what is compiled, and fails then.)
-#[test]
-fn a_compiled_rule_or_no_memory(rt: HostRuntime) {
-    match lower(rt.alloc(), LOW_VOLTS.as_bytes()) {
-        Ok(lowered) => has(&rt, &lowered, BELOW_2400, LOW_VOLTS),
-        Err(error) => assert_eq!(rt; error, CompileError::Memory),
+/// What the text is compiled to.
+fn lowered<R: Abort + AllocGlobal>(rt: &R, text: &[u8]) -> Lowered {
+    match lower(rt.alloc(), text) {
+        Ok(lowered) => lowered,
+        Err(error) => panic!(rt; "the text is refused: {error}"),
+    }
+}
+
+/// The text is refused so.
+fn is_refused<R: Abort + AllocGlobal>(rt: &R, text: &[u8], expected: CompileError) {
+    match lower(rt.alloc(), text) {
+        Ok(_) => panic!(rt; "the text is compiled, in place of: {expected}"),
+        Err(error) => assert_eq!(rt; error, expected),
+    }
+}
+
+/// The words of the equation of the rule with this number.
+fn has_words<R: Abort>(rt: &R, lowered: &Lowered, rule: usize, expected: &[u16]) {
+    match lowered.words.get(rule) {
+        Some(words) => assert_eq!(rt; words.as_slice(), expected, "of rule {rule}"),
+        None => panic!(rt; "there is no rule {rule}"),
     }
 }

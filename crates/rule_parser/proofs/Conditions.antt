@@ -32,7 +32,6 @@ pub refuses_too : (P Q : ParseFault → Type 0) → ((fault : ParseFault) → P 
 refuses_too P Q to (error.Expected at what) r = to _ r
 refuses_too P Q to (error.TooNested at) r = to _ r
 refuses_too P Q to error.Memory r = tt
-refuses_too P Q to error.NotYet r = r
 
 pub passed_on : {T : Type 0} (P : T → Type 0) (Q : ParseError → Type 0) (r : Result T ParseError) (e : ParseError) →
     IsErrAnd r (λ f. f ≡ e) → Q e → MatchResult r P Q

@@ -14,7 +14,3 @@ pub mod Heads
 pub mod Files
 pub mod Parsed
 pub mod Fronts
-pub mod Taken
-pub mod Again
-pub mod Clean
-pub mod Accepted

@@ -5,7 +5,7 @@ use Rattle.lc_model.specs.Text.Token.{Token}
 use Rattle.lc_model.specs.Text.Syntax.{Item}
 use Rattle.lc_model.specs.Text.Reading.{Parses, ParseFault, HasParseFault}
 use Rattle.rule_parser.specs.declared.error.ParseError.{ParseError}
-use Rattle.rule_parser.specs.declared.error.ParseError.TheVariants.{NotYet, Expected, TooNested, Memory}
+use Rattle.rule_parser.specs.declared.error.ParseError.TheVariants.{Expected, TooNested, Memory}
 use Rattle.rule_parser.specs.Fault.{Refuses}
 use Rattle.rule_parser.specs.File.{TookAll, StopsAll}
 use Rattle.rule_parser.specs.Laws.{AtMostOneParse}
@@ -27,7 +27,6 @@ accepts items_of end tokens (Err error) one is other items parses = go error oth
   where
     go : (error : ParseError) → Refuses (HasParseFault end tokens) error → error ≡ Memory
     go Memory r = λ i. Memory
-    go NotYet r = absurd r
     go (Expected at what) r = absurd (one.not_both items _ parses r)
     go (TooNested at) r = absurd (one.not_both items _ parses r)
 

@@ -75,11 +75,6 @@ abbrev pub Gives : {X Y : Type 0} → (X → Y) → (after : List model.Token) �
 Gives view after (Some x) read = read ≡ Some (view x, after)
 Gives view after None read = read ≡ None
 
--- the same where no tokens are left
-abbrev pub GivesAll : {X Y : Type 0} → (X → Y) → Option X → Option Y → Type 0
-GivesAll view (Some x) read = read ≡ Some (view x)
-GivesAll view None read = read ≡ None
-
 -- no tokens are left
 abbrev pub is_empty : List model.Token → Bool
 is_empty [] = true
@@ -114,18 +109,7 @@ string_at tokens = do
   t ← token_at class.Text tokens
   Some (string_text t.0.text, t.1)
 
--- a word and a number
-unfoldable pub labelled_at : Class → List model.Token → Option (syntax.Number × List model.Token)
-labelled_at wanted tokens = do
-  w ← token_at wanted tokens
-  number_at w.1
-
 -- whether a token of the class is the first
 unfoldable pub begins : Class → List model.Token → Bool
 begins wanted [] = false
 begins wanted (t ∷ ts) = fits wanted t.text
-
--- a word and a number, or nothing
-unfoldable pub option_at : Class → List model.Token → Option (Option syntax.Number × List model.Token)
-option_at wanted tokens =
-    if begins wanted tokens then option_map (λ n. (Some n.0, n.1)) (labelled_at wanted tokens) else Some (None, tokens)

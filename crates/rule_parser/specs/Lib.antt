@@ -2,14 +2,10 @@
 pub mod What
 pub mod Fault
 pub mod Syntax
-pub mod OneComparison
 pub mod Front
-pub mod Items
 pub mod Left
 pub mod Stack
 pub mod Condition
 pub mod Head
 pub mod File
 pub mod Laws
-pub mod Reading
-pub mod Soundness

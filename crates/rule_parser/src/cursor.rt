@@ -6,7 +6,7 @@ ghost use Rattle.lc_model.specs.Text.Class as class;
 ghost use Rattle.lc_model.specs.Text.Class.{comparison, event_kind, field_type, state};
 ghost use Rattle.rule_lexer.specs.Token.{tokens_of, token_of, HasItsKind};
 ghost use Rattle.rule_parser.specs.Syntax.{name_of, number_of};
-ghost use Rattle.rule_parser.specs.Front.{Gives, IsNext, begins, class_of, is_empty, is_plain, labelled_at, number_at, option_at, place_in, string_at, token_at, value_at};
+ghost use Rattle.rule_parser.specs.Front.{Gives, IsNext, begins, class_of, is_empty, is_plain, number_at, place_in, string_at, token_at, value_at};
 
 use crate::syntax::{Name, Number};
 use lc_model::{ApMode, CmpOp, EventKind, FieldType};
@@ -174,28 +174,5 @@ impl<'t, 'a> Cursor<'t, 'a> {
     {
         let text = self.take(TokenKind::Text)?.text;
         Some(inner(text))
-    }
-
-    /// A reserved word and a number.
-    #[tactic(auto, unfolding(crate::specs::Front::labelled_at))]
-    pub fn labelled(&mut self, word: TokenKind) -> Option<Number>
-        requires { IsTrue (is_plain word) }
-        ensures { Gives number_of self.new result (labelled_at (class_of word) self.old) }
-    {
-        self.take(word)?;
-        self.number()
-    }
-
-    /// A reserved word and a number, or nothing where the word doesn't stand next.
-    #[tactic(auto, unfolding(crate::specs::Front::option_at))]
-    pub fn optional(&mut self, word: TokenKind) -> Option<Option<Number>>
-        requires { IsTrue (is_plain word) }
-        ensures { Gives (option_map number_of) self.new result (option_at (class_of word) self.old) }
-    {
-        if self.begins(word) {
-            Some(Some(self.labelled(word)?))
-        } else {
-            Some(None)
-        }
     }
 }

@@ -2,19 +2,15 @@
 
 ghost use Rattle.std.specs.Prelude.{◌≡◌};
 ghost use Rattle.rule_parser.specs.declared.error.ParseError.TheVariants.{Memory};
-ghost use Rattle.rule_parser.specs.Fault.{error_code, parse_error_of};
+ghost use Rattle.rule_parser.specs.Fault.{error_code};
 
 use crate::what::What;
-use rule_lexer::LexError;
 use std::alloc::{AllocError, AllocFailed};
 use thiserror::Error;
 
-/// Why a text has no rule.
+/// The first fault of a text's tokens, with the number of bytes before it.
 #[derive(Clone, Copy, Debug, PartialEq, Eq, Error)]
 pub enum ParseError {
-    /// The text isn't one packet, one field and one rule with one comparison, in this order, or they aren't meant so.
-    #[error("the text is no single comparison")]
-    NotYet,
     /// The token at this place, or the text's end, where the grammar wants another: one of this class, or one that may
     /// stand before it and may be left out.
     #[error("expected {what} at {at}")]
@@ -22,7 +18,7 @@ pub enum ParseError {
     /// The 65th token of one condition that is `(`, `not`, `and`, `xor` or `or`.
     #[error("over 64 parentheses and operators in one condition, at {at}")]
     TooNested { at: usize },
-    /// No memory for the tokens, the rule or the items.
+    /// No memory for the items.
     #[error("out of memory")]
     Memory,
 }
@@ -43,17 +39,6 @@ impl From<AllocError> for ParseError {
     }
 }
 
-impl From<LexError> for ParseError {
-    ghost from_gives = { λ e f. f ≡ parse_error_of e };
-
-    fn from(error: LexError) -> ParseError {
-        match error {
-            LexError::Memory => ParseError::Memory,
-            _ => ParseError::NotYet,
-        }
-    }
-}
-
 impl ParseError {
     /// The fault's number, 11 or 12. Want of memory has none, since the text isn't at fault.
     pub fn code(self) -> Option<u8>
@@ -62,7 +47,7 @@ impl ParseError {
         match self {
             ParseError::Expected { .. } => Some(11),
             ParseError::TooNested { .. } => Some(12),
-            ParseError::NotYet | ParseError::Memory => None,
+            ParseError::Memory => None,
         }
     }
 }

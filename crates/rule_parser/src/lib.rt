@@ -1,5 +1,5 @@
-//! The parser of rule texts: a text that is one packet, one field of it and one rule with one comparison becomes its rule.
-//! From tokens to items, and from items to what they mean, are two parts, and neither does the other's work.
+//! The parser of rule texts: from the tokens of a text to its items, each name and number with its place. Nothing is judged
+//! but which token follows which.
 #![tactic(auto)]
 
 mod condition;
@@ -7,21 +7,17 @@ mod cursor;
 mod error;
 mod file;
 mod head;
-mod items;
 pub mod laws;
-mod meaning;
-mod one_comparison;
 mod operator;
 mod parser;
 mod reader;
-mod soundness;
 mod syntax;
 #[cfg(test)]
 mod tests;
 mod what;
 
 pub use error::ParseError;
-pub use parser::{parse, parse_one};
+pub use parser::parse;
 pub use syntax::{
     Comparison, Expression, FieldItem, Item, Name, Number, PacketItem, ReportItem, RuleFile,
     RuleItem,

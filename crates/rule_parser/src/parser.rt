@@ -1,8 +1,7 @@
-//! A text's one rule.
+//! The items of a text, from its tokens.
 
 ghost use Rattle.std.specs.Prelude.{◌≡◌, All, List, IfErr, IfOk, MatchResult, length};
-ghost use Rattle.lc_model.specs.Rule.{NamedRule};
-ghost use Rattle.lc_model.specs.Text.Reading.{HasParseFault, ParseFault, Parses, ReadsOneComparison};
+ghost use Rattle.lc_model.specs.Text.Reading.{HasParseFault, ParseFault, Parses};
 ghost use Rattle.lc_model.specs.Text.Syntax.{Item};
 ghost use Rattle.lc_model.specs.Text.Token.{Splits};
 ghost use Rattle.rule_lexer.specs.Token.{tokens_of, HasItsKind};
@@ -12,35 +11,10 @@ ghost use Rattle.rule_parser.specs.declared.error.ParseError.TheVariants.{Memory
 
 use crate::error::ParseError;
 use crate::file;
-use crate::items::items;
 use crate::laws::tokens_have_at_most_one_parse;
-use crate::meaning::rule;
-use crate::soundness::is_sound;
 use crate::syntax::RuleFile;
-use lc_model::laws::reading;
-use lc_model::{RuleSet, Rules};
-use rule_lexer::{Token, lex};
+use rule_lexer::Token;
 use std::alloc::Global;
-
-/// Parses a rule text that is one packet, one field and one rule, in this order, where the rule has no report and its
-/// condition is one comparison without parentheses. Comments may stand in it. Any other bytes are `NotYet`; `Memory` comes
-/// only where the tokens or the rule find no room.
-pub fn parse_one(alloc: Global, text: &[u8]) -> Result<RuleSet, ParseError>
-    ensures reads { IfOk result (λ found. ReadsOneComparison text.now found.rules) }
-    ensures accepts { (rules : List NamedRule) → ReadsOneComparison text.now rules → MatchResult result (λ found. found.rules ≡ rules) (λ error. error ≡ Memory) }
-{
-    reading::reads_in_one_way();
-    let tokens = lex(alloc, text)?;
-    let items = items(tokens.as_slice()).ok_or(ParseError::NotYet)?;
-    if !is_sound(&items) {
-        return Err(ParseError::NotYet);
-    }
-    let mut rules = Vec::with_capacity(alloc, 1)?;
-    rules.push(rule(alloc, &items)?)?;
-    Ok(RuleSet {
-        rules: Rules::from_vec(rules),
-    })
-}
 
 /// The items of the tokens of a text of this length.
 fn read<'a>(alloc: Global, tokens: &[Token<'a>], end: usize) -> Result<RuleFile<'a>, ParseError>

@@ -1,6 +1,6 @@
 use Rattle.std.proofs.Common.{refl}
 use Rattle.lc_model.specs.Tables.Image.{version_1_layouts}
-use Rattle.flight_run.proofs.Headline.{as_reading, refused, begun}
+use Rattle.flight_run.proofs.Headline.{refused, begun}
 use Rattle.flight_run.proofs.Started.{ends_as_called}
 use Rattle.flight_run.proofs.run_one.compile_and_fly.Goals as goal
 
@@ -8,11 +8,11 @@ pub returns-in-Err : goal.returns-in-Err
 returns-in-Err g c =
     refused _ _
     (record { left = refl; reads = c.requires.unread; no_read_failed = c.requires.readable; gained = refl; no_write_failed = c.requires.writable })
-    c.in-Err.error c.in-Err.ensures.accepts c.refusal.result c.refusal.ensures
+    c.in-Err.error c.in-Err.ensures.refused c.refusal.result c.refusal.ensures
 
 pub returns : goal.returns
 returns g c =
-    begun _ _ _ _ c.in-Ok.ensures.reads
+    begun _ _ _ _ c.in-Ok.ensures.compiles
     (ends_as_called (c.limit_checker_agrees_on_texts.ensures.packet version_1_layouts) (c.limit_checker_agrees_on_texts.ensures.settled version_1_layouts)
     c.halves_are_sensible.ensures c.rules_are_within_ranges.ensures
-    (record { source = c.args.text.now; rules = c.in-Ok.lowered.rules.rules }) (as_reading _ _ c.in-Ok.ensures.reads) _ c.in_ok-flight.ensures _ _ c.fly.ensures)
+    (record { source = c.args.text.now; rules = c.in-Ok.lowered.rules.rules }) c.in-Ok.ensures.compiles.0 _ c.in_ok-flight.ensures _ _ c.fly.ensures)

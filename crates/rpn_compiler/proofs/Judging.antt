@@ -1,0 +1,37 @@
+-- The refusal of rules that are judged one after the other.
+use Rattle.std.proofs.Common.{◌≡◌, refl, sym, ◌∙◌, ap, ℕ, ◌+◌, ◌<◌, ◌≤◌, Bool, true, false, List, [], ◌∷◌, length, arith}
+use Rattle.std.specs.Prelude.{Option, Some, None, slice_get, filter_map, option_map, nat_lt}
+use Rattle.std.specs.List.{enumerate_from}
+use Rattle.std.proofs.lemmas.Bool.{le-ltb, lt-ltb}
+use Rattle.lc_model.specs.Rule.{NamedRule}
+use Rattle.lc_model.specs.Text.Reading.{TextRefusal, ForRule}
+use Rattle.lc_model.specs.Tables.Equation.{size, need}
+use Rattle.lc_model.specs.Tables.Compiling.{equation_fault, text_order_limits}
+use Rattle.rpn_compiler.specs.Limits.{refusal_of_rule}
+
+-- ---- one rule
+
+pub too_long : (n : ℕ) (rule : NamedRule) → 20 ≤ size rule.action.condition → refusal_of_rule n rule ≡ Some (ForRule 42 n)
+too_long n rule long = rw (lt-ltb 20 (size rule.action.condition + 1) (omega (arith, long))) refl
+
+pub too_deep : (n : ℕ) (rule : NamedRule) → size rule.action.condition < 20 → 8 < need rule.action.condition →
+    refusal_of_rule n rule ≡ Some (ForRule 43 n)
+too_deep n rule short deep =
+    rw (le-ltb 20 (size rule.action.condition + 1) (omega (arith, short)), lt-ltb 8 (need rule.action.condition) deep) refl
+
+pub fits : (n : ℕ) (rule : NamedRule) → size rule.action.condition < 20 → need rule.action.condition ≤ 8 → refusal_of_rule n rule ≡ None
+fits n rule short shallow =
+    rw (le-ltb 20 (size rule.action.condition + 1) (omega (arith, short)), le-ltb 8 (need rule.action.condition) shallow) refl
+
+-- ---- all rules
+
+-- the refusal of the first rule that has one, the first rule having this number
+abbrev pub first_from : ℕ → List NamedRule → Option TextRefusal
+first_from n rules =
+    slice_get (filter_map (λ (m : ℕ × NamedRule). option_map (λ code. ForRule code m.0) (equation_fault text_order_limits m.1)) (enumerate_from n rules)) 0
+
+pub passes : (n : ℕ) (rule : NamedRule) (rules : List NamedRule) → refusal_of_rule n rule ≡ None → first_from n (rule ∷ rules) ≡ first_from (n + 1) rules
+passes n rule rules e = rw e refl
+
+pub stops : (n : ℕ) (rule : NamedRule) (rules : List NamedRule) (r : TextRefusal) → refusal_of_rule n rule ≡ Some r → first_from n (rule ∷ rules) ≡ Some r
+stops n rule rules r e = rw e refl

@@ -1,0 +1,15 @@
+-- Which rules keep to the limits of the tables. This project's own.
+use Rattle.std.specs.Prelude.{◌≡◌, ℕ, Option, Some, option_map}
+use Rattle.lc_model.specs.Text.Reading.{TextRefusal, ForRule}
+use Rattle.lc_model.specs.Rule.{NamedRule}
+use Rattle.lc_model.specs.Tables.Compiling.{equation_fault, text_order_limits}
+use Rattle.rpn_compiler.specs.declared.error.CompileError.{CompileError}
+use Rattle.rpn_compiler.specs.Fault.{refusal_of}
+
+-- the error is this refusal
+abbrev pub IsRefusal : Option TextRefusal → CompileError → Type 0
+IsRefusal refusal error = (r : TextRefusal) × (refusal_of error ≡ Some r) × (refusal ≡ Some r)
+
+-- the refusal of the rule with this number
+abbrev pub refusal_of_rule : ℕ → NamedRule → Option TextRefusal
+refusal_of_rule number rule = option_map (λ code. ForRule code number) (equation_fault text_order_limits rule)
