@@ -6,5 +6,5 @@ use Rattle.rpn_compiler.specs.declared.error.CompileError.TheVariants.{NotYet, M
 
 -- the compiler's error where the parser has one
 abbrev pub compile_error_of : ParseError → CompileError
-compile_error_of parser.NotYet = NotYet
 compile_error_of parser.Memory = Memory
+compile_error_of error = NotYet

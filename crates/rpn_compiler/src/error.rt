@@ -24,8 +24,8 @@ impl From<ParseError> for CompileError {
 
     fn from(error: ParseError) -> CompileError {
         match error {
-            ParseError::NotYet => CompileError::NotYet,
             ParseError::Memory => CompileError::Memory,
+            _ => CompileError::NotYet,
         }
     }
 }

@@ -18,10 +18,14 @@ fn a_rule_or_no_memory(rt: HostRuntime) {
 /// The same of all items: the tokens' room, the items' room and its growths, and the boxes of each operand.
 #[test]
 fn items_or_no_memory(rt: HostRuntime) {
-    let text = b"packet P = mid 1 length 2; field V = P u8 at 0; packet Q = mid 1 length 2; field W = Q u8 at 0; \
+    let text =
+        b"packet P = mid 1 length 2; field V = P u8 at 0; packet Q = mid 1 length 2; field W = Q u8 at 0; \
         rule R active fails 1 sequence 2 event info 3 \"t\" when not V < 1 and (W < 1 or V < 2) xor W < 3;";
     match parsed(&rt, text) {
         Ok(file) => assert_eq!(rt; file.items.as_slice().len(), 5),
-        Err(error) => assert!(rt; error == ParseError::Memory || error == ParseError::NotYet, "{error}"),
+        Err(error) => assert!(rt;
+            error == ParseError::Memory || error == ParseError::NotYet,
+            "{error}"
+        ),
     }
 }
