@@ -1,5 +1,6 @@
-//! The parser of rule texts: a text that is one packet, one field of it and one rule with one comparison becomes its rule.
-//! From tokens to items, and from items to what they mean, are two parts, and neither does the other's work.
+//! The parser of rule texts. `parse` reads the items of any text from its tokens, or finds the first fault; what items mean is
+//! judged elsewhere. `parse_one` reads a text that is one packet, one field of it and one rule with one comparison, and makes
+//! its rule. From tokens to items, and from items to what they mean, are two parts, and neither does the other's work.
 #![tactic(auto)]
 
 mod condition;

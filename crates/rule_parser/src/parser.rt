@@ -1,4 +1,4 @@
-//! A text's one rule.
+//! The items of a text, and the one rule of a text of one comparison.
 
 ghost use Rattle.std.specs.Prelude.{◌≡◌, All, List, IfErr, IfOk, MatchResult, length};
 ghost use Rattle.lc_model.specs.Rule.{NamedRule};
