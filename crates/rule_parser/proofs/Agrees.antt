@@ -1,12 +1,11 @@
 -- Reading agrees with the stack: what is read is what the stack wants, and the fault that stops it is the first fault.
-use Rattle.std.proofs.Common.{◌≡◌, refl, sym, ◌∙◌, ap, subst, ℕ, Bool, true, false, cond, List, [], ◌∷◌, ◌++◌, Option, Some, None, is_some, Result, Ok, Err, codes}
-use Rattle.lc_model.specs.Text.Token.{Token, string_text}
+use Rattle.std.proofs.Common.{◌≡◌, refl, sym, ◌∙◌, ap, subst, ℕ, Bool, true, false, cond, List, [], ◌∷◌, ◌++◌, Option, Some, None, Result, Ok, Err, codes}
+use Rattle.lc_model.specs.Text.Token.{Token}
 use Rattle.lc_model.specs.Text.Syntax as syntax
-use Rattle.lc_model.specs.Text.Class as class
-use Rattle.lc_model.specs.Text.Class.{Class, Number, Word, word, fits, Fits, Phrase, next, done}
+use Rattle.lc_model.specs.Text.Class.{Class, Number, Word, word, fits, Fits, next, done}
 use Rattle.lc_model.specs.Text.Grammar.{number_of, DerivesOption, DerivesReport}
 use Rattle.lc_model.specs.Text.Reading.{ParseFault, Expected}
-use Rattle.rule_parser.specs.Stack.{Symbol, Room, outside, inside, one, option, ones, step, narrowed, fault_at}
+use Rattle.rule_parser.specs.Stack.{Symbol, Room, outside, one, option, ones, step, narrowed, fault_at}
 use Rattle.rule_parser.specs.Front.{place_in, begins}
 use Rattle.rule_parser.specs.Left.{Left, Reading, ◌>>=◌, wanting, token_in, number_in, labelled_in, some_in, option_in, reports_in, report_in}
 use Rattle.rule_parser.proofs.Runs.{on_one}
@@ -132,7 +131,7 @@ agrees_word {X} narrower s to D letters following before f other there others =
 pub agrees_option : {X B : Type 0} (narrower : Room) (s to : X → List Symbol) (D : List Token → B → Type 0)
     (letters : List ℕ) (before : Left) (f : Option syntax.Number × Left → Reading B) → fits (Word letters) (codes "when") ≡ false →
     ((front : List Token) (o : Option syntax.Number) (left : Left) → DerivesOption (Word letters) front o →
-        Agrees outside narrower s to (λ more v. D (front ++ more) v) left (f (o, left))) →
+    Agrees outside narrower s to (λ more v. D (front ++ more) v) left (f (o, left))) →
     Agrees outside narrower (λ x. option letters (Number ∷ []) ∷ s x) to D before (option_in (Word letters) before >>= f)
 unfolding option_in some_in labelled_in
 agrees_option {X} {B} narrower s to D letters before f other others = go (begins (Word letters) before.tokens) refl
@@ -158,7 +157,7 @@ agrees_option {X} {B} narrower s to D letters before f other others = go (begins
 pub agrees_report : {X B : Type 0} (narrower : Room) (s to : X → List Symbol) (D : List Token → B → Type 0)
     (before : Left) (f : Option syntax.ReportItem × Left → Reading B) →
     ((front : List Token) (o : Option syntax.ReportItem) (left : Left) → DerivesReport front o →
-        Agrees outside narrower s to (λ more v. D (front ++ more) v) left (f (o, left))) →
+    Agrees outside narrower s to (λ more v. D (front ++ more) v) left (f (o, left))) →
     Agrees outside narrower (λ x. option (codes "report") (Number ∷ Number ∷ Number ∷ []) ∷ s x) to D before (report_in before >>= f)
 unfolding report_in reports_in
 agrees_report {X} {B} narrower s to D before f others = go (begins (word "report") before.tokens) refl

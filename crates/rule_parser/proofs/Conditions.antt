@@ -1,5 +1,5 @@
 -- Parts of a condition, put together: what is taken derives, and the first fault stays where it is.
-use Rattle.std.proofs.Common.{◌≡◌, refl, sym, ◌∙◌, ap, subst, ℕ, ◌+◌, ◌≤◌, Bool, true, false, ◌||◌, List, [], ◌∷◌, ◌++◌, Option, Some, None, Result, Ok, Err, arith, append_assoc, codes, is_some}
+use Rattle.std.proofs.Common.{◌≡◌, refl, sym, ◌∙◌, ap, subst, ℕ, ◌+◌, Bool, true, false, ◌||◌, List, [], ◌∷◌, ◌++◌, Option, Some, None, Result, Ok, Err, arith, append_assoc, codes}
 use Rattle.std.specs.Prelude.{MatchResult}
 use Rattle.std.specs.Result.{IsErrAnd}
 use Rattle.lc_model.specs.declared.field.CmpOp.{CmpOp}
@@ -18,7 +18,7 @@ use Rattle.rule_parser.specs.declared.operator.Operator.{Operator}
 use Rattle.rule_parser.specs.declared.operator.Operator.TheVariants.{Or, Xor, And}
 use Rattle.rule_parser.specs.Fault.{Refuses}
 use Rattle.rule_parser.specs.Front.{begins, class_of, place_in}
-use Rattle.rule_parser.specs.Left.{Left, Reading, wanting, token_in, operand_name_in, value_in, number_in, comparison_in}
+use Rattle.rule_parser.specs.Left.{Left, wanting, token_in, operand_name_in, value_in, number_in, comparison_in}
 use Rattle.rule_parser.specs.Stack.{Symbol, one, operand, after, inside, joins, step, fault_at}
 use Rattle.rule_parser.specs.Condition.{Took, Stops, Nests, NoRoom, is_continued, kind_of_operator, operator_of, part_of, operands_of}
 use Rattle.rule_parser.proofs.Runs.{on_one, on_name, on_not, on_open, on_join, and_joins, xor_joins, or_joins}

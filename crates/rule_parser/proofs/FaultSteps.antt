@@ -1,14 +1,14 @@
 -- One token more or less before the first fault.
-use Rattle.std.proofs.Common.{◌≡◌, refl, sym, ◌∙◌, ap, ℕ, suc, ◌+◌, Bool, true, false, cond, ◌&&◌, ◌||◌, List, [], ◌∷◌, Option, Some, None, is_some, add-one, codes, bytes_eq}
+use Rattle.std.proofs.Common.{◌≡◌, refl, sym, ◌∙◌, ap, ℕ, ◌+◌, Bool, true, false, cond, ◌&&◌, ◌||◌, List, [], ◌∷◌, Some, None, add-one, codes, bytes_eq}
 use Rattle.std.specs.List.{list_any}
 use Rattle.lc_model.specs.Text.Token.{Token}
 use Rattle.lc_model.specs.Text.Class as class
 use Rattle.lc_model.specs.Text.Class.{Class, Name, Number, word, sign, fits, Fits}
-use Rattle.lc_model.specs.Text.Reading.{ParseFault, Expected, TooNested, nests, ends_item}
+use Rattle.lc_model.specs.Text.Reading.{Expected, TooNested, nests, ends_item}
 use Rattle.lc_model.proofs.OneClass.{none_of}
-use Rattle.rule_parser.specs.Stack.{Symbol, Room, one, option, operand, after, outside, inside, ones, joins, less, narrowed, step, wanted, is_finished, fault_at}
-use Rattle.rule_parser.specs.Front.{place_in, begins, token_at}
-use Rattle.rule_parser.proofs.Runs.{word_text, sign_text, on_one}
+use Rattle.rule_parser.specs.Stack.{Symbol, Room, one, option, operand, after, outside, inside, joins, less, narrowed, step, wanted, is_finished, fault_at}
+use Rattle.rule_parser.specs.Front.{place_in, begins}
+use Rattle.rule_parser.proofs.Runs.{word_text, sign_text}
 
 -- ---- a token that fits, and one that doesn't
 

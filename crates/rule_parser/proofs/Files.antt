@@ -1,19 +1,19 @@
 -- Rules, items and whole texts: what is taken derives, and the first fault stays where it is.
-use Rattle.std.proofs.Common.{◌≡◌, refl, sym, ◌∙◌, ap, subst, ℕ, ◌<◌, ◌≤◌, Bool, true, false, cond, List, [], ◌∷◌, ◌++◌, length, length-append, map, Option, Some, None, Result, Ok, Err, arith, append_assoc, append-nil, codes}
+use Rattle.std.proofs.Common.{◌≡◌, refl, sym, ◌∙◌, ap, subst, ℕ, ◌<◌, Bool, true, false, cond, List, [], ◌∷◌, ◌++◌, length, length-append, Some, None, Ok, Err, arith, append_assoc, append-nil, codes}
 use Rattle.lc_model.specs.Text.Token.{Token}
 use Rattle.lc_model.specs.Text.Syntax as syntax
 use Rattle.lc_model.specs.Text.Syntax.{Expression, Item}
 use Rattle.lc_model.specs.Text.Class as class
 use Rattle.lc_model.specs.Text.Class.{Class, word, sign, fits, Fits}
 use Rattle.lc_model.specs.Text.Grammar.{DerivesItem, DerivesFile}
-use Rattle.lc_model.specs.Text.Reading.{ParseFault, Expected, nests}
+use Rattle.lc_model.specs.Text.Reading.{Expected, nests}
 use Rattle.rule_parser.specs.declared.error.ParseError.{ParseError}
 use Rattle.rule_parser.specs.Fault.{Refuses}
-use Rattle.rule_parser.specs.Front.{begins, is_empty, place_in, token_at}
+use Rattle.rule_parser.specs.Front.{begins, is_empty, place_in}
 use Rattle.rule_parser.specs.Left.{Left, Takes, place, token_in}
-use Rattle.rule_parser.specs.Condition.{Took, TookCondition, Stops}
+use Rattle.rule_parser.specs.Condition.{TookCondition, Stops}
 use Rattle.rule_parser.specs.Head.{Head, packet_in, field_in, head_in, rule_with}
-use Rattle.rule_parser.specs.Stack.{Symbol, Room, outside, inside, less, one, operand, packet_left, field_left, rule_left, step, narrowed, fault_at}
+use Rattle.rule_parser.specs.Stack.{Symbol, outside, inside, less, one, operand, packet_left, field_left, rule_left, step, narrowed, fault_at}
 use Rattle.rule_parser.specs.File.{TookItem, TookRule, TookAll, StopsAt, StopsAll}
 use Rattle.rule_parser.proofs.Runs.{on_one, on_packet, on_field, on_rule}
 use Rattle.rule_parser.proofs.OneToken.{one_token}

@@ -1,8 +1,5 @@
 -- Packets, fields and the heads of rules agree with the stack.
-use Rattle.std.proofs.Common.{◌≡◌, refl, sym, ◌∙◌, ap, subst, ℕ, cond, List, [], ◌∷◌, ◌++◌, Option, Some, None, is_some, true, false, Ok, Err, codes, append_assoc}
-use Rattle.lc_model.specs.declared.field.FieldType.{FieldType}
-use Rattle.lc_model.specs.declared.mode.ApMode.{ApMode}
-use Rattle.lc_model.specs.declared.rule.EventKind.{EventKind}
+use Rattle.std.proofs.Common.{◌≡◌, refl, sym, ap, subst, ℕ, cond, List, [], ◌∷◌, ◌++◌, Option, Some, is_some, true, false, codes, append_assoc}
 use Rattle.lc_model.specs.Text.Token.{Token, string_text}
 use Rattle.lc_model.specs.Text.Syntax as syntax
 use Rattle.lc_model.specs.Text.Syntax.{Expression}
@@ -10,10 +7,10 @@ use Rattle.lc_model.specs.Text.Class as class
 use Rattle.lc_model.specs.Text.Class.{Class, Name, Number, word, sign, fits, Fits, next, done, field_type, state, event_kind}
 use Rattle.lc_model.specs.Text.Grammar as grammar
 use Rattle.lc_model.specs.Text.Grammar.{Derives, DerivesItem, number_of}
-use Rattle.rule_parser.specs.Stack.{Symbol, Room, narrowed, outside, inside, one, operand, option, ones, packet_left, field_left, rule_left}
+use Rattle.rule_parser.specs.Stack.{Symbol, Room, narrowed, outside, inside, one, operand, packet_left, field_left, rule_left}
 use Rattle.rule_parser.specs.Left.{Left, Reading, ◌>>=◌, name_in, string_in, value_in, token_in}
 use Rattle.rule_parser.specs.Head.{Head, packet_in, field_in, head_in, rule_with}
-use Rattle.rule_parser.proofs.Runs.{on_one, word_text}
+use Rattle.rule_parser.proofs.Runs.{on_one}
 use Rattle.rule_parser.proofs.OneToken.{one_token, one_string, one_value}
 use Rattle.rule_parser.proofs.FaultSteps.{fault_of_one}
 use Rattle.rule_parser.proofs.Agrees.{Agrees, agrees_end, agrees_one, agrees_plain, agrees_token, agrees_number, agrees_labelled, agrees_option, agrees_report}

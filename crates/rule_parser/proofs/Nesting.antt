@@ -1,7 +1,7 @@
 -- A token that nests, where it stands next.
-use Rattle.std.proofs.Common.{◌≡◌, refl, sym, ◌∙◌, ap, Bool, true, false, List, [], ◌∷◌, Option, Some, None}
+use Rattle.std.proofs.Common.{◌≡◌, refl, sym, ◌∙◌, ap, true, List, [], ◌∷◌, Option, Some, None}
 use Rattle.lc_model.specs.Text.Token as model
-use Rattle.lc_model.specs.Text.Class.{Class, fits, Fits}
+use Rattle.lc_model.specs.Text.Class.{Class, Fits}
 use Rattle.rule_lexer.specs.declared.token.Token.{Token}
 use Rattle.rule_parser.specs.Front.{IsNext, begins}
 use Rattle.rule_parser.specs.Left.{Left, place}

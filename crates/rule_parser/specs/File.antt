@@ -1,8 +1,7 @@
 -- Reading an item: what is taken and what is left, or the fault that stops it. This project's own.
-use Rattle.std.specs.Prelude.{◌≡◌, ℕ, ◌<◌, List, [], ◌∷◌, ◌++◌, length, option_map, Option, Some, None}
+use Rattle.std.specs.Prelude.{◌≡◌, ℕ, List, [], ◌∷◌, ◌++◌, option_map, Some, None}
 use Rattle.lc_model.specs.Text.Token.{Token}
 use Rattle.lc_model.specs.Text.Syntax.{Item}
-use Rattle.lc_model.specs.Text.Class.{word, Fits}
 use Rattle.lc_model.specs.Text.Grammar.{DerivesItem, DerivesFile}
 use Rattle.lc_model.specs.Text.Reading.{ParseFault}
 use Rattle.rule_parser.specs.declared.head.RuleHead.{RuleHead}

@@ -32,7 +32,11 @@ fn comparison<'a>(tokens: &mut Reader<'_, 'a>) -> Result<Comparison<'a>, ParseEr
 
 /// `not` and an operand, a condition in parentheses, or a comparison.
 #[cycle(condition)]
-fn operand<'a>(alloc: Global, tokens: &mut Reader<'_, 'a>, room: &mut usize) -> Result<Expression<'a>, ParseError>
+fn operand<'a>(
+    alloc: Global,
+    tokens: &mut Reader<'_, 'a>,
+    room: &mut usize,
+) -> Result<Expression<'a>, ParseError>
     ensures { MatchResult result (λ found. Took grammar.nots grammar.nots tokens.old tokens.new room.old room.new (expression_of found)) (Refuses (Stops tokens.old room.old)) }
 {
     if tokens.nests(TokenKind::Not, room)? {
@@ -49,7 +53,12 @@ fn operand<'a>(alloc: Global, tokens: &mut Reader<'_, 'a>, room: &mut usize) -> 
 
 /// What the operator joins: the parts that the next tighter one joins, or operands.
 #[cycle(condition)]
-fn part<'a>(operator: Operator, alloc: Global, tokens: &mut Reader<'_, 'a>, room: &mut usize) -> Result<Expression<'a>, ParseError>
+fn part<'a>(
+    operator: Operator,
+    alloc: Global,
+    tokens: &mut Reader<'_, 'a>,
+    room: &mut usize,
+) -> Result<Expression<'a>, ParseError>
     ensures { MatchResult result (λ found. Took (operands_of operator) (operands_of operator) tokens.old tokens.new room.old room.new (expression_of found)) (Refuses (Stops tokens.old room.old)) }
 {
     match operator {
@@ -61,7 +70,12 @@ fn part<'a>(operator: Operator, alloc: Global, tokens: &mut Reader<'_, 'a>, room
 
 /// Parts with the operator between them, from left to right.
 #[cycle(condition)]
-fn joined<'a>(operator: Operator, alloc: Global, tokens: &mut Reader<'_, 'a>, room: &mut usize) -> Result<Expression<'a>, ParseError>
+fn joined<'a>(
+    operator: Operator,
+    alloc: Global,
+    tokens: &mut Reader<'_, 'a>,
+    room: &mut usize,
+) -> Result<Expression<'a>, ParseError>
     ensures { MatchResult result (λ found. Took (part_of operator) (part_of operator) tokens.old tokens.new room.old room.new (expression_of found)) (Refuses (Stops tokens.old room.old)) }
 {
     let mut left = part(operator, alloc, tokens, room)?;
@@ -73,7 +87,10 @@ fn joined<'a>(operator: Operator, alloc: Global, tokens: &mut Reader<'_, 'a>, ro
 }
 
 /// A whole condition, whose tokens may nest as often as those of any condition.
-pub fn condition<'a>(alloc: Global, tokens: &mut Reader<'_, 'a>) -> Result<Expression<'a>, ParseError>
+pub fn condition<'a>(
+    alloc: Global,
+    tokens: &mut Reader<'_, 'a>,
+) -> Result<Expression<'a>, ParseError>
     ensures { MatchResult result (λ found. TookCondition tokens.old tokens.new (expression_of found)) (Refuses (Stops tokens.old 64)) }
 {
     let mut room = MOST_NESTING;

@@ -58,7 +58,11 @@ fn item<'a>(alloc: Global, tokens: &mut Reader<'_, 'a>) -> Result<Item<'a>, Pars
 }
 
 /// All items, up to the last token of a text of this length.
-pub fn items<'a>(alloc: Global, tokens: &[Token<'a>], end: usize) -> Result<Vec<Item<'a>>, ParseError>
+pub fn items<'a>(
+    alloc: Global,
+    tokens: &[Token<'a>],
+    end: usize,
+) -> Result<Vec<Item<'a>>, ParseError>
     requires { All HasItsKind tokens.now }
     ensures { MatchResult result (λ found. TookAll end (tokens_of tokens.now) (items_of found.items)) (Refuses (StopsAll end (tokens_of tokens.now))) }
 {

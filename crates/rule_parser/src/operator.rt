@@ -30,7 +30,12 @@ impl Operator {
     }
 
     /// Two operands, joined.
-    pub fn join<'a>(self, alloc: Global, left: Expression<'a>, right: Expression<'a>) -> Result<Expression<'a>, AllocError>
+    pub fn join<'a>(
+        self,
+        alloc: Global,
+        left: Expression<'a>,
+        right: Expression<'a>,
+    ) -> Result<Expression<'a>, AllocError>
         ensures { IfOk result (λ joined. expression_of joined ≡ Join (operator_of self) (expression_of left.entry) (expression_of right.entry)) }
     {
         let left = Box::new(alloc, left)?;

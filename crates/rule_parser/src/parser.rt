@@ -34,7 +34,11 @@ fn read<'a>(alloc: Global, tokens: &[Token<'a>], end: usize) -> Result<RuleFile<
 /// Errors: `Expected` at the first token that continues no text, or at the text's length where the tokens end too early; what
 /// is wanted there leaves out what may be left out. `TooNested` at the 65th token of one condition that is `(`, `not`, `and`,
 /// `xor` or `or`. `Memory` where the items find no room.
-pub fn parse<'a>(alloc: Global, text: &[u8], tokens: &[Token<'a>]) -> Result<RuleFile<'a>, ParseError>
+pub fn parse<'a>(
+    alloc: Global,
+    text: &[u8],
+    tokens: &[Token<'a>],
+) -> Result<RuleFile<'a>, ParseError>
     requires kinds { All HasItsKind tokens.now }
     requires splits { Splits text.now (tokens_of tokens.now) }
     ensures derives { IfOk result (λ file. Parses (tokens_of tokens.now) (items_of file.items.items)) }

@@ -30,7 +30,7 @@ pub struct Reader<'t, 'a> {
 
 impl<'t, 'a> Model for Reader<'t, 'a> {
     ghost use Rattle.rule_parser.specs.Condition.{Nests};
-ghost use Rattle.rule_parser.specs.Left.{Left};
+    ghost use Rattle.rule_parser.specs.Left.{Left};
 
     ghost Value = { Left };
 

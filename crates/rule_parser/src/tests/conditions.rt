@@ -57,12 +57,15 @@ fn groups<R: Abort + AllocGlobal>(rt: &R, condition: &str, tree: &str) -> Result
     let text = text.replace(rt.alloc(), "D", "D != 0x4")?;
     match parsed(rt, text.as_bytes()) {
         Ok(file) => match file.items.as_slice() {
-            [Item::Rule(rule)] => {
-                let mut found = String::new(rt.alloc());
-                write_tree(&mut found, &rule.condition)?;
-                assert_eq!(rt; found.as_str(), tree, "of {condition}");
-            }
-            _ => panic!(rt; "no single rule in {condition}"),
+            [item] => match item {
+                Item::Rule(rule) => {
+                    let mut found = String::new(rt.alloc());
+                    write_tree(&mut found, &rule.condition)?;
+                    assert_eq!(rt; found.as_str(), tree, "of {condition}");
+                }
+                _ => panic!(rt; "no rule in {condition}"),
+            },
+            _ => panic!(rt; "no single item in {condition}"),
         },
         Err(error) => panic!(rt; "{error} in {condition}"),
     }
@@ -136,8 +139,9 @@ fn faults(rt: HostRuntime) -> Result<(), Fail> {
         ("((A < 1) or B < 1) ", ") ;", What::Sign(Sign::Semicolon)),
     ];
     for (front, back, what) in rows {
-        let text = format!(in rt.alloc(); "{FRONT}{front}{back}")?;
-        let at = FRONT.len() + front.len();
+        let front = format!(in rt.alloc(); "{FRONT}{front}")?;
+        let text = format!(in rt.alloc(); "{front}{back}")?;
+        let at = front.len();
         refuses(&rt, &text, ParseError::Expected { at, what });
     }
     Ok(())

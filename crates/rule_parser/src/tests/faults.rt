@@ -38,9 +38,18 @@ fn items_that_are_read(rt: HostRuntime) {
         ("field V = P i32le at 0 mask 1;", 1),
         ("field V = P i32le at 0 stale 2;", 1),
         ("field V = P i32le at 0 mask 1 stale 2;", 1),
-        ("rule R active fails 1 sequence 2 event info 3 \"\" when V < 1;", 1),
-        ("rule R passive fails 1 sequence 2 event debug 3 \"t\" report 4 5 6 when V == -1;", 1),
-        ("field V = P u8 at 0; packet P = mid 1 length 2; field V = P u8 at 0;", 3),
+        (
+            "rule R active fails 1 sequence 2 event info 3 \"\" when V < 1;",
+            1,
+        ),
+        (
+            "rule R passive fails 1 sequence 2 event debug 3 \"t\" report 4 5 6 when V == -1;",
+            1,
+        ),
+        (
+            "field V = P u8 at 0; packet P = mid 1 length 2; field V = P u8 at 0;",
+            3,
+        ),
     ];
     for (text, count) in rows {
         reads(&rt, text, count);
@@ -78,8 +87,16 @@ fn packets(rt: HostRuntime) -> Result<(), Fail> {
         ("packet P = mid 1 ", "; length 2", What::Word(Word::Length)),
         ("packet P = mid 1 length ", "u8;", What::Number),
         ("packet P = mid 1 length 2", "", What::Sign(Sign::Semicolon)),
-        ("packet P = mid 1 length 2 ", "field", What::Sign(Sign::Semicolon)),
-        ("packet P = mid 1 length 2 ", "mask 1;", What::Sign(Sign::Semicolon)),
+        (
+            "packet P = mid 1 length 2 ",
+            "field",
+            What::Sign(Sign::Semicolon),
+        ),
+        (
+            "packet P = mid 1 length 2 ",
+            "mask 1;",
+            What::Sign(Sign::Semicolon),
+        ),
     ];
     for (front, back, what) in rows {
         wants(&rt, front, back, what)?;
@@ -99,18 +116,36 @@ fn fields(rt: HostRuntime) -> Result<(), Fail> {
         ("field V = P u8 at ", "mask 1;", What::Number),
         ("field V = P u8 at 0", "", What::Sign(Sign::Semicolon)),
         ("field V = P u8 at 0 ", "1;", What::Sign(Sign::Semicolon)),
-        ("field V = P u8 at 0 ", "report 1;", What::Sign(Sign::Semicolon)),
+        (
+            "field V = P u8 at 0 ",
+            "report 1;",
+            What::Sign(Sign::Semicolon),
+        ),
         ("field V = P u8 at 0 mask", "", What::Number),
         ("field V = P u8 at 0 mask ", "stale 1;", What::Number),
-        ("field V = P u8 at 0 mask 1", "", What::Sign(Sign::Semicolon)),
-        ("field V = P u8 at 0 mask 1 ", "mask 1;", What::Sign(Sign::Semicolon)),
+        (
+            "field V = P u8 at 0 mask 1",
+            "",
+            What::Sign(Sign::Semicolon),
+        ),
+        (
+            "field V = P u8 at 0 mask 1 ",
+            "mask 1;",
+            What::Sign(Sign::Semicolon),
+        ),
         ("field V = P u8 at 0 stale", ";", What::Number),
-        ("field V = P u8 at 0 stale 1 ", "mask 1;", What::Sign(Sign::Semicolon)),
-        ("field V = P u8 at 0 mask 1 stale 2 ", "packet", What::Sign(Sign::Semicolon)),
+        (
+            "field V = P u8 at 0 stale 1 ",
+            "mask 1;",
+            What::Sign(Sign::Semicolon),
+        ),
+        (
+            "field V = P u8 at 0 mask 1 stale 2 ",
+            "packet",
+            What::Sign(Sign::Semicolon),
+        ),
     ];
     for (front, back, what) in rows {
-
-
         wants(&rt, front, back, what)?;
     }
     Ok(())
@@ -124,19 +159,71 @@ fn rules(rt: HostRuntime) -> Result<(), Fail> {
         ("rule R", "", What::State),
         ("rule R active ", "sequence 1", What::Word(Word::Fails)),
         ("rule R active fails ", "sequence 1", What::Number),
-        ("rule R active fails 1 ", "event", What::Word(Word::Sequence)),
-        ("rule R active fails 1 sequence 2 ", "info", What::Word(Word::Event)),
-        ("rule R active fails 1 sequence 2 event ", "1001", What::Level),
-        ("rule R active fails 1 sequence 2 event ", "warning 1001", What::Level),
-        ("rule R active fails 1 sequence 2 event info ", "\"t\"", What::Number),
-        ("rule R active fails 1 sequence 2 event info 3 ", "t", What::Text),
-        ("rule R active fails 1 sequence 2 event info 3", "", What::Text),
-        ("rule R active fails 1 sequence 2 event info 3 \"t\"", "", What::Word(Word::When)),
-        ("rule R active fails 1 sequence 2 event info 3 \"t\" ", "V < 1;", What::Word(Word::When)),
-        ("rule R active fails 1 sequence 2 event info 3 \"t\" report 1 2", "", What::Number),
-        ("rule R active fails 1 sequence 2 event info 3 \"t\" report 1 ", "when V < 1;", What::Number),
-        ("rule R active fails 1 sequence 2 event info 3 \"t\" report 1 2 3 ", "4", What::Word(Word::When)),
-        ("rule R active fails 1 sequence 2 event info 3 \"t\" report 1 2 3 ", "report 1", What::Word(Word::When)),
+        (
+            "rule R active fails 1 ",
+            "event",
+            What::Word(Word::Sequence),
+        ),
+        (
+            "rule R active fails 1 sequence 2 ",
+            "info",
+            What::Word(Word::Event),
+        ),
+        (
+            "rule R active fails 1 sequence 2 event ",
+            "1001",
+            What::Level,
+        ),
+        (
+            "rule R active fails 1 sequence 2 event ",
+            "warning 1001",
+            What::Level,
+        ),
+        (
+            "rule R active fails 1 sequence 2 event info ",
+            "\"t\"",
+            What::Number,
+        ),
+        (
+            "rule R active fails 1 sequence 2 event info 3 ",
+            "t",
+            What::Text,
+        ),
+        (
+            "rule R active fails 1 sequence 2 event info 3",
+            "",
+            What::Text,
+        ),
+        (
+            "rule R active fails 1 sequence 2 event info 3 \"t\"",
+            "",
+            What::Word(Word::When),
+        ),
+        (
+            "rule R active fails 1 sequence 2 event info 3 \"t\" ",
+            "V < 1;",
+            What::Word(Word::When),
+        ),
+        (
+            "rule R active fails 1 sequence 2 event info 3 \"t\" report 1 2",
+            "",
+            What::Number,
+        ),
+        (
+            "rule R active fails 1 sequence 2 event info 3 \"t\" report 1 ",
+            "when V < 1;",
+            What::Number,
+        ),
+        (
+            "rule R active fails 1 sequence 2 event info 3 \"t\" report 1 2 3 ",
+            "4",
+            What::Word(Word::When),
+        ),
+        (
+            "rule R active fails 1 sequence 2 event info 3 \"t\" report 1 2 3 ",
+            "report 1",
+            What::Word(Word::When),
+        ),
     ];
     for (front, back, what) in rows {
         wants(&rt, front, back, what)?;
@@ -147,8 +234,18 @@ fn rules(rt: HostRuntime) -> Result<(), Fail> {
 /// The first of two items doesn't hide the second's fault, and the first fault of two counts.
 #[test]
 fn two_items(rt: HostRuntime) -> Result<(), Fail> {
-    wants(&rt, "packet P = mid 1 length 2; packet Q = mid ", "; field", What::Number)?;
-    wants(&rt, "packet P ", "mid 1 length 2; packet = mid 1 length 2;", What::Sign(Sign::Equals))
+    wants(
+        &rt,
+        "packet P = mid 1 length 2; packet Q = mid ",
+        "; field",
+        What::Number,
+    )?;
+    wants(
+        &rt,
+        "packet P ",
+        "mid 1 length 2; packet = mid 1 length 2;",
+        What::Sign(Sign::Equals),
+    )
 }
 
 /// What an engineer reads.

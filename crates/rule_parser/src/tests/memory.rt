@@ -4,10 +4,12 @@ use super::parsed;
 use crate::error::ParseError;
 
 /// Where an allocation fails, the answer is `Memory`, and no other: `rt try --test --fail-alloc N`, for each N up to the
-/// number of allocations, has one of them refused here: the tokens' room, the items' room and its growths, and the boxes of each operand.
+/// number of allocations, has one of them refused here: the tokens' room, the items' room and its growths, and the boxes of
+/// each operand.
 #[test]
 fn items_or_no_memory(rt: HostRuntime) {
-    let text = b"packet P = mid 1 length 2; field V = P u8 at 0; packet Q = mid 1 length 2; field W = Q u8 at 0; \
+    let text =
+        b"packet P = mid 1 length 2; field V = P u8 at 0; packet Q = mid 1 length 2; field W = Q u8 at 0; \
         rule R active fails 1 sequence 2 event info 3 \"t\" when not V < 1 and (W < 1 or V < 2) xor W < 3;";
     match parsed(&rt, text) {
         Ok(file) => assert_eq!(rt; file.items.as_slice().len(), 5),

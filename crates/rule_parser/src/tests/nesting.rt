@@ -10,7 +10,8 @@ use std::test::Fail;
 const FRONT: &str = "rule R active fails 1 sequence 2 event info 3 \"t\" when ";
 
 /// A piece of a condition in which 16 tokens nest, of all five kinds, before an operand.
-const SIXTEEN: &str = "not ( A < 1 ) and ( not not A < 1 or A < 1 ) xor ( ( A < 1 ) and not A < 1 ) or A < 1 and not not ";
+const SIXTEEN: &str =
+    "not ( A < 1 ) and ( not not A < 1 or A < 1 ) xor ( ( A < 1 ) and not A < 1 ) or A < 1 and not not ";
 
 #[test]
 fn of_one_condition(rt: HostRuntime) -> Result<(), Fail> {
@@ -27,8 +28,9 @@ fn of_one_condition(rt: HostRuntime) -> Result<(), Fail> {
         ("A < 1 ", "and"),
     ];
     for (front, back) in rows {
-        let text = format!(in rt.alloc(); "{full}{front}{back}")?;
-        let at = full.len() + front.len();
+        let front = format!(in rt.alloc(); "{full}{front}")?;
+        let text = format!(in rt.alloc(); "{front}{back}")?;
+        let at = front.len();
         refuses(&rt, &text, ParseError::TooNested { at });
     }
     Ok(())
@@ -45,8 +47,9 @@ fn other_faults(rt: HostRuntime) -> Result<(), Fail> {
         ("A ", "not A < 1;", What::Compare),
     ];
     for (front, back, what) in rows {
-        let text = format!(in rt.alloc(); "{full}{front}{back}")?;
-        let at = full.len() + front.len();
+        let front = format!(in rt.alloc(); "{full}{front}")?;
+        let text = format!(in rt.alloc(); "{front}{back}")?;
+        let at = front.len();
         refuses(&rt, &text, ParseError::Expected { at, what });
     }
     Ok(())
@@ -57,8 +60,9 @@ fn other_faults(rt: HostRuntime) -> Result<(), Fail> {
 fn of_two_rules(rt: HostRuntime) -> Result<(), Fail> {
     let rule = format!(in rt.alloc(); "{FRONT}{SIXTEEN}{SIXTEEN}{SIXTEEN}{SIXTEEN}A < 1")?;
     reads(&rt, format!(in rt.alloc(); "{rule}; {rule};")?.as_str(), 2);
-    let text = format!(in rt.alloc(); "{rule}; {rule} or A < 1;")?;
-    let at = 2 * rule.len() + 3;
+    let front = format!(in rt.alloc(); "{rule}; {rule} ")?;
+    let text = format!(in rt.alloc(); "{front}or A < 1;")?;
+    let at = front.len();
     refuses(&rt, &text, ParseError::TooNested { at });
     Ok(())
 }

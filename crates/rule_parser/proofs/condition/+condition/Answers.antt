@@ -1,14 +1,14 @@
-use Rattle.std.proofs.Common.{◌≡◌, refl, sym, ◌∙◌, ap, subst, ℕ, Bool, true, false, Ok, Err}
+use Rattle.std.proofs.Common.{sym, subst, true, Ok, Err}
 use Rattle.std.proofs.lemmas.Result.{err_from_is_err_and}
 use Rattle.lc_model.specs.Text.Syntax as syntax
 use Rattle.lc_model.specs.Text.Syntax.{Expression}
 use Rattle.lc_model.specs.Text.Class.{word, sign}
 use Rattle.lc_model.specs.Text.Grammar as grammar
 use Rattle.rule_lexer.specs.Token.{token_of}
-use Rattle.rule_parser.specs.Condition.{Took, Nests, kind_of_operator, operands_of, part_of}
+use Rattle.rule_parser.specs.Condition.{Took, kind_of_operator, operands_of, part_of}
 use Rattle.rule_parser.specs.Front.{class_of}
 use Rattle.rule_parser.specs.Syntax.{comparison_of, expression_of}
-use Rattle.rule_parser.proofs.Conditions.{begin_parts, join_parts, end_parts, join_too_deep, join_stops, negate, negate_stops, not_too_deep, open_too_deep, open_stops, parenthesize, close_stops, compare, compare_stops, past, nests_true, nests_false, of_kind}
+use Rattle.rule_parser.proofs.Conditions.{begin_parts, join_parts, join_too_deep, join_stops, negate, negate_stops, not_too_deep, open_too_deep, open_stops, parenthesize, close_stops, compare, compare_stops, past, nests_true, nests_false, of_kind}
 use Rattle.rule_parser.proofs.condition.+condition.Goals as goal
 
 pub joined-loop-left-init : goal.joined-loop-left-init

@@ -1,4 +1,4 @@
-use Rattle.std.proofs.Common.{◌≡◌, ℕ, ◌+◌, ◌*◌}
+use Rattle.std.proofs.Common.{ℕ, ◌+◌, ◌*◌}
 use Rattle.rule_parser.specs.declared.operator.Operator.{Operator}
 use Rattle.rule_parser.specs.declared.operator.Operator.TheVariants.{Or, Xor, And}
 use Rattle.rule_parser.specs.Condition.{Took, operands_of, part_of}

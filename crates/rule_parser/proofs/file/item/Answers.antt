@@ -1,4 +1,4 @@
-use Rattle.std.proofs.Common.{◌≡◌, subst, sym, true, false, []}
+use Rattle.std.proofs.Common.{subst, sym, true, false, []}
 use Rattle.std.proofs.lemmas.Result.{err_from_is_err_and}
 use Rattle.lc_model.specs.Text.Syntax as model
 use Rattle.lc_model.specs.Text.Class.{word}

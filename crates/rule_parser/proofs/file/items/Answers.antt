@@ -1,10 +1,9 @@
-use Rattle.std.proofs.Common.{◌≡◌, sym, ◌∙◌, ap, subst, List, [], ◌∷◌, ◌++◌}
+use Rattle.std.proofs.Common.{sym, ◌∙◌, ap, subst, [], ◌∷◌}
 use Rattle.std.proofs.lemmas.List.{map-append}
-use Rattle.lc_model.specs.Text.Syntax as model
 use Rattle.rule_lexer.specs.Token.{tokens_of}
 use Rattle.rule_parser.specs.Syntax.{item_of, items_of}
 use Rattle.rule_parser.specs.Left.{Left}
-use Rattle.rule_parser.proofs.Files.{SoFar, none_yet, with_item, item_stops, all_taken}
+use Rattle.rule_parser.proofs.Files.{SoFar, none_yet, with_item, all_taken}
 use Rattle.rule_parser.proofs.file.items.Goals as goal
 
 pub loop-reader-init : goal.loop-reader-init

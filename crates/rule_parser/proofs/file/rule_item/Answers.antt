@@ -1,4 +1,3 @@
-use Rattle.std.proofs.Common.{◌≡◌}
 use Rattle.std.proofs.lemmas.Result.{err_from_is_err_and}
 use Rattle.rule_lexer.specs.Token.{token_of}
 use Rattle.rule_parser.specs.File.{head_of}

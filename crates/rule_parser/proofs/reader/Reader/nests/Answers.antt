@@ -1,4 +1,4 @@
-use Rattle.std.proofs.Common.{◌≡◌, refl, sym, ◌∙◌, ap, arith, true, false}
+use Rattle.std.proofs.Common.{◌≡◌, refl, sym, ◌∙◌, ap, arith, true}
 use Rattle.lc_model.specs.Text.Reading.{TooNested}
 use Rattle.rule_parser.specs.Front.{begins, class_of}
 use Rattle.rule_parser.proofs.Nesting.{first_is, taken}
