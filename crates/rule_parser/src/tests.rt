@@ -12,10 +12,7 @@ use rule_lexer::{LexError, lex};
 use std::process::Abort;
 
 /// The items of a text.
-fn parsed<'a, R: Abort + AllocGlobal>(
-    rt: &R,
-    text: &'a [u8],
-) -> Result<RuleFile<'a>, ParseError> {
+fn parsed<'a, R: Abort + AllocGlobal>(rt: &R, text: &'a [u8]) -> Result<RuleFile<'a>, ParseError> {
     match lex(rt.alloc(), text) {
         Ok(tokens) => parse(rt.alloc(), text, tokens.as_slice()),
         Err(LexError::Memory) => Err(ParseError::Memory),
