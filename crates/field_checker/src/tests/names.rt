@@ -150,7 +150,7 @@ fn names_that_differ(rt: HostRuntime) -> Result<(), Fail> {
             None,
         ),
         (
-            "packet P = mid 0x0883 length 16; field V = P1 u8 at 12;",
+            "packet P = mid 0x0883 length 16; field V = PX u8 at 12;",
             Some(CheckError::UnknownName { at: 43 }),
         ),
         (
