@@ -67,24 +67,28 @@ module _ (text : List ℕ) where
   of_parser tokens (parser.TooNested at) splits is = inr (Unparsed (model.TooNested at), refl, model.no_parse splits is)
   of_parser tokens parser.Memory splits is = inl refl
 
-  -- the refusal of an error that has a fault
-  refused_at : (error : CheckError) (fault : TextFault) → check.text_fault_of error ≡ Some fault → refusal_of (error_of_checker error) ≡ Some (AtPlace fault)
-  refused_at (checker.DuplicateName at) fault e = ap (option_map AtPlace) e
-  refused_at (checker.UnknownName at) fault e = ap (option_map AtPlace) e
-  refused_at (checker.MidRange at) fault e = ap (option_map AtPlace) e
-  refused_at (checker.ReservedMid at) fault e = ap (option_map AtPlace) e
-  refused_at (checker.FieldOutside at) fault e = ap (option_map AtPlace) e
-  refused_at (checker.MaskRange at) fault e = ap (option_map AtPlace) e
-  refused_at (checker.ConstRange at) fault e = ap (option_map AtPlace) e
-  refused_at (checker.NumberRange at) fault e = ap (option_map AtPlace) e
-  refused_at (checker.LengthRange at) fault e = ap (option_map AtPlace) e
-  refused_at checker.Memory fault e = absurd (cc e)
-
   pub of_checker : (tokens : List Token) (items : List Item) (error : CheckError) → Splits text tokens → Parses tokens items →
       check.IsFaultUnlessMemory (first_fault (faults items)) error → Refuses (IsUnreadable text) (error_of_checker error)
   of_checker tokens items error splits parses (inl memory) = inl (ap error_of_checker memory)
-  of_checker tokens items error splits parses (inr (fault, known, first)) =
-      inr (AtPlace fault, refused_at error fault known, model.no_meaning splits parses first)
+  of_checker tokens items (checker.DuplicateName at) splits parses (inr first) =
+      inr (AtPlace (record { code = 21; at = at }), refl, model.no_meaning splits parses (sym first))
+  of_checker tokens items (checker.UnknownName at) splits parses (inr first) =
+      inr (AtPlace (record { code = 22; at = at }), refl, model.no_meaning splits parses (sym first))
+  of_checker tokens items (checker.MidRange at) splits parses (inr first) =
+      inr (AtPlace (record { code = 23; at = at }), refl, model.no_meaning splits parses (sym first))
+  of_checker tokens items (checker.ReservedMid at) splits parses (inr first) =
+      inr (AtPlace (record { code = 24; at = at }), refl, model.no_meaning splits parses (sym first))
+  of_checker tokens items (checker.FieldOutside at) splits parses (inr first) =
+      inr (AtPlace (record { code = 25; at = at }), refl, model.no_meaning splits parses (sym first))
+  of_checker tokens items (checker.MaskRange at) splits parses (inr first) =
+      inr (AtPlace (record { code = 26; at = at }), refl, model.no_meaning splits parses (sym first))
+  of_checker tokens items (checker.ConstRange at) splits parses (inr first) =
+      inr (AtPlace (record { code = 27; at = at }), refl, model.no_meaning splits parses (sym first))
+  of_checker tokens items (checker.NumberRange at) splits parses (inr first) =
+      inr (AtPlace (record { code = 28; at = at }), refl, model.no_meaning splits parses (sym first))
+  of_checker tokens items (checker.LengthRange at) splits parses (inr first) =
+      inr (AtPlace (record { code = 29; at = at }), refl, model.no_meaning splits parses (sym first))
+  of_checker tokens items checker.Memory splits parses (inr none) = inl refl
 
 -- ---- limits
 
