@@ -1,5 +1,5 @@
 -- The words of a condition whose mentions are numbered are the words of its equation.
-use Rattle.std.proofs.Common.{◌≡◌, refl, sym, ◌∙◌, ap, ap₂, ℕ, ◌+◌, ◌<◌, ◌≤◌, List, [], ◌∷◌, ◌++◌, length, map, take, get_or, Vec, Global, arith}
+use Rattle.std.proofs.Common.{◌≡◌, refl, sym, ◌∙◌, ap, ℕ, ◌+◌, ◌<◌, ◌≤◌, List, [], ◌∷◌, ◌++◌, length, map, take, get_or, Vec, Global, arith}
 use Rattle.std.proofs.lemmas.List.{append_assoc, append-nil, get_or-map, length-append, length-map, map-append, take_more}
 use Rattle.lc_model.specs.declared.rule.Rule.{Rule}
 use Rattle.lc_model.specs.Rule.{rule_of, rules_of}

@@ -1,6 +1,6 @@
 -- The refusal of a text is that of the first part of the compiler that has one.
-use Rattle.std.proofs.Common.{◌≡◌, refl, sym, ◌∙◌, ap, subst, ℕ, ◌<◌, ◌⊎◌, inl, inr, List, [], ◌∷◌, length}
-use Rattle.std.specs.Prelude.{Some, None, option_map, Result, Ok, Err, IfErr, IfOk, MatchResult}
+use Rattle.std.proofs.Common.{◌≡◌, refl, sym, ap, subst, ℕ, ◌<◌, inl, inr, List, [], ◌∷◌, length}
+use Rattle.std.specs.Prelude.{Some, Result, Ok, Err, IfErr, IfOk, MatchResult}
 use Rattle.std.specs.Result.{IsErrAnd}
 use Rattle.std.specs.List.{AllByRecursion}
 use Rattle.std.proofs.lemmas.Bool.{lt-ltb}
@@ -8,11 +8,11 @@ use Rattle.lc_model.specs.Rule.{NamedRule}
 use Rattle.lc_model.specs.Codes.{table_entries}
 use Rattle.lc_model.specs.Text.Token.{Token, Splits}
 use Rattle.lc_model.specs.Text.Syntax.{Item}
-use Rattle.lc_model.specs.Text.Meaning.{TextFault, faults, first_fault}
+use Rattle.lc_model.specs.Text.Meaning.{faults, first_fault}
 use Rattle.lc_model.specs.Text.Reading as model
 use Rattle.lc_model.specs.Text.Reading.{Parses, HasParseFault, TextRefusal, ForText, AtPlace, Unparsed, Reads, IsUnreadable}
 use Rattle.lc_model.specs.Tables.Equation.{terms_of}
-use Rattle.lc_model.specs.Tables.Compiling.{Limits, Compiles, IsRefused, limit_refusal, text_order_limits}
+use Rattle.lc_model.specs.Tables.Compiling.{Compiles, IsRefused, limit_refusal, text_order_limits}
 use Rattle.lc_model.specs.Laws.Reading.{AtMostOneVerdict, IsWithinRanges}
 use Rattle.rule_lexer.specs.declared.error.LexError.{LexError}
 use Rattle.rule_lexer.specs.declared.error.LexError.TheVariants as lexer
@@ -25,7 +25,6 @@ use Rattle.field_checker.specs.declared.error.CheckError.{CheckError}
 use Rattle.field_checker.specs.declared.error.CheckError.TheVariants as checker
 use Rattle.field_checker.specs.Fault as check
 use Rattle.watch_sharing.specs.declared.error.ShareError.{ShareError}
-use Rattle.watch_sharing.specs.declared.error.ShareError.TheVariants as sharing
 use Rattle.watch_sharing.specs.Fault.{IsTooManyUnlessMemory}
 use Rattle.rpn_compiler.specs.declared.error.CompileError.{CompileError}
 use Rattle.rpn_compiler.specs.declared.error.CompileError.TheVariants.{Memory}

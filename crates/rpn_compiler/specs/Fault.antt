@@ -1,6 +1,5 @@
 -- What the compiler's errors say of a text. This project's own.
 use Rattle.std.specs.Prelude.{◌≡◌, ℕ, ◌⊎◌, Option, Some, None, option_map}
-use Rattle.lc_model.specs.Text.Meaning.{TextFault}
 use Rattle.lc_model.specs.Text.Reading as model
 use Rattle.lc_model.specs.Text.Reading.{ParseFault, TextRefusal, ForText, AtPlace, Unparsed, ForRule}
 use Rattle.rule_lexer.specs.declared.error.LexError.{LexError}

@@ -28,8 +28,9 @@ fn size(cond: &Cond) -> usize
     match cond {
         Cond::Watch(_) => 1,
         Cond::Not(operand) => size(operand).saturating_add(1),
-        Cond::And(first, second) | Cond::Or(first, second) | Cond::Xor(first, second) =>
-            size(first).saturating_add(size(second)).saturating_add(1),
+        Cond::And(first, second) | Cond::Or(first, second) | Cond::Xor(first, second) => size(first)
+            .saturating_add(size(second))
+            .saturating_add(1),
     }
 }
 
@@ -40,8 +41,9 @@ fn need(cond: &Cond) -> usize
     match cond {
         Cond::Watch(_) => 1,
         Cond::Not(operand) => need(operand),
-        Cond::And(first, second) | Cond::Or(first, second) | Cond::Xor(first, second) =>
-            need(first).max(need(second).saturating_add(1)),
+        Cond::And(first, second) | Cond::Or(first, second) | Cond::Xor(first, second) => need(
+            first,
+        ).max(need(second).saturating_add(1)),
     }
 }
 

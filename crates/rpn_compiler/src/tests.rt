@@ -13,12 +13,10 @@ use std::alloc::{AllocError, Global};
 use std::process::Abort;
 
 /// A packet and a field of it.
-const DECLARATIONS: &str =
-    "packet P = mid 0x0883 length 16; field V = P u16be at 12 stale 2; ";
+const DECLARATIONS: &str = "packet P = mid 0x0883 length 16; field V = P u16be at 12 stale 2; ";
 
 /// What a rule says before its condition.
-const RULE: &str =
-    " active fails 2 sequence 7 event error 1001 \"low volts\" when ";
+const RULE: &str = " active fails 2 sequence 7 event error 1001 \"low volts\" when ";
 
 /// The field below this number.
 fn below(value: i64) -> Term {

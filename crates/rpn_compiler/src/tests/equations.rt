@@ -37,7 +37,10 @@ fn one_comparison(rt: HostRuntime) -> Result<(), Fail> {
 fn two_rules_share_a_watchpoint(rt: HostRuntime) -> Result<(), Fail> {
     let text = text_of(rt.alloc(), &["V < 2400", "V < 2399 or V < 2400"])?;
     let lowered = lowered(&rt, text.as_slice());
-    assert_eq!(rt; lowered.terms.as_slice(), [below(2_400), below(2_399)].as_slice());
+    assert_eq!(rt;
+        lowered.terms.as_slice(),
+        [below(2_400), below(2_399)].as_slice()
+    );
     has_words(&rt, &lowered, 0, &[0, EQUAL]);
     has_words(&rt, &lowered, 1, &[1, 0, OR, EQUAL]);
     Ok(())
@@ -50,7 +53,10 @@ fn operands_first_in_the_order_of_the_text(rt: HostRuntime) -> Result<(), Fail> 
         ("not not V < 1", &[0, NOT, NOT, EQUAL]),
         ("V < 1 and V < 2 and V < 3", &[0, 1, AND, 2, AND, EQUAL]),
         ("V < 1 and (V < 2 and V < 3)", &[0, 1, 2, AND, AND, EQUAL]),
-        ("V < 1 or V < 2 xor V < 3 and V < 4", &[0, 1, 2, 3, AND, XOR, OR, EQUAL]),
+        (
+            "V < 1 or V < 2 xor V < 3 and V < 4",
+            &[0, 1, 2, 3, AND, XOR, OR, EQUAL],
+        ),
         ("(V < 1 or V < 2) and V < 3", &[0, 1, OR, 2, AND, EQUAL]),
         ("V < 1 and (V < 2 or V < 3)", &[0, 1, 2, OR, AND, EQUAL]),
         ("not (V < 1 xor not V < 1)", &[0, 0, NOT, XOR, NOT, EQUAL]),
@@ -64,12 +70,18 @@ fn operands_first_in_the_order_of_the_text(rt: HostRuntime) -> Result<(), Fail> 
 
 #[test]
 fn two_packets_and_a_comment(rt: HostRuntime) -> Result<(), Fail> {
-    let text = b"rule LOW passive fails 1 sequence 3 event debug 2000 \"\" report 1 2 3 when not (V < 2400 and X == -1);
+    let text =
+        b"rule LOW passive fails 1 sequence 3 event debug 2000 \"\" report 1 2 3 when not (V < 2400 and X == -1);
         # used before they are declared
         field X = Q i8 at 12 mask 0x7F; packet Q = mid 0x0884 length 13;
         field V = P u16le at 0; packet P = mid 0x0883 length 12;";
     let lowered = lowered(&rt, text.as_slice());
-    let v = Term { kind: FieldType::U16Le, offset: 0, stale: 0, ..below(2_400) };
+    let v = Term {
+        kind: FieldType::U16Le,
+        offset: 0,
+        stale: 0,
+        ..below(2_400)
+    };
     let x = Term {
         kind: FieldType::I8,
         mid: 0x0884,

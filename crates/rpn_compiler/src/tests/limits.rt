@@ -6,7 +6,8 @@ use std::alloc::{AllocError, Global};
 use std::test::Fail;
 
 /// Ten different comparisons, joined from the left, after these letters.
-const TEN_JOINED: &str = "V < 0 and V < 1 and V < 2 and V < 3 and V < 4 and V < 5 and V < 6 and V < 7 and V < 8 and V < 9";
+const TEN_JOINED: &str =
+    "V < 0 and V < 1 and V < 2 and V < 3 and V < 4 and V < 5 and V < 6 and V < 7 and V < 8 and V < 9";
 
 /// So many rules, each with a comparison of its own where `distinct` says so, and else all with one.
 fn rules(alloc: Global, count: usize, distinct: bool) -> Result<Vec<u8>, AllocError> {
@@ -23,8 +24,8 @@ fn rules(alloc: Global, count: usize, distinct: bool) -> Result<Vec<u8>, AllocEr
 fn twenty_words(rt: HostRuntime) -> Result<(), Fail> {
     let text = text_of(rt.alloc(), &[TEN_JOINED])?;
     let words: [u16; 20] = [
-        0, 1, 0xFF01, 2, 0xFF01, 3, 0xFF01, 4, 0xFF01, 5, 0xFF01, 6, 0xFF01, 7, 0xFF01, 8, 0xFF01, 9,
-        0xFF01, 0xFF05,
+        0, 1, 0xFF01, 2, 0xFF01, 3, 0xFF01, 4, 0xFF01, 5, 0xFF01, 6, 0xFF01, 7, 0xFF01, 8, 0xFF01,
+        9, 0xFF01, 0xFF05,
     ];
     has_words(&rt, &lowered(&rt, text.as_slice()), 0, &words);
     Ok(())
@@ -36,14 +37,20 @@ fn a_word_too_many(rt: HostRuntime) -> Result<(), Fail> {
     condition.extend_from_slice(TEN_JOINED.as_bytes())?;
     let mut text = DECLARATIONS.as_bytes().to_vec(rt.alloc())?;
     push_rule(&mut text, 0, condition.as_slice())?;
-    is_refused(&rt, text.as_slice(), CompileError::EquationTooLong { rule: 0 });
+    is_refused(
+        &rt,
+        text.as_slice(),
+        CompileError::EquationTooLong { rule: 0 },
+    );
     Ok(())
 }
 
 #[test]
 fn eight_operands_wait_and_no_more(rt: HostRuntime) -> Result<(), Fail> {
-    let eight = "V < 0 and (V < 1 and (V < 2 and (V < 3 and (V < 4 and (V < 5 and (V < 6 and V < 7))))))";
-    let nine = "V < 0 and (V < 1 and (V < 2 and (V < 3 and (V < 4 and (V < 5 and (V < 6 and (V < 7 and V < 8)))))))";
+    let eight =
+        "V < 0 and (V < 1 and (V < 2 and (V < 3 and (V < 4 and (V < 5 and (V < 6 and V < 7))))))";
+    let nine =
+        "V < 0 and (V < 1 and (V < 2 and (V < 3 and (V < 4 and (V < 5 and (V < 6 and (V < 7 and V < 8)))))))";
     let text = text_of(rt.alloc(), &[eight])?;
     assert_eq!(rt; lowered(&rt, text.as_slice()).terms.len(), 8);
     let text = text_of(rt.alloc(), &[nine])?;

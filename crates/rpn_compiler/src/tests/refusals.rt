@@ -1,17 +1,21 @@
 //! First refusals: the lexer's before the parser's before the checker's.
 
 use crate::compiler::lower;
+use crate::error::CompileError;
 use field_checker::CheckError;
 use rule_lexer::LexError;
 use rule_parser::{ParseError, What};
-use crate::error::CompileError;
 
 #[test]
 fn first_refusals_by_place(rt: HostRuntime) {
     let name = What::Name;
     let table: [(&str, CompileError, u8); 18] = [
         ("@", CompileError::Lex(LexError::BadByte { at: 0 }), 1),
-        ("4294967296", CompileError::Lex(LexError::BadNumber { at: 0 }), 2),
+        (
+            "4294967296",
+            CompileError::Lex(LexError::BadNumber { at: 0 }),
+            2,
+        ),
         ("\"low", CompileError::Lex(LexError::BadString { at: 0 }), 4),
         (
             "packet P = mid 0x0883 length 16; field V = P u16be at 15;",
@@ -23,22 +27,65 @@ fn first_refusals_by_place(rt: HostRuntime) {
             CompileError::Check(CheckError::MaskRange { at: 59 }),
             26,
         ),
-        ("packet \"", CompileError::Lex(LexError::BadString { at: 7 }), 4),
-        ("packet", CompileError::Parse(ParseError::Expected { at: 6, what: name }), 11),
-        ("packet P = mid 1 length", CompileError::Parse(ParseError::Expected { at: 23, what: What::Number }), 11),
-        ("packet P = mid 0x0808 length 16;", CompileError::Check(CheckError::ReservedMid { at: 15 }), 24),
-        ("packet P = mid 0x1883 length 16;", CompileError::Check(CheckError::MidRange { at: 15 }), 23),
-        ("packet P = mid 0x0883 length 11;", CompileError::Check(CheckError::LengthRange { at: 29 }), 29),
-        ("field V = P u8 at 0;", CompileError::Check(CheckError::UnknownName { at: 10 }), 22),
-        ("field V = P u8 at 0 stale -1;", CompileError::Check(CheckError::UnknownName { at: 10 }), 22),
+        (
+            "packet \"",
+            CompileError::Lex(LexError::BadString { at: 7 }),
+            4,
+        ),
+        (
+            "packet",
+            CompileError::Parse(ParseError::Expected { at: 6, what: name }),
+            11,
+        ),
+        (
+            "packet P = mid 1 length",
+            CompileError::Parse(ParseError::Expected {
+                at: 23,
+                what: What::Number,
+            }),
+            11,
+        ),
+        (
+            "packet P = mid 0x0808 length 16;",
+            CompileError::Check(CheckError::ReservedMid { at: 15 }),
+            24,
+        ),
+        (
+            "packet P = mid 0x1883 length 16;",
+            CompileError::Check(CheckError::MidRange { at: 15 }),
+            23,
+        ),
+        (
+            "packet P = mid 0x0883 length 11;",
+            CompileError::Check(CheckError::LengthRange { at: 29 }),
+            29,
+        ),
+        (
+            "field V = P u8 at 0;",
+            CompileError::Check(CheckError::UnknownName { at: 10 }),
+            22,
+        ),
+        (
+            "field V = P u8 at 0 stale -1;",
+            CompileError::Check(CheckError::UnknownName { at: 10 }),
+            22,
+        ),
         (
             "packet P = mid 0x0883 length 16; packet P = mid 0x0883 length 16;",
             CompileError::Check(CheckError::DuplicateName { at: 40 }),
             21,
         ),
         // a fault of a later part at a lesser place, and one of an earlier part behind it
-        ("packet P = mid 0x1883 length 16; packet", CompileError::Parse(ParseError::Expected { at: 39, what: name }), 11),
-        ("packet packet @", CompileError::Lex(LexError::BadByte { at: 14 }), 1),
+        (
+            "packet P = mid 0x1883 length 16; packet",
+            CompileError::Parse(ParseError::Expected { at: 39, what: name }),
+            11,
+        ),
+        (
+            "packet packet @",
+            CompileError::Lex(LexError::BadByte { at: 14 }),
+            1,
+        ),
         (
             "packet P = mid 0x0883 length 16; field V = P i8 at 0; rule R active fails 0 sequence 1 event info 1000 \"\" when V < -129;",
             CompileError::Check(CheckError::NumberRange { at: 74 }),

@@ -1,4 +1,4 @@
-use Rattle.std.proofs.Common.{◌≡◌, sym, ap, subst, Some}
+use Rattle.std.proofs.Common.{◌≡◌, Some}
 use Rattle.lc_model.specs.Text.Reading.{IsUnreadable}
 use Rattle.lc_model.specs.Tables.Compiling.{IsRefused, unreadable, beyond_limits, limit_refusal, text_order_limits}
 use Rattle.rpn_compiler.specs.Fault.{Refuses}

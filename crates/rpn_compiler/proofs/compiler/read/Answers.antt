@@ -1,4 +1,4 @@
-use Rattle.std.proofs.Common.{◌≡◌, sym, ap, subst}
+use Rattle.std.proofs.Common.{sym, subst}
 use Rattle.lc_model.specs.Text.Token.{Splits}
 use Rattle.lc_model.specs.Text.Reading.{IsUnreadable}
 use Rattle.rule_lexer.specs.Token.{tokens_of}

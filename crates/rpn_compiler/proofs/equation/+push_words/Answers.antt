@@ -1,4 +1,4 @@
-use Rattle.std.proofs.Common.{◌≡◌, sym, ◌∙◌, ap, subst, ◌<◌}
+use Rattle.std.proofs.Common.{sym, ◌∙◌, ap, subst, ◌<◌}
 use Rattle.lc_model.specs.Condition.{And, Or, Xor, condition_of}
 use Rattle.lc_model.specs.Tables.Equation.{size}
 use Rattle.rpn_compiler.specs.Numbered.{by_numbers}

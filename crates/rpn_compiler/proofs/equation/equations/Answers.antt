@@ -1,4 +1,4 @@
-use Rattle.std.proofs.Common.{◌≡◌, refl, sym, ◌∙◌, ap, ap₂, ℕ, ◌+◌, List, ◌∷◌, [], ◌++◌, take, length, map, Vec, Global, arith}
+use Rattle.std.proofs.Common.{◌≡◌, sym, ◌∙◌, ap, ap₂, ℕ, List, ◌∷◌, [], ◌++◌, take, length, map, Vec, Global, arith}
 use Rattle.std.proofs.lemmas.List.{length-map, map-append}
 use Rattle.lc_model.specs.declared.field.Term.{Term}
 use Rattle.lc_model.specs.declared.rule.Rule.{Rule}

@@ -1,4 +1,4 @@
-use Rattle.std.proofs.Common.{◌≡◌, refl, ℕ, arith}
+use Rattle.std.proofs.Common.{refl, arith}
 use Rattle.lc_model.specs.Rule.{rule_of}
 use Rattle.lc_model.specs.Text.Reading.{ForRule}
 use Rattle.rpn_compiler.proofs.Judging.{too_long, too_deep, fits}
@@ -9,10 +9,12 @@ returns-then-size-ge-MOST_WORDS c =
     (ForRule 42 c.args.number, refl, too_long c.args.number (rule_of c.args.rule.now) (omega (arith, c.if-size-ge-MOST_WORDS.true, c.size.ensures)))
 
 pub returns-then-need-gt-MOST_WAITING : goal.returns-then-need-gt-MOST_WAITING
-returns-then-need-gt-MOST_WAITING c =
-    (ForRule 43 c.args.number, refl,
-    too_deep c.args.number (rule_of c.args.rule.now) (omega (arith, c.if-size-ge-MOST_WORDS.false, c.size.ensures))
-    (omega (arith, c.if-need-gt-MOST_WAITING.true, c.need.ensures)))
+returns-then-need-gt-MOST_WAITING c = (
+  ForRule 43 c.args.number,
+  refl,
+  too_deep c.args.number (rule_of c.args.rule.now) (omega (arith, c.if-size-ge-MOST_WORDS.false, c.size.ensures))
+      (omega (arith, c.if-need-gt-MOST_WAITING.true, c.need.ensures)),
+)
 
 pub returns : goal.returns
 returns c =
