@@ -3,3 +3,4 @@ pub mod Fault
 pub mod Lowered
 pub mod Numbered
 pub mod Limits
+pub mod Pair

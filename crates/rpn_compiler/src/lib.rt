@@ -4,6 +4,8 @@
 mod compiler;
 mod equation;
 mod error;
+mod files;
+mod images;
 mod limits;
 mod lowered;
 #[cfg(test)]
@@ -11,4 +13,5 @@ mod tests;
 
 pub use compiler::lower;
 pub use error::CompileError;
+pub use files::{TablePair, compile};
 pub use lowered::Lowered;

@@ -1,6 +1,7 @@
 //! Rule texts with what they are compiled to, and texts that are refused.
 
 mod equations;
+mod files;
 mod limits;
 mod memory;
 mod refusals;

@@ -1,0 +1,193 @@
+-- The tables that are written of watchpoints and actionpoints without a fault are sound.
+use Rattle.std.proofs.Common.{◌≡◌, refl, sym, ◌∙◌, ap, ℕ, zero, suc, ◌+◌, ◌-◌, ◌*◌, ◌<◌, ◌≤◌, ◌^◌, ◌⊎◌, inl, inr, Bool, true, false, not, ◌&&◌, ◌||◌, if◌then◌else◌, nat_lt, ◌==◌, List, [], ◌∷◌, ◌++◌, length, map, find, filter_map, get_or, slice_get, take, drop, replicate, bytes_eq, Option, Some, None, option_map, arith}
+use Rattle.std.specs.List.{flat_map, cons_option, AllByRecursion}
+use Rattle.std.specs.Option.{option_map_or}
+use Rattle.std.proofs.lemmas.Bool.{cases_lt}
+use Rattle.std.proofs.lemmas.List.{length-map, take_at, drop_at, drop-drop}
+use Rattle.std.proofs.lemmas.List.Elements.{filter_map-append}
+use Rattle.std.proofs.lemmas.Slice.Eq.{bytes_eq-Decides}
+use Rattle.lc_model.specs.declared.kind.Kind.{Kind}
+use Rattle.lc_model.specs.declared.kind.Kind.TheVariants.{Wdt, Adt}
+use Rattle.lc_model.specs.declared.field.Term.{Term}
+use Rattle.lc_model.specs.Bytes.{u16_at}
+use Rattle.lc_model.specs.Codes.{is_kind, kind_code, table_entries}
+use Rattle.lc_model.specs.Tables.Image.{Layout, Watchpoints, Actionpoints, kind_of, version_of, entry_length, image_length, preamble, blank_entry, filled, term_bytes, wdt_image, FitsWatchpoint, TableEntry, entry_bytes, FitsEntry, adt_image, own_count, watchpoint_count, entry_at, used_code, entry_code, numbers_below, image_fault, preamble_code, layout_of, wrong_size, IsSound, version_1_layouts}
+use Rattle.lc_model.proofs.SoundWords.{stands_none, both_false}
+use Rattle.table_file.specs.Laws.{HasPreamble}
+use Rattle.table_file.proofs.Entries.{AreLong, all_entries, all_long, length-all_entries, terms_long, wdt_long, entries_long_of, adt_long}
+use Rattle.table_file.proofs.EntriesAgain.{entry_again, at_place, preamble_again}
+use Rattle.rpn_compiler.proofs.TermsInRange.{IsInRange}
+use Rattle.rpn_compiler.proofs.SoundEntries.{sound_watchpoint, IsSoundEntry, sound_actionpoint}
+
+-- ---- tests
+
+less : (m n : ℕ) → m < n → nat_lt m n ≡ true
+less m n h = grind (arith, h)
+
+not_less : (m n : ℕ) → n ≤ m → nat_lt m n ≡ false
+not_less m n h = grind (arith, h)
+
+same_number : (n : ℕ) → (n == n) ≡ true
+same_number n = grind arith
+
+-- ---- the first fault
+
+none_listed : {X : Type 0} (f : ℕ → Option X) (n : ℕ) → ((k : ℕ) → k < n → f k ≡ None) → filter_map f (numbers_below n) ≡ []
+none_listed f zero none = refl
+none_listed f (suc n) none =
+    filter_map-append f (numbers_below n) (n ∷ [])
+    ∙ (λ i. none_listed f n (λ k below. none k (omega (arith, below))) i ++ cons_option (none n (omega arith) i) [])
+
+-- where no number has a value, there is no first
+no_first : {X : Type 0} (f : ℕ → Option X) (n : ℕ) → ((k : ℕ) → k < n → f k ≡ None) → slice_get (filter_map f (numbers_below n)) 0 ≡ None
+no_first f n none = ap (λ xs. slice_get xs 0) (none_listed f n none)
+
+-- an image of a known layout without a fault of its preamble or of an entry is sound
+all_sound : (kind : Kind) (l : Layout) (image : List ℕ) → layout_of version_1_layouts kind image ≡ Some l → preamble_code l image ≡ None →
+    ((n : ℕ) → n < table_entries → entry_code l image n ≡ None) → IsSound version_1_layouts kind image
+all_sound kind l image found front entries =
+    ap (λ o. option_map_or (λ m. image_fault m image (preamble_code m image)) o (Some wrong_size)) found ∙ ap (image_fault l image) front
+    ∙ no_first (λ n. option_map (λ code. record { code = code; entry = n }) (entry_code l image n)) table_entries
+    (λ n below. ap (option_map (λ code. record { code = code; entry = n })) (entries n below))
+
+-- ---- entries that are not used
+
+entry_taken : (n : ℕ) (es : List (List ℕ)) (i : ℕ) → AreLong n es → i < length es → take n (drop (i * n) (flat_map (λ e. e) es)) ≡ get_or es i []
+entry_taken n [] i all within = absurd (omega (arith, within))
+entry_taken n (e ∷ es) zero all within =
+    let none : zero * n ≡ 0 = omega arith in
+    ap (λ k. take n (drop k (e ++ flat_map (λ e. e) es))) none ∙ take_at e (flat_map (λ e. e) es) n all.0
+entry_taken n (e ∷ es) (suc i) all within =
+    let rest : List ℕ = flat_map (λ e. e) es in
+    let place : suc i * n ≡ n + i * n = omega arith in
+    ap (λ k. take n (drop k (e ++ rest))) place ∙ ap (take n) (sym (drop-drop (i * n) n (e ++ rest)))
+    ∙ ap (λ (s : List ℕ). take n (drop (i * n) s)) (drop_at e rest n all.0) ∙ entry_taken n es i all.1 (omega (arith, within))
+
+one_of_many : (x : List ℕ) (n i : ℕ) → i < n → get_or (replicate n x) i [] ≡ x
+one_of_many x zero i within = absurd (omega (arith, within))
+one_of_many x (suc n) zero within = refl
+one_of_many x (suc n) (suc i) within = one_of_many x n i (omega (arith, within))
+
+behind : (x : List ℕ) (es : List (List ℕ)) (n i : ℕ) → length es ≤ i → i < length es + n → get_or (es ++ replicate n x) i [] ≡ x
+behind x [] n i more within = one_of_many x n i (omega (arith, within))
+behind x (e ∷ es) n zero more within = absurd (omega (arith, more))
+behind x (e ∷ es) n (suc i) more within = behind x es n i (omega (arith, more)) (omega (arith, within))
+
+-- the entries behind those that are used are blank
+blank_again : (l : Layout) (own n : ℕ) (h : List ℕ) (es : List (List ℕ)) (i : ℕ) → length h ≡ 32 → AreLong (entry_length l) es → length es ≤ table_entries →
+    length es ≤ i → i < table_entries → entry_at l (preamble l own n h ++ filled l es) i ≡ blank_entry l
+blank_again l own n h es i hash all few more within =
+    let image : List ℕ = preamble l own n h ++ filled l es in
+    let size : ℕ = entry_length l in
+    ap (take size) (sym (drop-drop (i * size) 40 image))
+    ∙ ap (λ (s : List ℕ). take size (drop (i * size) s)) (drop_at (preamble l own n h) (filled l es) 40 (omega (arith, hash)))
+    ∙ entry_taken size (all_entries l es) i (all_long l es all) (omega (arith, length-all_entries l es few, within))
+    ∙ behind (blank_entry l) es (table_entries - length es) i more (omega (arith, few, within))
+
+-- ---- a whole image
+
+first_of : {A : Type 0} (xs : List A) (i : ℕ) → i < length xs → A
+first_of [] i within = absurd (omega (arith, within))
+first_of (x ∷ xs) i within = x
+
+abbrev not_blank : Option ℕ
+not_blank = Some 65
+
+-- no entry has a fault where those that are used have none
+no_entry : {A : Type 0} (l : Layout) (f : A → List ℕ) (n : ℕ) (h : List ℕ) (xs : List A) → length h ≡ 32 → AreLong (entry_length l) (map f xs) →
+    length xs ≤ table_entries → n < 2 ^ 16 → AllByRecursion (λ x. used_code l n (f x) ≡ None) xs →
+    (i : ℕ) → i < table_entries → entry_code l (preamble l (length xs) n h ++ filled l (map f xs)) i ≡ None
+no_entry {A = A} l f n h xs hash all few small sound i within = go (cases_lt i (length xs))
+  where
+    image : List ℕ
+    image = preamble l (length xs) n h ++ filled l (map f xs)
+
+    many : length (map f xs) ≡ length xs
+    many = length-map xs f
+
+    front : HasPreamble image h (length xs) n
+    front = preamble_again l (length xs) n h (filled l (map f xs)) hash few small
+
+    own : (b : Bool) → nat_lt i (length xs) ≡ b → nat_lt i (own_count image) ≡ b
+    own b e = ap (nat_lt i) front.own_is ∙ e
+
+    go : (i < length xs) ⊎ (length xs ≤ i) → entry_code l image i ≡ None
+    go (inl less_than) =
+        let d : A = first_of xs i less_than in
+        let code : used_code l (watchpoint_count image) (entry_at l image i) ≡ None =
+        (λ j. used_code l (front.watchpoints_are j) (entry_again l f (length xs) n h xs i d hash all many few less_than j))
+        ∙ at_place (λ x. used_code l n (f x) ≡ None) xs i d sound less_than in
+        ap (λ b. if b then used_code l (watchpoint_count image) (entry_at l image i) else if bytes_eq (entry_at l image i) (blank_entry l) then None else Some 65)
+        (own true (less i (length xs) less_than)) ∙ code
+    go (inr more) =
+        let blank : entry_at l image i ≡ blank_entry l =
+        blank_again l (length xs) n h (map f xs) i hash all (omega (arith, many, few)) (omega (arith, many, more)) within in
+        let same : bytes_eq (entry_at l image i) (blank_entry l) ≡ true = (bytes_eq-Decides (entry_at l image i) (blank_entry l)).1 blank in
+        (λ j. if own false (not_less i (length xs) more) j then used_code l (watchpoint_count image) (entry_at l image i) else if same j then None else not_blank)
+
+few_counts : (own n : ℕ) → own ≤ table_entries → n ≤ table_entries → (nat_lt table_entries own || nat_lt table_entries n) ≡ false
+few_counts own n a b = both_false (nat_lt table_entries own) (nat_lt table_entries n) (not_less table_entries own a) (not_less table_entries n b)
+
+-- the tests of a preamble
+abbrev preamble_tests : Layout → List ℕ → List (Bool × ℕ)
+preamble_tests l image =
+    (not (u16_at image 0 == version_of l), 61)
+    ∷ (not (u16_at image 2 == kind_code (kind_of l)), 62)
+    ∷ (
+      nat_lt table_entries (own_count image) || nat_lt table_entries (watchpoint_count image)
+          || (is_kind (kind_of l) Wdt && not (own_count image == watchpoint_count image)),
+      64,
+    ) ∷ []
+
+-- ---- watchpoints
+
+each_watchpoint : (n : ℕ) (terms : List Term) → AllByRecursion FitsWatchpoint terms → AllByRecursion IsInRange terms →
+    AllByRecursion (λ t. used_code Watchpoints n (term_bytes t) ≡ None) terms
+each_watchpoint n [] fits are = tt
+each_watchpoint n (t ∷ terms) fits are = (sound_watchpoint t fits.0 are.0, each_watchpoint n terms fits.1 are.1)
+
+-- the table of at most 176 watchpoints in their ranges is sound
+pub sound_wdt : (h : List ℕ) (terms : List Term) → length h ≡ 32 → length terms ≤ table_entries → AllByRecursion FitsWatchpoint terms →
+    AllByRecursion IsInRange terms → IsSound version_1_layouts Wdt (wdt_image h terms)
+sound_wdt h terms hash few fits are =
+    let image : List ℕ = wdt_image h terms in
+    let n : ℕ = length terms in
+    let front : HasPreamble image h n n = preamble_again Watchpoints n n h (filled Watchpoints (map term_bytes terms)) hash few (omega (arith, few)) in
+    let found : layout_of version_1_layouts Wdt image ≡ Some Watchpoints =
+    ap (λ size. find (λ l. is_kind Wdt (kind_of l) && (image_length l == size)) version_1_layouts) (wdt_long h terms hash few) in
+    let counts : (nat_lt table_entries (own_count image) || nat_lt table_entries (watchpoint_count image)
+        || (is_kind (kind_of Watchpoints) Wdt && not (own_count image == watchpoint_count image))) ≡ false =
+    (λ i. nat_lt table_entries (front.own_is i) || nat_lt table_entries (front.watchpoints_are i) || (true && not (front.own_is i == front.watchpoints_are i)))
+    ∙ both_false (nat_lt table_entries n || nat_lt table_entries n) (not (n == n)) (few_counts n n few few) (ap not (same_number n)) in
+    all_sound Wdt Watchpoints image found (stands_none (preamble_tests Watchpoints image) (refl, (refl, (counts, tt))))
+    (no_entry Watchpoints term_bytes n h terms hash (terms_long terms) few (omega (arith, few)) (each_watchpoint n terms fits are))
+
+-- ---- actionpoints
+
+each_actionpoint : (n : ℕ) (entries : List TableEntry) → AllByRecursion (IsSoundEntry n) entries →
+    AllByRecursion (λ e. used_code Actionpoints n (entry_bytes Actionpoints e) ≡ None) entries
+each_actionpoint n [] are = tt
+each_actionpoint n (e ∷ entries) are = (sound_actionpoint n e are.0, each_actionpoint n entries are.1)
+
+pub each_fits : (n : ℕ) (entries : List TableEntry) → AllByRecursion (IsSoundEntry n) entries → AllByRecursion (FitsEntry Actionpoints) entries
+each_fits n [] are = tt
+each_fits n (e ∷ entries) are = (are.0.fits, each_fits n entries are.1)
+
+-- the table of at most 176 actionpoints, each sound over at most 176 watchpoints, is sound
+pub sound_adt : (h : List ℕ) (n : ℕ) (entries : List TableEntry) → length h ≡ 32 → n ≤ table_entries → length entries ≤ table_entries →
+    AllByRecursion (IsSoundEntry n) entries → IsSound version_1_layouts Adt (adt_image Actionpoints h n entries)
+sound_adt h n entries hash watchpoints few are =
+    let image : List ℕ = adt_image Actionpoints h n entries in
+    let own : ℕ = length entries in
+    let fits : AllByRecursion (FitsEntry Actionpoints) entries = each_fits n entries are in
+    let front : HasPreamble image h own n =
+    preamble_again Actionpoints own n h (filled Actionpoints (map (entry_bytes Actionpoints) entries)) hash few (omega (arith, watchpoints)) in
+    let found : layout_of version_1_layouts Adt image ≡ Some Actionpoints =
+    ap (λ size. find (λ l. is_kind Adt (kind_of l) && (image_length l == size)) version_1_layouts) (adt_long h n entries hash few fits) in
+    let counts : (nat_lt table_entries (own_count image) || nat_lt table_entries (watchpoint_count image)
+        || (is_kind (kind_of Actionpoints) Wdt && not (own_count image == watchpoint_count image))) ≡ false =
+    (λ i. nat_lt table_entries (front.own_is i) || nat_lt table_entries (front.watchpoints_are i) || false)
+    ∙ both_false (nat_lt table_entries own || nat_lt table_entries n) false (few_counts own n few watchpoints) refl in
+    all_sound Adt Actionpoints image found (stands_none (preamble_tests Actionpoints image) (refl, (refl, (counts, tt))))
+    (no_entry Actionpoints (entry_bytes Actionpoints) n h entries hash (entries_long_of Actionpoints refl entries fits) few (omega (arith, watchpoints))
+    (each_actionpoint n entries are))

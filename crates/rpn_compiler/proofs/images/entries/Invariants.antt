@@ -1,0 +1,7 @@
+use Rattle.std.proofs.Common.{◌≡◌, map, take}
+use Rattle.lc_model.specs.Rule.{rules_of}
+use Rattle.rpn_compiler.specs.Pair.{entry_over}
+use Rattle.rpn_compiler.proofs.images.entries.Given as goal
+
+abbrev pub invariant-loop-number : goal.invariant-loop-number
+invariant-loop-number l = l.entries.items ≡ map (entry_over l.lowered.terms.items) (rules_of (take l.number l.rules))

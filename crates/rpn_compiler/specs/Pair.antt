@@ -1,0 +1,25 @@
+-- The two tables of a rule text, in files. This project's own.
+use Rattle.std.specs.Prelude.{◌≡◌, ℕ, List, length}
+use Rattle.lc_model.specs.declared.field.Term.{Term}
+use Rattle.lc_model.specs.declared.kind.Kind.TheVariants.{Wdt, Adt}
+use Rattle.lc_model.specs.Rule.{NamedRule}
+use Rattle.lc_model.specs.Tables.Equation.{terms_of, words}
+use Rattle.lc_model.specs.Tables.Image.{TableEntry, own_count, version_1_layouts}
+use Rattle.lc_model.specs.Tables.Half.{entry_of, HasWords, IsFileOfHalf}
+use Rattle.lc_model.specs.Rule.{actions}
+use Rattle.rpn_compiler.specs.declared.files.TablePair.{TablePair}
+
+-- the entry of a rule over these watchpoints, with its words in the order of the text
+abbrev pub entry_over : List Term → NamedRule → TableEntry
+entry_over terms rule = entry_of rule.action (words terms rule.action.condition)
+
+-- the files of both tables of a text that says these rules, with the words in the order of the text, and the counts of
+-- the tables, which are those of the text
+pub record AreTables (text : List ℕ) (rules : List NamedRule) (pair : TablePair) : Type 0 where
+  pub wdt : IsFileOfHalf version_1_layouts Wdt pair.wdt.items text
+  pub adt : IsFileOfHalf version_1_layouts Adt pair.adt.items text
+  pub words_in_order : HasWords (λ c. c) (terms_of rules) (actions rules) adt.0
+  pub own_watchpoints : pair.watchpoints ≡ own_count wdt.0
+  pub own_rules : pair.rules ≡ own_count adt.0
+  pub watchpoints_of_text : pair.watchpoints ≡ length (terms_of rules)
+  pub rules_of_text : pair.rules ≡ length rules

@@ -1,0 +1,103 @@
+//! From a text to the files of its two tables.
+
+ghost use Rattle.std.specs.Prelude.{◌≡◌, ◌≤◌, List, length, IfErr, IfOk, MatchResult};
+ghost use Rattle.std.specs.List.{AllByRecursion};
+ghost use Rattle.lc_model.specs.Rule.{NamedRule};
+ghost use Rattle.lc_model.specs.Codes.{table_entries};
+ghost use Rattle.lc_model.specs.declared.kind.Kind.TheVariants as kinds;
+ghost use Rattle.lc_model.specs.Text.Reading.{TextRefusal};
+ghost use Rattle.lc_model.specs.Tables.Compiling.{Compiles, IsRefused, text_order_limits};
+ghost use Rattle.lc_model.specs.Tables.File.{file_bytes, wrapped};
+ghost use Rattle.lc_model.specs.Tables.Image.{Actionpoints, FitsEntry, FitsWatchpoint, adt_image, wdt_image};
+ghost use Rattle.rpn_compiler.specs.declared.error.CompileError.TheVariants.{Memory};
+ghost use Rattle.rpn_compiler.specs.Fault.{Refuses};
+ghost use Rattle.rpn_compiler.specs.Lowered.{IsLowered};
+ghost use Rattle.rpn_compiler.specs.Pair.{AreTables};
+
+use crate::compiler::lower;
+use crate::error::CompileError;
+use crate::images::entries;
+use crate::lowered::Lowered;
+use lc_model::Kind;
+use sha2::{Digest, Sha256};
+use std::alloc::Global;
+use table_file::{AdtImage, WdtImage, encode_adt, encode_wdt, wrap};
+
+/// The two tables of a rule text, each a complete file: a cFE file header (64 bytes), a table header (52 bytes) and the
+/// image.
+#[derive(Debug, Drop)]
+pub struct TablePair {
+    /// The file of the table of watchpoints, 4,380 bytes.
+    pub wdt: Vec<u8>,
+    /// The file of the table of actionpoints, 15,292 bytes.
+    pub adt: Vec<u8>,
+    /// How many of the 176 entries of the first table are used.
+    pub watchpoints: u16,
+    /// How many of the 176 entries of the second table are used.
+    pub rules: u16,
+}
+
+/// The file of a table of watchpoints. The writers refuse for want of memory alone.
+fn wdt_file(alloc: Global, image: &WdtImage) -> Result<Vec<u8>, CompileError>
+    requires few { length image.now.watchpoints.items ≤ table_entries }
+    requires fit { AllByRecursion FitsWatchpoint image.now.watchpoints.items }
+    ensures file { IfOk result (λ file. file.items ≡ file_bytes (wrapped kinds.Wdt (wdt_image image.now.hash image.now.watchpoints.items))) }
+    ensures refused { IfErr result (λ error. error ≡ Memory) }
+{
+    let bytes = encode_wdt(alloc, image).map_err(|_| CompileError::Memory)?;
+    wrap(alloc, Kind::Wdt, bytes.as_slice()).map_err(|_| CompileError::Memory)
+}
+
+/// The file of a table of actionpoints. The writers refuse for want of memory alone.
+fn adt_file(alloc: Global, image: &AdtImage) -> Result<Vec<u8>, CompileError>
+    requires few { length image.now.actionpoints.items ≤ table_entries }
+    requires fit { AllByRecursion (FitsEntry Actionpoints) image.now.actionpoints.items }
+    ensures file { IfOk result (λ file. file.items ≡ file_bytes (wrapped kinds.Adt
+        (adt_image Actionpoints image.now.hash image.now.watchpoint_count image.now.actionpoints.items))) }
+    ensures refused { IfErr result (λ error. error ≡ Memory) }
+{
+    let bytes = encode_adt(alloc, image).map_err(|_| CompileError::Memory)?;
+    wrap(alloc, Kind::Adt, bytes.as_slice()).map_err(|_| CompileError::Memory)
+}
+
+/// The files of the tables of what a text is lowered to.
+fn files(alloc: Global, text: &[u8], lowered: Lowered) -> Result<TablePair, CompileError>
+    requires compiles { Compiles text_order_limits text.now lowered.rules.rules }
+    requires lowered { IsLowered lowered }
+    ensures tables { IfOk result (AreTables text.now lowered.rules.rules) }
+    ensures refused { IfErr result (λ error. error ≡ Memory) }
+{
+    let hash = Sha256::digest(text);
+    let actionpoints = entries(alloc, &lowered)?;
+    let watchpoint_count = lowered.terms.len() as u16;
+    let rules = actionpoints.len() as u16;
+    let wdt = WdtImage {
+        hash,
+        watchpoints: lowered.terms,
+    };
+    let adt = AdtImage {
+        hash,
+        watchpoint_count,
+        actionpoints,
+    };
+    Ok(TablePair {
+        wdt: wdt_file(alloc, &wdt)?,
+        adt: adt_file(alloc, &adt)?,
+        watchpoints: watchpoint_count,
+        rules,
+    })
+}
+
+/// Compiles a rule text to the files of its two tables: its watchpoints in order of first mention, its rules in the order
+/// of the text, with the words of each equation operands first in the text's order, and in both the SHA-256 of the text.
+///
+/// Errors: those of `lower`, and `Memory` where the files find no room.
+pub fn compile(alloc: Global, text: &[u8]) -> Result<TablePair, CompileError>
+    ensures compiles { IfOk result (λ pair. (rules : List NamedRule) × Compiles text_order_limits text.now rules × AreTables text.now rules pair) }
+    ensures refused { IfErr result (Refuses (IsRefused text_order_limits text.now)) }
+    ensures accepts { (rules : List NamedRule) → Compiles text_order_limits text.now rules → MatchResult result (AreTables text.now rules) (λ error. error ≡ Memory) }
+    ensures refuses { (refusal : TextRefusal) → IsRefused text_order_limits text.now refusal → MatchResult result (λ _. ⊥) (Refuses (λ found. found ≡ refusal)) }
+{
+    let lowered = lower(alloc, text)?;
+    files(alloc, text, lowered)
+}

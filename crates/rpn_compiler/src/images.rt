@@ -1,0 +1,45 @@
+//! The entries of the table of actionpoints (this project's own layout).
+
+ghost use Rattle.std.specs.Prelude.{◌≡◌, ◌-◌, ◌≤◌, length, map, take, IfOk};
+ghost use Rattle.lc_model.specs.Rule.{rule_of};
+ghost use Rattle.lc_model.specs.Tables.Half.{entry_of};
+ghost use Rattle.rpn_compiler.specs.Lowered.{IsLowered};
+ghost use Rattle.rpn_compiler.specs.Pair.{entry_over};
+
+use crate::lowered::Lowered;
+use lc_model::{Bytes, Rule};
+use std::alloc::{AllocError, Global};
+use table_file::TableEntry;
+
+/// The entry of a rule with this equation, whose last word, EQUAL, the table's writer adds.
+fn entry(alloc: Global, rule: &Rule, equation: &[u16]) -> Result<TableEntry, AllocError>
+    requires { 1 ≤ length equation.now }
+    ensures { IfOk result (λ entry. entry ≡ entry_of (rule_of rule.now).action (take (length equation.now - 1) equation.now)) }
+{
+    let text = Vec::from_slice(alloc, rule.text.as_slice())?;
+    let words = Vec::from_slice(alloc, &equation[..equation.len() - 1])?;
+    Ok(TableEntry {
+        mode: rule.mode,
+        report: rule.report,
+        sequence: rule.sequence,
+        fails: rule.fails,
+        event_kind: rule.event_kind,
+        event_id: rule.event_id,
+        text: Bytes::from_vec(text),
+        words,
+    })
+}
+
+/// The entries of the rules, in their order.
+pub fn entries(alloc: Global, lowered: &Lowered) -> Result<Vec<TableEntry>, AllocError>
+    requires { IsLowered lowered.now }
+    ensures { IfOk result (λ entries. entries.items ≡ map (entry_over lowered.now.terms.items) lowered.now.rules.rules) }
+{
+    let rules = lowered.rules.rules.as_slice();
+    let equations = lowered.words.as_slice();
+    let mut entries = Vec::with_capacity(alloc, rules.len())?;
+    for (number, rule) in rules.iter().enumerate() {
+        entries.push(entry(alloc, rule, equations[number].as_slice())?)?;
+    }
+    Ok(entries)
+}
