@@ -56,9 +56,10 @@ each_word count few (w ∷ ws) known below =
     let unknown : Bool = not (nat_lt w table_entries || is_in_range 0xFF01 0xFF04 w) in
     let others : Bool = list_any (λ v. not (nat_lt v table_entries || is_in_range 0xFF01 0xFF04 v)) ws in
     let beyond : Bool = nat_lt w table_entries && nat_le count w in
-    let more : Bool = list_any (λ v. nat_lt v table_entries && nat_le count v) ws in
-    (small_word count w few (classified count w (or_first unknown others known) (or_first beyond more below)),
-    each_word count few ws (or_second unknown others known) (or_second beyond more below))
+    let more : Bool = list_any (λ v. nat_lt v table_entries && nat_le count v) ws in (
+      small_word count w few (classified count w (or_first unknown others known) (or_first beyond more below)),
+      each_word count few ws (or_second unknown others known) (or_second beyond more below),
+    )
 
 -- ---- texts
 
@@ -199,8 +200,12 @@ module _ (text : List ℕ) (rules : List NamedRule) (terms : List Term) (equatio
       subst (λ (ts : List Term). HasWords (λ c. c) ts (actions rules) second) same
       (Actionpoints, entries, ap (λ (h : List ℕ). adt_image Actionpoints h n entries) (sym adt_front.hash_is), fit_entries, entries_in_order terms rules) in
       record {
-        wdt = (first, wdt, wdt_long (sha256 text) terms long run.watchpoints,
-            (rules, compiles.0, first_sound, ap (wdt_image (sha256 text)) same));
+        wdt = (
+          first,
+          wdt,
+          wdt_long (sha256 text) terms long run.watchpoints,
+          (rules, compiles.0, first_sound, ap (wdt_image (sha256 text)) same),
+        );
         adt = (second, adt, adt_long (sha256 text) n entries long few_entries fit_entries, (rules, compiles.0, second_sound, spell));
         words_in_order = in_order;
         own_watchpoints = watchpoints ∙ sym wdt_front.own_is;

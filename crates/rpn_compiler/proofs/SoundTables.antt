@@ -156,7 +156,7 @@ sound_wdt h terms hash few fits are =
     let found : layout_of version_1_layouts Wdt image ≡ Some Watchpoints =
     ap (λ size. find (λ l. is_kind Wdt (kind_of l) && (image_length l == size)) version_1_layouts) (wdt_long h terms hash few) in
     let counts : (nat_lt table_entries (own_count image) || nat_lt table_entries (watchpoint_count image)
-        || (is_kind (kind_of Watchpoints) Wdt && not (own_count image == watchpoint_count image))) ≡ false =
+    || (is_kind (kind_of Watchpoints) Wdt && not (own_count image == watchpoint_count image))) ≡ false =
     (λ i. nat_lt table_entries (front.own_is i) || nat_lt table_entries (front.watchpoints_are i) || (true && not (front.own_is i == front.watchpoints_are i)))
     ∙ both_false (nat_lt table_entries n || nat_lt table_entries n) (not (n == n)) (few_counts n n few few) (ap not (same_number n)) in
     all_sound Wdt Watchpoints image found (stands_none (preamble_tests Watchpoints image) (refl, (refl, (counts, tt))))
@@ -185,7 +185,7 @@ sound_adt h n entries hash watchpoints few are =
     let found : layout_of version_1_layouts Adt image ≡ Some Actionpoints =
     ap (λ size. find (λ l. is_kind Adt (kind_of l) && (image_length l == size)) version_1_layouts) (adt_long h n entries hash few fits) in
     let counts : (nat_lt table_entries (own_count image) || nat_lt table_entries (watchpoint_count image)
-        || (is_kind (kind_of Actionpoints) Wdt && not (own_count image == watchpoint_count image))) ≡ false =
+    || (is_kind (kind_of Actionpoints) Wdt && not (own_count image == watchpoint_count image))) ≡ false =
     (λ i. nat_lt table_entries (front.own_is i) || nat_lt table_entries (front.watchpoints_are i) || false)
     ∙ both_false (nat_lt table_entries own || nat_lt table_entries n) false (few_counts own n few watchpoints) refl in
     all_sound Adt Actionpoints image found (stands_none (preamble_tests Actionpoints image) (refl, (refl, (counts, tt))))

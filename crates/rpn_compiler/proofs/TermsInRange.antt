@@ -41,9 +41,10 @@ at_least : (m n : ℕ) → nat_lt n m ≡ false → m ≤ n
 at_least m n e = grind (arith, e)
 
 between : (low high : ℕ) (v : ℤ) → (int_lt v (pos low) || int_lt (pos high) v) ≡ false → (low ≤ nat_abs v) × (nat_abs v ≤ high)
-between low high (pos n) e =
-    (at_least low n (or_first (int_lt (pos n) (pos low)) (int_lt (pos high) (pos n)) e),
-    at_least n high (or_second (int_lt (pos n) (pos low)) (int_lt (pos high) (pos n)) e))
+between low high (pos n) e = (
+  at_least low n (or_first (int_lt (pos n) (pos low)) (int_lt (pos high) (pos n)) e),
+  at_least n high (or_second (int_lt (pos n) (pos low)) (int_lt (pos high) (pos n)) e),
+)
 between low high (negsuc n) e = absurd (cc e)
 
 number_fits : (low high code : ℕ) (n : Number) → fault_outside low high code n ≡ [] → (low ≤ nat_abs n.value) × (nat_abs n.value ≤ high)
@@ -117,9 +118,10 @@ item_fits items (Rule r) e = tt
 
 items_fit : (items others : List Item) → flat_map (faults_of items) others ≡ [] → AllByRecursion IsItemInRange others
 items_fit items [] e = tt
-items_fit items (item ∷ others) e =
-    (item_fits items item (none_first (faults_of items item) (flat_map (faults_of items) others) e),
-    items_fit items others (none_second (faults_of items item) (flat_map (faults_of items) others) e))
+items_fit items (item ∷ others) e = (
+  item_fits items item (none_first (faults_of items item) (flat_map (faults_of items) others) e),
+  items_fit items others (none_second (faults_of items item) (flat_map (faults_of items) others) e),
+)
 
 field_found : (test : FieldItem → Bool) (items : List Item) → AllByRecursion IsItemInRange items → (f : FieldItem) →
     find test (filter_map field_of items) ≡ Some f → HasMask f

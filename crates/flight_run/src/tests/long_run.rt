@@ -46,7 +46,10 @@ fn a_million_records(rt: HostRuntime) -> Result<(), Fail> {
     let start = Instant::now(&rt)?;
     let report = run_one(rt.alloc(), TEXT.as_bytes(), &mut reader, &mut writer)?;
     let microseconds = start.elapsed(&rt)?.as_micros().max(1);
-    println!(&rt; "{} records a second", u128::from(RECORDS) * 1_000_000 / microseconds)?;
+    println!(&rt;
+        "{} records a second",
+        u128::from(RECORDS) * 1_000_000 / microseconds
+    )?;
     assert_eq!(rt; report.records, u64::from(RECORDS));
     assert_eq!(rt; report.bytes, 12);
     Ok(())

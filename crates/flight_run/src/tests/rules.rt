@@ -77,8 +77,14 @@ fn operators_and_parentheses(rt: HostRuntime) -> Result<(), Fail> {
         ("V < 2400 xor V < 2401", false),
         ("V < 2400 xor V < 2399", true),
         ("not (V < 2400 xor not V < 2400)", false),
-        ("V < 0 or (V < 1 or (V < 2 or (V < 3 or (V < 4 or (V < 5 or (V < 6 or V < 2400))))))", true),
-        ("V < 0 or V < 1 or V < 2 or V < 3 or V < 4 or V < 5 or V < 6 or V < 7 or V < 8 or V < 2400", true),
+        (
+            "V < 0 or (V < 1 or (V < 2 or (V < 3 or (V < 4 or (V < 5 or (V < 6 or V < 2400))))))",
+            true,
+        ),
+        (
+            "V < 0 or V < 1 or V < 2 or V < 3 or V < 4 or V < 5 or V < 6 or V < 7 or V < 8 or V < 2400",
+            true,
+        ),
     ];
     for (condition, fails) in rows {
         let text = "packet P = mid 0x0883 length 16; field V = P u16be at 12; \
@@ -116,16 +122,28 @@ fn signed_and_masked_fields(rt: HostRuntime) -> Result<(), Fail> {
 fn stale_ends_the_run_of_fails(rt: HostRuntime) -> Result<(), Fail> {
     let text = "packet P = mid 0x0883 length 16; field V = P u16be at 12 stale 1; \
         rule LOW active fails 2 sequence 7 event error 1001 \"\" when V < 2400;";
-    let packets = [volts(2399), aging_sample(), aging_sample(), volts(2399), sample()];
+    let packets = [
+        volts(2399),
+        aging_sample(),
+        aging_sample(),
+        volts(2399),
+        sample(),
+    ];
     writes(&rt, text, &packets, &[])
 }
 
 #[test]
 fn one_of_two_ages_ends_between_samples(rt: HostRuntime) -> Result<(), Fail> {
-    let text = "packet P = mid 0x0883 length 16; field V = P u16be at 12 stale 1; field W = P u16be at 12 stale 2; \
+    let text =
+        "packet P = mid 0x0883 length 16; field V = P u16be at 12 stale 1; field W = P u16be at 12 stale 2; \
         rule ONE active fails 2 sequence 7 event error 1001 \"\" when V < 2400; \
         rule TWO active fails 2 sequence 9 event error 1001 \"\" when W < 2400;";
-    writes(&rt, text, &[volts(2399), aging_sample(), aging_sample()], &SEQUENCE_9)
+    writes(
+        &rt,
+        text,
+        &[volts(2399), aging_sample(), aging_sample()],
+        &SEQUENCE_9,
+    )
 }
 
 #[test]
