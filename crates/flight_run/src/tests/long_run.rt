@@ -1,7 +1,6 @@
-//! A million records from memory, which a generator with a fixed seed makes. The test prints how many are handled in a
-//! second: it is the project's benchmark of `run_one`.
+//! Long runs from memory. They print how fast they were: they are the project's benchmarks of `run_one`.
 
-use crate::low_volts::{TEXT, aging_sample, push_packet, volts};
+use crate::low_volts::{TEXT, aging_sample, push_packet, sample, volts};
 use crate::run_one;
 use lc_model::{Limited, Pieces};
 use std::alloc::{AllocError, Global};
@@ -52,5 +51,62 @@ fn a_million_records(rt: HostRuntime) -> Result<(), Fail> {
     )?;
     assert_eq!(rt; report.records, u64::from(RECORDS));
     assert_eq!(rt; report.bytes, 12);
+    Ok(())
+}
+
+/// The rules of a full table, and the comparisons of each, which make twenty words.
+const RULES: usize = 176;
+
+const COMPARISONS: usize = 10;
+
+/// The sample requests of all rules.
+const SAMPLES: u32 = 500;
+
+/// Adds a number below 1,000 in three digits.
+fn push_number(text: &mut Vec<u8>, number: usize) -> Result<(), AllocError> {
+    for place in [100, 10, 1] {
+        text.push(b'0' + (number / place % 10) as u8)?;
+    }
+    Ok(())
+}
+
+/// A rule with ten comparisons joined by `and`, over 170 numbers in turn.
+fn push_full_rule(text: &mut Vec<u8>, rule: usize) -> Result<(), AllocError> {
+    text.extend_from_slice(b"rule R")?;
+    push_number(text, rule)?;
+    text.extend_from_slice(b" active fails 1 sequence 7 event info 1001 \"\" when V < 0")?;
+    for place in 1..COMPARISONS {
+        text.extend_from_slice(b" and V < ")?;
+        push_number(text, (rule % 170 * COMPARISONS + place) % 170)?;
+    }
+    text.extend_from_slice(b"; ")
+}
+
+/// 176 rules of twenty words each, none of which fails.
+fn full_text(alloc: Global) -> Result<Vec<u8>, AllocError> {
+    let mut text = b"packet P = mid 0x0883 length 16; field V = P u16be at 12; ".to_vec(alloc)?;
+    for rule in 0..RULES {
+        push_full_rule(&mut text, rule)?;
+    }
+    Ok(text)
+}
+
+#[test]
+fn samples_of_full_tables(rt: HostRuntime) -> Result<(), Fail> {
+    let text = full_text(rt.alloc())?;
+    let mut stream = Vec::new(rt.alloc());
+    push_packet(&mut stream, &volts(2399))?;
+    for _ in 0..SAMPLES {
+        push_packet(&mut stream, &sample())?;
+    }
+    let mut room = [0; 64];
+    let mut reader = Pieces::new(stream.as_slice(), 65_536);
+    let mut writer = Limited::new(&mut room, 64);
+    let start = Instant::now(&rt)?;
+    let report = run_one(rt.alloc(), text.as_slice(), &mut reader, &mut writer)?;
+    let nanoseconds = start.elapsed(&rt)?.as_nanos();
+    let words = u128::from(SAMPLES) * (RULES * 2 * COMPARISONS) as u128;
+    println!(&rt; "{} picoseconds a word", nanoseconds * 1_000 / words)?;
+    assert_eq!(rt; (report.records, report.bytes), (u64::from(SAMPLES) + 1, 0));
     Ok(())
 }
