@@ -12,7 +12,7 @@ use Rattle.lc_model.specs.Field.{full_mask, is_in_type}
 use Rattle.lc_model.specs.Packet.{is_telemetry_mid, event_mid, lc_housekeeping_mid, reserved_mids}
 use Rattle.lc_model.specs.Tables.Equation.{equal_word}
 use Rattle.lc_model.specs.Tables.Image as model
-use Rattle.lc_model.specs.Tables.Image.{Watchpoints, Actionpoints, WideActionpoints, image_length, own_count, watchpoint_count, entry_at, entry_code, used_code, preamble_code, IsSound, version_1_layouts, all_words, words_before_equal, words_after_equal, type_of_code, number_of_bits_32, is_text_field, first_code, equation_tests, most_waiting, actionpoint_code, watchpoint_code}
+use Rattle.lc_model.specs.Tables.Image.{Watchpoints, Actionpoints, WideActionpoints, image_length, own_count, watchpoint_count, entry_at, entry_code, used_code, preamble_code, IsSound, version_1_layouts, all_words, words_before_equal, words_after_equal, type_of_code, twos_complement_32, is_text_field, first_code, equation_tests, most_waiting, actionpoint_code, watchpoint_code}
 use Rattle.lc_model.specs.Tables.Spelled.{spelled_term, state_of_code, event_of_code}
 use Rattle.lc_model.proofs.SoundWords.{none_stands, stands_none, or_first, or_second, at_least}
 use Rattle.lc_model.proofs.SoundImages.{SoundParts, sound_parts, operator_again}
@@ -59,7 +59,7 @@ watchpoint_tests e =
     ∷ (not (is_in_range 1 6 (slice_index e 1)), 67)
     ∷ (not (is_telemetry_mid (u16_at e 2)) || list_any (◌==◌ (u16_at e 2)) reserved_mids, 68)
     ∷ (option_map_or (λ k. not (is_in_range 1 (full_mask k) (u32_at e 8))) (type_of_code (slice_index e 0)) false, 69)
-    ∷ (option_map_or (λ k. not (is_in_type k (number_of_bits_32 k (u32_at e 20)))) (type_of_code (slice_index e 0)) false, 70) ∷ []
+    ∷ (option_map_or (λ k. not (is_in_type k (twos_complement_32 k (u32_at e 20)))) (type_of_code (slice_index e 0)) false, 70) ∷ []
 
 sound_watchpoint : (e : List ℕ) → watchpoint_code e ≡ None → IsSoundWatchpoint e
 sound_watchpoint e sound =
@@ -83,7 +83,7 @@ sound_watchpoint e sound =
       mask_from = mask.from;
       mask_to = mask.to;
       value = not_false (is_in_type (spelled_term e).kind (spelled_term e).value)
-          (of_type (type_of_code (slice_index e 0)) (λ k. is_in_type k (number_of_bits_32 k (u32_at e 20))) some tests.1.1.1.1.1.0);
+          (of_type (type_of_code (slice_index e 0)) (λ k. is_in_type k (twos_complement_32 k (u32_at e 20))) some tests.1.1.1.1.1.0);
     }
 
 -- ---- actionpoints
