@@ -11,7 +11,8 @@ use Rattle.lc_model.specs.Tables.Compiling.{Limits, limit_refusal}
 abbrev pub equation_in : List Term → NamedRule → List ℕ
 equation_in terms rule = words terms rule.action.condition ++ equal_word ∷ []
 
--- these are the watchpoints of the rules, each once in order of first mention, and their equations
+-- the rules are within the limits, with texts that fit; these are their watchpoints, each once in order of first mention, and
+-- their equations
 pub record Lowers (limits : Limits) (rules : List NamedRule) (terms : List Term) (equations : List (List ℕ)) : Type 0 where
   pub within : limit_refusal limits rules ≡ None
   pub watchpoints : terms ≡ terms_of rules
