@@ -1,4 +1,5 @@
--- What the parser's contracts cite.
+-- What the parser's contracts cite. The public ones name `Fault`, `What`, `Syntax` and `Laws` alone, over the grammar of
+-- `lc_model`; the others say how the functions inside read, and nobody above has to believe them.
 pub mod What
 pub mod Fault
 pub mod Syntax
