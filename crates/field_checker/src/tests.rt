@@ -4,12 +4,12 @@ mod borders;
 mod meanings;
 mod memory;
 mod names;
-mod reader;
 
 use crate::checker::check;
 use crate::error::CheckError;
 use lc_model::RuleSet;
 use rule_lexer::lex;
+use rule_parser::parse;
 use std::process::Abort;
 use std::test::Fail;
 
@@ -27,8 +27,10 @@ fn checked<R: Abort + AllocGlobal>(
         Ok(tokens) => tokens,
         Err(error) => panic!(rt; "{error} in {text}"),
     };
-    let file = reader::file(rt, &tokens)?;
-    Ok(check(rt.alloc(), &file))
+    match parse(rt.alloc(), text.as_bytes(), tokens.as_slice()) {
+        Ok(file) => Ok(check(rt.alloc(), &file)),
+        Err(error) => panic!(rt; "{error} in {text}"),
+    }
 }
 
 /// The text has this first fault.

@@ -1,9 +1,9 @@
 //! Want of memory.
 
-use super::reader;
 use crate::checker::check;
 use crate::error::CheckError;
 use rule_lexer::lex;
+use rule_parser::parse;
 
 /// Where an allocation fails, the answer is `Memory`, and no other: `rt try --test --fail-alloc N` has each in turn refused
 /// here. First come those of the tokens and the items, which the test leaves alone, and then those of the check: the three
@@ -16,7 +16,7 @@ fn rules_or_no_memory(rt: HostRuntime) {
     let Ok(tokens) = lex(rt.alloc(), text.as_bytes()) else {
         return;
     };
-    let Ok(file) = reader::file(&rt, &tokens) else {
+    let Ok(file) = parse(rt.alloc(), text.as_bytes(), tokens.as_slice()) else {
         return;
     };
     match check(rt.alloc(), &file) {
