@@ -80,6 +80,12 @@ all-map : {P Q : Term → Type 0} → ((t : Term) → P t → Q t) → (ts : Lis
 all-map f [] all = tt
 all-map f (t ∷ ts) all = (f t all.0, all-map f ts all.1)
 
+-- the terms that rules mention are among theirs
+pub over_own : (rules : List NamedRule) → AllByRecursion (Contains (terms_of rules)) (flat_map (λ (rule : NamedRule). mentions rule.action.condition) rules)
+over_own rules =
+    let all : List Term = flat_map (λ (rule : NamedRule). mentions rule.action.condition) rules in
+    all-map (λ t among. one_of t (terms_of rules) among) all (all_among all)
+
 -- each rule runs
 each_runs : (terms : List Term) → length terms ≤ table_entries → (rules : List NamedRule) →
     AllByRecursion (λ (rule : NamedRule). equation_fault text_order_limits rule ≡ None) rules →
@@ -114,7 +120,7 @@ lowered_words_run rules terms equations lowers =
     let one = passed (nat_lt table_entries (length (terms_of rules))) (ForText 31) _ lowers.within in
     let two = passed (nat_lt table_entries (length rules)) (ForText 41) _ one.1 in
     let few : length terms ≤ table_entries = rw lowers.watchpoints (at_most _ _ one.0) in
-    let over : AllByRecursion (Contains terms) all = rw lowers.watchpoints (all-map (λ t among. one_of t (terms_of rules) among) all (all_among all)) in
+    let over : AllByRecursion (Contains terms) all = rw lowers.watchpoints (over_own rules) in
     record {
       watchpoints = few;
       actionpoints = at_most _ _ two.0;
