@@ -12,3 +12,4 @@ pub mod Follows
 pub mod Courses
 pub mod Headline
 pub mod Started
+pub mod Loaded

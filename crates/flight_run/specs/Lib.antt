@@ -5,6 +5,7 @@ pub mod Sending
 pub mod Arrival
 pub mod Flight
 pub mod Kept
+pub mod Tables
 pub mod Outcome
 pub mod Course
 pub mod RunOne

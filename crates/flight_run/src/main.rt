@@ -11,6 +11,7 @@ mod packet;
 mod run;
 mod run_one;
 mod sending;
+mod tables;
 #[cfg(test)]
 mod tests;
 

@@ -1,32 +1,16 @@
 //! From a rule text and a stream of packets to the bytes of its sequence requests.
 
-ghost use Rattle.std.specs.Prelude.{◌≡◌, false, IfOk};
-ghost use Rattle.rpn_compiler.specs.Lowered.{IsLowered};
-ghost use Rattle.flight_run.specs.Flight.{at_start};
-ghost use Rattle.flight_run.specs.Kept.{kept_of};
+ghost use Rattle.std.specs.Prelude.{◌≡◌, false};
 ghost use Rattle.flight_run.specs.Outcome.{devices};
 ghost use Rattle.flight_run.specs.RunOne.{IsRun, WritesWhatIsCalledFor, refusal_of};
 
 use crate::error::{Report, RunError};
-use crate::flight::Flight;
 use crate::intake::LONGEST_BODY;
 use crate::outgoing::Outgoing;
-use crate::run;
+use crate::{run, tables};
 use lc_model::{ByteSink, ByteSource, laws};
-use limit_checker::LimitChecker;
-use rpn_compiler::{CompileError, Lowered};
-use std::alloc::{AllocError, Global};
-
-/// A Limit Checker with these rules, before its first packet.
-fn ready(alloc: Global, lowered: Lowered) -> Result<Flight, AllocError>
-    requires { IsLowered lowered }
-    ensures { IfOk result (λ flight. kept_of flight ≡ at_start lowered.rules.rules) }
-{
-    laws::equations::lowered_words_run();
-    let mut checker = LimitChecker::new(alloc)?;
-    checker.set(lowered);
-    Ok(Flight { checker, count: 0 })
-}
+use rpn_compiler::CompileError;
+use std::alloc::Global;
 
 /// The answer where the text, the only one, has no compiled form.
 fn refusal(error: CompileError) -> RunError
@@ -54,11 +38,11 @@ fn compile_and_fly<R: ByteSource, W: ByteSink>(
     laws::reading::rules_are_within_ranges();
     laws::limit_checker::limit_checker_agrees_on_texts();
     laws::limit_checker::halves_are_sensible();
-    let lowered = match rpn_compiler::lower(alloc, text) {
-        Ok(lowered) => lowered,
+    let pair = match rpn_compiler::compile(alloc, text) {
+        Ok(pair) => pair,
         Err(error) => return Err(refusal(error)),
     };
-    let mut flight = ready(alloc, lowered)?;
+    let mut flight = tables::flight_with(alloc, &pair)?;
     let mut outgoing = Outgoing::new(alloc)?;
     let mut buffer = vec![in alloc; 0; LONGEST_BODY]?;
     run::fly(
@@ -76,7 +60,8 @@ fn compile_and_fly<R: ByteSource, W: ByteSink>(
 /// The stream is records of 11 bytes of header (kind 1, seconds, subseconds, length) and a packet. A packet with a fault,
 /// and every packet but telemetry and an accepted sample request, leads to nothing.
 ///
-/// The text is compiled first, and all memory taken, before anything is read. At most 2^32 reads are made, of at most
+/// The text is compiled to its two table files first; these are opened, and their images validated and put in force. All
+/// memory is taken before anything is read. At most 2^32 reads are made, of at most
 /// 65,547 bytes each; a read or a write that fails is not tried again. What was written before a fault stands.
 ///
 /// Errors: `Compile` with the first refusal of a text that doesn't compile (text 0), `Memory`, both before the first read;

@@ -8,6 +8,7 @@ mod refusals;
 
 use crate::compiler::lower;
 use crate::error::CompileError;
+use crate::files::compile;
 use crate::lowered::Lowered;
 use lc_model::{CmpOp, FieldType, Term};
 use std::alloc::{AllocError, Global};
@@ -68,7 +69,7 @@ fn lowered<R: Abort + AllocGlobal>(rt: &R, text: &[u8]) -> Lowered {
 
 /// The text is refused so.
 fn is_refused<R: Abort + AllocGlobal>(rt: &R, text: &[u8], expected: CompileError) {
-    match lower(rt.alloc(), text) {
+    match compile(rt.alloc(), text) {
         Ok(_) => panic!(rt; "the text is compiled, in place of: {expected}"),
         Err(error) => assert_eq!(rt; error, expected),
     }

@@ -1,10 +1,12 @@
-//! First refusals: the lexer's before the parser's before the checker's.
+//! First refusals: the lexer's before the parser's before the checker's. Those of limits stand beside the limits.
 
-use crate::compiler::lower;
+use super::is_refused;
 use crate::error::CompileError;
+use crate::files::compile;
 use field_checker::CheckError;
 use rule_lexer::LexError;
 use rule_parser::{ParseError, What};
+use std::test::Fail;
 
 #[test]
 fn first_refusals_by_place(rt: HostRuntime) {
@@ -98,7 +100,7 @@ fn first_refusals_by_place(rt: HostRuntime) {
         ),
     ];
     for (text, expected, code) in table {
-        match lower(rt.alloc(), text.as_bytes()) {
+        match compile(rt.alloc(), text.as_bytes()) {
             Ok(_) => panic!(rt; "{text} is compiled"),
             Err(error) => {
                 assert_eq!(rt; error, expected, "of {text}");
@@ -109,9 +111,43 @@ fn first_refusals_by_place(rt: HostRuntime) {
 }
 
 #[test]
+fn a_name_a_condition_and_a_text_that_are_too_long(rt: HostRuntime) -> Result<(), Fail> {
+    let name = b"packet NAME_OF_THIRTY_THREE_BYTES_IN_ALL";
+    is_refused(
+        &rt,
+        name,
+        CompileError::Lex(LexError::NameTooLong { at: 7 }),
+    );
+    let mut nested = b"rule R active fails 1 sequence 1 event info 1000 \"\" when ".to_vec(rt.alloc())?;
+    let sixty_fifth = nested.len() + 64;
+    nested.resize(sixty_fifth + 1, b'(')?;
+    is_refused(
+        &rt,
+        nested.as_slice(),
+        CompileError::Parse(ParseError::TooNested { at: sixty_fifth }),
+    );
+    let mut blanks = Vec::new(rt.alloc());
+    blanks.resize(65_537, b' ')?;
+    is_refused(
+        &rt,
+        blanks.as_slice(),
+        CompileError::Lex(LexError::TextTooLong),
+    );
+    Ok(())
+}
+
+#[test]
 fn the_numbers_of_limits(rt: HostRuntime) {
     let table = [
+        (
+            CompileError::Lex(LexError::NameTooLong { at: 0 }),
+            Some(3),
+        ),
         (CompileError::Lex(LexError::TextTooLong), Some(5)),
+        (
+            CompileError::Parse(ParseError::TooNested { at: 0 }),
+            Some(12),
+        ),
         (CompileError::TooManyWatchpoints, Some(31)),
         (CompileError::TooManyRules, Some(41)),
         (CompileError::EquationTooLong { rule: 3 }, Some(42)),

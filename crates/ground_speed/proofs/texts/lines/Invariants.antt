@@ -1,5 +1,5 @@
 use Rattle.std.proofs.Common.{◌≡◌, length}
-use Rattle.lexer_speed.proofs.text_of.Given as goal
+use Rattle.ground_speed.proofs.texts.lines.Given as goal
 
 abbrev pub invariant-loop-at : goal.invariant-loop-at
 invariant-loop-at l = length l.text.items ≡ l.at
