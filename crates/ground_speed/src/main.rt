@@ -35,7 +35,10 @@ fn measure_lexer(rt: &HostRuntime) -> anyhow::Result<()> {
     }
     let microseconds = start.elapsed(rt)?.as_micros().max(1);
     let bytes = u128::from(RUNS) * TEXT_SIZE as u128;
-    println!(rt; "{tokens} tokens in {TEXT_SIZE} bytes, {} MB/s", bytes / microseconds)?;
+    println!(rt;
+        "{tokens} tokens in {TEXT_SIZE} bytes, {} MB/s",
+        bytes / microseconds
+    )?;
     Ok(())
 }
 
@@ -86,11 +89,19 @@ fn main(rt: HostRuntime) -> anyhow::Result<()> {
     match (what.as_deref(), which.as_deref()) {
         (Some("lexer"), None) => measure_lexer(&rt),
         (Some("checker"), None) => measure_checker(&rt),
-        (Some("compiler"), Some("tables")) => measure_compiler(&rt, &texts::full_tables(rt.alloc())?),
-        (Some("compiler"), Some("declarations")) => measure_compiler(&rt, &texts::declarations(rt.alloc())?),
+        (Some("compiler"), Some("tables")) => measure_compiler(
+            &rt,
+            &texts::full_tables(rt.alloc())?,
+        ),
+        (Some("compiler"), Some("declarations")) => measure_compiler(
+            &rt,
+            &texts::declarations(rt.alloc())?,
+        ),
         (Some("compiler"), Some("longest")) => measure_compiler(&rt, &texts::longest(rt.alloc())?),
         _ => {
-            println!(rt; "usage: ground_speed lexer | checker | compiler tables | compiler declarations | compiler longest")?;
+            println!(rt;
+                "usage: ground_speed lexer | checker | compiler tables | compiler declarations | compiler longest"
+            )?;
             Ok(())
         }
     }

@@ -38,7 +38,9 @@ fn begun(alloc: Global) -> Result<Vec<u8>, AllocError> {
 
 /// Adds a rule of twenty words: ten comparisons, joined by `and`, with numbers that follow one another.
 fn push_full_rule(alloc: Global, text: &mut Vec<u8>, rule: usize) -> Result<(), AllocError> {
-    let head = format!(in alloc; "rule R{rule:03} active fails 1 sequence 7 event info 1001 \"\" when")?;
+    let head = format!(in alloc;
+        "rule R{rule:03} active fails 1 sequence 7 event info 1001 \"\" when"
+    )?;
     text.extend_from_slice(head.as_bytes())?;
     for place in 0..COMPARISONS {
         let operator = if place == 0 { "" } else { " and" };

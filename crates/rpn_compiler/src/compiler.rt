@@ -1,4 +1,4 @@
-//! From a text to its compiled form.
+//! From a text to what is laid out in its tables.
 
 ghost use Rattle.std.specs.Prelude.{◌≡◌, ◌<◌, List, Some, length, IfErr, IfOk, MatchResult};
 ghost use Rattle.std.specs.List.{AllByRecursion};
@@ -59,7 +59,7 @@ fn lower_text(alloc: Global, text: &[u8]) -> Result<Lowered, CompileError>
     lower_rules(alloc, rules)
 }
 
-/// Compiles a rule text: its rules as the text says them, their watchpoints in order of first mention, and for each rule
+/// Lowers a rule text: its rules as the text says them, their watchpoints in order of first mention, and for each rule
 /// the words of its equation, operands first in the text's order, with EQUAL (0xFF05) at the end.
 ///
 /// Errors: the first refusal, where the whole text is lexed, then parsed, then checked, and its watchpoints are counted,

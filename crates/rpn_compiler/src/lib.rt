@@ -1,4 +1,4 @@
-//! The compiler of rule texts: from a text to its rules, their watchpoints and the words of their equations.
+//! The compiler of rule texts: from a text to the files of its two tables.
 #![tactic(auto)]
 
 mod compiler;
@@ -11,7 +11,5 @@ mod lowered;
 #[cfg(test)]
 mod tests;
 
-pub use compiler::lower;
 pub use error::CompileError;
 pub use files::{TablePair, compile};
-pub use lowered::Lowered;

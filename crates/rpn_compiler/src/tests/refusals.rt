@@ -118,7 +118,9 @@ fn a_name_a_condition_and_a_text_that_are_too_long(rt: HostRuntime) -> Result<()
         name,
         CompileError::Lex(LexError::NameTooLong { at: 7 }),
     );
-    let mut nested = b"rule R active fails 1 sequence 1 event info 1000 \"\" when ".to_vec(rt.alloc())?;
+    let mut nested = b"rule R active fails 1 sequence 1 event info 1000 \"\" when ".to_vec(
+        rt.alloc(),
+    )?;
     let sixty_fifth = nested.len() + 64;
     nested.resize(sixty_fifth + 1, b'(')?;
     is_refused(
@@ -139,10 +141,7 @@ fn a_name_a_condition_and_a_text_that_are_too_long(rt: HostRuntime) -> Result<()
 #[test]
 fn the_numbers_of_limits(rt: HostRuntime) {
     let table = [
-        (
-            CompileError::Lex(LexError::NameTooLong { at: 0 }),
-            Some(3),
-        ),
+        (CompileError::Lex(LexError::NameTooLong { at: 0 }), Some(3)),
         (CompileError::Lex(LexError::TextTooLong), Some(5)),
         (
             CompileError::Parse(ParseError::TooNested { at: 0 }),
