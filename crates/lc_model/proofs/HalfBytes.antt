@@ -14,7 +14,7 @@ use Rattle.lc_model.specs.declared.kind.Kind.TheVariants.{Wdt, Adt}
 use Rattle.lc_model.specs.Bytes.{u16, zero_filled}
 use Rattle.lc_model.specs.Codes.{type_code, operator_code, state_code, event_code, kind_code, table_entries}
 use Rattle.lc_model.specs.Tables.Equation.{terms_of, equal_word}
-use Rattle.lc_model.specs.Tables.Image.{Layout, Watchpoints, kind_of, version_of, words_in, entry_length, preamble, blank_entry, filled, bits_32, term_bytes, TableEntry, entry_bytes, FitsEntry}
+use Rattle.lc_model.specs.Tables.Image.{Layout, Watchpoints, kind_of, version_of, words_in, entry_length, preamble, blank_entry, filled, bits_32, term_bytes, TableEntry, entry_bytes, FitsEntry, EndsOnce}
 use Rattle.lc_model.specs.Tables.Half.{IsHalf}
 use Rattle.lc_model.proofs.SaidLaws.{all_append}
 
@@ -132,4 +132,4 @@ adt_is_bytes layouts image text half =
     let entries : List TableEntry = half.3.1 in
     subst AreBytes (sym half.3.2)
     (preamble_bytes l (length entries) (length (terms_of half.0)) (sha256 text) (filled l (map (entry_bytes l) entries)) (hash_bytes text)
-    (filled_bytes (FitsEntry l) (entry_bytes l) (entry_are l) l entries half.3.3))
+    (filled_bytes (λ e. FitsEntry l e × EndsOnce e) (entry_bytes l) (λ e fits. entry_are l e fits.0) l entries half.3.3))

@@ -8,7 +8,7 @@ use Rattle.lc_model.specs.declared.field.Term.{Term}
 use Rattle.lc_model.specs.declared.kind.Kind.TheVariants.{Wdt, Adt}
 use Rattle.lc_model.specs.Codes.{table_entries, is_kind}
 use Rattle.lc_model.specs.Tables.Equation.{SpellsInOrder}
-use Rattle.lc_model.specs.Tables.Image.{Layout, Watchpoints, Actionpoints, WideActionpoints, kind_of, words_in, entry_length, image_length, preamble, filled, term_bytes, TableEntry, entry_bytes, FitsWatchpoint, FitsEntry, wdt_image, adt_image, own_count, watchpoint_count, hash_of, entry_at, all_words, words_before_equal, actionpoint_code, used_code, numbers_below}
+use Rattle.lc_model.specs.Tables.Image.{Layout, Watchpoints, Actionpoints, WideActionpoints, kind_of, words_in, entry_length, image_length, preamble, filled, term_bytes, TableEntry, entry_bytes, FitsWatchpoint, ComparesInType, FitsEntry, EndsOnce, wdt_image, adt_image, own_count, watchpoint_count, hash_of, entry_at, all_words, words_before_equal, actionpoint_code, used_code, numbers_below}
 use Rattle.lc_model.specs.Tables.Half.{IsEntryOf, HasActionpoints}
 use Rattle.lc_model.specs.Tables.Spelled.{spelled_term, spelled_terms, spelled_condition, spelled_rule, spelled_rule_if, spelled_by_layout}
 use Rattle.lc_model.specs.Laws.Tables.{IsWhatIsSaid}
@@ -69,6 +69,7 @@ each_zipped {A} R f g (suc k) each =
 pub record SaysWatchpoints (wdt : List ℕ) : Type 0 where
   pub again : wdt ≡ wdt_image (hash_of wdt) (spelled_terms wdt)
   pub fit : AllByRecursion FitsWatchpoint (spelled_terms wdt)
+  pub in_type : AllByRecursion ComparesInType (spelled_terms wdt)
   pub count : length (spelled_terms wdt) ≡ watchpoint_count wdt
   pub few : length (spelled_terms wdt) ≤ table_entries
 
@@ -78,6 +79,7 @@ says_watchpoints wdt all parts is = record {
   again = image_again wdt all parts ∙ (λ i. preamble (is i) (length_again i) (same_count i) (hash_of wdt) ++ filled (is i) (map (entry_at (is i) wdt) (numbers_below (own_count wdt))))
       ∙ ap (λ entries. preamble Watchpoints (length (spelled_terms wdt)) (length (spelled_terms wdt)) (hash_of wdt) ++ filled Watchpoints entries) entries_again;
   fit = each_listed FitsWatchpoint (λ n. spelled_term (entry_at Watchpoints wdt n)) (own_count wdt) (λ n below. (each n below).fits);
+  in_type = each_listed ComparesInType (λ n. spelled_term (entry_at Watchpoints wdt n)) (own_count wdt) (λ n below. (each n below).in_type);
   count = length_listed (λ n. spelled_term (entry_at Watchpoints wdt n)) (own_count wdt) ∙ counts;
   few = omega (arith, length_listed (λ n. spelled_term (entry_at Watchpoints wdt n)) (own_count wdt), p.own);
 }
@@ -148,8 +150,8 @@ says_actionpoints terms adt all parts few count = (l, entries, again, fit, said)
     again : adt ≡ adt_image l (hash_of adt) (length terms) entries
     again = image_again adt all parts ∙ (λ i. preamble l (length_again i) (sym count i) (hash_of adt) ++ filled l (entries_again i))
 
-    fit : AllByRecursion (FitsEntry l) entries
-    fit = each_listed (FitsEntry l) (λ n. read_entry (entry_at l adt n)) (own_count adt) (λ n below. (each n below).fits)
+    fit : AllByRecursion (λ e. FitsEntry l e × EndsOnce e) entries
+    fit = each_listed (λ e. FitsEntry l e × EndsOnce e) (λ n. read_entry (entry_at l adt n)) (own_count adt) (λ n below. ((each n below).fits, (each n below).once))
 
     said : AllZip (IsEntryOf (SpellsInOrder terms)) (spelled_by_layout (Some l) terms adt) entries
     said = each_zipped (IsEntryOf (SpellsInOrder terms))
@@ -172,6 +174,7 @@ pub what_is_said : IsWhatIsSaid
 what_is_said layouts wdt adt wdt_bytes adt_bytes wdt_sound adt_sound match = record {
   watchpoints = w.again;
   fit = w.fit;
+  in_type = w.in_type;
   actionpoints =
       subst (λ o. HasActionpoints (SpellsInOrder (spelled_terms wdt)) (hash_of adt) (length (spelled_terms wdt)) (spelled_by_layout o (spelled_terms wdt) adt) adt)
       (sym actions.found) (says_actionpoints (spelled_terms wdt) adt adt_bytes actions w.few (w.count ∙ match.watchpoints));

@@ -10,7 +10,7 @@ use Rattle.lc_model.specs.Codes.{state_code, event_code, table_entries}
 use Rattle.lc_model.specs.Condition.{Condition}
 use Rattle.lc_model.specs.Text.Token.{is_text_byte}
 use Rattle.lc_model.specs.Tables.Equation.{SpellsInOrder, IsEquation, equal_word}
-use Rattle.lc_model.specs.Tables.Image.{Layout, words_in, TableEntry, entry_bytes, FitsEntry, all_words, words_before_equal, words_after_equal, is_text_field, equation_tests, most_waiting, actionpoint_code}
+use Rattle.lc_model.specs.Tables.Image.{Layout, words_in, TableEntry, entry_bytes, FitsEntry, EndsOnce, all_words, words_before_equal, words_after_equal, is_text_field, equation_tests, most_waiting, actionpoint_code}
 use Rattle.lc_model.specs.Tables.Spelled.{state_of_code, event_of_code}
 use Rattle.lc_model.specs.Laws.Equations.{IsSpelled}
 use Rattle.lc_model.proofs.SoundWords.{none_stands, stands_none, or_first, sound_words_spell}
@@ -114,7 +114,8 @@ has_text e long sound =
 -- the words that are read of an entry
 record HasEquation (l : Layout) (e : List ℕ) : Type 0 where
   again : flat_map u16 (zero_filled (words_in l) (words_before_equal (all_words e) ++ equal_word ∷ [])) ≡ drop 46 e
-  each : AllByRecursion (λ w. (w < 65536) × (w ≢ equal_word)) (words_before_equal (all_words e))
+  each : AllByRecursion (λ w. w < 65536) (words_before_equal (all_words e))
+  once : AllByRecursion (λ w. w ≢ equal_word) (words_before_equal (all_words e))
   short : length (words_before_equal (all_words e)) < words_in l
 
 has_equation : (l : Layout) (e : List ℕ) → AllByRecursion (λ b. b < 256) e → length e ≡ 46 + 2 * words_in l →
@@ -127,6 +128,7 @@ has_equation l e all long ends behind =
     record {
       again = ap (flat_map u16) (ap (λ n. front ++ replicate (n - length front) 0) (sym held.long) ∙ read.again) ∙ held.again;
       each = read.each;
+      once = read.once;
       short = omega (arith, read.short, held.long);
     }
 
@@ -149,6 +151,7 @@ read_entry e = record {
 pub record IsActionpoint (l : Layout) (terms : List Term) (e : List ℕ) : Type 0 where
   pub again : entry_bytes l (read_entry e) ≡ e
   pub fits : FitsEntry l (read_entry e)
+  pub once : EndsOnce (read_entry e)
   pub condition : Condition
   pub spells : SpellsInOrder terms (words_before_equal (all_words e)) condition
 
@@ -198,6 +201,7 @@ actionpoint_again l terms e few all long sound =
         words_length = equation.short;
         words = equation.each;
       };
+      once = equation.once;
       condition = condition.0;
       spells = condition.1;
     }

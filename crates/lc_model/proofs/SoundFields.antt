@@ -147,7 +147,8 @@ words_again (suc n) (a ∷ b ∷ bytes) all long =
 -- the words of an equation, EQUAL, and zeros
 pub record IsWordField (ws : List ℕ) : Type 0 where
   pub again : words_before_equal ws ++ equal_word ∷ [] ++ replicate (length ws - length (words_before_equal ws ++ equal_word ∷ [])) 0 ≡ ws
-  pub each : AllByRecursion (λ w. (w < 2 ^ 16) × (w ≢ equal_word)) (words_before_equal ws)
+  pub each : AllByRecursion (λ w. w < 2 ^ 16) (words_before_equal ws)
+  pub once : AllByRecursion (λ w. w ≢ equal_word) (words_before_equal ws)
   pub short : length (words_before_equal ws) < length ws
 
 -- words with an EQUAL, and zeros behind the first one, are spelled by those before it
@@ -167,7 +168,8 @@ equation_again (w ∷ ws) all ends behind = by_test (w == equal_word) refl (equa
         record {
           again = ap (λ (front : List ℕ). front ++ equal_word ∷ [] ++ replicate (length (w ∷ ws) - length (front ++ equal_word ∷ [])) 0) before
               ∙ ap (λ n. equal_word ∷ replicate n 0) few ∙ (λ i. sym first i ∷ all_zeros i);
-          each = subst (AllByRecursion (λ v. (v < 2 ^ 16) × (v ≢ equal_word))) (sym before) tt;
+          each = subst (AllByRecursion (λ v. v < 2 ^ 16)) (sym before) tt;
+          once = subst (AllByRecursion (λ v. v ≢ equal_word)) (sym before) tt;
           short = omega (arith, ap (λ (front : List ℕ). length front) before);
         }
     by_test false is others =
@@ -180,6 +182,7 @@ equation_again (w ∷ ws) all ends behind = by_test (w == equal_word) refl (equa
         record {
           again = ap (λ (f : List ℕ). f ++ equal_word ∷ [] ++ replicate (length (w ∷ ws) - length (f ++ equal_word ∷ [])) 0) before
               ∙ ap (λ n. w ∷ front ++ replicate n 0) fewer ∙ ap (λ r. w ∷ r) rest.again;
-          each = subst (AllByRecursion (λ v. (v < 2 ^ 16) × (v ≢ equal_word))) (sym before) ((all.0, differs w equal_word is), rest.each);
+          each = subst (AllByRecursion (λ v. v < 2 ^ 16)) (sym before) (all.0, rest.each);
+          once = subst (AllByRecursion (λ v. v ≢ equal_word)) (sym before) (differs w equal_word is, rest.once);
           short = omega (arith, ap (λ (f : List ℕ). length f) before, rest.short);
         }

@@ -7,7 +7,7 @@ use Rattle.lc_model.specs.declared.field.Term.{Term}
 use Rattle.lc_model.specs.Condition.{Condition}
 use Rattle.lc_model.specs.Rule.{Actionpoint}
 use Rattle.lc_model.specs.Tables.Equation.{same_term, mentions, SpellsInOrder}
-use Rattle.lc_model.specs.Tables.Image.{Layout, TableEntry, FitsEntry, hash_of, watchpoint_count}
+use Rattle.lc_model.specs.Tables.Image.{Layout, TableEntry, FitsEntry, EndsOnce, hash_of, watchpoint_count}
 use Rattle.lc_model.specs.Tables.Half.{IsEntryOf, IsMatch, Says}
 use Rattle.lc_model.specs.Tables.Spelled.{spelled_terms, spelled_rules}
 use Rattle.lc_model.specs.Laws.Watch.{IsOver}
@@ -43,12 +43,12 @@ module _ (l : Layout) (terms : List Term) where
 
   -- what holds of the rule of each entry
   each_rule : (P : Actionpoint → Type 0) → ((a : Actionpoint) (e : TableEntry) → FitsEntry l e → IsEntryOf (SpellsInOrder terms) a e → P a) →
-      (rules : List Actionpoint) (entries : List TableEntry) → AllByRecursion (FitsEntry l) entries →
+      (rules : List Actionpoint) (entries : List TableEntry) → AllByRecursion (λ e. FitsEntry l e × EndsOnce e) entries →
       AllZip (IsEntryOf (SpellsInOrder terms)) rules entries → AllByRecursion P rules
   each_rule P holds [] [] fit said = tt
   each_rule P holds [] (e ∷ entries) fit said = absurd said
   each_rule P holds (a ∷ rules) [] fit said = absurd said
-  each_rule P holds (a ∷ rules) (e ∷ entries) fit said = (holds a e fit.0 said.0, each_rule P holds rules entries fit.1 said.1)
+  each_rule P holds (a ∷ rules) (e ∷ entries) fit said = (holds a e fit.0.0 said.0, each_rule P holds rules entries fit.1 said.1)
 
 -- ---- the pair
 

@@ -14,14 +14,14 @@ use Rattle.lc_model.specs.Text.Token.{is_text_byte}
 use Rattle.lc_model.specs.Tables.Equation.{terms_of, words, equal_word, operator_word, SpellsInOrder, Spells, IsRearranged}
 use Rattle.lc_model.specs.Tables.Compiling.{Compiles, text_order_limits}
 use Rattle.lc_model.specs.Tables.Lowering.{Lowers}
-use Rattle.lc_model.specs.Tables.Image.{Watchpoints, Actionpoints, filled, term_bytes, TableEntry, FitsWatchpoint, FitsEntry, wdt_image, adt_image, equation_tests, IsSound, version_1_layouts}
+use Rattle.lc_model.specs.Tables.Image.{Watchpoints, Actionpoints, filled, term_bytes, TableEntry, FitsWatchpoint, ComparesInType, FitsEntry, EndsOnce, wdt_image, adt_image, equation_tests, IsSound, version_1_layouts}
 use Rattle.lc_model.specs.Tables.Half.{IsEntryOf, HasActionpoints, HasWords}
 use Rattle.lc_model.specs.Rule.{actions}
 use Rattle.lc_model.specs.Tables.File.{file_bytes, wrapped}
 use Rattle.lc_model.specs.Tables.Spelled.{spelled_condition}
 use Rattle.lc_model.specs.Laws.Reading.{IsWithinRanges}
 use Rattle.lc_model.specs.Laws.Equations.{IsSpelled, RuleRuns, RulesRun}
-use Rattle.lc_model.proofs.TermsFit.{terms_fit}
+use Rattle.lc_model.proofs.TermsFit.{terms_fit, terms_in_type}
 use Rattle.lc_model.proofs.RulesFit.{within_ranges}
 use Rattle.lc_model.proofs.SoundWords.{none_stands, sound_words_spell, or_first, or_second, IsWord, number, negated, joined, classified}
 use Rattle.lc_model.proofs.SpelledEquations.{condition_of_equation}
@@ -34,7 +34,7 @@ use Rattle.rpn_compiler.specs.declared.files.TablePair.{TablePair}
 use Rattle.rpn_compiler.specs.Pair.{entry_over, AreTables}
 use Rattle.rpn_compiler.proofs.TermsInRange.{terms_in_range}
 use Rattle.rpn_compiler.proofs.SoundEntries.{IsSoundEntry}
-use Rattle.rpn_compiler.proofs.SoundTables.{sound_wdt, sound_adt, each_fits}
+use Rattle.rpn_compiler.proofs.SoundTables.{sound_wdt, sound_adt, each_once, each_fits}
 
 -- ---- words
 
@@ -50,16 +50,16 @@ small_word count w few (joined o) = small_operator o
 
 each_word : (count : ℕ) → count ≤ table_entries → (ws : List ℕ) →
     list_any (λ w. not (nat_lt w table_entries || is_in_range 0xFF01 0xFF04 w)) ws ≡ false →
-    list_any (λ w. nat_lt w table_entries && nat_le count w) ws ≡ false → AllByRecursion (λ w. (w < 2 ^ 16) × (w ≢ equal_word)) ws
-each_word count few [] known below = tt
+    list_any (λ w. nat_lt w table_entries && nat_le count w) ws ≡ false → AllByRecursion (λ w. w < 2 ^ 16) ws × AllByRecursion (λ w. w ≢ equal_word) ws
+each_word count few [] known below = (tt, tt)
 each_word count few (w ∷ ws) known below =
     let unknown : Bool = not (nat_lt w table_entries || is_in_range 0xFF01 0xFF04 w) in
     let others : Bool = list_any (λ v. not (nat_lt v table_entries || is_in_range 0xFF01 0xFF04 v)) ws in
     let beyond : Bool = nat_lt w table_entries && nat_le count w in
-    let more : Bool = list_any (λ v. nat_lt v table_entries && nat_le count v) ws in (
-      small_word count w few (classified count w (or_first unknown others known) (or_first beyond more below)),
-      each_word count few ws (or_second unknown others known) (or_second beyond more below),
-    )
+    let more : Bool = list_any (λ v. nat_lt v table_entries && nat_le count v) ws in
+    let here = small_word count w few (classified count w (or_first unknown others known) (or_first beyond more below)) in
+    let rest = each_word count few ws (or_second unknown others known) (or_second beyond more below) in
+    ((here.0, rest.0), (here.1, rest.1))
 
 -- ---- texts
 
@@ -92,6 +92,7 @@ sound_entry : (terms : List Term) (rule : NamedRule) → length terms ≤ table_
 sound_entry terms rule few ranges runs =
     let ws : List ℕ = words terms rule.action.condition in
     let tests : AllByRecursion (λ t. t.0 ≡ false) (equation_tests (length terms) ws) = none_stands (equation_tests (length terms) ws) runs.runs.sound in
+    let each = each_word (length terms) few ws tests.0 tests.1.0 in
     record {
       fits = record {
         passive = ranges.passive;
@@ -103,8 +104,9 @@ sound_entry terms rule few ranges runs =
         text_length = ranges.text_length;
         text = text_bytes rule.action.text ranges.text;
         words_length = runs.few;
-        words = each_word (length terms) few ws tests.0 tests.1.0;
+        words = each.0;
       };
+      once = each.1;
       begins = ranges.state;
       event_id = ranges.event_id.0;
       text = ranges.text;
@@ -173,6 +175,9 @@ module _ (text : List ℕ) (rules : List NamedRule) (terms : List Term) (equatio
   pub fit_entries : AllByRecursion (FitsEntry Actionpoints) (map (entry_over terms) rules)
   fit_entries = each_fits (length terms) (map (entry_over terms) rules) sound
 
+  once_entries : AllByRecursion (λ e. FitsEntry Actionpoints e × EndsOnce e) (map (entry_over terms) rules)
+  once_entries = each_once (length terms) (map (entry_over terms) rules) sound
+
   wdt_front : HasPreamble (wdt_image (sha256 text) terms) (sha256 text) (length terms) (length terms)
   wdt_front = preamble_again Watchpoints (length terms) (length terms) (sha256 text) (filled Watchpoints (map term_bytes terms)) (length-sha256 text) run.watchpoints (omega (arith, run.watchpoints))
 
@@ -191,14 +196,14 @@ module _ (text : List ℕ) (rules : List NamedRule) (terms : List Term) (equatio
       let second : List ℕ = adt_image Actionpoints (sha256 text) n entries in
       let long : length (sha256 text) ≡ 32 = length-sha256 text in
       let first_sound : IsSound version_1_layouts Wdt first = sound_wdt (sha256 text) terms long run.watchpoints fit_terms
-      (subst (AllByRecursion _) (sym same) (terms_in_range text rules compiles.0)) in
+      (subst (AllByRecursion ComparesInType) (sym same) (terms_in_type text rules compiles.0)) (subst (AllByRecursion _) (sym same) (terms_in_range text rules compiles.0)) in
       let second_sound : IsSound version_1_layouts Adt second = sound_adt (sha256 text) n entries long run.watchpoints few_entries sound in
       let spell : HasActionpoints (Spells (terms_of rules)) (sha256 text) (length (terms_of rules)) (actions rules) second =
       subst (λ (ts : List Term). HasActionpoints (Spells ts) (sha256 text) (length ts) (actions rules) second) same
-      (Actionpoints, entries, refl, fit_entries, entries_spell terms rules run.watchpoints run.each) in
+      (Actionpoints, entries, refl, once_entries, entries_spell terms rules run.watchpoints run.each) in
       let in_order : HasWords (λ c. c) (terms_of rules) (actions rules) second =
       subst (λ (ts : List Term). HasWords (λ c. c) ts (actions rules) second) same
-      (Actionpoints, entries, ap (λ (h : List ℕ). adt_image Actionpoints h n entries) (sym adt_front.hash_is), fit_entries, entries_in_order terms rules) in
+      (Actionpoints, entries, ap (λ (h : List ℕ). adt_image Actionpoints h n entries) (sym adt_front.hash_is), once_entries, entries_in_order terms rules) in
       record {
         wdt = (
           first,

@@ -1,10 +1,9 @@
 -- The entries that are written for watchpoints and actionpoints within the ranges have no fault.
-use Rattle.std.proofs.Common.{◌≡◌, ◌≢◌, refl, ◌∙◌, ap, ℕ, zero, suc, ◌+◌, ◌-◌, ◌<◌, ◌≤◌, ◌^◌, Bool, true, false, not, cond, ◌&&◌, ◌||◌, nat_lt, nat_le, ◌==◌, List, [], ◌∷◌, ◌++◌, length, flat_map, take, drop, take_while, replicate, slice_index, slice_range, Some, None, is_none, IsTrue, ℤ, pos, negsuc, ◌-ℤ◌, int_le, if◌then◌else◌, arith, append_assoc}
+use Rattle.std.proofs.Common.{◌≡◌, ◌≢◌, refl, ◌∙◌, ap, ℕ, zero, suc, ◌+◌, ◌-◌, ◌<◌, ◌≤◌, ◌^◌, Bool, true, false, not, cond, ◌&&◌, ◌||◌, nat_lt, nat_le, ◌==◌, List, [], ◌∷◌, ◌++◌, length, flat_map, take, drop, take_while, replicate, slice_index, slice_range, Some, None, is_none, IsTrue, arith, append_assoc}
 use Rattle.std.specs.List.{AllByRecursion, list_any, list_all, position_or_len, before_first, after_first}
 use Rattle.std.specs.Option.{option_map_or}
 use Rattle.std.specs.Int.{is_in_range, w16, from_be_bytes}
 use Rattle.std.proofs.lemmas.Nat.{from_be_bytes-to_be_bytes_2, from_be_bytes-to_be_bytes_4}
-use Rattle.std.proofs.lemmas.Int.{ints}
 use Rattle.std.proofs.lemmas.List.{take_at, drop_at}
 use Rattle.std.proofs.lemmas.List.Sums.{take_while-cons}
 use Rattle.lc_model.specs.declared.field.FieldType.{FieldType}
@@ -18,12 +17,13 @@ use Rattle.lc_model.specs.declared.rule.EventKind.{EventKind}
 use Rattle.lc_model.specs.declared.rule.EventKind.TheVariants.{Debug, Information, Error, Critical}
 use Rattle.lc_model.specs.Bytes.{u16, u16_at, u32_at, zero_filled}
 use Rattle.lc_model.specs.Packet.{reserved_mids, is_telemetry_mid}
-use Rattle.lc_model.specs.Field.{full_mask, is_signed, is_in_type, least, greatest}
+use Rattle.lc_model.specs.Field.{full_mask, is_in_type}
 use Rattle.lc_model.specs.Codes.{type_code, operator_code, state_code, event_code}
 use Rattle.lc_model.specs.Text.Token.{is_text_byte}
 use Rattle.lc_model.specs.Tables.Equation.{equal_word}
-use Rattle.lc_model.specs.Tables.Image.{Actionpoints, bits_32, twos_complement_32, term_bytes, type_of_code, watchpoint_code, FitsWatchpoint, TableEntry, entry_bytes, FitsEntry, all_words, words_from, words_before_equal, words_after_equal, is_text_field, first_code, equation_tests, actionpoint_code}
+use Rattle.lc_model.specs.Tables.Image.{Actionpoints, bits_32, twos_complement_32, term_bytes, type_of_code, watchpoint_code, FitsWatchpoint, ComparesInType, TableEntry, entry_bytes, FitsEntry, EndsOnce, all_words, words_from, words_before_equal, words_after_equal, is_text_field, first_code, equation_tests, actionpoint_code}
 use Rattle.lc_model.proofs.SoundWords.{none_stands, stands_none, both_false, list_any-append}
+use Rattle.lc_model.proofs.NumbersIn32Bits.{bits_small, value_again}
 use Rattle.table_file.proofs.Entries.{length-zero_filled}
 use Rattle.rpn_compiler.proofs.TermsInRange.{IsInRange}
 
@@ -61,61 +61,6 @@ left false b e = e
 in_range : (low high n : ℕ) → low ≤ n → n ≤ high → not (is_in_range low high n) ≡ false
 in_range low high n a b = λ i. not (above low n a i && above n high b i)
 
--- ---- numbers in 32 bits
-
--- the numbers from 0 on that the type has, in 32 bits
-abbrev half : FieldType → ℕ
-half k = if is_signed k then 2147483648 else 4294967296
-
-high : (k : FieldType) (n : ℕ) → is_in_type k (pos n) ≡ true → n < half k
-high U8 n e = omega (arith, at_most n 255 (right _ _ e))
-high I8 n e = omega (arith, at_most n 127 (right (int_le (least I8) (pos n)) _ e))
-high U16Be n e = omega (arith, at_most n 65535 (right _ _ e))
-high U16Le n e = omega (arith, at_most n 65535 (right _ _ e))
-high I16Be n e = omega (arith, at_most n 32767 (right (int_le (least I16Be) (pos n)) _ e))
-high I16Le n e = omega (arith, at_most n 32767 (right (int_le (least I16Le) (pos n)) _ e))
-high U32Be n e = omega (arith, at_most n 4294967295 (right _ _ e))
-high U32Le n e = omega (arith, at_most n 4294967295 (right _ _ e))
-high I32Be n e = omega (arith, at_most n 2147483647 (right (int_le (least I32Be) (pos n)) _ e))
-high I32Le n e = omega (arith, at_most n 2147483647 (right (int_le (least I32Le) (pos n)) _ e))
-
--- a type with numbers below 0 has none under -2^31
-low : (k : FieldType) (n : ℕ) → is_in_type k (negsuc n) ≡ true → (is_signed k ≡ true) × (n < 2147483648)
-low U8 n e = absurd (cc e)
-low I8 n e = (refl, omega (arith, at_most n 127 (left _ (int_le (negsuc n) (greatest I8)) e)))
-low U16Be n e = absurd (cc e)
-low U16Le n e = absurd (cc e)
-low I16Be n e = (refl, omega (arith, at_most n 32767 (left _ (int_le (negsuc n) (greatest I16Be)) e)))
-low I16Le n e = (refl, omega (arith, at_most n 32767 (left _ (int_le (negsuc n) (greatest I16Le)) e)))
-low U32Be n e = absurd (cc e)
-low U32Le n e = absurd (cc e)
-low I32Be n e = (refl, omega (arith, at_most n 2147483647 (left _ (int_le (negsuc n) (greatest I32Be)) e)))
-low I32Le n e = (refl, omega (arith, at_most n 2147483647 (left _ (int_le (negsuc n) (greatest I32Le)) e)))
-
--- what 32 bits are, by the sign and the top bit
-abbrev number : Bool → Bool → ℕ → ℤ
-number signed top n = if signed && top then pos n -ℤ pos 4294967296 else pos n
-
-small_again : (signed : Bool) (n : ℕ) → n < (if signed then 2147483648 else 4294967296) → number signed (nat_le 2147483648 n) n ≡ pos n
-small_again true n h = ap (λ top. number true top n) (not_above 2147483648 n h)
-small_again false n h = refl
-
-below_zero : (n : ℕ) → n < 2147483648 → pos (4294967295 - n) -ℤ pos 4294967296 ≡ negsuc n
-below_zero n h = omega (arith, ints)
-
-value_again : (k : FieldType) (v : ℤ) → is_in_type k v ≡ true → twos_complement_32 k (bits_32 v) ≡ v
-value_again k (pos n) e = small_again (is_signed k) n (high k n e)
-value_again k (negsuc n) e =
-    (λ i. number ((low k n e).0 i) (above 2147483648 (4294967295 - n) (omega (arith, (low k n e).1)) i) (4294967295 - n)) ∙ below_zero n (low k n e).1
-
-bits_small : (k : FieldType) (v : ℤ) → is_in_type k v ≡ true → bits_32 v < 2 ^ 32
-bits_small k (pos n) e = small (is_signed k) (high k n e)
-  where
-    small : (signed : Bool) → n < (if signed then 2147483648 else 4294967296) → n < 4294967296
-    small true h = omega (arith, h)
-    small false h = h
-bits_small k (negsuc n) e = omega arith
-
 -- ---- watchpoints
 
 type_again : (k : FieldType) → type_of_code (type_code k) ≡ Some k
@@ -134,14 +79,14 @@ watchpoint_tests e =
     ∷ (option_map_or (λ k. not (is_in_range 1 (full_mask k) (u32_at e 8))) (type_of_code (slice_index e 0)) false, 69)
     ∷ (option_map_or (λ k. not (is_in_type k (twos_complement_32 k (u32_at e 20)))) (type_of_code (slice_index e 0)) false, 70) ∷ []
 
-pub sound_watchpoint : (t : Term) → FitsWatchpoint t → IsInRange t → watchpoint_code (term_bytes t) ≡ None
-sound_watchpoint t fits is =
+pub sound_watchpoint : (t : Term) → FitsWatchpoint t → ComparesInType t → IsInRange t → watchpoint_code (term_bytes t) ≡ None
+sound_watchpoint t fits typed is =
     let e : List ℕ = term_bytes t in
     let mid_is : u16_at e 2 ≡ t.mid = from_be_bytes-to_be_bytes_2 t.mid fits.mid in
     let mask_is : u32_at e 8 ≡ t.mask = from_be_bytes-to_be_bytes_4 t.mask fits.mask in
     let bits_are : u32_at e 20 ≡ bits_32 t.value = from_be_bytes-to_be_bytes_4 (bits_32 t.value) (bits_small t.kind t.value fits.value) in
     let kind_is : type_of_code (slice_index e 0) ≡ Some t.kind = type_again t.kind in
-    let typed : is_none (type_of_code (slice_index e 0)) ≡ false = ap is_none kind_is in
+    let known : is_none (type_of_code (slice_index e 0)) ≡ false = ap is_none kind_is in
     let mid_known : (not (is_telemetry_mid (u16_at e 2)) || list_any (◌==◌ (u16_at e 2)) reserved_mids) ≡ false =
     ap (λ m. not (is_telemetry_mid m) || list_any (◌==◌ m) reserved_mids) mid_is
     ∙ both_false (not (is_telemetry_mid t.mid)) (list_any (◌==◌ t.mid) reserved_mids) (in_range 0x0800 0x0FFF t.mid is.mid.0 is.mid.1) is.free in
@@ -149,8 +94,8 @@ sound_watchpoint t fits is =
     (λ i. option_map_or (λ k. not (is_in_range 1 (full_mask k) (mask_is i))) (kind_is i) false) ∙ in_range 1 (full_mask t.kind) t.mask is.mask.0 is.mask.1 in
     let valued : option_map_or (λ k. not (is_in_type k (twos_complement_32 k (u32_at e 20)))) (type_of_code (slice_index e 0)) false ≡ false =
     (λ i. option_map_or (λ k. not (is_in_type k (twos_complement_32 k (bits_are i)))) (kind_is i) false)
-    ∙ ap (λ v. not (is_in_type t.kind v)) (value_again t.kind t.value fits.value) ∙ ap not fits.value in
-    stands_none (watchpoint_tests e) (refl, (typed, (operator_known t.op, (mid_known, (masked, (valued, tt))))))
+    ∙ ap (λ v. not (is_in_type t.kind v)) (value_again t.kind t.value fits.value) ∙ ap not typed in
+    stands_none (watchpoint_tests e) (refl, (known, (operator_known t.op, (mid_known, (masked, (valued, tt))))))
 
 -- ---- actionpoints: texts
 
@@ -199,13 +144,9 @@ small_zeros : (n : ℕ) → AllByRecursion (λ w. w < 2 ^ 16) (replicate n 0)
 small_zeros zero = tt
 small_zeros (suc n) = (omega arith, small_zeros n)
 
-small_words : (ws : List ℕ) → AllByRecursion (λ w. (w < 2 ^ 16) × (w ≢ equal_word)) ws → AllByRecursion (λ w. w < 2 ^ 16) ws
-small_words [] all = tt
-small_words (w ∷ ws) all = (all.0.0, small_words ws all.1)
-
-not_equal : (ws : List ℕ) → AllByRecursion (λ w. (w < 2 ^ 16) × (w ≢ equal_word)) ws → AllByRecursion (λ w. (w == equal_word) ≡ false) ws
+not_equal : (ws : List ℕ) → AllByRecursion (λ w. w ≢ equal_word) ws → AllByRecursion (λ w. (w == equal_word) ≡ false) ws
 not_equal [] all = tt
-not_equal (w ∷ ws) all = (differs w equal_word all.0.1, not_equal ws all.1)
+not_equal (w ∷ ws) all = (differs w equal_word all.0, not_equal ws all.1)
 
 module _ (p : ℕ → Bool) (z : ℕ) (here : p z ≡ true) (rest : List ℕ) where
   before_at : (xs : List ℕ) → AllByRecursion (λ x. p x ≡ false) xs → before_first p (xs ++ z ∷ rest) ≡ xs
@@ -232,16 +173,16 @@ or_true : (b : Bool) → (b || true) ≡ true
 or_true true = refl
 or_true false = refl
 
-holds_equation : (size : ℕ) (ws : List ℕ) → AllByRecursion (λ w. (w < 2 ^ 16) × (w ≢ equal_word)) ws →
+holds_equation : (size : ℕ) (ws : List ℕ) → AllByRecursion (λ w. w < 2 ^ 16) ws → AllByRecursion (λ w. w ≢ equal_word) ws →
     HoldsEquation ws (words_from (flat_map u16 (zero_filled size (ws ++ equal_word ∷ []))))
-holds_equation size ws each =
+holds_equation size ws each once =
     let n : ℕ = size - length (ws ++ equal_word ∷ []) in
     let rest : List ℕ = replicate n 0 in
     let small : AllByRecursion (λ w. w < 2 ^ 16) ((ws ++ equal_word ∷ []) ++ rest) =
-    small_append (ws ++ equal_word ∷ []) rest (small_append ws (equal_word ∷ []) (small_words ws each) (omega arith, tt)) (small_zeros n) in
+    small_append (ws ++ equal_word ∷ []) rest (small_append ws (equal_word ∷ []) each (omega arith, tt)) (small_zeros n) in
     let all : words_from (flat_map u16 ((ws ++ equal_word ∷ []) ++ rest)) ≡ ws ++ equal_word ∷ rest =
     words_again ((ws ++ equal_word ∷ []) ++ rest) small ∙ append_assoc ws (equal_word ∷ []) rest in
-    let none : AllByRecursion (λ w. (w == equal_word) ≡ false) ws = not_equal ws each in
+    let none : AllByRecursion (λ w. (w == equal_word) ≡ false) ws = not_equal ws once in
     record {
       ends = ap (list_any (◌==◌ equal_word)) all ∙ list_any-append (◌==◌ equal_word) ws (equal_word ∷ rest) ∙ or_true (list_any (◌==◌ equal_word) ws);
       behind = ap (λ (xs : List ℕ). list_all (◌==◌ 0) (words_after_equal xs)) all
@@ -254,6 +195,7 @@ holds_equation size ws each =
 -- an actionpoint that a table may begin with, over so many watchpoints
 pub record IsSoundEntry (count : ℕ) (e : TableEntry) : Type 0 where
   pub fits : FitsEntry Actionpoints e
+  pub once : EndsOnce e
   pub begins : e.mode ≢ PermOff
   pub event_id : 1_000 ≤ e.event_id
   pub text : AllByRecursion (λ b. IsTrue (is_text_byte b)) e.text
@@ -280,7 +222,7 @@ sound_actionpoint count e is =
     let long : length text ≡ 32 = length-zero_filled 32 e.text (omega (arith, is.fits.text_length)) in
     let field : take 32 (text ++ words) ≡ text = take_at text words 32 long in
     let words_are : words_from (drop 32 (text ++ words)) ≡ words_from words = ap words_from (drop_at text words 32 long) in
-    let held : HoldsEquation e.words (words_from words) = holds_equation 20 e.words is.fits.words in
+    let held : HoldsEquation e.words (words_from words) = holds_equation 20 e.words is.fits.words is.once in
     let id_is : u16_at bytes 12 ≡ e.event_id = from_be_bytes-to_be_bytes_2 e.event_id is.fits.event_id in
     let sequence_is : u16_at bytes 6 ≡ e.sequence = from_be_bytes-to_be_bytes_2 e.sequence is.fits.sequence in
     let fails_is : u16_at bytes 8 ≡ e.fails = from_be_bytes-to_be_bytes_2 e.fails is.fits.fails in

@@ -11,7 +11,7 @@ use Rattle.lc_model.specs.declared.kind.Kind.TheVariants.{Wdt, Adt}
 use Rattle.lc_model.specs.declared.field.Term.{Term}
 use Rattle.lc_model.specs.Bytes.{u16_at}
 use Rattle.lc_model.specs.Codes.{is_kind, kind_code, table_entries}
-use Rattle.lc_model.specs.Tables.Image.{Layout, Watchpoints, Actionpoints, kind_of, version_of, entry_length, image_length, preamble, blank_entry, filled, term_bytes, wdt_image, FitsWatchpoint, TableEntry, entry_bytes, FitsEntry, adt_image, own_count, watchpoint_count, entry_at, used_code, entry_code, numbers_below, image_fault, preamble_code, layout_of, wrong_size, IsSound, version_1_layouts}
+use Rattle.lc_model.specs.Tables.Image.{Layout, Watchpoints, Actionpoints, kind_of, version_of, entry_length, image_length, preamble, blank_entry, filled, term_bytes, wdt_image, FitsWatchpoint, ComparesInType, TableEntry, entry_bytes, FitsEntry, EndsOnce, adt_image, own_count, watchpoint_count, entry_at, used_code, entry_code, numbers_below, image_fault, preamble_code, layout_of, wrong_size, IsSound, version_1_layouts}
 use Rattle.lc_model.proofs.SoundWords.{stands_none, both_false}
 use Rattle.table_file.specs.Laws.{HasPreamble}
 use Rattle.table_file.proofs.Entries.{AreLong, all_entries, all_long, length-all_entries, terms_long, wdt_long, entries_long_of, adt_long}
@@ -141,15 +141,15 @@ preamble_tests l image =
 
 -- ---- watchpoints
 
-each_watchpoint : (n : ℕ) (terms : List Term) → AllByRecursion FitsWatchpoint terms → AllByRecursion IsInRange terms →
+each_watchpoint : (n : ℕ) (terms : List Term) → AllByRecursion FitsWatchpoint terms → AllByRecursion ComparesInType terms → AllByRecursion IsInRange terms →
     AllByRecursion (λ t. used_code Watchpoints n (term_bytes t) ≡ None) terms
-each_watchpoint n [] fits are = tt
-each_watchpoint n (t ∷ terms) fits are = (sound_watchpoint t fits.0 are.0, each_watchpoint n terms fits.1 are.1)
+each_watchpoint n [] fits typed are = tt
+each_watchpoint n (t ∷ terms) fits typed are = (sound_watchpoint t fits.0 typed.0 are.0, each_watchpoint n terms fits.1 typed.1 are.1)
 
 -- the table of at most 176 watchpoints in their ranges is sound
 pub sound_wdt : (h : List ℕ) (terms : List Term) → length h ≡ 32 → length terms ≤ table_entries → AllByRecursion FitsWatchpoint terms →
-    AllByRecursion IsInRange terms → IsSound version_1_layouts Wdt (wdt_image h terms)
-sound_wdt h terms hash few fits are =
+    AllByRecursion ComparesInType terms → AllByRecursion IsInRange terms → IsSound version_1_layouts Wdt (wdt_image h terms)
+sound_wdt h terms hash few fits typed are =
     let image : List ℕ = wdt_image h terms in
     let n : ℕ = length terms in
     let front : HasPreamble image h n n = preamble_again Watchpoints n n h (filled Watchpoints (map term_bytes terms)) hash few (omega (arith, few)) in
@@ -160,7 +160,7 @@ sound_wdt h terms hash few fits are =
     (λ i. nat_lt table_entries (front.own_is i) || nat_lt table_entries (front.watchpoints_are i) || (true && not (front.own_is i == front.watchpoints_are i)))
     ∙ both_false (nat_lt table_entries n || nat_lt table_entries n) (not (n == n)) (few_counts n n few few) (ap not (same_number n)) in
     all_sound Wdt Watchpoints image found (stands_none (preamble_tests Watchpoints image) (refl, (refl, (counts, tt))))
-    (no_entry Watchpoints term_bytes n h terms hash (terms_long terms) few (omega (arith, few)) (each_watchpoint n terms fits are))
+    (no_entry Watchpoints term_bytes n h terms hash (terms_long terms) few (omega (arith, few)) (each_watchpoint n terms fits typed are))
 
 -- ---- actionpoints
 
@@ -168,6 +168,10 @@ each_actionpoint : (n : ℕ) (entries : List TableEntry) → AllByRecursion (IsS
     AllByRecursion (λ e. used_code Actionpoints n (entry_bytes Actionpoints e) ≡ None) entries
 each_actionpoint n [] are = tt
 each_actionpoint n (e ∷ entries) are = (sound_actionpoint n e are.0, each_actionpoint n entries are.1)
+
+pub each_once : (n : ℕ) (entries : List TableEntry) → AllByRecursion (IsSoundEntry n) entries → AllByRecursion (λ e. FitsEntry Actionpoints e × EndsOnce e) entries
+each_once n [] are = tt
+each_once n (e ∷ entries) are = ((are.0.fits, are.0.once), each_once n entries are.1)
 
 pub each_fits : (n : ℕ) (entries : List TableEntry) → AllByRecursion (IsSoundEntry n) entries → AllByRecursion (FitsEntry Actionpoints) entries
 each_fits n [] are = tt

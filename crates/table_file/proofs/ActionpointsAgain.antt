@@ -66,22 +66,18 @@ small_zeros : (n : ℕ) → AllByRecursion (λ w. w < 2 ^ 16) (replicate n 0)
 small_zeros zero = tt
 small_zeros (suc n) = (omega arith, small_zeros n)
 
-not_equal : (ws : List ℕ) → AllByRecursion (λ w. (w < 2 ^ 16) × (w ≢ equal_word)) ws → AllByRecursion (λ w. (w == equal_word) ≡ false) ws
+not_equal : (ws : List ℕ) → AllByRecursion (λ w. w ≢ equal_word) ws → AllByRecursion (λ w. (w == equal_word) ≡ false) ws
 not_equal [] all = tt
-not_equal (w ∷ ws) all = (grind (arith, all.0.1), not_equal ws all.1)
+not_equal (w ∷ ws) all = (grind (arith, all.0), not_equal ws all.1)
 
-small_words : (ws : List ℕ) → AllByRecursion (λ w. (w < 2 ^ 16) × (w ≢ equal_word)) ws → AllByRecursion (λ w. w < 2 ^ 16) ws
-small_words [] all = tt
-small_words (w ∷ ws) all = (all.0.0, small_words ws all.1)
-
-equation_again : (size : ℕ) (ws : List ℕ) → AllByRecursion (λ w. (w < 2 ^ 16) × (w ≢ equal_word)) ws →
+equation_again : (size : ℕ) (ws : List ℕ) → AllByRecursion (λ w. w < 2 ^ 16) ws → AllByRecursion (λ w. w ≢ equal_word) ws →
     words_before_equal (words_from (flat_map u16 (zero_filled size (ws ++ equal_word ∷ [])))) ≡ ws
-equation_again size ws all =
+equation_again size ws all once =
     let zeros : List ℕ = replicate (size - length (ws ++ equal_word ∷ [])) 0 in
     let small : AllByRecursion (λ w. w < 2 ^ 16) ((ws ++ equal_word ∷ []) ++ zeros) =
-    small_append (ws ++ equal_word ∷ []) zeros (small_append ws (equal_word ∷ []) (small_words ws all) (omega arith, tt)) (small_zeros _) in
+    small_append (ws ++ equal_word ∷ []) zeros (small_append ws (equal_word ∷ []) all (omega arith, tt)) (small_zeros _) in
     ap words_before_equal (words_again ((ws ++ equal_word ∷ []) ++ zeros) small ∙ append_assoc ws (equal_word ∷ []) zeros)
-    ∙ before_at (λ w. w == equal_word) ws equal_word zeros (not_equal ws all) refl
+    ∙ before_at (λ w. w == equal_word) ws equal_word zeros (not_equal ws once) refl
 
 -- ---- one entry
 
@@ -92,7 +88,7 @@ entry_read l e is =
     let long : length text ≡ 32 = length-zero_filled 32 e.text (omega (arith, is.fits.text_length)) in
     let text_is : name_in (take 32 (text ++ words)) ≡ e.text = ap name_in (take_at text words 32 long) ∙ text_again e.text is.fits.text_length is.fits.text in
     let words_are : words_before_equal (words_from (drop 32 (text ++ words))) ≡ e.words =
-    ap (λ (s : List ℕ). words_before_equal (words_from s)) (drop_at text words 32 long) ∙ equation_again (words_in l) e.words is.fits.words in
+    ap (λ (s : List ℕ). words_before_equal (words_from s)) (drop_at text words 32 long) ∙ equation_again (words_in l) e.words is.fits.words is.once in
     let state_is : state_of_code (state_code e.mode) ≡ e.mode = state_again e.mode is.begins in
     let turns_down = from_be_bytes-to_be_bytes_2 e.report.pass_to_fail is.fits.pass_to_fail in
     let turns_up = from_be_bytes-to_be_bytes_2 e.report.fail_to_pass is.fits.fail_to_pass in

@@ -1,17 +1,16 @@
 -- A table of watchpoints that was written is read again.
-use Rattle.std.proofs.Common.{◌≡◌, refl, ◌∙◌, ap, ℕ, ◌-◌, ◌<◌, ◌≤◌, ◌^◌, Bool, true, false, ◌&&◌, nat_le, List, length, map, get_or, unwrap_or, ℤ, pos, negsuc, ◌-ℤ◌, int_le, if◌then◌else◌, arith}
+use Rattle.std.proofs.Common.{◌≡◌, refl, ◌∙◌, ap, ℕ, ◌<◌, List, length, map, get_or, unwrap_or, arith}
 use Rattle.std.proofs.lemmas.Nat.{from_be_bytes-to_be_bytes_2, from_be_bytes-to_be_bytes_4}
-use Rattle.std.proofs.lemmas.Int.{ints}
 use Rattle.std.proofs.lemmas.List.{length-map}
 use Rattle.lc_model.specs.declared.field.FieldType.{FieldType}
 use Rattle.lc_model.specs.declared.field.FieldType.TheVariants.{U8, I8, U16Be, U16Le, I16Be, I16Le, U32Be, U32Le, I32Be, I32Le}
 use Rattle.lc_model.specs.declared.field.CmpOp.{CmpOp}
 use Rattle.lc_model.specs.declared.field.CmpOp.TheVariants.{Less, LessOrEqual, NotEqual, Equal, GreaterOrEqual, Greater}
 use Rattle.lc_model.specs.declared.field.Term.{Term}
-use Rattle.lc_model.specs.Field.{is_signed, is_in_type, least, greatest}
 use Rattle.lc_model.specs.Codes.{type_code, operator_code}
 use Rattle.lc_model.specs.Tables.Image.{Watchpoints, bits_32, twos_complement_32, term_bytes, type_of_code, FitsWatchpoint, wdt_image, entry_at, numbers_below, filled}
 use Rattle.lc_model.specs.Tables.Spelled.{operator_of_code, spelled_term}
+use Rattle.lc_model.proofs.NumbersIn32Bits.{bits_small, value_again}
 use Rattle.table_file.specs.Laws.{WatchpointsAreReadAgain}
 use Rattle.table_file.proofs.Entries.{terms_long}
 use Rattle.table_file.proofs.EntriesAgain.{entry_again, listed, at_place, preamble_again}
@@ -21,80 +20,6 @@ type_again = elim [ U8 ↦ refl | I8 ↦ refl | U16Be ↦ refl | U16Le ↦ refl 
 
 operator_again : (o : CmpOp) → operator_of_code (operator_code o) ≡ o
 operator_again = elim [ Less ↦ refl | LessOrEqual ↦ refl | NotEqual ↦ refl | Equal ↦ refl | GreaterOrEqual ↦ refl | Greater ↦ refl ]
-
--- ---- numbers in 32 bits
-
-not_above : (m n : ℕ) → nat_le m n ≡ true → m ≤ n
-not_above m n e = grind (arith, e)
-
-right : (a b : Bool) → (a && b) ≡ true → b ≡ true
-right true b e = e
-right false b e = absurd (cc e)
-
-left : (a b : Bool) → (a && b) ≡ true → a ≡ true
-left true b e = refl
-left false b e = e
-
--- the numbers from 0 on that the type has, in 32 bits
-abbrev half : FieldType → ℕ
-half k = if is_signed k then 2147483648 else 4294967296
-
-high : (k : FieldType) (n : ℕ) → is_in_type k (pos n) ≡ true → n < half k
-high U8 n e = omega (arith, not_above n 255 (right _ _ e))
-high I8 n e = omega (arith, not_above n 127 (right (int_le (least I8) (pos n)) _ e))
-high U16Be n e = omega (arith, not_above n 65535 (right _ _ e))
-high U16Le n e = omega (arith, not_above n 65535 (right _ _ e))
-high I16Be n e = omega (arith, not_above n 32767 (right (int_le (least I16Be) (pos n)) _ e))
-high I16Le n e = omega (arith, not_above n 32767 (right (int_le (least I16Le) (pos n)) _ e))
-high U32Be n e = omega (arith, not_above n 4294967295 (right _ _ e))
-high U32Le n e = omega (arith, not_above n 4294967295 (right _ _ e))
-high I32Be n e = omega (arith, not_above n 2147483647 (right (int_le (least I32Be) (pos n)) _ e))
-high I32Le n e = omega (arith, not_above n 2147483647 (right (int_le (least I32Le) (pos n)) _ e))
-
--- a type with numbers below 0 has none under -2^31
-low : (k : FieldType) (n : ℕ) → is_in_type k (negsuc n) ≡ true → (is_signed k ≡ true) × (n < 2147483648)
-low U8 n e = absurd (cc e)
-low I8 n e = (refl, omega (arith, not_above n 127 (left _ (int_le (negsuc n) (greatest I8)) e)))
-low U16Be n e = absurd (cc e)
-low U16Le n e = absurd (cc e)
-low I16Be n e = (refl, omega (arith, not_above n 32767 (left _ (int_le (negsuc n) (greatest I16Be)) e)))
-low I16Le n e = (refl, omega (arith, not_above n 32767 (left _ (int_le (negsuc n) (greatest I16Le)) e)))
-low U32Be n e = absurd (cc e)
-low U32Le n e = absurd (cc e)
-low I32Be n e = (refl, omega (arith, not_above n 2147483647 (left _ (int_le (negsuc n) (greatest I32Be)) e)))
-low I32Le n e = (refl, omega (arith, not_above n 2147483647 (left _ (int_le (negsuc n) (greatest I32Le)) e)))
-
-is_above : (m n : ℕ) → m ≤ n → nat_le m n ≡ true
-is_above m n h = grind (arith, h)
-
-is_not_above : (m n : ℕ) → n < m → nat_le m n ≡ false
-is_not_above m n h = grind (arith, h)
-
--- what 32 bits are, by the sign and the top bit
-abbrev number : Bool → Bool → ℕ → ℤ
-number signed top n = if signed && top then pos n -ℤ pos 4294967296 else pos n
-
-small_again : (signed : Bool) (n : ℕ) → n < (if signed then 2147483648 else 4294967296) → number signed (nat_le 2147483648 n) n ≡ pos n
-small_again true n h = ap (λ top. number true top n) (is_not_above 2147483648 n h)
-small_again false n h = refl
-
-below_zero : (n : ℕ) → n < 2147483648 → pos (4294967295 - n) -ℤ pos 4294967296 ≡ negsuc n
-below_zero n h = omega (arith, ints)
-
-value_again : (k : FieldType) (v : ℤ) → is_in_type k v ≡ true → twos_complement_32 k (bits_32 v) ≡ v
-value_again k (pos n) e = small_again (is_signed k) n (high k n e)
-value_again k (negsuc n) e =
-    (λ i. number ((low k n e).0 i) (is_above 2147483648 (4294967295 - n) (omega (arith, (low k n e).1)) i) (4294967295 - n)) ∙ below_zero n (low k n e).1
-
-bits_small : (k : FieldType) (v : ℤ) → is_in_type k v ≡ true → bits_32 v < 2 ^ 32
-bits_small k (pos n) e = small (is_signed k) (high k n e)
-  where
-    small : (signed : Bool) → n < (if signed then 2147483648 else 4294967296) → n < 4294967296
-    small true h = omega (arith, h)
-    small false h = h
-bits_small k (negsuc n) e = omega arith
-
--- ---- watchpoints
 
 term_again : (t : Term) → FitsWatchpoint t → spelled_term (term_bytes t) ≡ t
 term_again t fits =

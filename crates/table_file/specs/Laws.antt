@@ -7,7 +7,7 @@ use Rattle.lc_model.specs.declared.mode.ApMode.TheVariants.{PermOff}
 use Rattle.lc_model.specs.Bytes.{u16_at}
 use Rattle.lc_model.specs.Codes.{table_entries}
 use Rattle.lc_model.specs.Name.{name_in}
-use Rattle.lc_model.specs.Tables.Image.{Layout, kind_of, TableEntry, FitsWatchpoint, FitsEntry, wdt_image, adt_image, own_count, watchpoint_count, hash_of, entry_at, all_words, words_before_equal, numbers_below}
+use Rattle.lc_model.specs.Tables.Image.{Layout, kind_of, TableEntry, FitsWatchpoint, FitsEntry, EndsOnce, wdt_image, adt_image, own_count, watchpoint_count, hash_of, entry_at, all_words, words_before_equal, numbers_below}
 use Rattle.lc_model.specs.Tables.Spelled.{state_of_code, event_of_code, spelled_terms}
 
 -- the fields of a preamble
@@ -39,9 +39,10 @@ WatchpointsAreReadAgain = (hash : List ℕ) (terms : List Term) → length hash 
     AllByRecursion FitsWatchpoint terms →
     HasPreamble (wdt_image hash terms) hash (length terms) (length terms) × (spelled_terms (wdt_image hash terms) ≡ terms)
 
--- what a table of actionpoints can say: none is off for good from the start
+-- what is read again as it was written: EQUAL at the end alone, and no actionpoint that is off for good from the start
 pub record FitsTable (l : Layout) (e : TableEntry) : Type 0 where
   pub fits : FitsEntry l e
+  pub once : EndsOnce e
   pub begins : e.mode ≢ PermOff
 
 -- a table of actionpoints that was written is read again

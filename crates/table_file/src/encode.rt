@@ -3,9 +3,8 @@
 ghost use Rattle.std.specs.Prelude.{◌≡◌, ◌≤◌, ◌<◌, ◌++◌, [], ◌∷◌, length, IfErr, IfOk, IsTrue, OnOk, replicate};
 ghost use Rattle.std.specs.List.{AllByRecursion, flat_map};
 ghost use Rattle.lc_model.specs.Codes.{table_entries};
-ghost use Rattle.lc_model.specs.Field.{is_in_type};
 ghost use Rattle.lc_model.specs.Bytes.{u16, zero_filled};
-ghost use Rattle.lc_model.specs.Tables.Image.{Watchpoints, Actionpoints, image_length, FitsWatchpoint, FitsEntry, preamble, blank_entry, term_bytes, entry_bytes, bits_32, wdt_image, adt_image, words_in};
+ghost use Rattle.lc_model.specs.Tables.Image.{Watchpoints, Actionpoints, image_length, FitsWatchpoint, FitsEntry, preamble, blank_entry, term_bytes, entry_bytes, bits_32, fits_32_bits, wdt_image, adt_image, words_in};
 ghost use Rattle.lc_model.specs.Tables.Equation.{equal_word};
 ghost use Rattle.table_file.specs.Layout.{layout_of};
 ghost use Rattle.table_file.specs.Parts.{entry_numbers};
@@ -22,7 +21,7 @@ use std::alloc::{AllocError, Global};
 
 /// A comparison's number in 32 bits, in two's complement.
 fn value_bits(term: &Term) -> u32
-    requires { IsTrue (is_in_type term.now.kind term.now.value) }
+    requires { IsTrue (fits_32_bits term.now.kind term.now.value) }
     ensures { result ≡ bits_32 term.now.value }
 {
     if term.value < 0 {
@@ -151,7 +150,8 @@ fn push_actionpoints(
     Ok(())
 }
 
-/// The image of a table of watchpoints, 4,264 bytes.
+/// The image of a table of watchpoints, 4,264 bytes. Of at most 176 watchpoints each number fits 32 bits, with a sign
+/// where its type has one; it need not be one of its type.
 ///
 /// Errors: `Memory` alone.
 pub fn encode_wdt(alloc: Global, image: &WdtImage) -> Result<Vec<u8>, FileError>
@@ -171,7 +171,8 @@ pub fn encode_wdt(alloc: Global, image: &WdtImage) -> Result<Vec<u8>, FileError>
     Ok(out)
 }
 
-/// The image of a table of actionpoints, 15,176 bytes.
+/// The image of a table of actionpoints, 15,176 bytes. Of at most 176 entries each has at most 19 words, whatever they
+/// are, and at most 31 bytes of text, none of them zero. A word EQUAL ends what is read of an equation.
 ///
 /// Errors: `Memory` alone.
 pub fn encode_adt(alloc: Global, image: &AdtImage) -> Result<Vec<u8>, FileError>

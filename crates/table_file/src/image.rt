@@ -37,7 +37,7 @@ pub struct TableEntry {
     pub event_id: u16,
     /// The event's text: at most 31 bytes, none of them zero.
     pub text: Bytes,
-    /// The equation's words before EQUAL.
+    /// The equation's words before the EQUAL at its end, at most 19.
     pub words: Vec<u16>,
 }
 

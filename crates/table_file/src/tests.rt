@@ -6,6 +6,7 @@
 mod faults;
 mod memory;
 mod readers;
+mod unsound;
 mod written;
 
 ghost use Rattle.std.specs.Prelude.{◌≡◌, length, IfOk};
