@@ -3,7 +3,7 @@
 ghost use Rattle.std.specs.Prelude.{IsTrue};
 ghost use Rattle.lc_model.specs.Field.{is_in_type};
 ghost use Rattle.lc_model.specs.declared.field.FieldType.TheVariants.{I8};
-ghost use Rattle.lc_model.specs.Images.Image.{FitsWatchpoint};
+ghost use Rattle.lc_model.specs.Tables.Image.{FitsWatchpoint};
 
 use super::{Images, LOW, Step, actionpoint, encoded, low, run, sample};
 use crate::LimitChecker;

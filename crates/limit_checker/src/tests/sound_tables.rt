@@ -1,7 +1,7 @@
 //! Sound tables that no compiler writes, full ones, and tables that are set one after another.
 
 ghost use Rattle.std.specs.Prelude.{IfOk, length};
-ghost use Rattle.lc_model.specs.Images.Image.{FitsWatchpoint};
+ghost use Rattle.lc_model.specs.Tables.Image.{FitsWatchpoint};
 
 use super::{Images, LOW, Step, actionpoint, drive, encoded, low, run, sample, set};
 use crate::LimitChecker;
