@@ -1,9 +1,7 @@
-use Rattle.std.proofs.Common.{◌≡◌, sym, ◌∙◌, ℕ, List, subst, arith}
+use Rattle.std.proofs.Common.{sym, ◌∙◌, ℕ, List, subst, arith}
 use Rattle.lc_model.specs.declared.kind.Kind.TheVariants.{Wdt, Adt}
-use Rattle.lc_model.specs.Rule.{NamedRule}
 use Rattle.lc_model.specs.Tables.Half.{IsFileOfHalf}
 use Rattle.lc_model.specs.Tables.Image.{version_1_layouts}
-use Rattle.flight_run.specs.Tables.{AreTablesOf}
 use Rattle.flight_run.proofs.Loaded.{belong, said, at_rest, few}
 use Rattle.flight_run.proofs.tables.flight_with.Goals as goal
 
