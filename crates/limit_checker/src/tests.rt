@@ -3,10 +3,9 @@
 mod one_rule;
 mod sound_tables;
 
-ghost use Rattle.std.specs.Prelude.{◌≡◌, ◌≢◌, ◌<◌, ◌≤◌, ◌^◌, length, IfOk, IsTrue};
+ghost use Rattle.std.specs.Prelude.{◌≢◌, ◌<◌, ◌≤◌, ◌^◌, length, IfOk};
 ghost use Rattle.std.specs.List.{AllByRecursion};
 ghost use Rattle.lc_model.specs.Codes.{table_entries};
-ghost use Rattle.lc_model.specs.Field.{is_in_type};
 ghost use Rattle.lc_model.specs.Tables.Equation.{equal_word};
 ghost use Rattle.lc_model.specs.Tables.Image.{Actionpoints, FitsWatchpoint, FitsEntry};
 

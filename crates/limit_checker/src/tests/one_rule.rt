@@ -9,7 +9,6 @@ use super::{Images, LOW, Step, actionpoint, encoded, low, run, sample};
 use crate::LimitChecker;
 use lc_model::{ApMode, CmpOp, FieldType, Term};
 use std::alloc::{AllocError, Global};
-use std::process::Abort;
 use std::test::*;
 use table_file::FileError;
 

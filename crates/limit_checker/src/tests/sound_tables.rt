@@ -1,15 +1,12 @@
 //! Sound tables that no compiler writes, full ones, and tables that are set one after another.
 
-ghost use Rattle.std.specs.Prelude.{IfOk, length};
 ghost use Rattle.lc_model.specs.Tables.Image.{FitsWatchpoint};
 
 use super::{Images, LOW, Step, actionpoint, drive, encoded, low, run, sample, set};
 use crate::LimitChecker;
 use lc_model::{ApMode, CmpOp, FieldType, Term};
 use std::alloc::{AllocError, Global};
-use std::process::Abort;
 use std::test::*;
-use table_file::{FileError, TableEntry};
 
 const AND: u16 = 0xFF01;
 
