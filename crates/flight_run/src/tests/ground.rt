@@ -1,0 +1,71 @@
+//! How a ground team makes table files from a rule text, and judges files before they go up.
+
+use crate::low_volts::TEXT;
+use lc_model::Kind;
+use rpn_compiler::compile;
+use std::process::Abort;
+use std::test::Fail;
+use table_file::FileError;
+use table_validator::{FaultCode, TableFault, WHOLE_IMAGE};
+
+/// Where the low byte of the first word of the first actionpoint stands: behind both headers, the preamble and 46 bytes.
+const FIRST_WORD: usize = 116 + 40 + 46 + 1;
+
+/// Why a file doesn't go up.
+#[derive(Clone, Copy, Debug, PartialEq, Eq)]
+enum Unfit {
+    File(FileError),
+    Table(TableFault),
+}
+
+/// Whether a file may go up as the table of this kind.
+fn judge(kind: Kind, file: &[u8]) -> Result<(), Unfit> {
+    let file = table_file::open(file).map_err(Unfit::File)?;
+    table_validator::validate(kind, file.image()).map_err(Unfit::Table)?;
+    Ok(())
+}
+
+/// The table is refused, with this fault.
+fn is_refused<R: Abort>(rt: &R, kind: Kind, file: &[u8], code: FaultCode, entry: u16) {
+    assert_eq!(rt;
+        judge(kind, file),
+        Err(Unfit::Table(TableFault { code, entry }))
+    );
+}
+
+#[test]
+fn both_files_of_a_text_may_go_up(rt: HostRuntime) -> Result<(), Fail> {
+    let pair = compile(rt.alloc(), TEXT.as_bytes())?;
+    assert_eq!(rt; judge(Kind::Wdt, pair.wdt.as_slice()), Ok(()));
+    assert_eq!(rt; judge(Kind::Adt, pair.adt.as_slice()), Ok(()));
+    // Each as the other's table: the image has another size.
+    is_refused(
+        &rt,
+        Kind::Adt,
+        pair.wdt.as_slice(),
+        FaultCode::WrongSize,
+        WHOLE_IMAGE,
+    );
+    Ok(())
+}
+
+#[test]
+fn files_that_are_damaged(rt: HostRuntime) -> Result<(), Fail> {
+    let mut adt = compile(rt.alloc(), TEXT.as_bytes())?.adt;
+    if adt.len() > FIRST_WORD {
+        adt[FIRST_WORD] = 1;
+    }
+    is_refused(
+        &rt,
+        Kind::Adt,
+        adt.as_slice(),
+        FaultCode::UnknownWatchpoint,
+        0,
+    );
+    adt.truncate(15_000);
+    assert_eq!(rt;
+        judge(Kind::Adt, adt.as_slice()),
+        Err(Unfit::File(FileError::SizeMismatch))
+    );
+    Ok(())
+}
