@@ -16,9 +16,9 @@ use Rattle.limit_checker.specs.Watcher.{Watcher, fresh}
 use Rattle.rpn_compiler.specs.declared.files.TablePair.{TablePair}
 use Rattle.table_validator.specs.Sound.{TableImage}
 use Rattle.flight_run.specs.Flight.{Kept, at_start}
-use Rattle.flight_run.specs.Tables.{AreTablesOf}
+use Rattle.flight_run.specs.Tables.{AreFilesOf}
 
-module _ (rules : List NamedRule) (pair : TablePair) (are : AreTablesOf rules pair) where
+module _ (rules : List NamedRule) (pair : TablePair) (are : AreFilesOf rules pair) where
   -- the images in the files
   abbrev pub wdt : List ℕ
   wdt = are.tables.wdt.0

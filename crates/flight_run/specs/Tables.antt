@@ -6,7 +6,7 @@ use Rattle.rpn_compiler.specs.declared.files.TablePair.{TablePair}
 use Rattle.rpn_compiler.specs.Pair.{AreTables}
 
 -- the files of the tables of a text that compiles and says these rules
-pub record AreTablesOf (rules : List NamedRule) (pair : TablePair) : Type 0 where
+pub record AreFilesOf (rules : List NamedRule) (pair : TablePair) : Type 0 where
   pub text : List ℕ
   pub compiles : Compiles text_order_limits text rules
   pub tables : AreTables text rules pair

@@ -8,7 +8,7 @@ ghost use Rattle.lc_model.specs.Tables.Image.{version_1_layouts};
 ghost use Rattle.lc_model.specs.Tables.Interpretation.{compiled_size};
 ghost use Rattle.flight_run.specs.Flight.{at_start};
 ghost use Rattle.flight_run.specs.Kept.{kept_of};
-ghost use Rattle.flight_run.specs.Tables.{AreTablesOf};
+ghost use Rattle.flight_run.specs.Tables.{AreFilesOf};
 
 use crate::flight::Flight;
 use lc_model::{Kind, laws};
@@ -29,8 +29,8 @@ fn image_in(kind: Kind, file: &[u8]) -> ValidImage<'_>
 
 /// A Limit Checker with the tables of a text in force, before its first packet.
 pub fn flight_with(alloc: Global, pair: &TablePair) -> Result<Flight, AllocError>
-    requires { (rules : List NamedRule) × AreTablesOf rules pair.now }
-    ensures { (rules : List NamedRule) → AreTablesOf rules pair.now → IfOk result (λ flight. kept_of flight ≡ at_start rules) }
+    requires { (rules : List NamedRule) × AreFilesOf rules pair.now }
+    ensures { (rules : List NamedRule) → AreFilesOf rules pair.now → IfOk result (λ flight. kept_of flight ≡ at_start rules) }
 {
     laws::tables::halves_say_their_text();
     laws::correspondence::halves_in_order_spell_the_text();
