@@ -1,5 +1,5 @@
 -- The rules that a text says fit the fields of a table.
-use Rattle.std.proofs.Common.{◌≡◌, ◌≢◌, refl, subst, ℕ, zero, suc, ◌+◌, ◌-◌, ◌<◌, ◌≤◌, ◌^◌, Bool, true, false, cond, ◌&&◌, ◌||◌, ◌==◌, nat_lt, nat_le, IsTrue, List, [], ◌∷◌, ◌++◌, length, take, flat_map, Option, Some, None, option_map, ℤ, pos, negsuc, int_lt, nat_abs, codes, bytes_eq, arith}
+use Rattle.std.proofs.Common.{◌≡◌, ◌≢◌, refl, subst, ℕ, zero, suc, ◌+◌, ◌-◌, ◌<◌, ◌≤◌, ◌^◌, Bool, true, false, cond, ◌&&◌, ◌==◌, nat_le, IsTrue, List, [], ◌∷◌, ◌++◌, length, take, flat_map, Option, Some, None, option_map, codes, bytes_eq, arith}
 use Rattle.std.specs.List.{AllByRecursion}
 use Rattle.std.specs.Option.{option_map_or}
 use Rattle.std.proofs.lemmas.List.{length-take-le}
@@ -9,13 +9,13 @@ use Rattle.lc_model.specs.declared.rule.Report.{Report}
 use Rattle.lc_model.specs.Condition.{Condition}
 use Rattle.lc_model.specs.Rule.{NamedRule}
 use Rattle.lc_model.specs.Text.Token.{Token, is_text_byte, is_string, is_closed, quote, string_text}
-use Rattle.lc_model.specs.Text.Syntax.{Number, ReportItem, RuleItem, Item, Packet, Field, Rule}
+use Rattle.lc_model.specs.Text.Syntax.{ReportItem, RuleItem, Item, Packet, Field, Rule}
 use Rattle.lc_model.specs.Text.Class.{Text, Fits, Phrase, next, state}
 use Rattle.lc_model.specs.Text.Grammar as grammar
 use Rattle.lc_model.specs.Text.Grammar.{rule_phrase, DerivesItem, DerivesFile}
 use Rattle.lc_model.specs.Text.Meaning.{fault_outside, name_faults, faults_of, condition_faults, rule_faults, report_faults, report_of, option_map_two, condition_in, named_rule, rules_in, Means}
 use Rattle.lc_model.specs.Laws.Reading.{IsWithinRanges, RulesAreWithinRanges}
-use Rattle.lc_model.proofs.TermsFit.{none_first, none_second, not_refused}
+use Rattle.lc_model.proofs.ItemsInRange.{none_first, none_second, IsBetween, number_fits}
 
 -- ---- states and texts
 
@@ -101,31 +101,6 @@ items_fit grammar.DerivesFile.done = tt
 items_fit (grammar.DerivesFile.next item others) = (item_fits item, items_fit others)
 
 -- ---- numbers
-
-or_first : (a b : Bool) → (a || b) ≡ false → a ≡ false
-or_first true b e = absurd (cc e)
-or_first false b e = refl
-
-or_second : (a b : Bool) → (a || b) ≡ false → b ≡ false
-or_second true b e = absurd (cc e)
-or_second false b e = e
-
-at_least : (m n : ℕ) → nat_lt n m ≡ false → m ≤ n
-at_least m n e = grind (arith, e)
-
-record IsBetween (low high : ℕ) (v : ℤ) : Type 0 where
-  least : low ≤ nat_abs v
-  most : nat_abs v ≤ high
-
-between : (low high : ℕ) (v : ℤ) → (int_lt v (pos low) || int_lt (pos high) v) ≡ false → IsBetween low high v
-between low high (pos n) e = record {
-  least = at_least low n (or_first (int_lt (pos n) (pos low)) (int_lt (pos high) (pos n)) e);
-  most = at_least n high (or_second (int_lt (pos n) (pos low)) (int_lt (pos high) (pos n)) e);
-}
-between low high (negsuc n) e = absurd (cc e)
-
-number_fits : (low high code : ℕ) (n : Number) → fault_outside low high code n ≡ [] → IsBetween low high n.value
-number_fits low high code n e = between low high n.value (not_refused _ code n.at e)
 
 record FitsReport (report : Report) : Type 0 where
   passive : report.passive < 2 ^ 8

@@ -156,7 +156,7 @@ pub record IsActionpoint (l : Layout) (terms : List Term) (e : List ℕ) : Type 
   pub spells : SpellsInOrder terms (words_before_equal (all_words e)) condition
 
 -- the tests of an entry
-abbrev actionpoint_tests : ℕ → List ℕ → List (Bool × ℕ)
+abbrev pub actionpoint_tests : ℕ → List ℕ → List (Bool × ℕ)
 actionpoint_tests count e =
     (not (is_in_range 1 3 (slice_index e 0)), 71)
     ∷ (not (is_in_range 1 4 (u16_at e 10)) || nat_lt (u16_at e 12) 1_000, 72)

@@ -44,18 +44,18 @@ or_false false b e is = e
 -- ---- what stands before and after the first that passes
 
 module _ {X : Type 0} (p : X → Bool) where
-  before_here : (x : X) (xs : List X) → p x ≡ true → before_first p (x ∷ xs) ≡ []
+  pub before_here : (x : X) (xs : List X) → p x ≡ true → before_first p (x ∷ xs) ≡ []
   before_here x xs e = rw e refl
 
-  before_later : (x : X) (xs : List X) → p x ≡ false → before_first p (x ∷ xs) ≡ x ∷ before_first p xs
+  pub before_later : (x : X) (xs : List X) → p x ≡ false → before_first p (x ∷ xs) ≡ x ∷ before_first p xs
   before_later x xs e =
       let one : 1 + position_or_len p xs ≡ suc (position_or_len p xs) = omega arith in
       ap (λ b. take (cond (not b) (1 + position_or_len p xs) 0) (x ∷ xs)) e ∙ ap (λ n. take n (x ∷ xs)) one
 
-  after_here : (x : X) (xs : List X) → p x ≡ true → after_first p (x ∷ xs) ≡ xs
+  pub after_here : (x : X) (xs : List X) → p x ≡ true → after_first p (x ∷ xs) ≡ xs
   after_here x xs e = rw e refl
 
-  after_later : (x : X) (xs : List X) → p x ≡ false → after_first p (x ∷ xs) ≡ after_first p xs
+  pub after_later : (x : X) (xs : List X) → p x ≡ false → after_first p (x ∷ xs) ≡ after_first p xs
   after_later x xs e =
       let one : 1 + position_or_len p xs + 1 ≡ suc (position_or_len p xs + 1) = omega arith in
       ap (λ b. drop (cond (not b) (1 + position_or_len p xs) 0 + 1) (x ∷ xs)) e ∙ ap (λ n. drop n (x ∷ xs)) one

@@ -1,220 +1,45 @@
 -- What is written of a text that compiles are its tables.
-use Rattle.std.proofs.Common.{◌≡◌, ◌≢◌, refl, sym, ◌∙◌, ap, subst, ℕ, ◌<◌, ◌≤◌, ◌^◌, Bool, true, false, not, ◌&&◌, ◌||◌, nat_lt, nat_le, List, [], ◌∷◌, length, map, IsTrue, Some, arith}
-use Rattle.std.specs.List.{AllByRecursion, AllZip, list_any}
-use Rattle.std.specs.Int.{is_in_range}
-use Rattle.std.proofs.lemmas.List.{length-map}
+use Rattle.std.proofs.Common.{◌≡◌, sym, ◌∙◌, ap, subst, ℕ, List, length, map}
+use Rattle.std.specs.List.{AllByRecursion}
 use Rattle.sha2.specs.Sha256.{sha256}
-use Rattle.sha2.proofs.Facts256.{length-sha256}
 use Rattle.lc_model.specs.declared.kind.Kind.TheVariants.{Wdt, Adt}
 use Rattle.lc_model.specs.declared.field.Term.{Term}
-use Rattle.lc_model.specs.Condition.{Operator, And, Or, Xor, Condition, Watch, Not, Join}
 use Rattle.lc_model.specs.Rule.{NamedRule}
-use Rattle.lc_model.specs.Codes.{table_entries}
-use Rattle.lc_model.specs.Text.Token.{is_text_byte}
-use Rattle.lc_model.specs.Tables.Equation.{terms_of, words, equal_word, operator_word, SpellsInOrder, Spells, IsRearranged}
-use Rattle.lc_model.specs.Tables.Compiling.{Compiles, text_order_limits}
-use Rattle.lc_model.specs.Tables.Lowering.{Lowers}
-use Rattle.lc_model.specs.Tables.Image.{Watchpoints, Actionpoints, filled, term_bytes, TableEntry, FitsWatchpoint, ComparesInType, FitsEntry, EndsOnce, wdt_image, adt_image, equation_tests, IsSound, version_1_layouts}
-use Rattle.lc_model.specs.Tables.Half.{IsEntryOf, HasActionpoints, HasWords}
-use Rattle.lc_model.specs.Rule.{actions}
+use Rattle.lc_model.specs.Tables.Equation.{terms_of}
+use Rattle.lc_model.specs.Tables.Image.{Actionpoints, FitsWatchpoint, FitsEntry, wdt_image, adt_image}
+use Rattle.lc_model.specs.Tables.Half.{entry_over}
 use Rattle.lc_model.specs.Tables.File.{file_bytes, wrapped}
-use Rattle.lc_model.specs.Tables.Spelled.{spelled_condition}
-use Rattle.lc_model.specs.Laws.Reading.{IsWithinRanges}
-use Rattle.lc_model.specs.Laws.Equations.{IsSpelled, RuleRuns, RulesRun}
-use Rattle.lc_model.proofs.TermsFit.{terms_fit, terms_in_type}
-use Rattle.lc_model.proofs.RulesFit.{within_ranges}
-use Rattle.lc_model.proofs.SoundWords.{none_stands, sound_words_spell, or_first, or_second, IsWord, number, negated, joined, classified}
-use Rattle.lc_model.proofs.SpelledEquations.{condition_of_equation}
-use Rattle.lc_model.proofs.SpellsOnce.{computed}
-use Rattle.lc_model.proofs.LoweredRules.{lowered_words_run}
-use Rattle.table_file.specs.Laws.{HasPreamble}
-use Rattle.table_file.proofs.Entries.{wdt_long, adt_long}
-use Rattle.table_file.proofs.EntriesAgain.{preamble_again}
+use Rattle.lc_model.specs.Laws.Tables.{AreTablesOf, compiled_entries, CompilesToTables}
 use Rattle.rpn_compiler.specs.declared.files.TablePair.{TablePair}
-use Rattle.rpn_compiler.specs.Pair.{entry_over, AreTables}
-use Rattle.rpn_compiler.proofs.TermsInRange.{terms_in_range}
-use Rattle.rpn_compiler.proofs.SoundEntries.{IsSoundEntry}
-use Rattle.rpn_compiler.proofs.SoundTables.{sound_wdt, sound_adt, each_once, each_fits}
+use Rattle.rpn_compiler.specs.Pair.{AreTables}
 
--- ---- words
-
-small_operator : (o : Operator) → (operator_word o < 2 ^ 16) × (operator_word o ≢ equal_word)
-small_operator And = (omega arith, λ e. omega (arith, e))
-small_operator Or = (omega arith, λ e. omega (arith, e))
-small_operator Xor = (omega arith, λ e. omega (arith, e))
-
-small_word : (count w : ℕ) → count ≤ table_entries → IsWord count w → (w < 2 ^ 16) × (w ≢ equal_word)
-small_word count w few (number below) = (omega (arith, few, below), λ e. omega (arith, few, below, e))
-small_word count w few negated = (omega arith, λ e. omega (arith, e))
-small_word count w few (joined o) = small_operator o
-
-each_word : (count : ℕ) → count ≤ table_entries → (ws : List ℕ) →
-    list_any (λ w. not (nat_lt w table_entries || is_in_range 0xFF01 0xFF04 w)) ws ≡ false →
-    list_any (λ w. nat_lt w table_entries && nat_le count w) ws ≡ false → AllByRecursion (λ w. w < 2 ^ 16) ws × AllByRecursion (λ w. w ≢ equal_word) ws
-each_word count few [] known below = (tt, tt)
-each_word count few (w ∷ ws) known below =
-    let unknown : Bool = not (nat_lt w table_entries || is_in_range 0xFF01 0xFF04 w) in
-    let others : Bool = list_any (λ v. not (nat_lt v table_entries || is_in_range 0xFF01 0xFF04 v)) ws in
-    let beyond : Bool = nat_lt w table_entries && nat_le count w in
-    let more : Bool = list_any (λ v. nat_lt v table_entries && nat_le count v) ws in
-    let here = small_word count w few (classified count w (or_first unknown others known) (or_first beyond more below)) in
-    let rest = each_word count few ws (or_second unknown others known) (or_second beyond more below) in
-    ((here.0, rest.0), (here.1, rest.1))
-
--- ---- texts
-
-in_front : (a b : Bool) → (a && b) ≡ true → a ≡ true
-in_front true b e = refl
-in_front false b e = e
-
-at_most : (m n : ℕ) → nat_le m n ≡ true → m ≤ n
-at_most m n e = grind (arith, e)
-
-text_byte : (b : ℕ) → IsTrue (is_text_byte b) → (0 < b) × (b < 2 ^ 8)
-text_byte b e =
-    let range : (nat_le 0x20 b && nat_le b 0x7E) ≡ true = in_front (nat_le 0x20 b && nat_le b 0x7E) _ e in
-    let low : 0x20 ≤ b = at_most 0x20 b (in_front (nat_le 0x20 b) (nat_le b 0x7E) range) in
-    let high : b ≤ 0x7E = at_most b 0x7E (behind (nat_le 0x20 b) (nat_le b 0x7E) range) in
-    (omega (arith, low), omega (arith, high))
-  where
-    behind : (a b : Bool) → (a && b) ≡ true → b ≡ true
-    behind true b e = e
-    behind false b e = absurd (cc e)
-
-text_bytes : (text : List ℕ) → AllByRecursion (λ b. IsTrue (is_text_byte b)) text → AllByRecursion (λ b. (0 < b) × (b < 2 ^ 8)) text
-text_bytes [] all = tt
-text_bytes (b ∷ text) all = (text_byte b all.0, text_bytes text all.1)
-
--- ---- rules
-
-sound_entry : (terms : List Term) (rule : NamedRule) → length terms ≤ table_entries → IsWithinRanges rule.action → RuleRuns terms rule →
-    IsSoundEntry (length terms) (entry_over terms rule)
-sound_entry terms rule few ranges runs =
-    let ws : List ℕ = words terms rule.action.condition in
-    let tests : AllByRecursion (λ t. t.0 ≡ false) (equation_tests (length terms) ws) = none_stands (equation_tests (length terms) ws) runs.runs.sound in
-    let each = each_word (length terms) few ws tests.0 tests.1.0 in
-    record {
-      fits = record {
-        passive = ranges.passive;
-        pass_to_fail = ranges.pass_to_fail;
-        fail_to_pass = ranges.fail_to_pass;
-        sequence = ranges.sequence.1;
-        fails = ranges.fails.1;
-        event_id = ranges.event_id.1;
-        text_length = ranges.text_length;
-        text = text_bytes rule.action.text ranges.text;
-        words_length = runs.few;
-        words = each.0;
-      };
-      once = each.1;
-      begins = ranges.state;
-      event_id = ranges.event_id.0;
-      text = ranges.text;
-      sequence = ranges.sequence.0;
-      fails = ranges.fails.0;
-      equation = runs.runs.sound;
-    }
-
-sound_entries : (terms : List Term) (rules : List NamedRule) → length terms ≤ table_entries →
-    AllByRecursion (λ (rule : NamedRule). IsWithinRanges rule.action) rules → AllByRecursion (RuleRuns terms) rules →
-    AllByRecursion (IsSoundEntry (length terms)) (map (entry_over terms) rules)
-sound_entries terms [] few ranges runs = tt
-sound_entries terms (rule ∷ rules) few ranges runs =
-    (sound_entry terms rule few ranges.0 runs.0, sound_entries terms rules few ranges.1 runs.1)
-
--- the words of a rule spell its condition
-spelled : (terms : List Term) (rule : NamedRule) → length terms ≤ table_entries → RuleRuns terms rule →
-    SpellsInOrder terms (words terms rule.action.condition) rule.action.condition
-spelled terms rule few runs =
-    let ws : List ℕ = words terms rule.action.condition in
-    let equation = (sound_words_spell (length terms) ws few).0 runs.runs.sound in
-    let some : IsSpelled terms ws equation.0 = condition_of_equation terms equation.2 in
-    let read : spelled_condition terms ws ≡ Some some.0 = computed terms (omega (arith, few)) some.1 in
-    let whole : Some some.0 ≡ Some rule.action.condition = sym read ∙ runs.runs.spelled in
-    let same : some.0 ≡ rule.action.condition = cc whole in
-    subst (λ (c : Condition). SpellsInOrder terms ws c) same some.1
-
-as_it_stands : (c : Condition) → IsRearranged c c
-as_it_stands (Watch t) = IsRearranged.mention
-as_it_stands (Not c) = IsRearranged.negation (as_it_stands c)
-as_it_stands (Join o a b) = IsRearranged.in_order (as_it_stands a) (as_it_stands b)
-
-entries_spell : (terms : List Term) (rules : List NamedRule) → length terms ≤ table_entries → AllByRecursion (RuleRuns terms) rules →
-    AllZip (IsEntryOf (Spells terms)) (actions rules) (map (entry_over terms) rules)
-entries_spell terms [] few runs = tt
-entries_spell terms (rule ∷ rules) few runs =
-    ((refl, (rule.action.condition, as_it_stands rule.action.condition, spelled terms rule few runs.0)), entries_spell terms rules few runs.1)
-
-entries_in_order : (terms : List Term) (rules : List NamedRule) →
-    AllZip (IsEntryOf (λ ws c. ws ≡ words terms c)) (actions rules) (map (entry_over terms) rules)
-entries_in_order terms [] = tt
-entries_in_order terms (rule ∷ rules) = ((refl, refl), entries_in_order terms rules)
-
--- ---- the tables of a text
-
-module _ (text : List ℕ) (rules : List NamedRule) (terms : List Term) (equations : List (List ℕ))
-    (compiles : Compiles text_order_limits text rules) (lowers : Lowers text_order_limits rules terms equations) where
-  run : RulesRun rules terms
-  run = lowered_words_run rules terms equations lowers
-
-  pub few_terms : length terms ≤ table_entries
-  few_terms = run.watchpoints
-
-  pub few_rules : length rules ≤ table_entries
-  few_rules = run.actionpoints
-
+module _ (text : List ℕ) (rules : List NamedRule) (terms : List Term) (same : terms ≡ terms_of rules) (compiled : CompilesToTables text rules) where
   pub fit_terms : AllByRecursion FitsWatchpoint terms
-  fit_terms = subst (AllByRecursion FitsWatchpoint) (sym lowers.watchpoints) (terms_fit text rules compiles.0)
-
-  sound : AllByRecursion (IsSoundEntry (length terms)) (map (entry_over terms) rules)
-  sound = sound_entries terms rules run.watchpoints (within_ranges text rules compiles.0) run.each
-
-  few_entries : length (map (entry_over terms) rules) ≤ table_entries
-  few_entries = omega (arith, length-map rules (entry_over terms), run.actionpoints)
+  fit_terms = subst (AllByRecursion FitsWatchpoint) (sym same) compiled.watchpoints_fit
 
   pub fit_entries : AllByRecursion (FitsEntry Actionpoints) (map (entry_over terms) rules)
-  fit_entries = each_fits (length terms) (map (entry_over terms) rules) sound
-
-  once_entries : AllByRecursion (λ e. FitsEntry Actionpoints e × EndsOnce e) (map (entry_over terms) rules)
-  once_entries = each_once (length terms) (map (entry_over terms) rules) sound
-
-  wdt_front : HasPreamble (wdt_image (sha256 text) terms) (sha256 text) (length terms) (length terms)
-  wdt_front = preamble_again Watchpoints (length terms) (length terms) (sha256 text) (filled Watchpoints (map term_bytes terms)) (length-sha256 text) run.watchpoints (omega (arith, run.watchpoints))
-
-  adt_front : HasPreamble (adt_image Actionpoints (sha256 text) (length terms) (map (entry_over terms) rules)) (sha256 text) (length (map (entry_over terms) rules)) (length terms)
-  adt_front = preamble_again Actionpoints (length (map (entry_over terms) rules)) (length terms) (sha256 text) _ (length-sha256 text) few_entries (omega (arith, run.watchpoints))
+  fit_entries = subst (λ (ts : List Term). AllByRecursion (FitsEntry Actionpoints) (map (entry_over ts) rules)) (sym same) compiled.entries_fit
 
   -- the files of the two images, with the counts of watchpoints and rules, are the text's
   pub tables : (pair : TablePair) → pair.wdt.items ≡ file_bytes (wrapped Wdt (wdt_image (sha256 text) terms)) →
       pair.adt.items ≡ file_bytes (wrapped Adt (adt_image Actionpoints (sha256 text) (length terms) (map (entry_over terms) rules))) →
       pair.watchpoints ≡ length terms → pair.rules ≡ length rules → AreTables text rules pair
   tables pair wdt adt watchpoints counted =
-      let n : ℕ = length terms in
-      let same : terms ≡ terms_of rules = lowers.watchpoints in
-      let entries : List TableEntry = map (entry_over terms) rules in
-      let first : List ℕ = wdt_image (sha256 text) terms in
-      let second : List ℕ = adt_image Actionpoints (sha256 text) n entries in
-      let long : length (sha256 text) ≡ 32 = length-sha256 text in
-      let first_sound : IsSound version_1_layouts Wdt first = sound_wdt (sha256 text) terms long run.watchpoints fit_terms
-      (subst (AllByRecursion ComparesInType) (sym same) (terms_in_type text rules compiles.0)) (subst (AllByRecursion _) (sym same) (terms_in_range text rules compiles.0)) in
-      let second_sound : IsSound version_1_layouts Adt second = sound_adt (sha256 text) n entries long run.watchpoints few_entries sound in
-      let spell : HasActionpoints (Spells (terms_of rules)) (sha256 text) (length (terms_of rules)) (actions rules) second =
-      subst (λ (ts : List Term). HasActionpoints (Spells ts) (sha256 text) (length ts) (actions rules) second) same
-      (Actionpoints, entries, refl, once_entries, entries_spell terms rules run.watchpoints run.each) in
-      let in_order : HasWords (λ c. c) (terms_of rules) (actions rules) second =
-      subst (λ (ts : List Term). HasWords (λ c. c) ts (actions rules) second) same
-      (Actionpoints, entries, ap (λ (h : List ℕ). adt_image Actionpoints h n entries) (sym adt_front.hash_is), once_entries, entries_in_order terms rules) in
+      let first : List ℕ = wdt_image (sha256 text) (terms_of rules) in
+      let second : List ℕ = adt_image Actionpoints (sha256 text) (length (terms_of rules)) (compiled_entries rules) in
+      let are : AreTablesOf text rules first second = compiled.tables in
+      let as_many : pair.watchpoints ≡ length (terms_of rules) = watchpoints ∙ ap (λ (ts : List Term). length ts) same in
       record {
-        wdt = (
-          first,
-          wdt,
-          wdt_long (sha256 text) terms long run.watchpoints,
-          (rules, compiles.0, first_sound, ap (wdt_image (sha256 text)) same),
+        wdt = (first, wdt ∙ ap (λ (ts : List Term). file_bytes (wrapped Wdt (wdt_image (sha256 text) ts))) same, are.wdt_length, are.watchpoints);
+        adt = (
+          second,
+          adt ∙ ap (λ (ts : List Term). file_bytes (wrapped Adt (adt_image Actionpoints (sha256 text) (length ts) (map (entry_over ts) rules)))) same,
+          are.adt_length,
+          are.actionpoints,
         );
-        adt = (second, adt, adt_long (sha256 text) n entries long few_entries fit_entries, (rules, compiles.0, second_sound, spell));
-        words_in_order = in_order;
-        own_watchpoints = watchpoints ∙ sym wdt_front.own_is;
-        own_rules = counted ∙ sym (length-map rules (entry_over terms)) ∙ sym adt_front.own_is;
-        watchpoints_of_text = watchpoints ∙ ap (λ (ts : List Term). length ts) same;
+        words_in_order = are.words_in_order;
+        own_watchpoints = as_many ∙ sym are.wdt_preamble.own_is;
+        own_rules = counted ∙ sym are.adt_preamble.own_is;
+        watchpoints_of_text = as_many;
         rules_of_text = counted;
       }

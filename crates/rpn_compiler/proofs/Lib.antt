@@ -2,8 +2,5 @@
 pub mod Numbered
 pub mod Judging
 pub mod Refused
-pub mod TermsInRange
-pub mod SoundEntries
-pub mod SoundTables
 pub mod Compiled
 pub mod EntryWords

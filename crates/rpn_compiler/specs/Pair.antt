@@ -1,17 +1,12 @@
 -- The two tables of a rule text, in files. This project's own.
 use Rattle.std.specs.Prelude.{◌≡◌, ℕ, List, length}
-use Rattle.lc_model.specs.declared.field.Term.{Term}
 use Rattle.lc_model.specs.declared.kind.Kind.TheVariants.{Wdt, Adt}
 use Rattle.lc_model.specs.Rule.{NamedRule}
-use Rattle.lc_model.specs.Tables.Equation.{terms_of, words}
-use Rattle.lc_model.specs.Tables.Image.{TableEntry, own_count, version_1_layouts}
-use Rattle.lc_model.specs.Tables.Half.{entry_of, HasWords, IsFileOfHalf}
+use Rattle.lc_model.specs.Tables.Equation.{terms_of}
+use Rattle.lc_model.specs.Tables.Image.{own_count, version_1_layouts}
+use Rattle.lc_model.specs.Tables.Half.{HasWords, IsFileOfHalf}
 use Rattle.lc_model.specs.Rule.{actions}
 use Rattle.rpn_compiler.specs.declared.files.TablePair.{TablePair}
-
--- the entry of a rule over these watchpoints, with its words in the order of the text
-abbrev pub entry_over : List Term → NamedRule → TableEntry
-entry_over terms rule = entry_of rule.action (words terms rule.action.condition)
 
 -- the files of both tables of a text that says these rules, with the words in the order of the text, and the counts of
 -- the tables, which are those of the text

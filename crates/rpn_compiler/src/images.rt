@@ -2,9 +2,8 @@
 
 ghost use Rattle.std.specs.Prelude.{◌≡◌, ◌-◌, ◌≤◌, length, map, take, IfOk};
 ghost use Rattle.lc_model.specs.Rule.{rule_of};
-ghost use Rattle.lc_model.specs.Tables.Half.{entry_of};
+ghost use Rattle.lc_model.specs.Tables.Half.{entry_of, entry_over};
 ghost use Rattle.rpn_compiler.specs.Lowered.{IsLowered};
-ghost use Rattle.rpn_compiler.specs.Pair.{entry_over};
 
 use crate::lowered::Lowered;
 use lc_model::{Bytes, Rule};

@@ -1,6 +1,6 @@
 -- A table of actionpoints that was written is read again.
-use Rattle.std.proofs.Common.{◌≡◌, ◌≢◌, refl, ◌∙◌, ap, ℕ, zero, suc, ◌+◌, ◌-◌, ◌*◌, ◌<◌, ◌^◌, Bool, true, false, not, ◌==◌, cond, List, [], ◌∷◌, ◌++◌, length, get_or, take, drop, map, replicate, arith, append_assoc}
-use Rattle.std.specs.List.{flat_map, before_first, prefix_len, AllByRecursion}
+use Rattle.std.proofs.Common.{◌≡◌, ◌≢◌, refl, ◌∙◌, ap, ℕ, suc, ◌+◌, ◌-◌, ◌*◌, ◌<◌, ◌^◌, false, ◌==◌, List, [], ◌∷◌, ◌++◌, length, get_or, take, drop, map, replicate, arith}
+use Rattle.std.specs.List.{flat_map, AllByRecursion}
 use Rattle.std.specs.Int.{w16, from_be_bytes}
 use Rattle.std.proofs.lemmas.Nat.{from_be_bytes-to_be_bytes_2}
 use Rattle.std.proofs.lemmas.List.{length-map, take_at, drop_at}
@@ -16,8 +16,9 @@ use Rattle.lc_model.specs.Tables.Equation.{equal_word}
 use Rattle.lc_model.specs.Tables.Image.{Layout, Watchpoints, Actionpoints, WideActionpoints, kind_of, entry_length, words_in, TableEntry, entry_bytes, FitsEntry, adt_image, entry_at, numbers_below, filled, words_from, words_before_equal}
 use Rattle.lc_model.specs.Tables.Spelled.{state_of_code, event_of_code}
 use Rattle.table_file.specs.Laws.{entry_in, FitsTable, ActionpointsAreReadAgain}
-use Rattle.table_file.proofs.Entries.{AreLong, entries_long_of, length-zero_filled}
-use Rattle.table_file.proofs.EntriesAgain.{entry_again, listed, at_place, preamble_again}
+use Rattle.lc_model.proofs.EntryLengths.{AreLong, entries_long_of, length-zero_filled}
+use Rattle.lc_model.proofs.WrittenEntries.{before_at, holds_equation}
+use Rattle.lc_model.proofs.EntriesAgain.{entry_again, listed, at_place, preamble_again}
 
 state_again : (m : ApMode) → m ≢ PermOff → state_of_code (state_code m) ≡ m
 state_again Active begins = refl
@@ -28,17 +29,7 @@ state_again PermOff begins = absurd (begins refl)
 event_again : (k : EventKind) → event_of_code (from_be_bytes w16 (u16 (event_code k))) ≡ k
 event_again = elim [ Debug ↦ refl | Information ↦ refl | Error ↦ refl | Critical ↦ refl ]
 
--- ---- what stands before the first of a kind
-
-before_at : (p : ℕ → Bool) (xs : List ℕ) (z : ℕ) (rest : List ℕ) → AllByRecursion (λ x. p x ≡ false) xs → p z ≡ true → before_first p (xs ++ z ∷ rest) ≡ xs
-before_at p [] z rest none here =
-    let more : ℕ = prefix_len (λ x. not (p x)) rest in
-    ap (λ b. take (cond (not b) (1 + more) 0) (z ∷ rest)) here
-before_at p (x ∷ xs) z rest none here =
-    let front : ℕ = prefix_len (λ x. not (p x)) (xs ++ z ∷ rest) in
-    let one : 1 + front ≡ suc front = omega arith in
-    (λ i. take (cond (not (none.0 i)) (1 + front) 0) (x ∷ (xs ++ z ∷ rest)))
-    ∙ ap (λ k. take k (x ∷ (xs ++ z ∷ rest))) one ∙ ap (λ (s : List ℕ). x ∷ s) (before_at p xs z rest none.1 here)
+-- ---- texts
 
 not_zero : (text : List ℕ) → AllByRecursion (λ b. (0 < b) × (b < 2 ^ 8)) text → AllByRecursion (λ b. (b == 0) ≡ false) text
 not_zero [] all = tt
@@ -50,34 +41,7 @@ zeros_behind size xs short =
     ap (λ n. xs ++ replicate n 0) more
 
 text_again : (text : List ℕ) → length text < 32 → AllByRecursion (λ b. (0 < b) × (b < 2 ^ 8)) text → name_in (zero_filled 32 text) ≡ text
-text_again text short all = ap name_in (zeros_behind 32 text short) ∙ before_at (λ b. b == 0) text 0 _ (not_zero text all) refl
-
--- ---- words
-
-words_again : (ws : List ℕ) → AllByRecursion (λ w. w < 2 ^ 16) ws → words_from (flat_map u16 ws) ≡ ws
-words_again [] all = refl
-words_again (w ∷ ws) all = λ i. from_be_bytes-to_be_bytes_2 w all.0 i ∷ words_again ws all.1 i
-
-small_append : (xs ys : List ℕ) → AllByRecursion (λ w. w < 2 ^ 16) xs → AllByRecursion (λ w. w < 2 ^ 16) ys → AllByRecursion (λ w. w < 2 ^ 16) (xs ++ ys)
-small_append [] ys a b = b
-small_append (x ∷ xs) ys a b = (a.0, small_append xs ys a.1 b)
-
-small_zeros : (n : ℕ) → AllByRecursion (λ w. w < 2 ^ 16) (replicate n 0)
-small_zeros zero = tt
-small_zeros (suc n) = (omega arith, small_zeros n)
-
-not_equal : (ws : List ℕ) → AllByRecursion (λ w. w ≢ equal_word) ws → AllByRecursion (λ w. (w == equal_word) ≡ false) ws
-not_equal [] all = tt
-not_equal (w ∷ ws) all = (grind (arith, all.0), not_equal ws all.1)
-
-equation_again : (size : ℕ) (ws : List ℕ) → AllByRecursion (λ w. w < 2 ^ 16) ws → AllByRecursion (λ w. w ≢ equal_word) ws →
-    words_before_equal (words_from (flat_map u16 (zero_filled size (ws ++ equal_word ∷ [])))) ≡ ws
-equation_again size ws all once =
-    let zeros : List ℕ = replicate (size - length (ws ++ equal_word ∷ [])) 0 in
-    let small : AllByRecursion (λ w. w < 2 ^ 16) ((ws ++ equal_word ∷ []) ++ zeros) =
-    small_append (ws ++ equal_word ∷ []) zeros (small_append ws (equal_word ∷ []) all (omega arith, tt)) (small_zeros _) in
-    ap words_before_equal (words_again ((ws ++ equal_word ∷ []) ++ zeros) small ∙ append_assoc ws (equal_word ∷ []) zeros)
-    ∙ before_at (λ w. w == equal_word) ws equal_word zeros (not_equal ws once) refl
+text_again text short all = ap name_in (zeros_behind 32 text short) ∙ before_at (λ b. b == 0) 0 refl (replicate (32 - length text - 1) 0) text (not_zero text all)
 
 -- ---- one entry
 
@@ -88,7 +52,7 @@ entry_read l e is =
     let long : length text ≡ 32 = length-zero_filled 32 e.text (omega (arith, is.fits.text_length)) in
     let text_is : name_in (take 32 (text ++ words)) ≡ e.text = ap name_in (take_at text words 32 long) ∙ text_again e.text is.fits.text_length is.fits.text in
     let words_are : words_before_equal (words_from (drop 32 (text ++ words))) ≡ e.words =
-    ap (λ (s : List ℕ). words_before_equal (words_from s)) (drop_at text words 32 long) ∙ equation_again (words_in l) e.words is.fits.words is.once in
+    ap (λ (s : List ℕ). words_before_equal (words_from s)) (drop_at text words 32 long) ∙ (holds_equation (words_in l) e.words is.fits.words is.once).before in
     let state_is : state_of_code (state_code e.mode) ≡ e.mode = state_again e.mode is.begins in
     let turns_down = from_be_bytes-to_be_bytes_2 e.report.pass_to_fail is.fits.pass_to_fail in
     let turns_up = from_be_bytes-to_be_bytes_2 e.report.fail_to_pass is.fits.fail_to_pass in

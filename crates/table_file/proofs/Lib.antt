@@ -3,7 +3,5 @@ pub mod Appending
 pub mod Headers
 pub mod Blank
 pub mod Words
-pub mod Entries
-pub mod EntriesAgain
 pub mod WatchpointsAgain
 pub mod ActionpointsAgain

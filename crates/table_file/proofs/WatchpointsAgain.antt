@@ -12,8 +12,8 @@ use Rattle.lc_model.specs.Tables.Image.{Watchpoints, bits_32, twos_complement_32
 use Rattle.lc_model.specs.Tables.Spelled.{operator_of_code, spelled_term}
 use Rattle.lc_model.proofs.NumbersIn32Bits.{bits_small, value_again}
 use Rattle.table_file.specs.Laws.{WatchpointsAreReadAgain}
-use Rattle.table_file.proofs.Entries.{terms_long}
-use Rattle.table_file.proofs.EntriesAgain.{entry_again, listed, at_place, preamble_again}
+use Rattle.lc_model.proofs.EntryLengths.{terms_long}
+use Rattle.lc_model.proofs.EntriesAgain.{entry_again, listed, at_place, preamble_again}
 
 type_again : (k : FieldType) → unwrap_or (type_of_code (type_code k)) U8 ≡ k
 type_again = elim [ U8 ↦ refl | I8 ↦ refl | U16Be ↦ refl | U16Le ↦ refl | I16Be ↦ refl | I16Le ↦ refl | U32Be ↦ refl | U32Le ↦ refl | I32Be ↦ refl | I32Le ↦ refl ]

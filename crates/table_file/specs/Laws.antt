@@ -7,14 +7,8 @@ use Rattle.lc_model.specs.declared.mode.ApMode.TheVariants.{PermOff}
 use Rattle.lc_model.specs.Bytes.{u16_at}
 use Rattle.lc_model.specs.Codes.{table_entries}
 use Rattle.lc_model.specs.Name.{name_in}
-use Rattle.lc_model.specs.Tables.Image.{Layout, kind_of, TableEntry, FitsWatchpoint, FitsEntry, EndsOnce, wdt_image, adt_image, own_count, watchpoint_count, hash_of, entry_at, all_words, words_before_equal, numbers_below}
+use Rattle.lc_model.specs.Tables.Image.{Layout, kind_of, TableEntry, FitsWatchpoint, FitsEntry, EndsOnce, wdt_image, adt_image, own_count, HasPreamble, entry_at, all_words, words_before_equal, numbers_below}
 use Rattle.lc_model.specs.Tables.Spelled.{state_of_code, event_of_code, spelled_terms}
-
--- the fields of a preamble
-pub record HasPreamble (image hash : List ℕ) (own watchpoints : ℕ) : Type 0 where
-  pub hash_is : hash_of image ≡ hash
-  pub own_is : own_count image ≡ own
-  pub watchpoints_are : watchpoint_count image ≡ watchpoints
 
 -- what the readers find in the entry of an actionpoint
 abbrev pub entry_in : List ℕ → TableEntry

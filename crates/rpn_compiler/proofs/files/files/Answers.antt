@@ -6,26 +6,29 @@ use Rattle.lc_model.specs.declared.kind.Kind.TheVariants.{Wdt, Adt}
 use Rattle.lc_model.specs.Rule.{NamedRule}
 use Rattle.lc_model.specs.Tables.File.{file_bytes, wrapped}
 use Rattle.lc_model.specs.Tables.Image.{Actionpoints, TableEntry, FitsEntry, adt_image, wdt_image}
-use Rattle.rpn_compiler.specs.Lowered.{equations}
-use Rattle.rpn_compiler.specs.Pair.{entry_over}
+use Rattle.lc_model.specs.Tables.Half.{entry_over}
 use Rattle.rpn_compiler.proofs.Compiled.{fit_terms, fit_entries, tables}
 use Rattle.rpn_compiler.proofs.files.files.Goals as goal
 
 pub wdt_file-requires-clause-fit : goal.wdt_file-requires-clause-fit
 wdt_file-requires-clause-fit c =
-    fit_terms c.args.text.now c.args.lowered.rules.rules c.args.lowered.terms.items (equations c.args.lowered) c.requires.compiles c.requires.lowered
+    let rules : List NamedRule = c.args.lowered.rules.rules in
+    fit_terms c.args.text.now rules c.args.lowered.terms.items c.requires.lowered.watchpoints
+    (c.compiled_tables_are_halves.ensures c.args.text.now rules c.requires.compiles)
 
 pub adt_file-requires-clause-fit : goal.adt_file-requires-clause-fit
 adt_file-requires-clause-fit c =
+    let rules : List NamedRule = c.args.lowered.rules.rules in
     subst (AllByRecursion (FitsEntry Actionpoints)) (sym c.in_ok-actionpoints.ensures)
-    (fit_entries c.args.text.now c.args.lowered.rules.rules c.args.lowered.terms.items (equations c.args.lowered) c.requires.compiles c.requires.lowered)
+    (fit_entries c.args.text.now rules c.args.lowered.terms.items c.requires.lowered.watchpoints
+    (c.compiled_tables_are_halves.ensures c.args.text.now rules c.requires.compiles))
 
 pub returns-clause-tables : goal.returns-clause-tables
 returns-clause-tables c =
     let rules : List NamedRule = c.args.lowered.rules.rules in
     let terms : List Term = c.args.lowered.terms.items in
     let watchpoints : c.len-watchpoint_count.result ≡ length terms = c.len-watchpoint_count.ensures ∙ c.args.lowered.terms.ok.0 in
-    tables c.args.text.now rules terms (equations c.args.lowered) c.requires.compiles c.requires.lowered _
+    tables c.args.text.now rules terms c.requires.lowered.watchpoints (c.compiled_tables_are_halves.ensures c.args.text.now rules c.requires.compiles) _
     (c.in_ok-wdt_file.ensures.file ∙ ap (λ (h : List ℕ). file_bytes (wrapped Wdt (wdt_image h terms))) c.digest-hash.ensures)
     (c.in_ok-adt_file.ensures.file
     ∙ (λ i. file_bytes (wrapped Adt (adt_image Actionpoints (c.digest-hash.ensures i) (watchpoints i) (c.in_ok-actionpoints.ensures i)))))

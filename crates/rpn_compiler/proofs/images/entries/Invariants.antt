@@ -1,6 +1,6 @@
 use Rattle.std.proofs.Common.{◌≡◌, map, take}
 use Rattle.lc_model.specs.Rule.{rules_of}
-use Rattle.rpn_compiler.specs.Pair.{entry_over}
+use Rattle.lc_model.specs.Tables.Half.{entry_over}
 use Rattle.rpn_compiler.proofs.images.entries.Given as goal
 
 abbrev pub invariant-loop-number : goal.invariant-loop-number

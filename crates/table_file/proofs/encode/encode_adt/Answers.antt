@@ -1,7 +1,7 @@
 use Rattle.std.proofs.Common.{◌≡◌, ◌∙◌, ap, refl, subst, ℕ, List, length, arith}
 use Rattle.lc_model.specs.Tables.Image.{Actionpoints, TableEntry, preamble, entry_bytes, adt_image}
 use Rattle.table_file.proofs.Appending.{filled_up}
-use Rattle.table_file.proofs.Entries.{adt_long}
+use Rattle.lc_model.proofs.EntryLengths.{adt_long}
 use Rattle.table_file.proofs.encode.encode_adt.Goals as goal
 
 pub returns-clause-bytes : goal.returns-clause-bytes

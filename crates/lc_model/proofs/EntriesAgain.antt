@@ -4,13 +4,12 @@ use Rattle.std.specs.List.{flat_map, AllByRecursion}
 use Rattle.std.proofs.lemmas.Nat.{from_be_bytes-to_be_bytes_2}
 use Rattle.std.proofs.lemmas.List.{take_at, drop_at, drop-drop, take_more, take_all, map-append}
 use Rattle.lc_model.specs.Codes.{table_entries}
-use Rattle.lc_model.specs.Tables.Image.{Layout, entry_length, preamble, filled, entry_at, numbers_below}
-use Rattle.table_file.specs.Laws.{HasPreamble}
-use Rattle.table_file.proofs.Entries.{AreLong, all_entries, all_long, length-all_entries}
+use Rattle.lc_model.specs.Tables.Image.{Layout, entry_length, preamble, filled, entry_at, numbers_below, HasPreamble}
+use Rattle.lc_model.proofs.EntryLengths.{AreLong, all_entries, all_long, length-all_entries}
 
 -- ---- one entry
 
-entry_taken : (n : ℕ) (es : List (List ℕ)) (i : ℕ) → AreLong n es → i < length es → take n (drop (i * n) (flat_map (λ e. e) es)) ≡ get_or es i []
+pub entry_taken : (n : ℕ) (es : List (List ℕ)) (i : ℕ) → AreLong n es → i < length es → take n (drop (i * n) (flat_map (λ e. e) es)) ≡ get_or es i []
 entry_taken n [] i all within = absurd (omega (arith, within))
 entry_taken n (e ∷ es) zero all within =
     let none : zero * n ≡ 0 = omega arith in

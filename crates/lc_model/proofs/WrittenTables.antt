@@ -1,9 +1,9 @@
 -- The tables that are written of watchpoints and actionpoints without a fault are sound.
 use Rattle.std.proofs.Common.{◌≡◌, refl, sym, ◌∙◌, ap, ℕ, zero, suc, ◌+◌, ◌-◌, ◌*◌, ◌<◌, ◌≤◌, ◌^◌, ◌⊎◌, inl, inr, Bool, true, false, not, ◌&&◌, ◌||◌, if◌then◌else◌, nat_lt, ◌==◌, List, [], ◌∷◌, ◌++◌, length, map, find, filter_map, get_or, slice_get, take, drop, replicate, bytes_eq, Option, Some, None, option_map, arith}
-use Rattle.std.specs.List.{flat_map, cons_option, AllByRecursion}
+use Rattle.std.specs.List.{cons_option, AllByRecursion}
 use Rattle.std.specs.Option.{option_map_or}
 use Rattle.std.proofs.lemmas.Bool.{cases_lt}
-use Rattle.std.proofs.lemmas.List.{length-map, take_at, drop_at, drop-drop}
+use Rattle.std.proofs.lemmas.List.{length-map, drop_at, drop-drop}
 use Rattle.std.proofs.lemmas.List.Elements.{filter_map-append}
 use Rattle.std.proofs.lemmas.Slice.Eq.{bytes_eq-Decides}
 use Rattle.lc_model.specs.declared.kind.Kind.{Kind}
@@ -11,13 +11,12 @@ use Rattle.lc_model.specs.declared.kind.Kind.TheVariants.{Wdt, Adt}
 use Rattle.lc_model.specs.declared.field.Term.{Term}
 use Rattle.lc_model.specs.Bytes.{u16_at}
 use Rattle.lc_model.specs.Codes.{is_kind, kind_code, table_entries}
-use Rattle.lc_model.specs.Tables.Image.{Layout, Watchpoints, Actionpoints, kind_of, version_of, entry_length, image_length, preamble, blank_entry, filled, term_bytes, wdt_image, FitsWatchpoint, ComparesInType, TableEntry, entry_bytes, FitsEntry, EndsOnce, adt_image, own_count, watchpoint_count, entry_at, used_code, entry_code, numbers_below, image_fault, preamble_code, layout_of, wrong_size, IsSound, version_1_layouts}
+use Rattle.lc_model.specs.Tables.Image.{Layout, Watchpoints, Actionpoints, kind_of, version_of, entry_length, image_length, preamble, blank_entry, filled, term_bytes, wdt_image, TableEntry, entry_bytes, FitsEntry, EndsOnce, adt_image, HasPreamble, own_count, watchpoint_count, entry_at, used_code, entry_code, numbers_below, image_fault, preamble_code, layout_of, wrong_size, IsSound, version_1_layouts}
 use Rattle.lc_model.proofs.SoundWords.{stands_none, both_false}
-use Rattle.table_file.specs.Laws.{HasPreamble}
-use Rattle.table_file.proofs.Entries.{AreLong, all_entries, all_long, length-all_entries, terms_long, wdt_long, entries_long_of, adt_long}
-use Rattle.table_file.proofs.EntriesAgain.{entry_again, at_place, preamble_again}
-use Rattle.rpn_compiler.proofs.TermsInRange.{IsInRange}
-use Rattle.rpn_compiler.proofs.SoundEntries.{sound_watchpoint, IsSoundEntry, sound_actionpoint}
+use Rattle.lc_model.proofs.EntryLengths.{AreLong, all_entries, all_long, length-all_entries, terms_long, wdt_long, entries_long_of, adt_long}
+use Rattle.lc_model.proofs.EntriesAgain.{entry_taken, entry_again, at_place, preamble_again}
+use Rattle.lc_model.proofs.TermsFit.{IsSoundTerm}
+use Rattle.lc_model.proofs.WrittenEntries.{sound_watchpoint, IsSoundEntry, sound_actionpoint}
 
 -- ---- tests
 
@@ -51,17 +50,6 @@ all_sound kind l image found front entries =
     (λ n below. ap (option_map (λ code. record { code = code; entry = n })) (entries n below))
 
 -- ---- entries that are not used
-
-entry_taken : (n : ℕ) (es : List (List ℕ)) (i : ℕ) → AreLong n es → i < length es → take n (drop (i * n) (flat_map (λ e. e) es)) ≡ get_or es i []
-entry_taken n [] i all within = absurd (omega (arith, within))
-entry_taken n (e ∷ es) zero all within =
-    let none : zero * n ≡ 0 = omega arith in
-    ap (λ k. take n (drop k (e ++ flat_map (λ e. e) es))) none ∙ take_at e (flat_map (λ e. e) es) n all.0
-entry_taken n (e ∷ es) (suc i) all within =
-    let rest : List ℕ = flat_map (λ e. e) es in
-    let place : suc i * n ≡ n + i * n = omega arith in
-    ap (λ k. take n (drop k (e ++ rest))) place ∙ ap (take n) (sym (drop-drop (i * n) n (e ++ rest)))
-    ∙ ap (λ (s : List ℕ). take n (drop (i * n) s)) (drop_at e rest n all.0) ∙ entry_taken n es i all.1 (omega (arith, within))
 
 one_of_many : (x : List ℕ) (n i : ℕ) → i < n → get_or (replicate n x) i [] ≡ x
 one_of_many x zero i within = absurd (omega (arith, within))
@@ -141,15 +129,14 @@ preamble_tests l image =
 
 -- ---- watchpoints
 
-each_watchpoint : (n : ℕ) (terms : List Term) → AllByRecursion FitsWatchpoint terms → AllByRecursion ComparesInType terms → AllByRecursion IsInRange terms →
-    AllByRecursion (λ t. used_code Watchpoints n (term_bytes t) ≡ None) terms
-each_watchpoint n [] fits typed are = tt
-each_watchpoint n (t ∷ terms) fits typed are = (sound_watchpoint t fits.0 typed.0 are.0, each_watchpoint n terms fits.1 typed.1 are.1)
+each_watchpoint : (n : ℕ) (terms : List Term) → AllByRecursion IsSoundTerm terms → AllByRecursion (λ t. used_code Watchpoints n (term_bytes t) ≡ None) terms
+each_watchpoint n [] are = tt
+each_watchpoint n (t ∷ terms) are = (sound_watchpoint t are.0, each_watchpoint n terms are.1)
 
 -- the table of at most 176 watchpoints in their ranges is sound
-pub sound_wdt : (h : List ℕ) (terms : List Term) → length h ≡ 32 → length terms ≤ table_entries → AllByRecursion FitsWatchpoint terms →
-    AllByRecursion ComparesInType terms → AllByRecursion IsInRange terms → IsSound version_1_layouts Wdt (wdt_image h terms)
-sound_wdt h terms hash few fits typed are =
+pub sound_wdt : (h : List ℕ) (terms : List Term) → length h ≡ 32 → length terms ≤ table_entries → AllByRecursion IsSoundTerm terms →
+    IsSound version_1_layouts Wdt (wdt_image h terms)
+sound_wdt h terms hash few are =
     let image : List ℕ = wdt_image h terms in
     let n : ℕ = length terms in
     let front : HasPreamble image h n n = preamble_again Watchpoints n n h (filled Watchpoints (map term_bytes terms)) hash few (omega (arith, few)) in
@@ -160,7 +147,7 @@ sound_wdt h terms hash few fits typed are =
     (λ i. nat_lt table_entries (front.own_is i) || nat_lt table_entries (front.watchpoints_are i) || (true && not (front.own_is i == front.watchpoints_are i)))
     ∙ both_false (nat_lt table_entries n || nat_lt table_entries n) (not (n == n)) (few_counts n n few few) (ap not (same_number n)) in
     all_sound Wdt Watchpoints image found (stands_none (preamble_tests Watchpoints image) (refl, (refl, (counts, tt))))
-    (no_entry Watchpoints term_bytes n h terms hash (terms_long terms) few (omega (arith, few)) (each_watchpoint n terms fits typed are))
+    (no_entry Watchpoints term_bytes n h terms hash (terms_long terms) few (omega (arith, few)) (each_watchpoint n terms are))
 
 -- ---- actionpoints
 

@@ -1,4 +1,4 @@
--- Images in their entries.
+-- How long entries and images are.
 use Rattle.std.proofs.Common.{◌≡◌, refl, ◌∙◌, ap, ℕ, zero, suc, ◌+◌, ◌-◌, ◌*◌, ◌≤◌, List, [], ◌∷◌, ◌++◌, length, map, replicate, arith, length-append}
 use Rattle.std.specs.List.{flat_map, AllByRecursion}
 use Rattle.std.proofs.lemmas.List.{length-replicate, length-map}
@@ -80,7 +80,7 @@ long_words (w ∷ ws) = omega (arith, long_words ws)
 pub length-zero_filled : (size : ℕ) (xs : List ℕ) → length xs ≤ size → length (zero_filled size xs) ≡ size
 length-zero_filled size xs fits = omega (arith, length-append xs (replicate (size - length xs) 0), length-replicate {A = ℕ} (size - length xs) 0, fits)
 
-entry_long : (l : Layout) (e : TableEntry) → FitsEntry l e → length (entry_bytes l e) ≡ 46 + 2 * words_in l
+pub entry_long : (l : Layout) (e : TableEntry) → FitsEntry l e → length (entry_bytes l e) ≡ 46 + 2 * words_in l
 entry_long l e fits =
     let words : List ℕ = e.words ++ equal_word ∷ [] in
     let some : length words ≡ length e.words + 1 = length-append e.words (equal_word ∷ []) in

@@ -1,6 +1,6 @@
 -- The entries that are written for watchpoints and actionpoints within the ranges have no fault.
-use Rattle.std.proofs.Common.{◌≡◌, ◌≢◌, refl, ◌∙◌, ap, ℕ, zero, suc, ◌+◌, ◌-◌, ◌<◌, ◌≤◌, ◌^◌, Bool, true, false, not, cond, ◌&&◌, ◌||◌, nat_lt, nat_le, ◌==◌, List, [], ◌∷◌, ◌++◌, length, flat_map, take, drop, take_while, replicate, slice_index, slice_range, Some, None, is_none, IsTrue, arith, append_assoc}
-use Rattle.std.specs.List.{AllByRecursion, list_any, list_all, position_or_len, before_first, after_first}
+use Rattle.std.proofs.Common.{◌≡◌, ◌≢◌, refl, ◌∙◌, ap, ℕ, zero, suc, ◌-◌, ◌<◌, ◌≤◌, ◌^◌, Bool, true, false, not, cond, ◌&&◌, ◌||◌, nat_lt, nat_le, ◌==◌, List, [], ◌∷◌, ◌++◌, length, flat_map, take, drop, take_while, replicate, slice_index, slice_range, Some, None, is_none, IsTrue, arith, append_assoc}
+use Rattle.std.specs.List.{AllByRecursion, list_any, list_all, before_first, after_first}
 use Rattle.std.specs.Option.{option_map_or}
 use Rattle.std.specs.Int.{is_in_range, w16, from_be_bytes}
 use Rattle.std.proofs.lemmas.Nat.{from_be_bytes-to_be_bytes_2, from_be_bytes-to_be_bytes_4}
@@ -21,11 +21,14 @@ use Rattle.lc_model.specs.Field.{full_mask, is_in_type}
 use Rattle.lc_model.specs.Codes.{type_code, operator_code, state_code, event_code}
 use Rattle.lc_model.specs.Text.Token.{is_text_byte}
 use Rattle.lc_model.specs.Tables.Equation.{equal_word}
-use Rattle.lc_model.specs.Tables.Image.{Actionpoints, bits_32, twos_complement_32, term_bytes, type_of_code, watchpoint_code, FitsWatchpoint, ComparesInType, TableEntry, entry_bytes, FitsEntry, EndsOnce, all_words, words_from, words_before_equal, words_after_equal, is_text_field, first_code, equation_tests, actionpoint_code}
+use Rattle.lc_model.specs.Tables.Image.{Actionpoints, bits_32, twos_complement_32, term_bytes, type_of_code, watchpoint_code, TableEntry, entry_bytes, FitsEntry, EndsOnce, all_words, words_from, words_before_equal, words_after_equal, is_text_field, first_code, equation_tests, actionpoint_code}
 use Rattle.lc_model.proofs.SoundWords.{none_stands, stands_none, both_false, list_any-append}
 use Rattle.lc_model.proofs.NumbersIn32Bits.{bits_small, value_again}
-use Rattle.table_file.proofs.Entries.{length-zero_filled}
-use Rattle.rpn_compiler.proofs.TermsInRange.{IsInRange}
+use Rattle.lc_model.proofs.TermsFit.{IsSoundTerm}
+use Rattle.lc_model.proofs.EntryLengths.{length-zero_filled}
+use Rattle.lc_model.proofs.SoundFields.{before_here, before_later, after_here, after_later}
+use Rattle.lc_model.proofs.SoundWatchpoints.{watchpoint_tests}
+use Rattle.lc_model.proofs.SoundActionpoints.{actionpoint_tests}
 
 -- ---- tests
 
@@ -69,22 +72,12 @@ type_again = elim [ U8 ↦ refl | I8 ↦ refl | U16Be ↦ refl | U16Le ↦ refl 
 operator_known : (o : CmpOp) → not (is_in_range 1 6 (operator_code o)) ≡ false
 operator_known = elim [ Less ↦ refl | LessOrEqual ↦ refl | NotEqual ↦ refl | Equal ↦ refl | GreaterOrEqual ↦ refl | Greater ↦ refl ]
 
--- the tests of an entry
-abbrev watchpoint_tests : List ℕ → List (Bool × ℕ)
-watchpoint_tests e =
-    (not (u32_at e 12 == 0), 65)
-    ∷ (is_none (type_of_code (slice_index e 0)), 66)
-    ∷ (not (is_in_range 1 6 (slice_index e 1)), 67)
-    ∷ (not (is_telemetry_mid (u16_at e 2)) || list_any (◌==◌ (u16_at e 2)) reserved_mids, 68)
-    ∷ (option_map_or (λ k. not (is_in_range 1 (full_mask k) (u32_at e 8))) (type_of_code (slice_index e 0)) false, 69)
-    ∷ (option_map_or (λ k. not (is_in_type k (twos_complement_32 k (u32_at e 20)))) (type_of_code (slice_index e 0)) false, 70) ∷ []
-
-pub sound_watchpoint : (t : Term) → FitsWatchpoint t → ComparesInType t → IsInRange t → watchpoint_code (term_bytes t) ≡ None
-sound_watchpoint t fits typed is =
+pub sound_watchpoint : (t : Term) → IsSoundTerm t → watchpoint_code (term_bytes t) ≡ None
+sound_watchpoint t is =
     let e : List ℕ = term_bytes t in
-    let mid_is : u16_at e 2 ≡ t.mid = from_be_bytes-to_be_bytes_2 t.mid fits.mid in
-    let mask_is : u32_at e 8 ≡ t.mask = from_be_bytes-to_be_bytes_4 t.mask fits.mask in
-    let bits_are : u32_at e 20 ≡ bits_32 t.value = from_be_bytes-to_be_bytes_4 (bits_32 t.value) (bits_small t.kind t.value fits.value) in
+    let mid_is : u16_at e 2 ≡ t.mid = from_be_bytes-to_be_bytes_2 t.mid is.fits.mid in
+    let mask_is : u32_at e 8 ≡ t.mask = from_be_bytes-to_be_bytes_4 t.mask is.fits.mask in
+    let bits_are : u32_at e 20 ≡ bits_32 t.value = from_be_bytes-to_be_bytes_4 (bits_32 t.value) (bits_small t.kind t.value is.fits.value) in
     let kind_is : type_of_code (slice_index e 0) ≡ Some t.kind = type_again t.kind in
     let known : is_none (type_of_code (slice_index e 0)) ≡ false = ap is_none kind_is in
     let mid_known : (not (is_telemetry_mid (u16_at e 2)) || list_any (◌==◌ (u16_at e 2)) reserved_mids) ≡ false =
@@ -94,7 +87,7 @@ sound_watchpoint t fits typed is =
     (λ i. option_map_or (λ k. not (is_in_range 1 (full_mask k) (mask_is i))) (kind_is i) false) ∙ in_range 1 (full_mask t.kind) t.mask is.mask.0 is.mask.1 in
     let valued : option_map_or (λ k. not (is_in_type k (twos_complement_32 k (u32_at e 20)))) (type_of_code (slice_index e 0)) false ≡ false =
     (λ i. option_map_or (λ k. not (is_in_type k (twos_complement_32 k (bits_are i)))) (kind_is i) false)
-    ∙ ap (λ v. not (is_in_type t.kind v)) (value_again t.kind t.value fits.value) ∙ ap not typed in
+    ∙ ap (λ v. not (is_in_type t.kind v)) (value_again t.kind t.value is.fits.value) ∙ ap not is.in_type in
     stands_none (watchpoint_tests e) (refl, (known, (operator_known t.op, (mid_known, (masked, (valued, tt))))))
 
 -- ---- actionpoints: texts
@@ -149,31 +142,25 @@ not_equal [] all = tt
 not_equal (w ∷ ws) all = (differs w equal_word all.0, not_equal ws all.1)
 
 module _ (p : ℕ → Bool) (z : ℕ) (here : p z ≡ true) (rest : List ℕ) where
-  before_at : (xs : List ℕ) → AllByRecursion (λ x. p x ≡ false) xs → before_first p (xs ++ z ∷ rest) ≡ xs
-  before_at [] none = rw here refl
-  before_at (x ∷ xs) none =
-      let one : 1 + position_or_len p (xs ++ z ∷ rest) ≡ suc (position_or_len p (xs ++ z ∷ rest)) = omega arith in
-      ap (λ b. take (cond (not b) (1 + position_or_len p (xs ++ z ∷ rest)) 0) (x ∷ (xs ++ z ∷ rest))) none.0
-      ∙ ap (λ n. take n (x ∷ (xs ++ z ∷ rest))) one ∙ ap (λ (front : List ℕ). x ∷ front) (before_at xs none.1)
+  pub before_at : (xs : List ℕ) → AllByRecursion (λ x. p x ≡ false) xs → before_first p (xs ++ z ∷ rest) ≡ xs
+  before_at [] none = before_here p z rest here
+  before_at (x ∷ xs) none = before_later p x (xs ++ z ∷ rest) none.0 ∙ ap (λ (front : List ℕ). x ∷ front) (before_at xs none.1)
 
   after_at : (xs : List ℕ) → AllByRecursion (λ x. p x ≡ false) xs → after_first p (xs ++ z ∷ rest) ≡ rest
-  after_at [] none = rw here refl
-  after_at (x ∷ xs) none =
-      let one : 1 + position_or_len p (xs ++ z ∷ rest) + 1 ≡ suc (position_or_len p (xs ++ z ∷ rest) + 1) = omega arith in
-      ap (λ b. drop (cond (not b) (1 + position_or_len p (xs ++ z ∷ rest)) 0 + 1) (x ∷ (xs ++ z ∷ rest))) none.0
-      ∙ ap (λ n. drop n (x ∷ (xs ++ z ∷ rest))) one ∙ after_at xs none.1
+  after_at [] none = after_here p z rest here
+  after_at (x ∷ xs) none = after_later p x (xs ++ z ∷ rest) none.0 ∙ after_at xs none.1
 
 -- the words behind a text, with EQUAL among them and zeros behind it
-record HoldsEquation (ws all : List ℕ) : Type 0 where
-  ends : list_any (◌==◌ equal_word) all ≡ true
-  behind : list_all (◌==◌ 0) (words_after_equal all) ≡ true
-  before : words_before_equal all ≡ ws
+pub record HoldsEquation (ws all : List ℕ) : Type 0 where
+  pub ends : list_any (◌==◌ equal_word) all ≡ true
+  pub behind : list_all (◌==◌ 0) (words_after_equal all) ≡ true
+  pub before : words_before_equal all ≡ ws
 
 or_true : (b : Bool) → (b || true) ≡ true
 or_true true = refl
 or_true false = refl
 
-holds_equation : (size : ℕ) (ws : List ℕ) → AllByRecursion (λ w. w < 2 ^ 16) ws → AllByRecursion (λ w. w ≢ equal_word) ws →
+pub holds_equation : (size : ℕ) (ws : List ℕ) → AllByRecursion (λ w. w < 2 ^ 16) ws → AllByRecursion (λ w. w ≢ equal_word) ws →
     HoldsEquation ws (words_from (flat_map u16 (zero_filled size (ws ++ equal_word ∷ []))))
 holds_equation size ws each once =
     let n : ℕ = size - length (ws ++ equal_word ∷ []) in
@@ -202,17 +189,6 @@ pub record IsSoundEntry (count : ℕ) (e : TableEntry) : Type 0 where
   pub sequence : 1 ≤ e.sequence
   pub fails : 1 ≤ e.fails
   pub equation : first_code (equation_tests count e.words) ≡ None
-
--- the tests of an entry
-abbrev actionpoint_tests : ℕ → List ℕ → List (Bool × ℕ)
-actionpoint_tests count e =
-    (not (is_in_range 1 3 (slice_index e 0)), 71)
-    ∷ (not (is_in_range 1 4 (u16_at e 10)) || nat_lt (u16_at e 12) 1_000, 72)
-    ∷ (not (is_text_field (slice_range e 14 46)), 73)
-    ∷ (not (list_any (◌==◌ equal_word) (all_words e)), 74)
-    ∷ (not (list_all (◌==◌ 0) (words_after_equal (all_words e))), 75)
-    ∷ equation_tests count (words_before_equal (all_words e))
-    ++ (u16_at e 6 == 0 || u16_at e 8 == 0, 81) ∷ []
 
 pub sound_actionpoint : (count : ℕ) (e : TableEntry) → IsSoundEntry count e → actionpoint_code count (entry_bytes Actionpoints e) ≡ None
 sound_actionpoint count e is =

@@ -1,0 +1,200 @@
+-- The tables that are computed of a text that compiles are its halves.
+use Rattle.std.proofs.Common.{◌≡◌, ◌≢◌, refl, sym, ◌∙◌, ap, subst, ℕ, ◌<◌, ◌≤◌, ◌^◌, Bool, true, false, not, ◌&&◌, ◌||◌, nat_lt, nat_le, List, [], ◌∷◌, length, map, IsTrue, Some, arith}
+use Rattle.std.specs.List.{AllByRecursion, AllZip, list_any}
+use Rattle.std.specs.Int.{is_in_range}
+use Rattle.std.proofs.lemmas.List.{length-map}
+use Rattle.sha2.specs.Sha256.{sha256}
+use Rattle.sha2.proofs.Facts256.{length-sha256}
+use Rattle.lc_model.specs.declared.field.Term.{Term}
+use Rattle.lc_model.specs.Condition.{Operator, And, Or, Xor, Condition, Watch, Not, Join}
+use Rattle.lc_model.specs.Rule.{NamedRule, actions}
+use Rattle.lc_model.specs.Codes.{table_entries}
+use Rattle.lc_model.specs.Text.Token.{is_text_byte}
+use Rattle.lc_model.specs.Tables.Equation.{terms_of, words, equal_word, operator_word, SpellsInOrder, Spells, IsRearranged}
+use Rattle.lc_model.specs.Tables.Lowering.{equation_in}
+use Rattle.lc_model.specs.Tables.Image.{Watchpoints, Actionpoints, filled, term_bytes, TableEntry, FitsEntry, EndsOnce, entry_bytes, HasPreamble, adt_image, equation_tests}
+use Rattle.lc_model.specs.Tables.Half.{entry_over, IsEntryOf}
+use Rattle.lc_model.specs.Tables.Spelled.{spelled_condition}
+use Rattle.lc_model.specs.Laws.Reading.{IsWithinRanges}
+use Rattle.lc_model.specs.Laws.Equations.{IsSpelled, RuleRuns, RulesRun}
+use Rattle.lc_model.specs.Laws.Tables.{CompiledTablesAreHalves, compiled_entries}
+use Rattle.lc_model.proofs.TermsFit.{all_fit, terms_fit}
+use Rattle.lc_model.proofs.RulesFit.{within_ranges}
+use Rattle.lc_model.proofs.SoundWords.{none_stands, sound_words_spell, or_first, or_second, IsWord, number, negated, joined, classified}
+use Rattle.lc_model.proofs.SpelledEquations.{condition_of_equation}
+use Rattle.lc_model.proofs.SpellsOnce.{computed}
+use Rattle.lc_model.proofs.LoweredRules.{lowered_words_run}
+use Rattle.lc_model.proofs.EntryLengths.{wdt_long, adt_long}
+use Rattle.lc_model.proofs.EntriesAgain.{preamble_again}
+use Rattle.lc_model.proofs.WrittenEntries.{IsSoundEntry}
+use Rattle.lc_model.proofs.WrittenTables.{sound_wdt, sound_adt, each_once, each_fits}
+
+-- ---- words
+
+small_operator : (o : Operator) → (operator_word o < 2 ^ 16) × (operator_word o ≢ equal_word)
+small_operator And = (omega arith, λ e. omega (arith, e))
+small_operator Or = (omega arith, λ e. omega (arith, e))
+small_operator Xor = (omega arith, λ e. omega (arith, e))
+
+small_word : (count w : ℕ) → count ≤ table_entries → IsWord count w → (w < 2 ^ 16) × (w ≢ equal_word)
+small_word count w few (number below) = (omega (arith, few, below), λ e. omega (arith, few, below, e))
+small_word count w few negated = (omega arith, λ e. omega (arith, e))
+small_word count w few (joined o) = small_operator o
+
+each_word : (count : ℕ) → count ≤ table_entries → (ws : List ℕ) →
+    list_any (λ w. not (nat_lt w table_entries || is_in_range 0xFF01 0xFF04 w)) ws ≡ false →
+    list_any (λ w. nat_lt w table_entries && nat_le count w) ws ≡ false → AllByRecursion (λ w. w < 2 ^ 16) ws × AllByRecursion (λ w. w ≢ equal_word) ws
+each_word count few [] known below = (tt, tt)
+each_word count few (w ∷ ws) known below =
+    let unknown : Bool = not (nat_lt w table_entries || is_in_range 0xFF01 0xFF04 w) in
+    let others : Bool = list_any (λ v. not (nat_lt v table_entries || is_in_range 0xFF01 0xFF04 v)) ws in
+    let beyond : Bool = nat_lt w table_entries && nat_le count w in
+    let more : Bool = list_any (λ v. nat_lt v table_entries && nat_le count v) ws in
+    let here = small_word count w few (classified count w (or_first unknown others known) (or_first beyond more below)) in
+    let rest = each_word count few ws (or_second unknown others known) (or_second beyond more below) in
+    ((here.0, rest.0), (here.1, rest.1))
+
+-- ---- texts
+
+in_front : (a b : Bool) → (a && b) ≡ true → a ≡ true
+in_front true b e = refl
+in_front false b e = e
+
+at_most : (m n : ℕ) → nat_le m n ≡ true → m ≤ n
+at_most m n e = grind (arith, e)
+
+text_byte : (b : ℕ) → IsTrue (is_text_byte b) → (0 < b) × (b < 2 ^ 8)
+text_byte b e =
+    let range : (nat_le 0x20 b && nat_le b 0x7E) ≡ true = in_front (nat_le 0x20 b && nat_le b 0x7E) _ e in
+    let low : 0x20 ≤ b = at_most 0x20 b (in_front (nat_le 0x20 b) (nat_le b 0x7E) range) in
+    let high : b ≤ 0x7E = at_most b 0x7E (behind (nat_le 0x20 b) (nat_le b 0x7E) range) in
+    (omega (arith, low), omega (arith, high))
+  where
+    behind : (a b : Bool) → (a && b) ≡ true → b ≡ true
+    behind true b e = e
+    behind false b e = absurd (cc e)
+
+text_bytes : (text : List ℕ) → AllByRecursion (λ b. IsTrue (is_text_byte b)) text → AllByRecursion (λ b. (0 < b) × (b < 2 ^ 8)) text
+text_bytes [] all = tt
+text_bytes (b ∷ text) all = (text_byte b all.0, text_bytes text all.1)
+
+-- ---- rules
+
+sound_entry : (terms : List Term) (rule : NamedRule) → length terms ≤ table_entries → IsWithinRanges rule.action → RuleRuns terms rule →
+    IsSoundEntry (length terms) (entry_over terms rule)
+sound_entry terms rule few ranges runs =
+    let ws : List ℕ = words terms rule.action.condition in
+    let tests : AllByRecursion (λ t. t.0 ≡ false) (equation_tests (length terms) ws) = none_stands (equation_tests (length terms) ws) runs.runs.sound in
+    let each = each_word (length terms) few ws tests.0 tests.1.0 in
+    record {
+      fits = record {
+        passive = ranges.passive;
+        pass_to_fail = ranges.pass_to_fail;
+        fail_to_pass = ranges.fail_to_pass;
+        sequence = ranges.sequence.1;
+        fails = ranges.fails.1;
+        event_id = ranges.event_id.1;
+        text_length = ranges.text_length;
+        text = text_bytes rule.action.text ranges.text;
+        words_length = runs.few;
+        words = each.0;
+      };
+      once = each.1;
+      begins = ranges.state;
+      event_id = ranges.event_id.0;
+      text = ranges.text;
+      sequence = ranges.sequence.0;
+      fails = ranges.fails.0;
+      equation = runs.runs.sound;
+    }
+
+sound_entries : (terms : List Term) (rules : List NamedRule) → length terms ≤ table_entries →
+    AllByRecursion (λ (rule : NamedRule). IsWithinRanges rule.action) rules → AllByRecursion (RuleRuns terms) rules →
+    AllByRecursion (IsSoundEntry (length terms)) (map (entry_over terms) rules)
+sound_entries terms [] few ranges runs = tt
+sound_entries terms (rule ∷ rules) few ranges runs =
+    (sound_entry terms rule few ranges.0 runs.0, sound_entries terms rules few ranges.1 runs.1)
+
+-- the words of a rule spell its condition
+spelled : (terms : List Term) (rule : NamedRule) → length terms ≤ table_entries → RuleRuns terms rule →
+    SpellsInOrder terms (words terms rule.action.condition) rule.action.condition
+spelled terms rule few runs =
+    let ws : List ℕ = words terms rule.action.condition in
+    let equation = (sound_words_spell (length terms) ws few).0 runs.runs.sound in
+    let some : IsSpelled terms ws equation.0 = condition_of_equation terms equation.2 in
+    let read : spelled_condition terms ws ≡ Some some.0 = computed terms (omega (arith, few)) some.1 in
+    let whole : Some some.0 ≡ Some rule.action.condition = sym read ∙ runs.runs.spelled in
+    let same : some.0 ≡ rule.action.condition = cc whole in
+    subst (λ (c : Condition). SpellsInOrder terms ws c) same some.1
+
+as_it_stands : (c : Condition) → IsRearranged c c
+as_it_stands (Watch t) = IsRearranged.mention
+as_it_stands (Not c) = IsRearranged.negation (as_it_stands c)
+as_it_stands (Join o a b) = IsRearranged.in_order (as_it_stands a) (as_it_stands b)
+
+entries_spell : (terms : List Term) (rules : List NamedRule) → length terms ≤ table_entries → AllByRecursion (RuleRuns terms) rules →
+    AllZip (IsEntryOf (Spells terms)) (actions rules) (map (entry_over terms) rules)
+entries_spell terms [] few runs = tt
+entries_spell terms (rule ∷ rules) few runs =
+    ((refl, (rule.action.condition, as_it_stands rule.action.condition, spelled terms rule few runs.0)), entries_spell terms rules few runs.1)
+
+entries_in_order : (terms : List Term) (rules : List NamedRule) →
+    AllZip (IsEntryOf (λ ws c. ws ≡ words terms c)) (actions rules) (map (entry_over terms) rules)
+entries_in_order terms [] = tt
+entries_in_order terms (rule ∷ rules) = ((refl, refl), entries_in_order terms rules)
+
+-- ---- the tables of a text
+
+texts_short : (rules : List NamedRule) → AllByRecursion (λ (rule : NamedRule). IsWithinRanges rule.action) rules →
+    AllByRecursion (λ (rule : NamedRule). length rule.action.text < 32) rules
+texts_short [] ranges = tt
+texts_short (rule ∷ rules) ranges = (ranges.0.text_length, texts_short rules ranges.1)
+
+pub compiled_tables_are_halves : CompiledTablesAreHalves
+compiled_tables_are_halves text rules compiles = record {
+  watchpoints_fit = terms_fit text rules compiles.0;
+  entries_fit = each_fits (length terms) entries sound;
+  tables = record {
+    watchpoints = (rules, compiles.0, sound_wdt (sha256 text) terms long run.watchpoints (all_fit text rules compiles.0), refl);
+    actionpoints = (
+      rules,
+      compiles.0,
+      sound_adt (sha256 text) (length terms) entries long run.watchpoints few sound,
+      (Actionpoints, entries, refl, once, entries_spell terms rules run.watchpoints run.each),
+    );
+    words_in_order =
+        (Actionpoints, entries, ap (λ (h : List ℕ). adt_image Actionpoints h (length terms) entries) (sym front.hash_is), once, entries_in_order terms rules);
+    wdt_length = wdt_long (sha256 text) terms long run.watchpoints;
+    adt_length = adt_long (sha256 text) (length terms) entries long few (each_fits (length terms) entries sound);
+    wdt_preamble = preamble_again Watchpoints (length terms) (length terms) (sha256 text) (filled Watchpoints (map term_bytes terms)) long run.watchpoints (omega (arith, run.watchpoints));
+    adt_preamble = record { hash_is = front.hash_is; own_is = front.own_is ∙ length-map rules (entry_over terms); watchpoints_are = front.watchpoints_are };
+  };
+}
+  where
+    terms : List Term
+    terms = terms_of rules
+
+    entries : List TableEntry
+    entries = compiled_entries rules
+
+    ranges : AllByRecursion (λ (rule : NamedRule). IsWithinRanges rule.action) rules
+    ranges = within_ranges text rules compiles.0
+
+    run : RulesRun rules terms
+    run = lowered_words_run rules terms (map (equation_in terms) rules)
+        (record { within = compiles.1; watchpoints = refl; words = refl; texts = texts_short rules ranges })
+
+    long : length (sha256 text) ≡ 32
+    long = length-sha256 text
+
+    sound : AllByRecursion (IsSoundEntry (length terms)) entries
+    sound = sound_entries terms rules run.watchpoints ranges run.each
+
+    once : AllByRecursion (λ e. FitsEntry Actionpoints e × EndsOnce e) entries
+    once = each_once (length terms) entries sound
+
+    few : length entries ≤ table_entries
+    few = omega (arith, length-map rules (entry_over terms), run.actionpoints)
+
+    front : HasPreamble (adt_image Actionpoints (sha256 text) (length terms) entries) (sha256 text) (length entries) (length terms)
+    front = preamble_again Actionpoints (length entries) (length terms) (sha256 text) (filled Actionpoints (map (entry_bytes Actionpoints) entries)) long few (omega (arith, run.watchpoints))
