@@ -50,6 +50,14 @@ fn both_files_of_a_text_may_go_up(rt: HostRuntime) -> Result<(), Fail> {
 }
 
 #[test]
+fn so_may_the_files_of_the_empty_text(rt: HostRuntime) -> Result<(), Fail> {
+    let pair = compile(rt.alloc(), b"")?;
+    assert_eq!(rt; judge(Kind::Wdt, pair.wdt.as_slice()), Ok(()));
+    assert_eq!(rt; judge(Kind::Adt, pair.adt.as_slice()), Ok(()));
+    Ok(())
+}
+
+#[test]
 fn files_that_are_damaged(rt: HostRuntime) -> Result<(), Fail> {
     let mut adt = compile(rt.alloc(), TEXT.as_bytes())?.adt;
     if adt.len() > FIRST_WORD {
