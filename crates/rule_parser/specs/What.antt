@@ -1,4 +1,5 @@
 -- What is wanted at a place, and the kinds of its tokens. This project's own.
+use Rattle.std.specs.Prelude.{codes, ℕ, List, [], ◌++◌}
 use Rattle.lc_model.specs.Text.Class as class
 use Rattle.lc_model.specs.Text.Class.{Class}
 use Rattle.rule_lexer.specs.declared.token.TokenKind.{TokenKind}
@@ -43,3 +44,30 @@ class_of_what what.Operand = class.Operand
 class_of_what what.Compare = class.Compare
 class_of_what (what.Word w) = class_of (kind_of_word w)
 class_of_what (what.Sign s) = class_of (kind_of_sign s)
+
+-- the letters of a word or a sign; no other class has any of its own
+abbrev pub letters_of : Class → List ℕ
+letters_of (class.Word letters) = letters
+letters_of (class.Sign letters) = letters
+letters_of other = []
+
+-- what an engineer reads of a word that is wanted, and of a sign
+abbrev pub word_text : Word → List ℕ
+word_text w = letters_of (class_of (kind_of_word w))
+
+abbrev pub sign_text : Sign → List ℕ
+sign_text s = letters_of (class_of (kind_of_sign s))
+
+-- what an engineer reads of a class that is wanted
+abbrev pub what_text : What → List ℕ
+what_text what.Item = codes "`packet`, `field` or `rule`"
+what_text what.Name = codes "a name"
+what_text what.Number = codes "a number"
+what_text what.Text = codes "a string"
+what_text what.FieldKind = codes "a field type"
+what_text what.State = codes "`active`, `passive` or `disabled`"
+what_text what.Level = codes "`debug`, `info`, `error` or `critical`"
+what_text what.Operand = codes "a name, `not` or `(`"
+what_text what.Compare = codes "a comparison"
+what_text (what.Word w) = codes "`" ++ word_text w ++ codes "`"
+what_text (what.Sign s) = codes "`" ++ sign_text s ++ codes "`"

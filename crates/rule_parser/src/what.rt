@@ -1,7 +1,7 @@
 //! What can be wanted at a place of a rule text.
 
-ghost use Rattle.std.specs.Prelude.{◌≡◌};
-ghost use Rattle.rule_parser.specs.What.{kind_of_sign, kind_of_word};
+ghost use Rattle.std.specs.Prelude.{◌≡◌, Some};
+ghost use Rattle.rule_parser.specs.What.{kind_of_sign, kind_of_word, sign_text, what_text, word_text};
 
 use rule_lexer::TokenKind;
 use std::fmt;
@@ -89,6 +89,8 @@ impl Sign {
 }
 
 impl fmt::Display for Word {
+    ghost output = { λ w. Some (word_text w) };
+
     fn fmt<W: fmt::Write>(&self, f: &mut fmt::Formatter<W>) -> fmt::Result {
         f.write_str(match self {
             Word::Mid => "mid",
@@ -106,6 +108,8 @@ impl fmt::Display for Word {
 }
 
 impl fmt::Display for Sign {
+    ghost output = { λ s. Some (sign_text s) };
+
     fn fmt<W: fmt::Write>(&self, f: &mut fmt::Formatter<W>) -> fmt::Result {
         f.write_str(match self {
             Sign::Equals => "=",
@@ -116,6 +120,8 @@ impl fmt::Display for Sign {
 }
 
 impl fmt::Display for What {
+    ghost output = { λ w. Some (what_text w) };
+
     fn fmt<W: fmt::Write>(&self, f: &mut fmt::Formatter<W>) -> fmt::Result {
         match self {
             What::Item => write!(f, "`packet`, `field` or `rule`"),
