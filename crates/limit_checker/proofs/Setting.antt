@@ -1,5 +1,5 @@
 -- The tables of a sound pair of images are what the images spell.
-use Rattle.std.proofs.Common.{◌≡◌, refl, sym, ◌∙◌, ap, ap₂, ℕ, zero, suc, ◌+◌, ◌-◌, ◌<◌, ◌≤◌, List, [], ◌∷◌, ◌++◌, length, map, flat_map, slice_range, Option, Some, None, option_map, unwrap_or, All, append-nil, append_assoc, length-append, arith}
+use Rattle.std.proofs.Common.{◌≡◌, refl, sym, ◌∙◌, ap, ap₂, ℕ, zero, suc, ◌+◌, ◌-◌, ◌<◌, ◌≤◌, List, [], ◌∷◌, ◌++◌, length, map, flat_map, slice_range, Option, Some, option_map, unwrap_or, All, append-nil, append_assoc, length-append, arith}
 use Rattle.std.specs.List.{AllByRecursion}
 use Rattle.std.proofs.Math.Seq.{take-append-le, take_all, drop-append_seam}
 use Rattle.std.proofs.lemmas.List.{length-map, map-append}
@@ -10,9 +10,8 @@ use Rattle.lc_model.specs.declared.kind.Kind.TheVariants.{Adt}
 use Rattle.lc_model.specs.declared.mode.LcMode.TheVariants.{Active}
 use Rattle.lc_model.specs.Condition.{Condition}
 use Rattle.lc_model.specs.Rule.{Actionpoint}
-use Rattle.lc_model.specs.Tables.Equation.{IsEquation}
 use Rattle.lc_model.specs.Tables.Half.{IsMatch}
-use Rattle.lc_model.specs.Tables.Image.{Layout, Actionpoints, image_length, layout_of, version_1_layouts, own_count, watchpoint_count, entry_at, numbers_below, first_code, equation_tests}
+use Rattle.lc_model.specs.Tables.Image.{Layout, Actionpoints, image_length, layout_of, version_1_layouts, own_count, watchpoint_count, entry_at, numbers_below}
 use Rattle.lc_model.specs.Tables.Spelled.{spelled_terms, spelled_condition, spelled_rule_if, spelled_by_layout, spelled_rules}
 use Rattle.lc_model.specs.Laws.Equations.{IsSpelled}
 use Rattle.lc_model.specs.LimitChecker.Steps.{Point}
@@ -22,7 +21,7 @@ use Rattle.lc_model.proofs.ImageParts.{length_listed}
 use Rattle.lc_model.proofs.SaidLaws.{all_append}
 use Rattle.lc_model.proofs.SpelledEquations.{condition_of_equation}
 use Rattle.lc_model.proofs.SpellsOnce.{computed}
-use Rattle.table_validator.specs.Sound.{IsSoundActionpoint, HasSoundWatchpoints, HasSoundActionpoints}
+use Rattle.table_validator.specs.Sound.{IsSoundEquation, HasSoundWatchpoints, HasSoundActionpoints}
 use Rattle.limit_checker.specs.declared.actionpoint.Entry.{Entry}
 use Rattle.limit_checker.specs.Entry.{rule_with, rule_in, no_condition, IsRunnable}
 use Rattle.limit_checker.specs.Layout.{entry_for, point_for, words_for, entries_below, points_below, words_below}
@@ -52,22 +51,6 @@ each P (x ∷ xs) all (suc k) d inside = each P xs all.1 k d (omega (arith, insi
 
 -- ---- actionpoints
 
--- the words of an actionpoint spell a condition over these watchpoints, and can be run
-record Says (terms : List Term) (bytes : List ℕ) : Type 0 where
-  condition : Condition
-  spelled : spelled_condition terms (words_for bytes) ≡ Some condition
-  sound : first_code (equation_tests (length terms) (words_for bytes)) ≡ None
-
-says : (terms : List Term) (count : ℕ) (bytes : List ℕ) → length terms ≡ count → length terms ≤ 176 → IsSoundActionpoint count bytes → Says terms bytes
-says terms count bytes many few one =
-    let equation : IsEquation (length terms) (words_for bytes) one.equation.need = rw many one.equation.spells in
-    let said : IsSpelled terms (words_for bytes) one.equation.need = condition_of_equation terms equation in
-    record {
-      condition = said.0;
-      spelled = computed terms (omega (arith, few)) said.1;
-      sound = rw many one.equation.passes;
-    }
-
 module _ (terms : List Term) (adt : List ℕ) where
   entry : ℕ → Entry
   entry n = entry_for (entry_at Actionpoints adt n) (length (words_below adt n)) (length (words_below adt n) + length (words_for (entry_at Actionpoints adt n)))
@@ -96,19 +79,19 @@ module _ (terms : List Term) (adt : List ℕ) where
       ∙ (λ i. rules_laid k (ws ++ after) i ++ entry_says k after i ∷ [])
       ∙ sym (map-append rule_at (numbers_below k) (k ∷ []))
 
-  entry_runs : (n : ℕ) (after : List ℕ) → Says terms (entry_at Actionpoints adt n) →
+  entry_runs : (n : ℕ) (after : List ℕ) → IsSoundEquation (length terms) (words_for (entry_at Actionpoints adt n)) →
       IsRunnable terms (words_below adt n ++ (words_for (entry_at Actionpoints adt n) ++ after)) (entry n)
   unfolding entry
-  entry_runs n after said =
+  entry_runs n after sound =
       let before : List ℕ = words_below adt n in
       let ws : List ℕ = words_for (entry_at Actionpoints adt n) in
       record {
         from = omega arith;
         to = omega (arith, length-append before (ws ++ after), length-append ws after);
-        sound = rw (between before ws after) said.sound;
+        sound = rw (between before ws after) sound;
       }
 
-  entries_run : (k : ℕ) (after : List ℕ) → ((n : ℕ) → n < k → Says terms (entry_at Actionpoints adt n)) →
+  entries_run : (k : ℕ) (after : List ℕ) → ((n : ℕ) → n < k → IsSoundEquation (length terms) (words_for (entry_at Actionpoints adt n))) →
       AllByRecursion (IsRunnable terms (words_below adt k ++ after)) (entries_below adt k)
   unfolding entry
   entries_run zero after all = tt
@@ -136,14 +119,15 @@ module _ (terms : List Term) (adt : List ℕ) where
       ∙ sym (length-append (entries_below adt k) (entry k ∷ []))
 
   -- the rules that are spelled are those
-  rules_spelled : (k : ℕ) → ((n : ℕ) → n < k → Says terms (entry_at Actionpoints adt n)) →
+  rules_spelled : length terms ≤ 176 → (k : ℕ) → ((n : ℕ) → n < k → IsSoundEquation (length terms) (words_for (entry_at Actionpoints adt n))) →
       flat_map (λ n. spelled_rule_if (entry_at Actionpoints adt n) (spelled_condition terms (words_for (entry_at Actionpoints adt n)))) (numbers_below k)
       ≡ map rule_at (numbers_below k)
   unfolding rule_at
-  rules_spelled k all = one_each _ rule_at k (λ n below.
+  rules_spelled few k all = one_each _ rule_at k (λ n below.
       let bytes : List ℕ = entry_at Actionpoints adt n in
-      ap (spelled_rule_if bytes) (all n below).spelled
-      ∙ sym (ap (λ (c : Option Condition). rule_with (entry_for bytes 0 0) (unwrap_or c no_condition) ∷ []) (all n below).spelled))
+      let said : IsSpelled terms (words_for bytes) (all n below).need = condition_of_equation terms (all n below).spells in
+      let spelled : spelled_condition terms (words_for bytes) ≡ Some said.0 = computed terms (omega (arith, few)) said.1 in
+      ap (spelled_rule_if bytes) spelled ∙ sym (ap (λ (c : Option Condition). rule_with (entry_for bytes 0 0) (unwrap_or c no_condition) ∷ []) spelled))
 
 -- ---- the tables
 
@@ -158,8 +142,8 @@ module _ (wdt adt : List ℕ) (watches : HasSoundWatchpoints wdt) (actions : Has
   few : length (spelled_terms wdt) ≤ 176
   few = omega (arith, many, actions.watchpoints)
 
-  all_say : (n : ℕ) → n < own_count adt → Says (spelled_terms wdt) (entry_at Actionpoints adt n)
-  all_say n used = says (spelled_terms wdt) (watchpoint_count adt) (entry_at Actionpoints adt n) many few (actions.each n used)
+  equations : (n : ℕ) → n < own_count adt → IsSoundEquation (length (spelled_terms wdt)) (words_for (entry_at Actionpoints adt n))
+  equations n used = rw many (actions.each n used).equation
 
   pub tables_set : AreTables (spelled_terms wdt) (by_counts.unseen (spelled_terms wdt)) (entries_below adt (own_count adt)) (points_below adt (own_count adt)) (words_below adt (own_count adt))
   tables_set = record {
@@ -169,21 +153,21 @@ module _ (wdt adt : List ℕ) (watches : HasSoundWatchpoints wdt) (actions : Has
     shared = λ j k t at_j at_k.
         slice_get-map (λ (u : Term). unseen_result) (spelled_terms wdt) j ∙ ap (option_map (λ (u : Term). unseen_result)) (at_j ∙ sym at_k)
         ∙ sym (slice_get-map (λ (u : Term). unseen_result) (spelled_terms wdt) k);
-    runnable = each _ _ (rw (append-nil (words_below adt (own_count adt))) at (entries_run (spelled_terms wdt) adt (own_count adt) [] all_say));
+    runnable = each _ _ (rw (append-nil (words_below adt (own_count adt))) at (entries_run (spelled_terms wdt) adt (own_count adt) [] equations));
   }
 
   rules_set : map (rule_in (spelled_terms wdt) (words_below adt (own_count adt))) (entries_below adt (own_count adt)) ≡ spelled_rules version_1_layouts wdt adt
   rules_set =
       ap (λ words. map (rule_in (spelled_terms wdt) words) (entries_below adt (own_count adt))) (sym (append-nil (words_below adt (own_count adt))))
       ∙ rules_laid (spelled_terms wdt) adt (own_count adt) []
-      ∙ sym (rules_spelled (spelled_terms wdt) adt (own_count adt) all_say)
+      ∙ sym (rules_spelled (spelled_terms wdt) adt few (own_count adt) equations)
       ∙ ap (λ (l : Option Layout). spelled_by_layout l (spelled_terms wdt) adt) (sym (only_actionpoints adt actions.size))
 
   points_set : points_below adt (own_count adt) ≡ map fresh_point (spelled_rules version_1_layouts wdt adt)
   points_set =
       points_laid (spelled_terms wdt) adt (own_count adt)
       ∙ ap (map fresh_point)
-      (sym (rules_spelled (spelled_terms wdt) adt (own_count adt) all_say)
+      (sym (rules_spelled (spelled_terms wdt) adt few (own_count adt) equations)
       ∙ ap (λ (l : Option Layout). spelled_by_layout l (spelled_terms wdt) adt) (sym (only_actionpoints adt actions.size)))
 
   pub watcher_set : watcher Active (spelled_terms wdt) (by_counts.unseen (spelled_terms wdt)) (entries_below adt (own_count adt)) (points_below adt (own_count adt)) (words_below adt (own_count adt))

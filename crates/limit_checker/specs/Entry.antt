@@ -1,12 +1,12 @@
 -- The entries of the actionpoint table.
-use Rattle.std.specs.Prelude.{◌≡◌, ℕ, ◌≤◌, List, length, slice_range, unwrap_or, pos, None}
+use Rattle.std.specs.Prelude.{ℕ, ◌≤◌, List, length, slice_range, unwrap_or, pos}
 use Rattle.lc_model.specs.declared.field.Term.{Term}
 use Rattle.lc_model.specs.declared.field.FieldType.TheVariants.{U8}
 use Rattle.lc_model.specs.declared.field.CmpOp.TheVariants.{Less}
 use Rattle.lc_model.specs.Condition.{Condition, Watch}
 use Rattle.lc_model.specs.Rule.{Actionpoint}
-use Rattle.lc_model.specs.Tables.Image.{first_code, equation_tests}
 use Rattle.lc_model.specs.Tables.Spelled.{spelled_condition}
+use Rattle.table_validator.specs.Sound.{IsSoundEquation}
 use Rattle.limit_checker.specs.declared.actionpoint.Entry.{Entry}
 
 -- the rule of an entry with this condition
@@ -42,4 +42,4 @@ rule_in terms words entry = rule_with entry (condition_in terms words entry)
 pub record IsRunnable (terms : List Term) (words : List ℕ) (entry : Entry) : Type 0 where
   pub from : entry.start ≤ entry.end
   pub to : entry.end ≤ length words
-  pub sound : first_code (equation_tests (length terms) (words_of words entry)) ≡ None
+  pub sound : IsSoundEquation (length terms) (words_of words entry)
