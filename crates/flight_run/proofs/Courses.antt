@@ -1,5 +1,5 @@
 -- A run, record by record.
-use Rattle.std.proofs.Common.{◌≡◌, refl, sym, ◌∙◌, ap, subst, ℕ, ◌+◌, ◌<◌, false, List, [], ◌∷◌, ◌++◌, length, take, Option, Some, arith, append_assoc, append-nil, length-append}
+use Rattle.std.proofs.Common.{◌≡◌, refl, sym, ◌∙◌, ap, subst, ℕ, ◌+◌, ◌<◌, ◌≤◌, false, List, [], ◌∷◌, ◌++◌, length, take, Option, Some, arith, append_assoc, append-nil, length-append}
 use Rattle.std.specs.Prelude.{filter_map, Err}
 use Rattle.std.proofs.lemmas.List.Elements.{filter_map-append}
 use Rattle.std.proofs.Math.Seq.{take-append-add}
@@ -27,8 +27,8 @@ rest_of n bytes = records_numbered packets_alone 1 n bytes
 abbrev behind : List StreamEntry → List StreamEntry × End → List StreamEntry × End
 behind entries rest = (entries ++ rest.0, rest.1)
 
--- what was taken so far are whole records, and what they lead to was written
-pub record SoFar (start : Kept) (left gained : Option (List ℕ)) (now : Kept) (left_now gained_now : Option (List ℕ)) (count bytes : ℕ) : Type 0 where
+-- what was taken so far are whole records, and what they lead to was written; each read took a byte at least
+pub record SoFar (start : Kept) (left gained : Option (List ℕ)) (now : Kept) (left_now gained_now : Option (List ℕ)) (reads count bytes : ℕ) : Type 0 where
   pub taken : List ℕ
   pub entries : List StreamEntry
   pub written : List ℕ
@@ -38,10 +38,11 @@ pub record SoFar (start : Kept) (left gained : Option (List ℕ)) (now : Kept) (
   pub wrote : Appends gained gained_now written
   pub many : count ≡ length entries
   pub long : bytes ≡ length written
+  pub each : reads ≤ length taken
 
-pub nothing_yet : (start : Kept) (left gained : Option (List ℕ)) → SoFar start left gained start left gained 0 0
+pub nothing_yet : (start : Kept) (left gained : Option (List ℕ)) (reads : ℕ) → reads ≡ 0 → SoFar start left gained start left gained reads 0 0
 unfolding all_handled
-nothing_yet start left gained = record {
+nothing_yet start left gained reads none = record {
   taken = [];
   entries = [];
   written = [];
@@ -51,6 +52,7 @@ nothing_yet start left gained = record {
   wrote = Appends-nil gained;
   many = refl;
   long = refl;
+  each = omega (arith, none);
 }
 
 -- one packet more
@@ -90,8 +92,8 @@ module _ (decides : FrontDecides) where
   record_comes taken body n is rest =
       decides packets_alone 1 n (taken ++ rest) ∙ ap (records_by_front (records_numbered packets_alone 1 (n + 1)) n) (is.stands rest)
 
-  module _ (start : Kept) (left gained : Option (List ℕ)) (kept : Kept) (d : Devices) (count bytes : ℕ) (so_far : SoFar start left gained kept d.left d.gained count bytes) where
-    pub one_more : (after : Kept) (more : ℕ) → Advances d kept after more → SoFar start left gained after d.left_after d.gained_after (count + 1) (bytes + more)
+  module _ (start : Kept) (left gained : Option (List ℕ)) (kept : Kept) (d : Devices) (before count bytes : ℕ) (so_far : SoFar start left gained kept d.left d.gained before count bytes) where
+    pub one_more : (after : Kept) (more : ℕ) → Advances d before kept after more → SoFar start left gained after d.left_after d.gained_after d.reads (count + 1) (bytes + more)
     one_more after more step = record {
       taken = so_far.taken ++ step.taken;
       entries = so_far.entries ++ entry ∷ [];
@@ -110,6 +112,7 @@ module _ (decides : FrontDecides) where
       wrote = Appends-trans _ _ _ _ _ so_far.wrote step.wrote;
       many = ap (λ n. n + 1) so_far.many ∙ sym (length-append so_far.entries (entry ∷ []));
       long = (λ i. so_far.long i + step.counted i) ∙ sym (length-append so_far.written (handled step.body kept).1);
+      each = omega (arith, so_far.each, step.each, length-append so_far.taken step.taken);
     }
       where
         entry : StreamEntry
@@ -171,7 +174,7 @@ module _ (decides : FrontDecides) where
         ∙ after_taken (taken ++ rest)
         ∙ ap (λ f. behind so_far.entries (records_by_front (rest_of (count + 1 + 1)) (count + 1) f)) (none rest)
 
-    halts_unread : (why : Stop) → HaltsUnread d why → IsOutcome (output_from start) whole (Err (ended_by (Stopped why) count bytes))
+    halts_unread : (why : Stop) → HaltsUnread d before why → IsOutcome (output_from start) whole (Err (ended_by (Stopped why) count bytes))
     halts_unread stop.Bad step =
         let found : records (so_far.taken ++ step.stops.taken) ≡ (so_far.entries ++ [], Bad (count + 1)) =
         ap records (sym (append-nil (so_far.taken ++ step.stops.taken))) ∙ no_record step.stops.taken step.stops.front [] in
@@ -204,6 +207,7 @@ module _ (decides : FrontDecides) where
       bytes = so_far.taken ++ step.stops.taken;
       so = unread step.stops.taken step.stops.takes step.idle step.no_write_failed (part_of step.stops.taken step.stops.front);
       bound = step.stops.why.1;
+      each = omega (arith, so_far.each, step.stops.each refl, length-append so_far.taken step.stops.taken);
       no_read_failed = step.stops.why.0;
     }
 
@@ -236,10 +240,10 @@ module _ (decides : FrontDecides) where
         output : output_from start (records (so_far.taken ++ step.taken)).0 ≡ so_far.written ++ (handled step.body kept).1
         output = ap (output_from start) found ∙ ran
 
-    halts_by : (halt : Halt) → Halts d kept halt → IsOutcome (output_from start) whole (Err (ended_by halt count bytes))
+    halts_by : (halt : Halt) → Halts d before kept halt → IsOutcome (output_from start) whole (Err (ended_by halt count bytes))
     halts_by (Stopped why) step = halts_unread why step
     halts_by (Unsent sent) step = halts_unsent sent step
 
-    pub halts : (halt : Halt) → Halts d kept halt → (error : RunError) → error ≡ ended_by halt count bytes →
+    pub halts : (halt : Halt) → Halts d before kept halt → (error : RunError) → error ≡ ended_by halt count bytes →
         IsOutcome (output_from start) whole (Err error)
     halts halt step error is = subst (λ (e : RunError). IsOutcome (output_from start) whole (Err e)) (sym is) (halts_by halt step)

@@ -18,8 +18,8 @@ use Rattle.flight_run.specs.Outcome.{Devices}
 unfoldable pub output_from : Kept → List StreamEntry → List ℕ
 output_from kept entries = (all_handled (filter_map packet_in entries) kept).1
 
--- one record was handled, and so many bytes written
-pub record Advances (d : Devices) (kept after : Kept) (count : ℕ) : Type 0 where
+-- one record was handled, and so many bytes written; so many reads were made before
+pub record Advances (d : Devices) (before : ℕ) (kept after : Kept) (count : ℕ) : Type 0 where
   pub taken : List ℕ
   pub body : List ℕ
   pub took : Consumes d.left d.left_after taken
@@ -28,6 +28,7 @@ pub record Advances (d : Devices) (kept after : Kept) (count : ℕ) : Type 0 whe
   pub moved : after ≡ (handled body kept).0
   pub counted : count ≡ length (handled body kept).1
   pub few : count ≤ 2112
+  pub each : d.reads ≤ before + length taken
   pub no_read_failed : d.read_fails ≡ false
   pub no_write_failed : d.write_fails ≡ false
 
@@ -39,8 +40,8 @@ pub record Lands (d : Devices) (kept after : Kept) : Type 0 where
   pub no_write_failed : d.write_fails ≡ false
 
 -- no record was taken
-pub record HaltsUnread (d : Devices) (stop : Stop) : Type 0 where
-  pub stops : StopsHere d.left d.left_after false d.read_fails d.reads stop
+pub record HaltsUnread (d : Devices) (before : ℕ) (stop : Stop) : Type 0 where
+  pub stops : StopsHere d.left d.left_after false d.read_fails before d.reads stop
   pub idle : d.gained_after ≡ d.gained
   pub no_write_failed : d.write_fails ≡ false
 
@@ -65,14 +66,14 @@ ended_by (Stopped Bound) records bytes = ReadBound
 ended_by (Unsent sent) records bytes = Write (bytes + sent)
 
 -- why a run goes no further
-abbrev pub Halts : Devices → Kept → Halt → Type 0
-Halts d kept (Stopped stop) = HaltsUnread d stop
-Halts d kept (Unsent sent) = HaltsUnsent d kept sent
+abbrev pub Halts : Devices → ℕ → Kept → Halt → Type 0
+Halts d before kept (Stopped stop) = HaltsUnread d before stop
+Halts d before kept (Unsent sent) = HaltsUnsent d kept sent
 
 -- what the next record leads to
-abbrev pub GoesOn : Devices → (kept after : Kept) → Option ℕ → Type 0
-GoesOn d kept after None = Lands d kept after
-GoesOn d kept after (Some count) = Advances d kept after count
+abbrev pub GoesOn : Devices → ℕ → (kept after : Kept) → Option ℕ → Type 0
+GoesOn d before kept after None = Lands d kept after
+GoesOn d before kept after (Some count) = Advances d before kept after count
 
 -- at most the bytes that one record leads to were sent
 abbrev pub IsFew : Halt → Type 0

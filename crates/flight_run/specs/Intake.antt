@@ -1,5 +1,5 @@
 -- What is taken from a source, record by record. The format of streams is this project's own.
-use Rattle.std.specs.Prelude.{◌≡◌, ℕ, ◌^◌, ◌<◌, ◌≤◌, Bool, true, List, [], ◌++◌, length, take, Option, Some, None}
+use Rattle.std.specs.Prelude.{◌≡◌, ℕ, ◌+◌, ◌^◌, ◌<◌, ◌≤◌, Bool, true, List, [], ◌++◌, length, take, Option, Some, None}
 use Rattle.std.specs.Io.KnownBytes.{Consumes, IsAtEnd}
 use Rattle.lc_model.specs.declared.record.Moment.{Moment}
 use Rattle.lc_model.specs.Host.Stream.{Front, Nothing, Record, NoRecord, CutRecord, Packet, packets_alone, front}
@@ -21,12 +21,14 @@ BreaksOff Fault failed fails reads = fails ≡ true
 BreaksOff Bound failed fails reads = (fails ≡ failed) × (reads ≡ 2 ^ 32)
 BreaksOff stop failed fails reads = ⊥
 
--- some bytes were taken, fewer than there is room for, before a read failed or one too many was wanted
-pub record Breaks (left now : Option (List ℕ)) (failed fails : Bool) (reads room : ℕ) (stop : Stop) : Type 0 where
+-- some bytes were taken, fewer than there is room for, before a read failed or one too many was wanted; in the latter case
+-- each read took one at least, so the source hadn't ended
+pub record Breaks (left now : Option (List ℕ)) (failed fails : Bool) (before reads room : ℕ) (stop : Stop) : Type 0 where
   pub taken : List ℕ
   pub takes : Consumes left now taken
   pub fewer : length taken < room
   pub why : BreaksOff stop failed fails reads
+  pub each : stop ≡ Bound → reads ≤ before + length taken
 
 -- ---- one record
 
@@ -35,12 +37,13 @@ pub record IsRecord (bytes body : List ℕ) : Type 0 where
   pub moment : Moment
   pub stands : (rest : List ℕ) → front packets_alone 1 (bytes ++ rest) ≡ Record (record { moment = moment; contents = Packet body }) rest
 
--- a record with this body was taken
-pub record TakesRecord (left now : Option (List ℕ)) (failed fails : Bool) (body : List ℕ) : Type 0 where
+-- a record with this body was taken, by each read a byte at least
+pub record TakesRecord (left now : Option (List ℕ)) (failed fails : Bool) (before reads : ℕ) (body : List ℕ) : Type 0 where
   pub taken : List ℕ
   pub takes : Consumes left now taken
   pub is : IsRecord taken body
   pub as_before : fails ≡ failed
+  pub each : reads ≤ before + length taken
 
 -- the source ended in front of a record
 pub record EndsHere (left now : Option (List ℕ)) (failed fails : Bool) : Type 0 where
@@ -67,14 +70,15 @@ Stops Truncated failed fails reads = fails ≡ failed
 Stops stop failed fails reads = BreaksOff stop failed fails reads
 
 -- no record was taken
-pub record StopsHere (left now : Option (List ℕ)) (failed fails : Bool) (reads : ℕ) (stop : Stop) : Type 0 where
+pub record StopsHere (left now : Option (List ℕ)) (failed fails : Bool) (before reads : ℕ) (stop : Stop) : Type 0 where
   pub taken : List ℕ
   pub takes : Consumes left now taken
   pub front : IsFrontAt stop taken
   pub at_the_end : stop ≡ Truncated → IsAtEnd now
   pub why : Stops stop failed fails reads
+  pub each : stop ≡ Bound → reads ≤ before + length taken
 
 -- what the next record is
-abbrev pub IsNext : (left now : Option (List ℕ)) → (failed fails : Bool) → (buffer : List ℕ) → Option ℕ → Type 0
-IsNext left now failed fails buffer None = EndsHere left now failed fails
-IsNext left now failed fails buffer (Some count) = (count ≤ length buffer) × TakesRecord left now failed fails (take count buffer)
+abbrev pub IsNext : (left now : Option (List ℕ)) → (failed fails : Bool) → (before reads : ℕ) → (buffer : List ℕ) → Option ℕ → Type 0
+IsNext left now failed fails before reads buffer None = EndsHere left now failed fails
+IsNext left now failed fails before reads buffer (Some count) = (count ≤ length buffer) × TakesRecord left now failed fails before reads (take count buffer)

@@ -1,5 +1,5 @@
 -- How a run ends, and what it leaves of its stream and of its output. The format of streams is this project's own.
-use Rattle.std.specs.Prelude.{◌≡◌, ℕ, ◌^◌, ◌<◌, Bool, true, false, List, ◌++◌, length, take, Option, Result, Ok, Err}
+use Rattle.std.specs.Prelude.{◌≡◌, ℕ, ◌^◌, ◌<◌, ◌≤◌, Bool, true, false, List, ◌++◌, length, take, Option, Result, Ok, Err}
 use Rattle.std.specs.Io.KnownBytes.{Appends, Consumes, IsAtEnd}
 use Rattle.lc_model.specs.Host.Stream.{StreamEntry, End, Whole, Bad, packets_alone, records_of_kinds}
 use Rattle.lc_model.specs.Host.Stream as stream
@@ -72,11 +72,12 @@ module _ (output : List StreamEntry → List ℕ) (d : Devices) where
     pub so : TookAndWrote bytes
     pub failed : d.read_fails ≡ true
 
-  -- as many reads were made as may be
+  -- as many reads were made as may be, each of which took a byte at least: the stream hasn't ended
   pub record ReachesTheBound : Type 0 where
     pub bytes : List ℕ
     pub so : TookAndWrote bytes
     pub bound : d.reads ≡ 2 ^ 32
+    pub each : d.reads ≤ length bytes
     pub no_read_failed : d.read_fails ≡ false
 
   -- a write failed: the sink took the first bytes of the output, this many

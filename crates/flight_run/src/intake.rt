@@ -1,6 +1,6 @@
 //! Records from a source: 11 bytes of header (kind, seconds, subseconds, length), then the body.
 
-ghost use Rattle.std.specs.Prelude.{◌≡◌, ◌<◌, ◌≤◌, length, IfOk, IfErr, IsOk};
+ghost use Rattle.std.specs.Prelude.{◌≡◌, ◌+◌, ◌<◌, ◌≤◌, length, IfOk, IfErr, IsOk};
 ghost use Rattle.lc_model.specs.Host.Stream.{body_size};
 ghost use Rattle.flight_run.specs.Intake.{Fills, Breaks, IsNext, StopsHere};
 
@@ -36,7 +36,8 @@ fn fill<R: ByteSource>(reader: &mut R, buffer: &mut [u8]) -> Result<usize, Stop>
     requires { R.reads_made reader.old ≤ MOST_READS }
     ensures filled { IfOk result (λ count. Fills (R.rest reader.old) (R.rest reader.new) (R.has_failed reader.old) (R.has_failed reader.new) count buffer.new) }
     ensures broken { IfErr result (λ stop. Breaks (R.rest reader.old) (R.rest reader.new) (R.has_failed reader.old) (R.has_failed reader.new)
-        (R.reads_made reader.new) (length buffer.old) stop) }
+        (R.reads_made reader.old) (R.reads_made reader.new) (length buffer.old) stop) }
+    ensures each { IfOk result (λ count. count ≡ length buffer.old → R.reads_made reader.new ≤ R.reads_made reader.old + count) }
     ensures bounded { R.reads_made reader.new ≤ MOST_READS }
     ensures counted { R.reads_made reader.old ≤ R.reads_made reader.new }
     ensures reads { 0 < length buffer.old → IsOk result → R.reads_made reader.old < R.reads_made reader.new }
@@ -67,9 +68,10 @@ fn body_size(header: &[u8; HEADER]) -> u32
 pub fn next_packet<R: ByteSource>(reader: &mut R, buffer: &mut [u8]) -> Result<Option<usize>, Stop>
     requires bounded { R.reads_made reader.old ≤ MOST_READS }
     requires room { length buffer.old ≡ LONGEST_BODY }
-    ensures next { IfOk result (IsNext (R.rest reader.old) (R.rest reader.new) (R.has_failed reader.old) (R.has_failed reader.new) buffer.new) }
+    ensures next { IfOk result (IsNext (R.rest reader.old) (R.rest reader.new) (R.has_failed reader.old) (R.has_failed reader.new)
+        (R.reads_made reader.old) (R.reads_made reader.new) buffer.new) }
     ensures stopped { IfErr result (StopsHere (R.rest reader.old) (R.rest reader.new) (R.has_failed reader.old) (R.has_failed reader.new)
-        (R.reads_made reader.new)) }
+        (R.reads_made reader.old) (R.reads_made reader.new)) }
     ensures bounded { R.reads_made reader.new ≤ MOST_READS }
     ensures counted { R.reads_made reader.old ≤ R.reads_made reader.new }
     ensures reads { IsOk result → R.reads_made reader.old < R.reads_made reader.new }

@@ -35,10 +35,10 @@ fn advance<R: ByteSource, W: ByteSink>(
     requires writable { W.has_failed writer.old ≡ false }
     ensures goes_on { IfOk result (GoesOn (devices (R.rest reader.old) (R.rest reader.new) (R.reads_made reader.new) (R.has_failed reader.new)
         (W.gained writer.old) (W.gained writer.new) (W.has_failed writer.new))
-        (kept_of flight.old) (kept_of flight.new)) }
+        (R.reads_made reader.old) (kept_of flight.old) (kept_of flight.new)) }
     ensures halts { IfErr result (Halts (devices (R.rest reader.old) (R.rest reader.new) (R.reads_made reader.new) (R.has_failed reader.new)
         (W.gained writer.old) (W.gained writer.new) (W.has_failed writer.new))
-        (kept_of flight.old)) }
+        (R.reads_made reader.old) (kept_of flight.old)) }
     ensures bounded { R.reads_made reader.new ≤ MOST_READS }
     ensures counted { R.reads_made reader.old ≤ R.reads_made reader.new }
     ensures reads { IsOk result → R.reads_made reader.old < R.reads_made reader.new }
@@ -89,8 +89,9 @@ pub fn fly<R: ByteSource, W: ByteSink>(
     requires unread { R.reads_made reader.old ≡ 0 }
     requires readable { R.has_failed reader.old ≡ false }
     requires writable { W.has_failed writer.old ≡ false }
-    ensures { IsOutcome (output_from (kept_of flight.old)) (devices (R.rest reader.old) (R.rest reader.new) (R.reads_made reader.new) (R.has_failed reader.new)
+    ensures outcome { IsOutcome (output_from (kept_of flight.old)) (devices (R.rest reader.old) (R.rest reader.new) (R.reads_made reader.new) (R.has_failed reader.new)
         (W.gained writer.old) (W.gained writer.new) (W.has_failed writer.new)) result }
+    ensures bounded { R.reads_made reader.new ≤ MOST_READS }
 {
     laws::stream::front_decides();
     let mut report = Report {

@@ -1,11 +1,11 @@
 //! From a rule text and a stream of packets to the bytes of its sequence requests.
 
-ghost use Rattle.std.specs.Prelude.{◌≡◌, false};
+ghost use Rattle.std.specs.Prelude.{◌≡◌, ◌≤◌, false};
 ghost use Rattle.flight_run.specs.Outcome.{devices};
 ghost use Rattle.flight_run.specs.RunOne.{IsRun, WritesWhatIsCalledFor, refusal_of};
 
 use crate::error::{Report, RunError};
-use crate::intake::LONGEST_BODY;
+use crate::intake::{LONGEST_BODY, MOST_READS};
 use crate::outgoing::Outgoing;
 use crate::{run, tables};
 use lc_model::{ByteSink, ByteSource, laws};
@@ -32,8 +32,9 @@ fn compile_and_fly<R: ByteSource, W: ByteSink>(
     requires unread { R.reads_made reader.old ≡ 0 }
     requires readable { R.has_failed reader.old ≡ false }
     requires writable { W.has_failed writer.old ≡ false }
-    ensures { IsRun text.now (devices (R.rest reader.old) (R.rest reader.new) (R.reads_made reader.new) (R.has_failed reader.new)
+    ensures run { IsRun text.now (devices (R.rest reader.old) (R.rest reader.new) (R.reads_made reader.new) (R.has_failed reader.new)
         (W.gained writer.old) (W.gained writer.new) (W.has_failed writer.new)) result }
+    ensures bounded { R.reads_made reader.new ≤ MOST_READS }
 {
     laws::reading::rules_are_within_ranges();
     laws::limit_checker::limit_checker_agrees_on_texts();
@@ -84,6 +85,9 @@ pub fn run_one<R: ByteSource, W: ByteSink>(
     // Where nothing fails: exactly the bytes that the rules call for, for every stream.
     ensures theorem { WritesWhatIsCalledFor text.now (devices (R.rest reader.old) (R.rest reader.new) (R.reads_made reader.new) (R.has_failed reader.new)
         (W.gained writer.old) (W.gained writer.new) (W.has_failed writer.new)) result }
+
+    // However it ends: at most 2^32 reads were made.
+    ensures bounded { R.reads_made reader.new ≤ MOST_READS }
 {
     laws::reading::reads_in_one_way();
     laws::reading::has_at_most_one_verdict();

@@ -16,4 +16,5 @@ loop-filled-preserved g c =
       search rules,
       search rules,
       search rules,
+      search rules,
     )

@@ -1,4 +1,4 @@
-use Rattle.std.proofs.Common.{◌≡◌, ◌-◌, ◌<◌, ◌≤◌, length, take}
+use Rattle.std.proofs.Common.{◌≡◌, ◌+◌, ◌-◌, ◌<◌, ◌≤◌, length, take}
 use Rattle.std.specs.Io.KnownBytes.{Consumes}
 use Rattle.flight_run.proofs.intake.fill.Given as goal
 
@@ -9,6 +9,7 @@ invariant-loop-filled g l =
     × (g.R.ByteSource.reads_made l.reader ≤ 4294967296)
     × (g.R.ByteSource.reads_made l.initial.reader ≤ g.R.ByteSource.reads_made l.reader)
     × (0 < l.filled → g.R.ByteSource.reads_made l.initial.reader < g.R.ByteSource.reads_made l.reader)
+    × (g.R.ByteSource.reads_made l.reader ≤ g.R.ByteSource.reads_made l.initial.reader + l.filled)
 
 abbrev pub decreases-loop-filled : goal.decreases-loop-filled
 decreases-loop-filled g l = length l.buffer - l.filled

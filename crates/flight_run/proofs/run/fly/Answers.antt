@@ -11,7 +11,8 @@ loop-count-init g c = (
   omega arith,
   omega (arith, c.requires.unread),
   omega arith,
-  nothing_yet (kept_of c.args.flight.now) (g.R.ByteSource.rest c.args.reader.now) (g.W.ByteSink.gained c.args.writer.now),
+  nothing_yet (kept_of c.args.flight.now) (g.R.ByteSource.rest c.args.reader.now) (g.W.ByteSink.gained c.args.writer.now)
+      (g.R.ByteSource.reads_made c.args.reader.now) c.requires.unread,
 )
 
 pub loop-count-preserved : goal.loop-count-preserved
@@ -23,14 +24,14 @@ loop-count-preserved g c =
       omega (arith, c.in-Ok-Some.ensures.reads refl, c.loop-count.invariant.3),
       c.in-Ok-Some.ensures.bounded,
       omega (arith, step.few, c.loop-count.invariant.5),
-      one_more c.front_decides.ensures _ _ _ _ _ _ _ c.loop-count.invariant.6 _ _ step,
+      one_more c.front_decides.ensures _ _ _ _ _ _ _ _ c.loop-count.invariant.6 _ _ step,
     )
 
-pub returns-in-Ok-None : goal.returns-in-Ok-None
-returns-in-Ok-None g c =
+pub returns-in-Ok-None-clause-outcome : goal.returns-in-Ok-None-clause-outcome
+returns-in-Ok-None-clause-outcome g c =
     let step = rw c.in-Ok-None.field-0-is at c.in-Ok-None.ensures.goes_on in
-    lands c.front_decides.ensures _ _ _ _ _ _ _ c.loop-count.invariant.6 _ step
+    lands c.front_decides.ensures _ _ _ _ _ _ _ _ c.loop-count.invariant.6 _ step
 
-pub returns-in-Err : goal.returns-in-Err
-returns-in-Err g c =
-    halts c.front_decides.ensures _ _ _ _ _ _ _ c.loop-count.invariant.6 c.in-Err.halt c.in-Err.ensures.halts c.ended.result c.ended.ensures
+pub returns-in-Err-clause-outcome : goal.returns-in-Err-clause-outcome
+returns-in-Err-clause-outcome g c =
+    halts c.front_decides.ensures _ _ _ _ _ _ _ _ c.loop-count.invariant.6 c.in-Err.halt c.in-Err.ensures.halts c.ended.result c.ended.ensures
