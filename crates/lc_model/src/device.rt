@@ -3,8 +3,6 @@
 pub mod limited;
 pub mod pieces;
 pub mod reading;
-#[cfg(test)]
-mod tests;
 pub mod writing;
 
 ghost use Rattle.std.specs.Prelude.{◌≡◌, ◌<◌, ℕ, Bool, List, Option, length, IfOk, OnErr};

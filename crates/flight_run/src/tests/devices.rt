@@ -1,6 +1,7 @@
-//! Sources and sinks in memory, with a fault at each place in turn.
+//! Sources and sinks in memory, with a fault at each place in turn. They stand here and not in their crate, since a crate
+//! with tests is proved twice, and all others wait for that one.
 
-use crate::{ByteSink, ByteSource, DeviceFault, Limited, Pieces, Reading, Writing};
+use lc_model::{ByteSink, ByteSource, DeviceFault, Limited, Pieces, Reading, Writing};
 use std::io;
 use std::test::Fail;
 
