@@ -4,6 +4,7 @@ pub mod Taking
 pub mod Requests
 pub mod Counting
 pub mod OneRequest
+pub mod Opened
 pub mod Sampled
 pub mod Arrivals
 pub mod Following

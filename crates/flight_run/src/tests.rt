@@ -9,12 +9,16 @@ mod ground;
 mod long_run;
 mod rules;
 
+ghost use Rattle.std.specs.Prelude.{◌≤◌, ◌<◌};
+
 use crate::low_volts::{TEXT, aging_sample, push_packet, sample, two_failing_samples, volts};
 use crate::{Report, RunError, run_one};
 use lc_model::{ByteSink, ByteSource, Limited, Pieces};
 use rpn_compiler::CompileError;
 use rule_lexer::LexError;
 use std::alloc::Global;
+use std::fmt::Debug;
+use std::process::Abort;
 use std::test::Fail;
 
 /// The request of sequence 7, with sequence count 0.
@@ -23,18 +27,33 @@ const REQUEST: [u8; 12] = [0x18, 0xA9, 0xC0, 0, 0, 5, 4, 0x88, 0, 7, 0, 0];
 /// Bytes of a record of sixteen bytes of packet.
 const RECORD: usize = 27;
 
-/// The answer of a run over a stream in pieces, and how many bytes the writer took into the room.
-fn run(
-    alloc: Global,
-    text: &[u8],
+/// Ends the test where the two differ. An assertion that is a call costs the prover a fraction of one that is written out.
+fn same<R: Abort, T: Debug + PartialEq + Drop>(rt: &R, found: T, expected: T) {
+    assert_eq!(rt; found, expected);
+}
+
+/// The answer of a run to the end of its stream.
+fn report(records: u64, output: &[u8]) -> Result<Report, RunError> {
+    Ok(Report {
+        records,
+        bytes: output.len() as u128,
+    })
+}
+
+/// The run of this text over this stream has this answer, and writes exactly these bytes.
+fn answers<R: Abort + AllocGlobal>(
+    rt: &R,
+    text: &str,
     stream: &[u8],
-    room: &mut [u8],
-) -> (Result<Report, RunError>, usize) {
-    let limit = room.len();
+    expected: Result<Report, RunError>,
+    output: &[u8],
+) {
+    let mut room = [0; 64];
     let mut reader = Pieces::new(stream, 99);
-    let mut writer = Limited::new(room, limit);
-    let answer = run_one(alloc, text, &mut reader, &mut writer);
-    (answer, writer.bytes().len())
+    let mut writer = Limited::new(&mut room, 64);
+    let answer = run_one(rt.alloc(), text.as_bytes(), &mut reader, &mut writer);
+    assert_eq!(rt; answer, expected, "of {text}");
+    assert_eq!(rt; writer.bytes(), output, "of {text}");
 }
 
 /// The stream of these packets.
@@ -46,20 +65,24 @@ fn stream_of(alloc: Global, packets: &[[u8; 16]]) -> Result<Vec<u8>, Fail> {
     Ok(stream)
 }
 
+/// The run of this text over these packets comes to their end, and writes exactly these bytes.
+fn writes<R: Abort + AllocGlobal>(
+    rt: &R,
+    text: &str,
+    packets: &[[u8; 16]],
+    output: &[u8],
+) -> Result<(), Fail> {
+    let stream = stream_of(rt.alloc(), packets)?;
+    let expected = report(packets.len() as u64, output);
+    answers(rt, text, stream.as_slice(), expected, output);
+    Ok(())
+}
+
 #[test]
 fn two_failing_samples_request_the_sequence(rt: HostRuntime) -> Result<(), Fail> {
     let stream = two_failing_samples(rt.alloc())?;
-    let mut room = [0; 64];
-    let (answer, taken) = run(rt.alloc(), TEXT.as_bytes(), stream.as_slice(), &mut room);
-    assert_eq!(rt;
-        answer,
-        Ok(Report {
-            records: 4,
-            bytes: 12
-        })
-    );
-    assert_eq!(rt; taken, 12);
-    assert_eq!(rt; &room[..12], REQUEST.as_slice());
+    let expected = report(4, &REQUEST);
+    answers(&rt, TEXT, stream.as_slice(), expected, &REQUEST);
     Ok(())
 }
 
@@ -73,53 +96,19 @@ fn passive_after_its_request(rt: HostRuntime) -> Result<(), Fail> {
         volts(2399),
         sample(),
     ];
-    let stream = stream_of(rt.alloc(), &packets)?;
-    let mut room = [0; 64];
-    let (answer, taken) = run(rt.alloc(), TEXT.as_bytes(), stream.as_slice(), &mut room);
-    assert_eq!(rt;
-        answer,
-        Ok(Report {
-            records: 6,
-            bytes: 12
-        })
-    );
-    assert_eq!(rt; taken, 12);
-    assert_eq!(rt; &room[..12], REQUEST.as_slice());
-    Ok(())
+    writes(&rt, TEXT, &packets, &REQUEST)
 }
 
 #[test]
 fn no_limit_missed(rt: HostRuntime) -> Result<(), Fail> {
     let packets = [volts(2400), sample(), volts(2400), sample()];
-    let stream = stream_of(rt.alloc(), &packets)?;
-    let mut room = [0; 64];
-    let (answer, _) = run(rt.alloc(), TEXT.as_bytes(), stream.as_slice(), &mut room);
-    assert_eq!(rt;
-        answer,
-        Ok(Report {
-            records: 4,
-            bytes: 0
-        })
-    );
-    Ok(())
+    writes(&rt, TEXT, &packets, &[])
 }
 
 #[test]
 fn stale_after_two_agings(rt: HostRuntime) -> Result<(), Fail> {
     let packets = [volts(2399), aging_sample(), aging_sample(), aging_sample()];
-    let stream = stream_of(rt.alloc(), &packets)?;
-    let mut room = [0; 64];
-    let (answer, taken) = run(rt.alloc(), TEXT.as_bytes(), stream.as_slice(), &mut room);
-    assert_eq!(rt;
-        answer,
-        Ok(Report {
-            records: 4,
-            bytes: 12
-        })
-    );
-    assert_eq!(rt; taken, 12);
-    assert_eq!(rt; &room[..12], REQUEST.as_slice());
-    Ok(())
+    writes(&rt, TEXT, &packets, &REQUEST)
 }
 
 #[test]
@@ -129,15 +118,7 @@ fn a_packet_too_short_for_the_field_is_an_error(rt: HostRuntime) -> Result<(), F
     for packet in [short.as_slice(), &sample(), &sample()] {
         push_packet(&mut stream, packet)?;
     }
-    let mut room = [0; 64];
-    let (answer, _) = run(rt.alloc(), TEXT.as_bytes(), stream.as_slice(), &mut room);
-    assert_eq!(rt;
-        answer,
-        Ok(Report {
-            records: 3,
-            bytes: 0
-        })
-    );
+    answers(&rt, TEXT, stream.as_slice(), report(3, &[]), &[]);
     Ok(())
 }
 
@@ -161,31 +142,12 @@ fn other_packets_lead_to_nothing(rt: HostRuntime) -> Result<(), Fail> {
         empty_range,
         sample(),
     ];
-    let stream = stream_of(rt.alloc(), &packets)?;
-    let mut room = [0; 64];
-    let (answer, _) = run(rt.alloc(), TEXT.as_bytes(), stream.as_slice(), &mut room);
-    assert_eq!(rt;
-        answer,
-        Ok(Report {
-            records: 7,
-            bytes: 0
-        })
-    );
-    Ok(())
+    writes(&rt, TEXT, &packets, &[])
 }
 
 #[test]
 fn an_empty_stream_has_no_records(rt: HostRuntime) {
-    let mut room = [0; 64];
-    let (answer, taken) = run(rt.alloc(), TEXT.as_bytes(), &[], &mut room);
-    assert_eq!(rt;
-        answer,
-        Ok(Report {
-            records: 0,
-            bytes: 0
-        })
-    );
-    assert_eq!(rt; taken, 0);
+    answers(&rt, TEXT, &[], report(0, &[]), &[]);
 }
 
 #[test]
@@ -196,9 +158,9 @@ fn a_refused_text_reads_nothing(rt: HostRuntime) -> Result<(), Fail> {
     let mut writer = Limited::new(&mut room, 64);
     let answer = run_one(rt.alloc(), b"@", &mut reader, &mut writer);
     let error = CompileError::Lex(LexError::BadByte { at: 0 });
-    assert_eq!(rt; answer, Err(RunError::Compile { text: 0, error }));
-    assert_eq!(rt; reader.reads(), 0);
-    assert_eq!(rt; writer.bytes().len(), 0);
+    same(&rt, answer, Err(RunError::Compile { text: 0, error }));
+    same(&rt, reader.reads(), 0);
+    same(&rt, writer.bytes().len(), 0);
     Ok(())
 }
 
@@ -227,39 +189,33 @@ fn want_of_memory_touches_nothing(rt: HostRuntime) {
     let mut room = [0; 12];
     let mut reader = Pieces::new(&EMPTY_RECORD, 99);
     let mut writer = Limited::new(&mut room, 12);
-    match run_one(rt.alloc(), TEXT.as_bytes(), &mut reader, &mut writer) {
-        Ok(report) => assert_eq!(rt;
-            report,
-            Report {
-                records: 1,
-                bytes: 0
-            }
-        ),
-        Err(error) => {
-            assert_eq!(rt; error, RunError::Memory);
-            assert_eq!(rt; reader.reads(), 0);
-        }
+    let answer = run_one(rt.alloc(), TEXT.as_bytes(), &mut reader, &mut writer);
+    same(&rt, writer.bytes().len(), 0);
+    if answer.is_ok() {
+        same(&rt, answer, report(1, &[]));
+    } else {
+        same(&rt, answer, Err(RunError::Memory));
+        same(&rt, reader.reads(), 0);
     }
-    assert_eq!(rt; writer.bytes().len(), 0);
+}
+
+/// The low-volts rule requests its sequence, however many bytes each read takes.
+fn writes_in_pieces<R: Abort + AllocGlobal>(rt: &R, stream: &[u8], most: usize)
+    requires { 0 < most }
+{
+    let mut room = [0; 64];
+    let mut reader = Pieces::new(stream, most);
+    let mut writer = Limited::new(&mut room, 64);
+    let answer = run_one(rt.alloc(), TEXT.as_bytes(), &mut reader, &mut writer);
+    same(rt, answer, report(4, &REQUEST));
+    assert_eq!(rt; writer.bytes(), REQUEST.as_slice(), "pieces of {most}");
 }
 
 #[test]
 fn pieces_make_no_difference(rt: HostRuntime) -> Result<(), Fail> {
     let stream = two_failing_samples(rt.alloc())?;
     for most in [1, 7, 1000] {
-        let mut room = [0; 64];
-        let mut reader = Pieces::new(stream.as_slice(), most);
-        let mut writer = Limited::new(&mut room, 64);
-        let answer = run_one(rt.alloc(), TEXT.as_bytes(), &mut reader, &mut writer);
-        assert_eq!(rt;
-            answer,
-            Ok(Report {
-                records: 4,
-                bytes: 12
-            }),
-            "pieces of {most}"
-        );
-        assert_eq!(rt; writer.bytes(), REQUEST.as_slice(), "pieces of {most}");
+        writes_in_pieces(&rt, stream.as_slice(), most);
     }
     Ok(())
 }
@@ -269,19 +225,13 @@ fn a_stream_cut_in_each_byte(rt: HostRuntime) -> Result<(), Fail> {
     let stream = two_failing_samples(rt.alloc())?;
     assert_eq!(rt; stream.len(), 4 * RECORD);
     for cut in 0..4 * RECORD {
-        let mut room = [0; 64];
-        let (answer, taken) = run(rt.alloc(), TEXT.as_bytes(), &stream[..cut], &mut room);
         let whole = (cut / RECORD) as u64;
-        let wanted = if cut % RECORD == 0 {
-            Ok(Report {
-                records: whole,
-                bytes: 0,
-            })
+        let expected = if cut % RECORD == 0 {
+            report(whole, &[])
         } else {
             Err(RunError::Truncated { n: whole + 1 })
         };
-        assert_eq!(rt; answer, wanted, "cut at {cut}");
-        assert_eq!(rt; taken, 0, "cut at {cut}");
+        answers(&rt, TEXT, &stream[..cut], expected, &[]);
     }
     Ok(())
 }
@@ -298,43 +248,54 @@ fn a_bad_record_ends_the_run(rt: HostRuntime) -> Result<(), Fail> {
         let mut stream = two_failing_samples(rt.alloc())?;
         stream.extend_from_slice(&header)?;
         push_packet(&mut stream, &sample())?;
-        let mut room = [0; 64];
-        let (answer, taken) = run(rt.alloc(), TEXT.as_bytes(), stream.as_slice(), &mut room);
-        assert_eq!(rt; answer, Err(RunError::BadRecord { n: 5 }), "{header:?}");
-        assert_eq!(rt; taken, 12, "{header:?}");
+        let expected = Err(RunError::BadRecord { n: 5 });
+        answers(&rt, TEXT, stream.as_slice(), expected, &REQUEST);
     }
     Ok(())
+}
+
+/// A run over single bytes ends at the read that fails, and writes so many bytes before.
+fn ends_at_read<R: Abort + AllocGlobal>(rt: &R, stream: &[u8], read: u64, written: usize) {
+    let mut room = [0; 64];
+    let mut reader = Pieces::failing_at(stream, 1, read);
+    let mut writer = Limited::new(&mut room, 64);
+    let answer = run_one(rt.alloc(), TEXT.as_bytes(), &mut reader, &mut writer);
+    same(rt, answer, Err(RunError::Read));
+    same(rt, reader.reads(), read);
+    assert_eq!(rt; writer.bytes().len(), written, "read {read}");
 }
 
 #[test]
 fn a_reader_that_fails_at_each_read(rt: HostRuntime) -> Result<(), Fail> {
     let stream = two_failing_samples(rt.alloc())?;
     // By single bytes there is one read for each byte, and one that finds the end.
-    for read in 1..=4 * RECORD as u64 + 1 {
-        let mut room = [0; 64];
-        let mut reader = Pieces::failing_at(stream.as_slice(), 1, read);
-        let mut writer = Limited::new(&mut room, 64);
-        let answer = run_one(rt.alloc(), TEXT.as_bytes(), &mut reader, &mut writer);
-        assert_eq!(rt; answer, Err(RunError::Read), "read {read}");
-        let wanted = if read > 4 * RECORD as u64 { 12 } else { 0 };
-        assert_eq!(rt; writer.bytes().len(), wanted, "read {read}");
-        assert_eq!(rt; reader.reads(), read);
+    let last = 4 * RECORD as u64 + 1;
+    for read in 1..last {
+        ends_at_read(&rt, stream.as_slice(), read, 0);
     }
+    ends_at_read(&rt, stream.as_slice(), last, 12);
     Ok(())
+}
+
+/// A run whose writer takes so many bytes ends there, with so much of the request written.
+fn ends_behind<R: Abort + AllocGlobal>(rt: &R, stream: &[u8], limit: usize)
+    requires { limit ≤ 12 }
+{
+    let mut room = [0; 12];
+    let mut reader = Pieces::new(stream, 99);
+    let mut writer = Limited::new(&mut room, limit);
+    let answer = run_one(rt.alloc(), TEXT.as_bytes(), &mut reader, &mut writer);
+    let sent = limit as u128;
+    same(rt, answer, Err(RunError::Write { sent }));
+    same(rt, Some(writer.bytes()), REQUEST.get(..limit));
+    same(rt, writer.failed(), true);
 }
 
 #[test]
 fn a_writer_that_fails_behind_each_byte(rt: HostRuntime) -> Result<(), Fail> {
     let stream = two_failing_samples(rt.alloc())?;
     for limit in 0..12 {
-        let mut room = [0; 12];
-        let mut reader = Pieces::new(stream.as_slice(), 99);
-        let mut writer = Limited::new(&mut room, limit);
-        let answer = run_one(rt.alloc(), TEXT.as_bytes(), &mut reader, &mut writer);
-        let sent = limit as u128;
-        assert_eq!(rt; answer, Err(RunError::Write { sent }));
-        assert_eq!(rt; writer.bytes(), &REQUEST[..limit]);
-        assert!(rt; writer.failed());
+        ends_behind(&rt, stream.as_slice(), limit);
     }
     Ok(())
 }

@@ -1,5 +1,6 @@
 //! How a ground team makes table files from a rule text, and judges files before they go up.
 
+use super::same;
 use crate::low_volts::TEXT;
 use lc_model::Kind;
 use rpn_compiler::compile;
@@ -36,8 +37,8 @@ fn is_refused<R: Abort>(rt: &R, kind: Kind, file: &[u8], code: FaultCode, entry:
 #[test]
 fn both_files_of_a_text_may_go_up(rt: HostRuntime) -> Result<(), Fail> {
     let pair = compile(rt.alloc(), TEXT.as_bytes())?;
-    assert_eq!(rt; judge(Kind::Wdt, pair.wdt.as_slice()), Ok(()));
-    assert_eq!(rt; judge(Kind::Adt, pair.adt.as_slice()), Ok(()));
+    same(&rt, judge(Kind::Wdt, pair.wdt.as_slice()), Ok(()));
+    same(&rt, judge(Kind::Adt, pair.adt.as_slice()), Ok(()));
     // Each as the other's table: the image has another size.
     is_refused(
         &rt,
@@ -52,8 +53,8 @@ fn both_files_of_a_text_may_go_up(rt: HostRuntime) -> Result<(), Fail> {
 #[test]
 fn so_may_the_files_of_the_empty_text(rt: HostRuntime) -> Result<(), Fail> {
     let pair = compile(rt.alloc(), b"")?;
-    assert_eq!(rt; judge(Kind::Wdt, pair.wdt.as_slice()), Ok(()));
-    assert_eq!(rt; judge(Kind::Adt, pair.adt.as_slice()), Ok(()));
+    same(&rt, judge(Kind::Wdt, pair.wdt.as_slice()), Ok(()));
+    same(&rt, judge(Kind::Adt, pair.adt.as_slice()), Ok(()));
     Ok(())
 }
 

@@ -1,11 +1,12 @@
 //! Long runs from memory. They print how fast they were: they are the project's benchmarks of `run_one`.
 
 use crate::low_volts::{TEXT, aging_sample, push_packet, sample, volts};
-use crate::run_one;
+use crate::{Report, run_one};
 use lc_model::{Limited, Pieces};
 use std::alloc::{AllocError, Global};
+use std::rt::Clock;
 use std::test::Fail;
-use std::time::Instant;
+use std::time::{Duration, Instant};
 
 /// The records of the stream.
 const RECORDS: u32 = 1_000_000;
@@ -35,22 +36,28 @@ fn records(alloc: Global, count: u32) -> Result<Vec<u8>, AllocError> {
     Ok(stream)
 }
 
+/// What a run over a stream from memory answers, and how long it takes.
+fn measured<R: AllocGlobal + Clock>(
+    rt: &R,
+    text: &[u8],
+    stream: &[u8],
+) -> Result<(Report, Duration), Fail> {
+    let mut room = [0; 64];
+    let mut reader = Pieces::new(stream, 65_536);
+    let mut writer = Limited::new(&mut room, 64);
+    let start = Instant::now(rt)?;
+    let report = run_one(rt.alloc(), text, &mut reader, &mut writer)?;
+    Ok((report, start.elapsed(rt)?))
+}
+
 /// Two samples in a row see a voltage below 2,400 sooner or later, and the rule asks once.
 #[test]
 fn a_million_records(rt: HostRuntime) -> Result<(), Fail> {
     let stream = records(rt.alloc(), RECORDS)?;
-    let mut room = [0; 64];
-    let mut reader = Pieces::new(stream.as_slice(), 65_536);
-    let mut writer = Limited::new(&mut room, 64);
-    let start = Instant::now(&rt)?;
-    let report = run_one(rt.alloc(), TEXT.as_bytes(), &mut reader, &mut writer)?;
-    let microseconds = start.elapsed(&rt)?.as_micros().max(1);
-    println!(&rt;
-        "{} records a second",
-        u128::from(RECORDS) * 1_000_000 / microseconds
-    )?;
-    assert_eq!(rt; report.records, u64::from(RECORDS));
-    assert_eq!(rt; report.bytes, 12);
+    let (report, time) = measured(&rt, TEXT.as_bytes(), stream.as_slice())?;
+    let records_a_second = u128::from(RECORDS) * 1_000_000 / time.as_micros().max(1);
+    println!(&rt; "{records_a_second} records a second")?;
+    assert_eq!(rt; (report.records, report.bytes), (u64::from(RECORDS), 12));
     Ok(())
 }
 
@@ -62,22 +69,16 @@ const COMPARISONS: usize = 10;
 /// The sample requests of all rules.
 const SAMPLES: u32 = 500;
 
-/// Adds a number below 1,000 in three digits.
-fn push_number(text: &mut Vec<u8>, number: usize) -> Result<(), AllocError> {
-    for place in [100, 10, 1] {
-        text.push(b'0' + (number / place % 10) as u8)?;
-    }
-    Ok(())
-}
-
-/// A rule with ten comparisons joined by `and`, over 170 numbers in turn.
-fn push_full_rule(text: &mut Vec<u8>, rule: usize) -> Result<(), AllocError> {
-    text.extend_from_slice(b"rule R")?;
-    push_number(text, rule)?;
-    text.extend_from_slice(b" active fails 1 sequence 7 event info 1001 \"\" when V < 0")?;
+/// Adds a rule with ten comparisons joined by `and`, over 170 numbers in turn.
+fn push_full_rule(alloc: Global, text: &mut Vec<u8>, rule: usize) -> Result<(), AllocError> {
+    let head = format!(in alloc;
+        "rule R{rule} active fails 1 sequence 7 event info 1001 \"\" when V < 0"
+    )?;
+    text.extend_from_slice(head.as_bytes())?;
     for place in 1..COMPARISONS {
-        text.extend_from_slice(b" and V < ")?;
-        push_number(text, (rule % 170 * COMPARISONS + place) % 170)?;
+        let number = (rule % 170 * COMPARISONS + place) % 170;
+        let comparison = format!(in alloc; " and V < {number}")?;
+        text.extend_from_slice(comparison.as_bytes())?;
     }
     text.extend_from_slice(b"; ")
 }
@@ -86,7 +87,7 @@ fn push_full_rule(text: &mut Vec<u8>, rule: usize) -> Result<(), AllocError> {
 fn full_text(alloc: Global) -> Result<Vec<u8>, AllocError> {
     let mut text = b"packet P = mid 0x0883 length 16; field V = P u16be at 12; ".to_vec(alloc)?;
     for rule in 0..RULES {
-        push_full_rule(&mut text, rule)?;
+        push_full_rule(alloc, &mut text, rule)?;
     }
     Ok(text)
 }
@@ -99,14 +100,9 @@ fn samples_of_full_tables(rt: HostRuntime) -> Result<(), Fail> {
     for _ in 0..SAMPLES {
         push_packet(&mut stream, &sample())?;
     }
-    let mut room = [0; 64];
-    let mut reader = Pieces::new(stream.as_slice(), 65_536);
-    let mut writer = Limited::new(&mut room, 64);
-    let start = Instant::now(&rt)?;
-    let report = run_one(rt.alloc(), text.as_slice(), &mut reader, &mut writer)?;
-    let nanoseconds = start.elapsed(&rt)?.as_nanos();
+    let (report, time) = measured(&rt, text.as_slice(), stream.as_slice())?;
     let words = u128::from(SAMPLES) * (RULES * 2 * COMPARISONS) as u128;
-    println!(&rt; "{} picoseconds a word", nanoseconds * 1_000 / words)?;
+    println!(&rt; "{} picoseconds a word", time.as_nanos() * 1_000 / words)?;
     assert_eq!(rt; (report.records, report.bytes), (u64::from(SAMPLES) + 1, 0));
     Ok(())
 }

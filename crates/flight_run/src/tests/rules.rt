@@ -1,15 +1,12 @@
 //! Runs of whole rule texts: several rules, operators, signed and masked fields, ages, ranges.
 
-use super::{run, stream_of};
+use super::{REQUEST, answers, stream_of, writes};
+use crate::RunError;
 use crate::low_volts::{aging_sample, sample, volts};
-use crate::{Report, RunError};
 use rpn_compiler::CompileError;
-use std::process::Abort;
 use std::test::Fail;
 
-/// The request of sequence 7 with sequence count 0, and of sequence 9 with counts 0 and 1.
-const SEQUENCE_7: [u8; 12] = [0x18, 0xA9, 0xC0, 0, 0, 5, 4, 0x88, 0, 7, 0, 0];
-
+/// The request of sequence 9, with sequence counts 0 and 1.
 const SEQUENCE_9: [u8; 12] = [0x18, 0xA9, 0xC0, 0, 0, 5, 4, 0x86, 0, 9, 0, 0];
 
 const SEQUENCE_9_NEXT: [u8; 12] = [0x18, 0xA9, 0xC0, 1, 0, 5, 4, 0x87, 0, 9, 0, 0];
@@ -26,36 +23,17 @@ fn sample_range(first: u8, last: u8) -> [u8; 16] {
     request
 }
 
-/// The run over these packets writes exactly these bytes.
-fn writes<R: Abort + AllocGlobal>(
-    rt: &R,
-    text: &str,
-    packets: &[[u8; 16]],
-    expected: &[u8],
-) -> Result<(), Fail> {
-    let stream = stream_of(rt.alloc(), packets)?;
-    let mut room = [0; 64];
-    let (answer, taken) = run(rt.alloc(), text.as_bytes(), stream.as_slice(), &mut room);
-    let report = Report {
-        records: packets.len() as u64,
-        bytes: expected.len() as u128,
-    };
-    assert_eq!(rt; answer, Ok(report), "of {text}");
-    assert_eq!(rt; room.get(..taken), Some(expected), "of {text}");
-    Ok(())
-}
-
 #[test]
 fn two_rules_in_order(rt: HostRuntime) -> Result<(), Fail> {
     let mut both = [0; 24];
-    both[..12].copy_from_slice(&SEQUENCE_7);
+    both[..12].copy_from_slice(&REQUEST);
     both[12..].copy_from_slice(&SEQUENCE_9_NEXT);
     let packets = [volts(2399), sample(), sample()];
     writes(&rt, TWO_RULES, &packets, &both)?;
     let packets = [volts(2399), sample_range(1, 1), sample_range(1, 175)];
     writes(&rt, TWO_RULES, &packets, &SEQUENCE_9)?;
     let packets = [volts(2399), sample_range(0, 0), sample_range(0, 1)];
-    writes(&rt, TWO_RULES, &packets, &SEQUENCE_7)
+    writes(&rt, TWO_RULES, &packets, &REQUEST)
 }
 
 #[test]
@@ -63,7 +41,7 @@ fn not_and_a_packet_that_never_came(rt: HostRuntime) -> Result<(), Fail> {
     let text = "packet P = mid 0x0883 length 16; field V = P u16be at 12 stale 2; \
         packet Q = mid 0x0884 length 16; field X = Q u8 at 12; \
         rule R active fails 2 sequence 7 event error 1001 \"\" when not (V < 2400 and X == 1);";
-    writes(&rt, text, &[volts(3000), sample(), sample()], &SEQUENCE_7)?;
+    writes(&rt, text, &[volts(3000), sample(), sample()], &REQUEST)?;
     // A low voltage leaves the other watchpoint to decide, which is stale.
     writes(&rt, text, &[volts(2399), sample(), sample()], &[])
 }
@@ -90,7 +68,7 @@ fn operators_and_parentheses(rt: HostRuntime) -> Result<(), Fail> {
         let text = "packet P = mid 0x0883 length 16; field V = P u16be at 12; \
             rule R active fails 1 sequence 7 event info 1001 \"\" when CONDITION;"
             .replace(rt.alloc(), "CONDITION", condition)?;
-        let expected = if fails { SEQUENCE_7.as_slice() } else { &[] };
+        let expected = if fails { REQUEST.as_slice() } else { &[] };
         writes(&rt, &text, &[volts(2399), sample()], expected)?;
     }
     Ok(())
@@ -112,7 +90,7 @@ fn signed_and_masked_fields(rt: HostRuntime) -> Result<(), Fail> {
             rule R active fails 1 sequence 7 event info 1001 \"\" when V COMPARISON;"
             .replace(rt.alloc(), "FIELD", field)?
             .replace(rt.alloc(), "COMPARISON", comparison)?;
-        let expected = if fails { SEQUENCE_7.as_slice() } else { &[] };
+        let expected = if fails { REQUEST.as_slice() } else { &[] };
         writes(&rt, &text, &[volts(value), sample()], expected)?;
     }
     Ok(())
@@ -163,10 +141,8 @@ fn a_text_beyond_the_limits_reads_nothing(rt: HostRuntime) -> Result<(), Fail> {
         rule R active fails 1 sequence 7 event info 1001 \"\" when not (V < 0 and V < 1 and V < 2 and V < 3 and V < 4 \
         and V < 5 and V < 6 and V < 7 and V < 8 and V < 9);";
     let stream = stream_of(rt.alloc(), &[volts(2399), sample()])?;
-    let mut room = [0; 64];
-    let (answer, taken) = run(rt.alloc(), text.as_bytes(), stream.as_slice(), &mut room);
     let error = CompileError::EquationTooLong { rule: 0 };
-    assert_eq!(rt; answer, Err(RunError::Compile { text: 0, error }));
-    assert_eq!(rt; taken, 0);
+    let expected = Err(RunError::Compile { text: 0, error });
+    answers(&rt, text, stream.as_slice(), expected, &[]);
     Ok(())
 }

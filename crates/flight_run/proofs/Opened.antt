@@ -1,0 +1,60 @@
+-- A file that the compiler wrote: the image in it is the one that was wrapped, and is taken.
+use Rattle.std.proofs.Common.{◌≡◌, refl, sym, ap, ◌∙◌, List, [], ℕ, length, Result, Ok, Err, None, arith}
+use Rattle.std.specs.Result.{IsOk}
+use Rattle.lc_model.specs.declared.kind.Kind.{Kind}
+use Rattle.lc_model.specs.declared.kind.Kind.TheVariants.{Wdt, Adt}
+use Rattle.lc_model.specs.Laws.Tables.{IsTableFile}
+use Rattle.lc_model.specs.Tables.File.{TableFile, wrapped}
+use Rattle.lc_model.specs.Tables.Image.{version_1_layouts, IsSound, fault_of}
+use Rattle.lc_model.specs.Tables.Interpretation.{compiled_size}
+use Rattle.table_file.specs.declared.error.FileError.{FileError}
+use Rattle.table_validator.specs.declared.fault.TableFault.{TableFault}
+use Rattle.table_validator.specs.Fault.{refusal}
+use Rattle.table_validator.specs.Sound.{TableImage}
+
+-- the image of the answer
+image_of : Result TableFile FileError → List ℕ
+image_of (Ok file) = file.image
+image_of (Err _) = []
+
+-- an answer without a fault is an image
+taken : (r : Result TableImage TableFault) → refusal r ≡ None → IsOk r
+taken (Ok image) e = refl
+taken (Err fault) e = absurd (cc e)
+
+-- what was wrapped fits the fields of a file
+pub fits : (kind : Kind) (image : List ℕ) → length image ≡ compiled_size version_1_layouts kind → IsTableFile (wrapped kind image)
+fits Wdt image size = record {
+  spacecraft = omega arith;
+  processor = omega arith;
+  application = omega arith;
+  seconds = omega arith;
+  subseconds = omega arith;
+  reserved = omega arith;
+  description = refl;
+  name_field = refl;
+  image = omega arith;
+}
+fits Adt image size = record {
+  spacecraft = omega arith;
+  processor = omega arith;
+  application = omega arith;
+  seconds = omega arith;
+  subseconds = omega arith;
+  reserved = omega arith;
+  description = refl;
+  name_field = refl;
+  image = omega arith;
+}
+
+module _ (kind : Kind) (opened : Result TableFile FileError) (file : TableFile) (image : List ℕ) (opens : opened ≡ Ok file)
+    (is_wrapped : opened ≡ Ok (wrapped kind image)) where
+  -- what the file's reader gives is the image
+  pub same : file.image ≡ image
+  unfolding image_of
+  same = ap image_of (sym opens ∙ is_wrapped)
+
+  -- the validator takes it
+  pub is_taken : (found : List ℕ) → found ≡ file.image → IsSound version_1_layouts kind image → (r : Result TableImage TableFault) →
+      refusal r ≡ fault_of version_1_layouts kind found → IsOk r
+  is_taken found found_is sound r answer = taken r (answer ∙ ap (fault_of version_1_layouts kind) (found_is ∙ same) ∙ sound)
