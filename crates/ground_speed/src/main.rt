@@ -3,13 +3,13 @@
 //! measures the process.
 #![tactic(auto)]
 
-mod items;
 mod texts;
 
-use crate::texts::TEXT_SIZE;
+use crate::texts::{SHORT_NAME, TEXT_SIZE};
 use field_checker::check;
 use rpn_compiler::compile;
 use rule_lexer::lex;
+use rule_parser::parse;
 use std::env;
 use std::time::Instant;
 
@@ -17,10 +17,7 @@ use std::time::Instant;
 const TEXT_SIZES: [usize; 3] = [16_384, 32_768, TEXT_SIZE];
 
 /// The bytes of a name: short, and as long as a name may be.
-const NAME_SIZES: [usize; 2] = [5, 32];
-
-/// The bytes of `field`, a blank and `=P u8 at 0;`, which stand around each name.
-const BYTES_AROUND: usize = 17;
+const NAME_SIZES: [usize; 2] = [SHORT_NAME, 32];
 
 /// How often each text is handled.
 const RUNS: u32 = 50;
@@ -42,22 +39,29 @@ fn measure_lexer(rt: &HostRuntime) -> anyhow::Result<()> {
     Ok(())
 }
 
-/// Checks the items of texts that declare as many fields as they have room for, under short names and under the longest,
-/// and prints the microseconds of a check.
+/// Checks the items of a text that declares fields, and prints the microseconds of a check.
+fn measure_check(rt: &HostRuntime, text: &[u8]) -> anyhow::Result<()> {
+    let tokens = lex(rt.alloc(), text)?;
+    let file = parse(rt.alloc(), text, &tokens)?;
+    let start = Instant::now(rt)?;
+    for _ in 0..RUNS {
+        check(rt.alloc(), &file)?;
+    }
+    let microseconds = start.elapsed(rt)?.as_micros() / u128::from(RUNS);
+    println!(rt;
+        "{} bytes, {} items: {microseconds} microseconds",
+        text.len(),
+        file.items.len()
+    )?;
+    Ok(())
+}
+
+/// Checks texts that declare as many fields as they have room for, under short names and under the longest.
 fn measure_checker(rt: &HostRuntime) -> anyhow::Result<()> {
     for name_size in NAME_SIZES {
         for text_size in TEXT_SIZES {
-            let count = text_size / (name_size + BYTES_AROUND);
-            let names = items::names_of(rt.alloc(), count, name_size)?;
-            let file = items::file_of(rt.alloc(), &names)?;
-            let start = Instant::now(rt)?;
-            for _ in 0..RUNS {
-                check(rt.alloc(), &file)?;
-            }
-            let microseconds = start.elapsed(rt)?.as_micros() / u128::from(RUNS);
-            println!(rt;
-                "{text_size} bytes, {count} names of {name_size} bytes: {microseconds} microseconds"
-            )?;
+            let text = texts::declarations(rt.alloc(), name_size, text_size)?;
+            measure_check(rt, &text)?;
         }
     }
     Ok(())
@@ -95,7 +99,7 @@ fn main(rt: HostRuntime) -> anyhow::Result<()> {
         ),
         (Some("compiler"), Some("declarations")) => measure_compiler(
             &rt,
-            &texts::declarations(rt.alloc())?,
+            &texts::declarations(rt.alloc(), SHORT_NAME, TEXT_SIZE)?,
         ),
         (Some("compiler"), Some("longest")) => measure_compiler(&rt, &texts::longest(rt.alloc())?),
         _ => {

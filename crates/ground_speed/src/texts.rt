@@ -1,11 +1,12 @@
 //! Rule texts of the greatest sizes.
 
-ghost use Rattle.std.specs.Prelude.{◌≡◌, length, IfOk};
-
 use std::alloc::{AllocError, Global};
 
 /// The longest text that the lexer takes.
 pub const TEXT_SIZE: usize = 65_536;
+
+/// The bytes of a short name.
+pub const SHORT_NAME: usize = 5;
 
 /// The most rules.
 const RULES: usize = 176;
@@ -20,14 +21,13 @@ const COMPARISONS: usize = 10;
 const LINE: &[u8] =
     b"rule LOW_VOLTS active fails 2 sequence 7 event error 1001 \"low volts\" when BUS_VOLTS < 2400; # bus A\n";
 
-/// The line again and again, up to this size: a text for the lexer alone.
-pub fn lines(alloc: Global, size: usize) -> Result<Vec<u8>, AllocError>
-    ensures { IfOk result (λ text. length text.items ≡ size) }
-{
+/// The line again and again, and blanks up to this size: a text for the lexer alone.
+pub fn lines(alloc: Global, size: usize) -> Result<Vec<u8>, AllocError> {
     let mut text = Vec::new(alloc);
-    for at in 0..size {
-        text.push(LINE[at % LINE.len()])?;
+    for _ in 0..size / LINE.len() {
+        text.extend_from_slice(LINE)?;
     }
+    text.resize(size, b' ')?;
     Ok(text)
 }
 
@@ -51,11 +51,17 @@ fn push_full_rule(alloc: Global, text: &mut Vec<u8>, rule: usize) -> Result<(), 
     text.extend_from_slice(b";\n")
 }
 
-/// Adds as many fields as there is room for below the longest text.
-fn push_fields(alloc: Global, text: &mut Vec<u8>) -> Result<(), AllocError> {
+/// Adds as many fields as there is room for below a size. Their names have so many bytes, and differ in their last four.
+fn push_fields(
+    alloc: Global,
+    text: &mut Vec<u8>,
+    name_size: usize,
+    text_size: usize,
+) -> Result<(), AllocError> {
+    let name = "F".repeat(alloc, name_size.saturating_sub(4))?;
     for number in 0..10_000 {
-        let field = format!(in alloc; "field F{number:04}=P u8 at 0;")?;
-        if text.len() + field.len() > TEXT_SIZE {
+        let field = format!(in alloc; "field {name}{number:04}=P u8 at 0;")?;
+        if text.len() + field.len() > text_size {
             break;
         }
         text.extend_from_slice(field.as_bytes())?;
@@ -72,17 +78,21 @@ pub fn full_tables(alloc: Global) -> Result<Vec<u8>, AllocError> {
     Ok(text)
 }
 
-/// Thousands of declarations, up to the longest text, and no rule.
-pub fn declarations(alloc: Global) -> Result<Vec<u8>, AllocError> {
+/// Thousands of declarations, up to this size, and no rule.
+pub fn declarations(
+    alloc: Global,
+    name_size: usize,
+    text_size: usize,
+) -> Result<Vec<u8>, AllocError> {
     let mut text = begun(alloc)?;
-    push_fields(alloc, &mut text)?;
+    push_fields(alloc, &mut text, name_size, text_size)?;
     Ok(text)
 }
 
 /// Full tables, as many more declarations as there is room for, and blanks up to the longest text.
 pub fn longest(alloc: Global) -> Result<Vec<u8>, AllocError> {
     let mut text = full_tables(alloc)?;
-    push_fields(alloc, &mut text)?;
+    push_fields(alloc, &mut text, SHORT_NAME, TEXT_SIZE)?;
     text.resize(TEXT_SIZE, b' ')?;
     Ok(text)
 }
