@@ -5,7 +5,7 @@ use Rattle.std.proofs.lemmas.List.Elements.{filter_map-append}
 use Rattle.std.proofs.Math.Seq.{take-append-add}
 use Rattle.std.specs.Io.KnownBytes.{Appends, Consumes}
 use Rattle.std.proofs.KnownBytes.{Appends-nil, Appends-trans, Consumes-nil, Consumes-trans}
-use Rattle.lc_model.specs.Host.Stream.{StreamEntry, End, Whole, Bad, Packet, Front, Nothing, Record, NoRecord, CutRecord, packets_alone, front, records_by_front, records_numbered}
+use Rattle.lc_model.specs.Host.Stream.{StreamEntry, End, Whole, Bad, Packet, Front, EndOfStream, Record, NoRecord, CutRecord, packets_alone, front, records_by_front, records_numbered}
 use Rattle.lc_model.specs.Host.Stream as stream
 use Rattle.lc_model.specs.Host.FixedTables.{packet_in}
 use Rattle.lc_model.specs.Laws.Stream.{FrontDecides}
@@ -162,7 +162,7 @@ module _ (decides : FrontDecides) where
       where
         by_front : (f : Front) → IsPart f →
             so_far.entries ++ (records_by_front (rest_of (count + 1 + 1)) (count + 1) f).0 ≡ so_far.entries ++ []
-        by_front Nothing part = refl
+        by_front EndOfStream part = refl
         by_front CutRecord part = refl
         by_front NoRecord part = absurd part
         by_front (Record entry rest) part = absurd part

@@ -2,7 +2,7 @@
 use Rattle.std.specs.Prelude.{◌≡◌, ℕ, ◌+◌, ◌^◌, ◌<◌, ◌≤◌, Bool, true, List, [], ◌++◌, length, take, Option, Some, None}
 use Rattle.std.specs.Io.KnownBytes.{Consumes, IsAtEnd}
 use Rattle.lc_model.specs.declared.record.Moment.{Moment}
-use Rattle.lc_model.specs.Host.Stream.{Front, Nothing, Record, NoRecord, CutRecord, Packet, packets_alone, front}
+use Rattle.lc_model.specs.Host.Stream.{Front, EndOfStream, Record, NoRecord, CutRecord, Packet, packets_alone, front}
 use Rattle.flight_run.specs.declared.intake.Stop.{Stop}
 use Rattle.flight_run.specs.declared.intake.Stop.TheVariants.{Bad, Truncated, Fault, Bound}
 
@@ -53,7 +53,7 @@ pub record EndsHere (left now : Option (List ℕ)) (failed fails : Bool) : Type 
 
 -- nothing, or less than a record
 abbrev pub IsPart : Front → Type 0
-IsPart Nothing = Unit {0}
+IsPart EndOfStream = Unit {0}
 IsPart CutRecord = Unit {0}
 IsPart other = ⊥
 

@@ -1,6 +1,6 @@
 -- What stands in front of a stream decides its records.
 use Rattle.std.proofs.Common.{◌≡◌, refl, ap, subst, ℕ, zero, suc, ◌+◌, ◌<◌, ◌≤◌, Bool, true, false, not, cond, nat_lt, List, [], ◌∷◌, length, take, drop, Option, Some, None, arith, length-drop}
-use Rattle.lc_model.specs.Host.Stream.{StreamEntry, End, Contents, Front, Nothing, Record, NoRecord, CutRecord, header_size, body_size, fits_body, contents_of, moment_of, record_of, front, records_by_front, records_from}
+use Rattle.lc_model.specs.Host.Stream.{StreamEntry, End, Contents, Front, EndOfStream, Record, NoRecord, CutRecord, header_size, body_size, fits_body, contents_of, moment_of, record_of, front, records_by_front, records_from}
 use Rattle.lc_model.specs.Laws.Stream.{FrontDecides}
 
 -- the rest behind a record is shorter
@@ -32,7 +32,7 @@ shorter kinds texts (kind ∷ bytes) entry rest e =
 alike : (others those : List ℕ → List StreamEntry × End) (number : ℕ) (f : Front) →
     ((entry : StreamEntry) (rest : List ℕ) → f ≡ Record entry rest → others rest ≡ those rest) →
     records_by_front others number f ≡ records_by_front those number f
-alike others those number Nothing same = refl
+alike others those number EndOfStream same = refl
 alike others those number NoRecord same = refl
 alike others those number CutRecord same = refl
 alike others those number (Record entry rest) same = ap (λ (r : List StreamEntry × End). (entry ∷ r.0, r.1)) (same entry rest refl)
