@@ -1,6 +1,6 @@
 -- The words of a condition whose mentions are numbered are the words of its equation.
-use Rattle.std.proofs.Common.{◌≡◌, refl, sym, ◌∙◌, ap, ℕ, ◌+◌, ◌<◌, ◌≤◌, List, [], ◌∷◌, ◌++◌, length, map, take, get_or, Vec, Global, arith}
-use Rattle.std.proofs.lemmas.List.{append_assoc, append-nil, get_or-map, length-append, length-map, map-append, take_more}
+use Rattle.std.proofs.Common.{◌≡◌, refl, sym, ◌∙◌, ap, ℕ, ◌+◌, ◌<◌, ◌≤◌, List, [], ◌∷◌, ◌++◌, length, map, get_or, Vec, Global, arith}
+use Rattle.std.proofs.lemmas.List.{append_assoc, append-nil, get_or-map, length-append, length-map, map-append}
 use Rattle.lc_model.specs.declared.rule.Rule.{Rule}
 use Rattle.lc_model.specs.Rule.{rule_of, rules_of}
 use Rattle.lc_model.specs.declared.field.Term.{Term}
@@ -86,9 +86,3 @@ numbers_at terms rules numbers i r v known within rule vector =
     ∙ ap (λ nss. get_or nss i []) known
     ∙ get_or-map (mention_numbers terms) (rules_of rules) i (rule_of r) [] (omega (arith, within, all))
     ∙ ap (mention_numbers terms) (get_or-map rule_of rules i r (rule_of r) within ∙ ap rule_of (sym rule))
-
--- the rules up to a place, and the one that stands there
-pub rules_more : (rules : List Rule) (i : ℕ) (r : Rule) → i < length rules → r ≡ get_or rules i r →
-    rules_of (take (i + 1) rules) ≡ rules_of (take i rules) ++ rule_of r ∷ []
-rules_more rules i r within is =
-    ap rules_of (take_more rules i r within ∙ ap (λ x. take i rules ++ x ∷ []) (sym is)) ∙ map-append rule_of (take i rules) (r ∷ [])

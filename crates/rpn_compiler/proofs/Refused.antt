@@ -1,7 +1,6 @@
 -- The refusal of a text is that of the first part of the compiler that has one.
-use Rattle.std.proofs.Common.{◌≡◌, refl, sym, ap, subst, ℕ, ◌<◌, inl, inr, List, [], ◌∷◌, length}
+use Rattle.std.proofs.Common.{◌≡◌, refl, sym, ap, ℕ, ◌<◌, inl, inr, List, [], ◌∷◌, length}
 use Rattle.std.specs.Prelude.{Some, Result, Ok, Err, IfErr, IfOk, MatchResult}
-use Rattle.std.specs.Result.{IsErrAnd}
 use Rattle.std.specs.List.{AllByRecursion}
 use Rattle.std.proofs.lemmas.Bool.{lt-ltb}
 use Rattle.lc_model.specs.Rule.{NamedRule}
@@ -30,11 +29,6 @@ use Rattle.rpn_compiler.specs.declared.error.CompileError.{CompileError}
 use Rattle.rpn_compiler.specs.declared.error.CompileError.TheVariants.{Memory}
 use Rattle.rpn_compiler.specs.declared.lowered.Lowered.{Lowered}
 use Rattle.rpn_compiler.specs.Fault.{Refuses, refusal_of, error_of_lexer, error_of_parser, error_of_checker, error_of_sharing}
-
--- the error is passed on
-pub passed_on : {T : Type 0} (P : CompileError → Type 0) (r : Result T CompileError) (error : CompileError) → IsErrAnd r (λ e. e ≡ error) → P error → IfErr r P
-passed_on P (Ok x) error is holds = absurd is
-passed_on P (Err e) error is holds = subst P (sym is) holds
 
 -- a refusal is another one, too
 pub also : (P Q : TextRefusal → Type 0) → ((r : TextRefusal) → P r → Q r) → (error : CompileError) → Refuses P error → Refuses Q error

@@ -1,7 +1,5 @@
 -- Parts of a condition, put together: what is taken derives, and the first fault stays where it is.
 use Rattle.std.proofs.Common.{◌≡◌, refl, sym, ◌∙◌, ap, subst, ℕ, ◌+◌, Bool, true, false, ◌||◌, List, [], ◌∷◌, ◌++◌, Option, Some, None, Result, Ok, Err, arith, append_assoc, codes}
-use Rattle.std.specs.Prelude.{MatchResult}
-use Rattle.std.specs.Result.{IsErrAnd}
 use Rattle.lc_model.specs.declared.field.CmpOp.{CmpOp}
 use Rattle.lc_model.specs.Text.Token.{Token}
 use Rattle.lc_model.specs.Text.Syntax as syntax
@@ -32,11 +30,6 @@ pub refuses_too : (P Q : ParseFault → Type 0) → ((fault : ParseFault) → P 
 refuses_too P Q to (error.Expected at what) r = to _ r
 refuses_too P Q to (error.TooNested at) r = to _ r
 refuses_too P Q to error.Memory r = tt
-
-pub passed_on : {T : Type 0} (P : T → Type 0) (Q : ParseError → Type 0) (r : Result T ParseError) (e : ParseError) →
-    IsErrAnd r (λ f. f ≡ e) → Q e → MatchResult r P Q
-passed_on P Q (Ok x) e is q = absurd is
-passed_on P Q (Err f) e is q = subst Q (sym is) q
 
 pub nests_true : (wanted : Class) (before left : Left) (room rest : ℕ) (b : Bool) → b ≡ true → Nests wanted before left room rest (Ok b) →
     Nests wanted before left room rest (Ok true)

@@ -1,9 +1,8 @@
 -- Numbers that watchpoints get as they come, one after the other.
-use Rattle.std.proofs.Common.{◌≡◌, refl, sym, ◌∙◌, ap, subst, ℕ, ◌+◌, ◌≤◌, ◌<◌, ◌⊎◌, inl, inr, Bool, true, false, List, [], ◌∷◌, ◌++◌, length, take, drop, get_or, arith}
+use Rattle.std.proofs.Common.{◌≡◌, refl, sym, ◌∙◌, ap, ℕ, ◌+◌, ◌≤◌, ◌<◌, ◌⊎◌, inl, inr, Bool, true, false, List, [], ◌∷◌, ◌++◌, length, take, drop, get_or, arith}
 use Rattle.std.specs.List.{list_any}
 use Rattle.std.specs.Prelude.{Result, Ok, Err, IfErr}
-use Rattle.std.specs.Result.{IsErrAnd}
-use Rattle.std.proofs.lemmas.List.{append_assoc, append-nil, length-append, map-append, take-append-drop, take_more}
+use Rattle.std.proofs.lemmas.List.{append_assoc, append-nil, length-append, map-append, take-append-drop}
 use Rattle.std.proofs.lemmas.Grind.{flat_map-append}
 use Rattle.lc_model.specs.declared.field.Term.{Term}
 use Rattle.lc_model.specs.declared.rule.Rule.{Rule}
@@ -11,6 +10,7 @@ use Rattle.lc_model.specs.Condition.{condition_of}
 use Rattle.lc_model.specs.Rule.{NamedRule, rule_of, rules_of}
 use Rattle.lc_model.specs.Tables.Equation.{same_term, mentions}
 use Rattle.lc_model.specs.Codes.{table_entries}
+use Rattle.lc_model.proofs.Exits.{rules_more}
 use Rattle.watch_sharing.specs.declared.error.ShareError.{ShareError}
 use Rattle.watch_sharing.specs.declared.error.ShareError.TheVariants.{Memory}
 use Rattle.watch_sharing.specs.Fault.{IsTooManyUnlessMemory}
@@ -67,12 +67,6 @@ rules_push ks (x ∷ rs) r =
     ∙ ap (λ ts. numbers_by_rule (added_all ks (mentions x.action.condition)) rs ++ numbers_among ts (mentions r.action.condition) ∷ [])
     (sym (added_all_append ks (mentions x.action.condition) (all_mentions rs))))
 
--- the rules up to a place, and the one that stands there
-pub rules_more : (rules : List Rule) (i : ℕ) (r : Rule) → i < length rules → r ≡ get_or rules i r →
-    rules_of (take (i + 1) rules) ≡ rules_of (take i rules) ++ rule_of r ∷ []
-rules_more rules i r within is =
-    ap rules_of (take_more rules i r within ∙ ap (λ x. take i rules ++ x ∷ []) (sym is)) ∙ map-append rule_of (take i rules) (r ∷ [])
-
 -- the mentions of all rules go on behind those of the rules up to a place and of the next
 pub all_go_on : (rules : List Rule) (i : ℕ) (r : Rule) → i < length rules → r ≡ get_or rules i r →
     all_mentions (rules_of rules)
@@ -90,12 +84,6 @@ pub one_of_three : {A B C P : Type 0} → (A → P) → (B → P) → (C → P) 
 one_of_three f g h (inl a) = f a
 one_of_three f g h (inr (inl b)) = g b
 one_of_three f g h (inr (inr c)) = h c
-
--- the error is passed on
-pub passed_on : {T : Type 0} (terms : List Term) (r : Result T ShareError) (error : ShareError) → IsErrAnd r (λ e. e ≡ error) →
-    IsTooManyUnlessMemory terms error → IfErr r (IsTooManyUnlessMemory terms)
-passed_on terms (Ok found) error is fault = absurd is
-passed_on terms (Err other) error is fault = subst (IsTooManyUnlessMemory terms) (sym is) fault
 
 -- where they are not too many, the error is want of memory
 pub only_memory : {T : Type 0} (terms : List Term) (r : Result T ShareError) → length terms ≤ table_entries → IfErr r (IsTooManyUnlessMemory terms) →

@@ -1,7 +1,8 @@
 use Rattle.std.proofs.Common.{◌≡◌, Some}
 use Rattle.lc_model.specs.Tables.Compiling.{limit_refusal, text_order_limits}
+use Rattle.lc_model.proofs.Exits.{passed_on}
 use Rattle.rpn_compiler.specs.Fault.{Refuses}
-use Rattle.rpn_compiler.proofs.Refused.{passed_on, of_sharing}
+use Rattle.rpn_compiler.proofs.Refused.{of_sharing}
 use Rattle.rpn_compiler.proofs.compiler.lower_rules.Goals as goal
 
 pub returns-in_err-shared-clause-refused : goal.returns-in_err-shared-clause-refused

@@ -1,8 +1,9 @@
 use Rattle.std.proofs.Common.{◌≡◌, Some}
 use Rattle.lc_model.specs.Text.Reading.{IsUnreadable}
 use Rattle.lc_model.specs.Tables.Compiling.{IsRefused, unreadable, beyond_limits, limit_refusal, text_order_limits}
+use Rattle.lc_model.proofs.Exits.{passed_on}
 use Rattle.rpn_compiler.specs.Fault.{Refuses}
-use Rattle.rpn_compiler.proofs.Refused.{also, also_of, passed_on, short_texts}
+use Rattle.rpn_compiler.proofs.Refused.{also, also_of, short_texts}
 use Rattle.rpn_compiler.proofs.compiler.lower_text.Goals as goal
 
 pub returns-in_err-rules-clause-refused : goal.returns-in_err-rules-clause-refused

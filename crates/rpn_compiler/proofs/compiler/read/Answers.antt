@@ -3,8 +3,9 @@ use Rattle.lc_model.specs.Text.Token.{Splits}
 use Rattle.lc_model.specs.Text.Reading.{IsUnreadable}
 use Rattle.rule_lexer.specs.Token.{tokens_of}
 use Rattle.rule_parser.specs.Syntax.{items_of}
+use Rattle.lc_model.proofs.Exits.{passed_on}
 use Rattle.rpn_compiler.specs.Fault.{Refuses}
-use Rattle.rpn_compiler.proofs.Refused.{passed_on, of_lexer, of_parser, of_checker}
+use Rattle.rpn_compiler.proofs.Refused.{of_lexer, of_parser, of_checker}
 use Rattle.rpn_compiler.proofs.compiler.read.Goals as goal
 
 pub returns-in_err-tokens-clause-refused : goal.returns-in_err-tokens-clause-refused

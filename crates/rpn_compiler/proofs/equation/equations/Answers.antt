@@ -6,8 +6,9 @@ use Rattle.lc_model.specs.Condition.{condition_of}
 use Rattle.lc_model.specs.Rule.{rule_of, rules_of}
 use Rattle.lc_model.specs.Tables.Equation.{equal_word, mentions, number_in, terms_of}
 use Rattle.lc_model.specs.Tables.Lowering.{equation_in}
+use Rattle.lc_model.proofs.Exits.{rules_more}
 use Rattle.rpn_compiler.specs.Numbered.{by_numbers, words_of}
-use Rattle.rpn_compiler.proofs.Numbered.{numbers_at, rules_more, words_alone}
+use Rattle.rpn_compiler.proofs.Numbered.{numbers_at, words_alone}
 use Rattle.rpn_compiler.proofs.equation.equations.Goals as goal
 
 pub equation-requires : goal.equation-requires

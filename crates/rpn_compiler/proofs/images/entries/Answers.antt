@@ -6,9 +6,9 @@ use Rattle.lc_model.specs.Rule.{rule_of, rules_of}
 use Rattle.lc_model.specs.Tables.Image.{TableEntry}
 use Rattle.lc_model.specs.Tables.Half.{entry_of}
 use Rattle.lc_model.specs.Tables.Lowering.{equation_in}
+use Rattle.lc_model.proofs.Exits.{rules_more}
 use Rattle.rpn_compiler.specs.Numbered.{words_of}
 use Rattle.lc_model.specs.Tables.Half.{entry_over}
-use Rattle.rpn_compiler.proofs.Numbered.{rules_more}
 use Rattle.rpn_compiler.proofs.EntryWords.{equation_at, some_word, before_equal}
 use Rattle.rpn_compiler.proofs.images.entries.Goals as goal
 

@@ -1,9 +1,7 @@
-use Rattle.std.proofs.Common.{◌≡◌, ℕ, List, [], Option, Result, Ok, Err, inr, subst, sym}
-use Rattle.std.specs.Prelude.{IfErr}
-use Rattle.std.specs.Result.{IsErrAnd}
-use Rattle.rule_lexer.specs.declared.error.LexError.{LexError}
+use Rattle.std.proofs.Common.{List, [], Option, inr, subst, sym}
+use Rattle.lc_model.proofs.Exits.{passed_on}
 use Rattle.rule_lexer.specs.declared.token.Token.{Token}
-use Rattle.rule_lexer.specs.Fault.{IsFault, IsFaultUnlessMemory}
+use Rattle.rule_lexer.specs.Fault.{IsFaultUnlessMemory}
 use Rattle.rule_lexer.specs.Step.{IsStep}
 use Rattle.rule_lexer.proofs.Scans.{SoFar, none_yet, room, one_more, whole_text, fault_of_text}
 use Rattle.rule_lexer.proofs.lexer.scan.Goals as goal
@@ -19,17 +17,11 @@ pub next_token-requires : goal.next_token-requires
 next_token-requires c =
     room c.args.text.now c.loop-tokens.tokens.items c.loop-tokens.scanner.at c.loop-tokens.scanner.rest.now c.loop-tokens.invariant
 
--- the error of the step is the text's
-passed_on : {T : Type 0} (text : List ℕ) (r : Result T LexError) (error : LexError) → IsErrAnd r (λ e. e ≡ error) → IsFault text error →
-    IfErr r (IsFaultUnlessMemory text)
-passed_on text (Ok found) error is fault = absurd is
-passed_on text (Err other) error is fault = inr (subst (IsFault text) (sym is) fault)
-
 pub returns-in_err-token-clause-refused : goal.returns-in_err-token-clause-refused
 returns-in_err-token-clause-refused c =
-    passed_on c.args.text.now c.from_residual.result c.in_err-token.field-0.0 c.from_residual.ensures.1
-    (fault_of_text c.args.text.now c.loop-tokens.tokens.items c.loop-tokens.scanner.at c.loop-tokens.scanner.rest.now
-    c.in_err-token.field-0.0 c.loop-tokens.invariant c.in_err-token.ensures)
+    passed_on (IsFaultUnlessMemory c.args.text.now) c.from_residual.result c.in_err-token.field-0.0 c.from_residual.ensures.1
+    (inr (fault_of_text c.args.text.now c.loop-tokens.tokens.items c.loop-tokens.scanner.at c.loop-tokens.scanner.rest.now
+    c.in_err-token.field-0.0 c.loop-tokens.invariant c.in_err-token.ensures))
 
 pub loop-tokens-preserved : goal.loop-tokens-preserved
 loop-tokens-preserved c =

@@ -4,9 +4,10 @@ use Rattle.lc_model.specs.declared.field.Term.{Term}
 use Rattle.lc_model.specs.declared.condition.Cond.{Cond}
 use Rattle.lc_model.specs.Condition.{condition_of}
 use Rattle.lc_model.specs.Tables.Equation.{mentions}
+use Rattle.lc_model.proofs.Exits.{passed_on}
 use Rattle.watch_sharing.specs.Fault.{IsTooManyUnlessMemory}
 use Rattle.watch_sharing.specs.Numbering.{added_all, numbers_among}
-use Rattle.watch_sharing.proofs.Numbers.{more_too_many, numbers_append, one_of_three, passed_on}
+use Rattle.watch_sharing.proofs.Numbers.{more_too_many, numbers_append, one_of_three}
 use Rattle.watch_sharing.proofs.sharing.+number_mentions.Goals as goal
 
 -- the mentions of a condition of the program
@@ -21,7 +22,7 @@ returns-in_err-number_mentions-in-And-clause-refused t c =
     one_of_three (ap all_in) (ap all_in) (ap all_in) c.in-And.is in
     let first = subst (λ cond. IsTooManyUnlessMemory (added_all keys (all_in cond)) error) c.deref-in-And.ensures
     c.in_err-number_mentions-in-And.ensures.refused in
-    passed_on _ _ error c.from_residual-in_err-number_mentions-in-And.ensures.1
+    passed_on (IsTooManyUnlessMemory _) _ error c.from_residual-in_err-number_mentions-in-And.ensures.1
     (subst (λ ts. IsTooManyUnlessMemory (added_all keys ts) error) (sym parts)
     (more_too_many keys (all_in c.in-And.first.value) (all_in c.in-And.second.value) error first))
 

@@ -5,9 +5,10 @@ use Rattle.lc_model.specs.declared.rule.Rule.{Rule}
 use Rattle.lc_model.specs.Condition.{condition_of}
 use Rattle.lc_model.specs.Rule.{rule_of, rules_of}
 use Rattle.lc_model.specs.Tables.Equation.{mentions}
+use Rattle.lc_model.proofs.Exits.{passed_on, rules_more}
 use Rattle.watch_sharing.specs.Fault.{IsTooManyUnlessMemory}
 use Rattle.watch_sharing.specs.Numbering.{added_all, all_mentions, numbers_among, numbers_by_rule, numbers_of}
-use Rattle.watch_sharing.proofs.Numbers.{added_all_append, all_go_on, mentions_push, more_too_many, passed_on, rules_more, rules_push}
+use Rattle.watch_sharing.proofs.Numbers.{added_all_append, all_go_on, mentions_push, more_too_many, rules_push}
 use Rattle.watch_sharing.proofs.sharing.number_rules.Goals as goal
 
 pub loop-rule-init : goal.loop-rule-init
@@ -25,7 +26,7 @@ returns-in_err-number_mentions-clause-refused c =
     let fault : IsTooManyUnlessMemory (added_all (added_all keys before) here) error =
     subst (λ ts. IsTooManyUnlessMemory (added_all ts here) error) c.loop-rule.invariant.added c.in_err-number_mentions.ensures.refused in
     let so_far = subst (λ ts. IsTooManyUnlessMemory ts error) (sym (added_all_append keys before here)) fault in
-    passed_on _ _ error c.from_residual.ensures.1
+    passed_on (IsTooManyUnlessMemory _) _ error c.from_residual.ensures.1
     (subst (λ ts. IsTooManyUnlessMemory (added_all keys ts) error) (sym (all_go_on rules i c.rule-item.result c.loop-rule-test.true c.rule-item.is))
     (more_too_many keys (before ++ here) (all_mentions (rules_of (drop (i + 1) rules))) error so_far))
 
