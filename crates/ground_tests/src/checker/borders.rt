@@ -1,7 +1,7 @@
 //! Each check at both borders.
 
 use super::{LOW_VOLTS, answers, answers_with, checked};
-use crate::error::CheckError;
+use field_checker::CheckError;
 use std::process::Abort;
 use std::test::Fail;
 

@@ -5,8 +5,7 @@ mod meanings;
 mod memory;
 mod names;
 
-use crate::checker::check;
-use crate::error::CheckError;
+use field_checker::{CheckError, check};
 use lc_model::RuleSet;
 use rule_lexer::lex;
 use rule_parser::parse;

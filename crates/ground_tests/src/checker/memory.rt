@@ -1,7 +1,6 @@
 //! Want of memory.
 
-use crate::checker::check;
-use crate::error::CheckError;
+use field_checker::{CheckError, check};
 use rule_lexer::lex;
 use rule_parser::parse;
 

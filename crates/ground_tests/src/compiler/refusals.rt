@@ -1,9 +1,8 @@
 //! First refusals: the lexer's before the parser's before the checker's. Those of limits stand beside the limits.
 
 use super::is_refused;
-use crate::error::CompileError;
-use crate::files::compile;
 use field_checker::CheckError;
+use rpn_compiler::{CompileError, compile};
 use rule_lexer::LexError;
 use rule_parser::{ParseError, What};
 use std::test::Fail;

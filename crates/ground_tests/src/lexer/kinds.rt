@@ -1,8 +1,8 @@
 //! Tokens that stand alone.
 
 use super::is_one;
-use crate::token::TokenKind;
 use lc_model::{ApMode, CmpOp, EventKind, FieldType};
+use rule_lexer::TokenKind;
 
 #[test]
 fn words_of_the_grammar(rt: HostRuntime) {

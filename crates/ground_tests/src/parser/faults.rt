@@ -1,8 +1,7 @@
 //! Items, and where the first fault of a text stands: at the end of the first of its two parts.
 
 use super::{reads, refuses};
-use crate::error::ParseError;
-use crate::what::{Sign, What, Word};
+use rule_parser::{ParseError, Sign, What, Word};
 use std::process::Abort;
 use std::test::Fail;
 

@@ -1,7 +1,7 @@
 //! Names, and which of several faults is answered.
 
 use super::{answers, fails};
-use crate::error::CheckError;
+use field_checker::CheckError;
 use std::test::Fail;
 
 const RULE: &str =

@@ -1,9 +1,8 @@
 //! Texts of several tokens, of none, and of the greatest length.
 
 use super::{fails, splits};
-use crate::error::LexError;
-use crate::token::TokenKind;
 use lc_model::{ApMode, CmpOp, FieldType};
+use rule_lexer::{LexError, TokenKind};
 use std::test::Fail;
 
 const LESS: TokenKind = TokenKind::Compare(CmpOp::Less);

@@ -1,7 +1,7 @@
 //! Each fault at the first byte, in the middle and at the last byte, and beside what is none.
 
 use super::fails;
-use crate::error::LexError;
+use rule_lexer::LexError;
 
 #[test]
 fn bytes_that_begin_nothing(rt: HostRuntime) {

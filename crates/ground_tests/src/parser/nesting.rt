@@ -1,8 +1,7 @@
 //! The limit of 64 tokens that nest in one condition.
 
 use super::{reads, refuses};
-use crate::error::ParseError;
-use crate::what::{Sign, What};
+use rule_parser::{ParseError, Sign, What};
 use std::process::Abort;
 use std::test::Fail;
 

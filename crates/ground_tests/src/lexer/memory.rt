@@ -1,8 +1,6 @@
 //! Errors beside the tokens'.
 
-use crate::error::LexError;
-use crate::lexer::lex;
-use crate::token::TokenKind;
+use rule_lexer::{LexError, TokenKind, lex};
 
 #[test]
 fn codes(rt: HostRuntime) {

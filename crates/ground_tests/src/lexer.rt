@@ -5,9 +5,7 @@ mod kinds;
 mod memory;
 mod texts;
 
-use crate::error::LexError;
-use crate::lexer::lex;
-use crate::token::TokenKind;
+use rule_lexer::{LexError, TokenKind, lex};
 use std::process::Abort;
 
 /// The text is one token of this kind.

@@ -1,13 +1,11 @@
 //! Which mentions are one watchpoint, and their numbers.
 
-use crate::error::ShareError;
-use crate::shared::Shared;
-use crate::sharing::share;
 use lc_model::{
     ApMode, Bytes, CmpOp, Cond, EventKind, FieldType, Report, Rule, RuleSet, Rules, Term,
 };
 use std::alloc::Global;
 use std::process::Abort;
+use watch_sharing::{ShareError, Shared, share};
 
 /// A voltage below this number.
 fn below(value: i64) -> Term {

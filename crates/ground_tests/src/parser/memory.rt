@@ -1,7 +1,7 @@
 //! Want of memory.
 
 use super::parsed;
-use crate::error::ParseError;
+use rule_parser::ParseError;
 
 /// Where an allocation fails, the answer is `Memory`, and no other: `rt try --test --fail-alloc N`, for each N up to the
 /// number of allocations, has one of them refused here: the tokens' room, the items' room and its growths, and the boxes of

@@ -2,46 +2,14 @@
 
 ghost use Rattle.std.specs.Prelude.{◌<◌};
 
-use super::{DECLARATIONS, push_number, push_rule};
-use crate::error::CompileError;
-use crate::files::{TablePair, compile};
+use super::{
+    ADT_ENTRY, DECLARATIONS, ENTRIES, HASH, IMAGE, LOW_VOLTS, WDT_ENTRY, compiled, part,
+    push_number, push_rule,
+};
+use rpn_compiler::{CompileError, compile};
 use rule_lexer::LexError;
 use sha2::{Digest, Sha256};
-use std::process::Abort;
 use std::test::Fail;
-
-/// Where an image begins in its file, its hash, and its entries.
-const IMAGE: usize = 116;
-
-const HASH: usize = IMAGE + 8;
-
-const ENTRIES: usize = IMAGE + 40;
-
-/// The bytes of an entry.
-const WDT_ENTRY: usize = 24;
-
-const ADT_ENTRY: usize = 86;
-
-/// One rule over one watchpoint.
-const LOW_VOLTS: &[u8] =
-    b"packet P = mid 0x0883 length 16; field V = P u16be at 12 stale 2; rule LOW active fails 2 sequence 7 event error 1001 \"low volts\" when V < 2400;";
-
-/// The files of the text.
-fn compiled<R: Abort + AllocGlobal>(rt: &R, text: &[u8]) -> TablePair {
-    match compile(rt.alloc(), text) {
-        Ok(pair) => pair,
-        Err(error) => panic!(rt; "the text is refused: {error}"),
-    }
-}
-
-/// So many bytes from a place on, or none where there are fewer.
-fn part(bytes: &[u8], place: usize, count: usize) -> &[u8] {
-    if place <= bytes.len() && count <= bytes.len() - place {
-        &bytes[place..place + count]
-    } else {
-        &[]
-    }
-}
 
 /// Whether the bytes from a place on are entries of this size that aren't used.
 fn are_blank(bytes: &[u8], place: usize, size: usize) -> bool
@@ -161,14 +129,5 @@ fn a_refused_text(rt: HostRuntime) {
     match compile(rt.alloc(), b"@") {
         Ok(_) => panic!(rt; "the text is compiled"),
         Err(error) => assert_eq!(rt; error, CompileError::Lex(LexError::BadByte { at: 0 })),
-    }
-}
-
-/// Where an allocation fails, the answer is `Memory`, and no other: see the test of `lower`.
-#[test]
-fn two_files_or_no_memory(rt: HostRuntime) {
-    match compile(rt.alloc(), LOW_VOLTS) {
-        Ok(pair) => assert_eq!(rt; (pair.wdt.len(), pair.adt.len()), (4_380, 15_292)),
-        Err(error) => assert_eq!(rt; error, CompileError::Memory),
     }
 }

@@ -5,10 +5,8 @@ mod faults;
 mod memory;
 mod nesting;
 
-use crate::error::ParseError;
-use crate::parser::parse;
-use crate::syntax::RuleFile;
 use rule_lexer::{LexError, lex};
+use rule_parser::{ParseError, RuleFile, parse};
 use std::process::Abort;
 
 /// The items of a text.

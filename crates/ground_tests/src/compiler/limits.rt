@@ -1,7 +1,7 @@
 //! Texts at the limits of the tables.
 
-use super::{DECLARATIONS, has_words, is_refused, lowered, push_number, push_rule, text_of};
-use crate::error::CompileError;
+use super::{DECLARATIONS, compiled, has_words, is_refused, push_number, push_rule, text_of};
+use rpn_compiler::CompileError;
 use std::alloc::{AllocError, Global};
 use std::test::Fail;
 
@@ -27,8 +27,7 @@ fn twenty_words(rt: HostRuntime) -> Result<(), Fail> {
         0, 1, 0xFF01, 2, 0xFF01, 3, 0xFF01, 4, 0xFF01, 5, 0xFF01, 6, 0xFF01, 7, 0xFF01, 8, 0xFF01,
         9, 0xFF01, 0xFF05,
     ];
-    has_words(&rt, &lowered(&rt, text.as_slice()), 0, &words);
-    Ok(())
+    Ok(has_words(&rt, &compiled(&rt, text.as_slice()), 0, &words)?)
 }
 
 #[test]
@@ -52,7 +51,7 @@ fn eight_operands_wait_and_no_more(rt: HostRuntime) -> Result<(), Fail> {
     let nine =
         "V < 0 and (V < 1 and (V < 2 and (V < 3 and (V < 4 and (V < 5 and (V < 6 and (V < 7 and V < 8)))))))";
     let text = text_of(rt.alloc(), &[eight])?;
-    assert_eq!(rt; lowered(&rt, text.as_slice()).terms.len(), 8);
+    assert_eq!(rt; compiled(&rt, text.as_slice()).watchpoints, 8);
     let text = text_of(rt.alloc(), &[nine])?;
     is_refused(&rt, text.as_slice(), CompileError::TooDeep { rule: 0 });
     let text = text_of(rt.alloc(), &["V < 1", nine, nine])?;
@@ -63,8 +62,8 @@ fn eight_operands_wait_and_no_more(rt: HostRuntime) -> Result<(), Fail> {
 #[test]
 fn a_full_table_of_rules_and_one_more(rt: HostRuntime) -> Result<(), Fail> {
     let text = rules(rt.alloc(), 176, false)?;
-    let all = lowered(&rt, text.as_slice());
-    assert_eq!(rt; (all.terms.len(), all.words.len()), (1, 176));
+    let all = compiled(&rt, text.as_slice());
+    assert_eq!(rt; (all.watchpoints, all.rules), (1, 176));
     let text = rules(rt.alloc(), 177, false)?;
     is_refused(&rt, text.as_slice(), CompileError::TooManyRules);
     Ok(())
@@ -73,9 +72,9 @@ fn a_full_table_of_rules_and_one_more(rt: HostRuntime) -> Result<(), Fail> {
 #[test]
 fn a_full_table_of_watchpoints_and_one_more(rt: HostRuntime) -> Result<(), Fail> {
     let text = rules(rt.alloc(), 176, true)?;
-    let all = lowered(&rt, text.as_slice());
-    assert_eq!(rt; (all.terms.len(), all.words.len()), (176, 176));
-    has_words(&rt, &all, 175, &[175, 0xFF05]);
+    let all = compiled(&rt, text.as_slice());
+    assert_eq!(rt; (all.watchpoints, all.rules), (176, 176));
+    has_words(&rt, &all, 175, &[175, 0xFF05])?;
     // Both are too many: the watchpoints are counted first.
     let text = rules(rt.alloc(), 177, true)?;
     is_refused(&rt, text.as_slice(), CompileError::TooManyWatchpoints);

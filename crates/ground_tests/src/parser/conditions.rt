@@ -1,9 +1,7 @@
 //! Conditions: which operands each operator has, and where their first fault stands.
 
 use super::{parsed, refuses};
-use crate::error::ParseError;
-use crate::syntax::{Expression, Item};
-use crate::what::{Sign, What};
+use rule_parser::{Expression, Item, ParseError, Sign, What};
 use std::alloc::AllocError;
 use std::process::Abort;
 use std::test::Fail;
