@@ -5,12 +5,12 @@ mod meanings;
 mod memory;
 mod names;
 
+use crate::shared::{accepted, joined, replaced, same};
 use field_checker::{CheckError, check};
 use lc_model::RuleSet;
 use rule_lexer::lex;
 use rule_parser::parse;
 use std::process::Abort;
-use std::test::Fail;
 
 /// A text without a fault that has everything that an item may have.
 const LOW_VOLTS: &str =
@@ -18,46 +18,45 @@ const LOW_VOLTS: &str =
     rule LOW active fails 2 sequence 7 event error 1001 \"low volts\" report 1 2 3 when V < 2400;";
 
 /// What the text means.
-fn checked<R: Abort + AllocGlobal>(
-    rt: &R,
-    text: &str,
-) -> Result<Result<RuleSet, CheckError>, Fail> {
-    let tokens = match lex(rt.alloc(), text.as_bytes()) {
-        Ok(tokens) => tokens,
-        Err(error) => panic!(rt; "{error} in {text}"),
-    };
-    match parse(rt.alloc(), text.as_bytes(), tokens.as_slice()) {
-        Ok(file) => Ok(check(rt.alloc(), &file)),
-        Err(error) => panic!(rt; "{error} in {text}"),
-    }
+fn checked<R: Abort + AllocGlobal>(rt: &R, text: &str) -> Result<RuleSet, CheckError> {
+    let tokens = accepted(rt, text, lex(rt.alloc(), text.as_bytes()));
+    let parsed = parse(rt.alloc(), text.as_bytes(), tokens.as_slice());
+    check(rt.alloc(), &accepted(rt, text, parsed))
 }
 
-/// The text has this first fault.
-fn fails<R: Abort + AllocGlobal>(rt: &R, text: &str, fault: CheckError) -> Result<(), Fail> {
-    match checked(rt, text)? {
-        Ok(_) => panic!(rt; "{text} is accepted"),
-        Err(error) => assert_eq!(rt; error, fault, "of {text}"),
-    }
-    Ok(())
+/// The text, in parts, is accepted, or has this first fault.
+fn answers<R: Abort + AllocGlobal>(rt: &R, parts: &[&str], expected: Option<CheckError>) {
+    let text = joined(rt, parts);
+    same(
+        rt,
+        text.as_str(),
+        checked(rt, text.as_str()).err(),
+        expected,
+    );
 }
 
-/// The text is accepted, or has this first fault.
-fn answers<R: Abort + AllocGlobal>(
-    rt: &R,
-    text: &str,
-    expected: Option<CheckError>,
-) -> Result<(), Fail> {
-    assert_eq!(rt; checked(rt, text)?.err(), expected, "of {text}");
-    Ok(())
+/// Each text has its first fault.
+fn all_fail<R: Abort + AllocGlobal>(rt: &R, rows: &[(&str, CheckError)]) {
+    for &(text, fault) in rows {
+        answers(rt, &[text], Some(fault));
+    }
 }
 
 /// The text without a fault, with other words in place of these, which it has, is accepted or has this first fault.
 fn answers_with<R: Abort + AllocGlobal>(
     rt: &R,
-    (words, others): (&str, &str),
+    words: &str,
+    others: &str,
     expected: Option<CheckError>,
-) -> Result<(), Fail> {
-    assert!(rt; LOW_VOLTS.contains(words), "{words}");
-    let text = LOW_VOLTS.replace(rt.alloc(), words, others)?;
-    answers(rt, &text, expected)
+) {
+    same(rt, words, LOW_VOLTS.contains(words), true);
+    let text = replaced(rt, LOW_VOLTS, words, others);
+    answers(rt, &[text.as_str()], expected);
+}
+
+/// So with each row.
+fn all_answer_with<R: Abort + AllocGlobal>(rt: &R, rows: &[(&str, &str, Option<CheckError>)]) {
+    for &(words, others, expected) in rows {
+        answers_with(rt, words, others, expected);
+    }
 }

@@ -6,8 +6,8 @@ mod limits;
 mod memory;
 mod refusals;
 
+use crate::shared::{accepted, joined, same};
 use rpn_compiler::{CompileError, TablePair, compile};
-use std::alloc::{AllocError, Global};
 use std::process::Abort;
 
 /// Where an image begins in its file, its hash, and its entries.
@@ -23,11 +23,11 @@ const WDT_ENTRY: usize = 24;
 const ADT_ENTRY: usize = 86;
 
 /// Where the words of an actionpoint begin in its entry.
-const WORDS: u8 = 46;
+const WORDS: usize = 46;
 
 /// One rule over one watchpoint.
-const LOW_VOLTS: &[u8] =
-    b"packet P = mid 0x0883 length 16; field V = P u16be at 12 stale 2; rule LOW active fails 2 sequence 7 event error 1001 \"low volts\" when V < 2400;";
+const LOW_VOLTS: &str =
+    "packet P = mid 0x0883 length 16; field V = P u16be at 12 stale 2; rule LOW active fails 2 sequence 7 event error 1001 \"low volts\" when V < 2400;";
 
 /// A packet and a field of it.
 const DECLARATIONS: &str = "packet P = mid 0x0883 length 16; field V = P u16be at 12 stale 2; ";
@@ -36,45 +36,67 @@ const DECLARATIONS: &str = "packet P = mid 0x0883 length 16; field V = P u16be a
 const RULE: &str = " active fails 2 sequence 7 event error 1001 \"low volts\" when ";
 
 /// The declarations, and a rule with each of these conditions.
-fn text_of(alloc: Global, conditions: &[&str]) -> Result<Vec<u8>, AllocError> {
-    let mut text = DECLARATIONS.as_bytes().to_vec(alloc)?;
+fn text_of<R: Abort + AllocGlobal>(rt: &R, conditions: &[&str]) -> String {
+    let mut text = joined(rt, &[DECLARATIONS]);
     for (number, condition) in conditions.iter().enumerate() {
-        push_rule(&mut text, number, condition.as_bytes())?;
+        text = joined(rt, &[text.as_str(), rule(rt, number, condition).as_str()]);
     }
-    Ok(text)
+    text
 }
 
-/// Adds a rule with a name of its own and this condition.
-fn push_rule(text: &mut Vec<u8>, number: usize, condition: &[u8]) -> Result<(), AllocError> {
-    text.extend_from_slice(b"rule R")?;
-    push_number(text, number)?;
-    text.extend_from_slice(RULE.as_bytes())?;
-    text.extend_from_slice(condition)?;
-    text.extend_from_slice(b"; ")
+/// The declarations, and so many rules, each with a comparison of its own where `distinct` says so, and else all with one.
+fn rules<R: Abort + AllocGlobal>(rt: &R, count: usize, distinct: bool) -> String {
+    let mut text = joined(rt, &[DECLARATIONS]);
+    for number in 0..count {
+        let value = if distinct { number } else { 0 };
+        text = joined(rt, &[text.as_str(), comparing(rt, number, value).as_str()]);
+    }
+    text
 }
 
-/// Adds a number below 1,000 in three digits.
-fn push_number(text: &mut Vec<u8>, number: usize) -> Result<(), AllocError> {
-    for place in [100, 10, 1] {
-        text.push(b'0' + (number / place % 10) as u8)?;
-    }
-    Ok(())
+/// A rule with a name of its own and this condition.
+fn rule<R: Abort + AllocGlobal>(rt: &R, number: usize, condition: &str) -> String {
+    format!(in rt.alloc(); "rule R{number}{RULE}{condition}; ").expect(rt, "no memory")
+}
+
+/// A rule with a name of its own and a comparison with this value.
+fn comparing<R: Abort + AllocGlobal>(rt: &R, number: usize, value: usize) -> String {
+    format!(in rt.alloc(); "rule R{number}{RULE}V < {value}; ").expect(rt, "no memory")
 }
 
 /// The files of the text.
-fn compiled<R: Abort + AllocGlobal>(rt: &R, text: &[u8]) -> TablePair {
-    match compile(rt.alloc(), text) {
-        Ok(pair) => pair,
-        Err(error) => panic!(rt; "the text is refused: {error}"),
-    }
+fn compiled<R: Abort + AllocGlobal>(rt: &R, text: &str) -> TablePair {
+    accepted(rt, text, compile(rt.alloc(), text.as_bytes()))
+}
+
+/// The files of rules with these conditions.
+fn compiled_rules<R: Abort + AllocGlobal>(rt: &R, conditions: &[&str]) -> TablePair {
+    compiled(rt, text_of(rt, conditions).as_str())
 }
 
 /// The text is refused so.
-fn is_refused<R: Abort + AllocGlobal>(rt: &R, text: &[u8], expected: CompileError) {
-    match compile(rt.alloc(), text) {
-        Ok(_) => panic!(rt; "the text is compiled, in place of: {expected}"),
-        Err(error) => assert_eq!(rt; error, expected),
-    }
+fn is_refused<R: Abort + AllocGlobal>(rt: &R, text: &str, expected: CompileError) {
+    same(
+        rt,
+        text,
+        compile(rt.alloc(), text.as_bytes()).err(),
+        Some(expected),
+    );
+}
+
+/// Rules with these conditions are refused so.
+fn are_refused<R: Abort + AllocGlobal>(rt: &R, conditions: &[&str], expected: CompileError) {
+    is_refused(rt, text_of(rt, conditions).as_str(), expected);
+}
+
+/// So many entries of the two tables are used.
+fn uses<R: Abort>(rt: &R, pair: &TablePair, watchpoints: u16, rules: u16) {
+    same(
+        rt,
+        "the entries",
+        (pair.watchpoints, pair.rules),
+        (watchpoints, rules),
+    );
 }
 
 /// So many bytes from a place on, or none where there are fewer.
@@ -86,6 +108,11 @@ fn part(bytes: &[u8], place: usize, count: usize) -> &[u8] {
     }
 }
 
+/// From this place on the bytes are these.
+fn has<R: Abort>(rt: &R, bytes: &[u8], place: usize, expected: &[u8]) {
+    same(rt, place, part(bytes, place, expected.len()), expected);
+}
+
 /// The entry of the field below this number.
 fn below(value: u16) -> [u8; WDT_ENTRY] {
     let [high, low] = value.to_be_bytes();
@@ -94,48 +121,31 @@ fn below(value: u16) -> [u8; WDT_ENTRY] {
     ]
 }
 
-/// The entry of the watchpoint with this number.
-fn watchpoint(pair: &TablePair, number: u16) -> &[u8] {
+/// The watchpoint with this number has this entry.
+fn has_watchpoint<R: Abort>(rt: &R, pair: &TablePair, number: u16, entry: [u8; WDT_ENTRY]) {
     let place = ENTRIES + usize::from(number) * WDT_ENTRY;
-    part(pair.wdt.as_slice(), place, WDT_ENTRY)
+    has(rt, pair.wdt.as_slice(), place, entry.as_slice());
 }
 
-/// So many bytes of the actionpoint with this number, from a place in its entry on.
-fn actionpoint(pair: &TablePair, number: u16, place: u8, count: usize) -> &[u8] {
-    let entry = ENTRIES + usize::from(number) * ADT_ENTRY;
-    part(pair.adt.as_slice(), entry + usize::from(place), count)
-}
-
-/// These are all watchpoints of the table.
-fn has_watchpoints<R: Abort>(rt: &R, pair: &TablePair, expected: &[[u8; WDT_ENTRY]]) {
-    assert_eq!(rt; usize::from(pair.watchpoints), expected.len());
-    for (number, entry) in (0..u16::MAX).zip(expected) {
-        assert_eq!(rt; watchpoint(pair, number), entry.as_slice());
-    }
-}
-
-/// The twenty words of an equation, of which those that aren't used are zero.
-fn equation(alloc: Global, words: &[u16]) -> Result<Vec<u8>, AllocError> {
-    let mut bytes = Vec::new(alloc);
-    for word in words {
-        bytes.extend_from_slice(word.to_be_bytes().as_slice())?;
-    }
-    bytes.resize(40, 0)?;
-    Ok(bytes)
-}
-
-/// The words of the equation of the rule with this number.
-fn has_words<R: Abort + AllocGlobal>(
-    rt: &R,
-    pair: &TablePair,
-    rule: u16,
-    expected: &[u16],
-) -> Result<(), AllocError> {
-    let words = equation(rt.alloc(), expected)?;
-    assert_eq!(rt;
-        actionpoint(pair, rule, WORDS, 40),
-        words.as_slice(),
-        "of rule {rule}"
+/// The equation of the rule with this number has these words, and all that aren't used are zero.
+fn has_words<R: Abort + AllocGlobal>(rt: &R, pair: &TablePair, rule: u16, words: &[u16]) {
+    let place = ENTRIES + usize::from(rule) * ADT_ENTRY + WORDS;
+    has(
+        rt,
+        pair.adt.as_slice(),
+        place,
+        equation(rt, words).as_slice(),
     );
-    Ok(())
+}
+
+/// The bytes of an equation's twenty words.
+fn equation<R: Abort + AllocGlobal>(rt: &R, words: &[u16]) -> Vec<u8> {
+    let mut bytes = Vec::new(rt.alloc());
+    for word in words {
+        bytes
+            .extend_from_slice(word.to_be_bytes().as_slice())
+            .expect(rt, "no memory");
+    }
+    bytes.resize(40, 0).expect(rt, "no memory");
+    bytes
 }

@@ -14,4 +14,6 @@ mod lexer;
 #[cfg(test)]
 mod parser;
 #[cfg(test)]
+mod shared;
+#[cfg(test)]
 mod sharing;

@@ -1,5 +1,6 @@
 //! Which mentions are one watchpoint, and their numbers.
 
+use crate::shared::{accepted, same};
 use lc_model::{
     ApMode, Bytes, CmpOp, Cond, EventKind, FieldType, Report, Rule, RuleSet, Rules, Term,
 };
@@ -62,46 +63,50 @@ fn shared_among_numbers(alloc: Global, count: i64) -> Result<Shared, ShareError>
     shared_among(alloc, terms.as_slice())
 }
 
+/// A comparison with this number, in a box.
+fn watch(alloc: Global, value: i64) -> Result<Box<Cond>, ShareError> {
+    Ok(Box::new(alloc, Cond::Watch(below(value)))?)
+}
+
+/// `V < 2400 or V < 2399`
+fn either(alloc: Global) -> Result<Cond, ShareError> {
+    let left = watch(alloc, 2_400)?;
+    Ok(Cond::Or(left, watch(alloc, 2_399)?))
+}
+
 /// The rule `V < 2400`, and another `V < 2400 or V < 2399`.
 fn two_rules(alloc: Global) -> Result<Shared, ShareError> {
-    let either = Cond::Or(
-        Box::new(alloc, Cond::Watch(below(2_400)))?,
-        Box::new(alloc, Cond::Watch(below(2_399)))?,
-    );
-    let mut rules = Vec::new(alloc);
-    rules.push(rule(alloc, Cond::Watch(below(2_400)))?)?;
-    rules.push(rule(alloc, either)?)?;
-    share(
-        alloc,
-        &RuleSet {
-            rules: Rules::from_vec(rules),
-        },
-    )
+    let rules = [
+        rule(alloc, Cond::Watch(below(2_400)))?,
+        rule(alloc, either(alloc)?)?,
+    ];
+    let rules = Rules::from_vec(Vec::from_array(alloc, rules)?);
+    share(alloc, &RuleSet { rules })
 }
 
 /// These are the numbers of the rule's mentions.
 fn mentions<R: Abort>(rt: &R, shared: &Shared, rule: usize, expected: &[u16]) {
-    match shared.mentions.get(rule) {
-        Some(numbers) => assert_eq!(rt; numbers.as_slice(), expected),
-        None => panic!(rt; "no rule {rule}"),
-    }
+    let numbers = shared.mentions.get(rule).expect(rt, "no such rule");
+    same(rt, rule, numbers.as_slice(), expected);
 }
 
 #[test]
-fn two_rules_share_a_watchpoint(rt: HostRuntime) -> Result<(), ShareError> {
-    let shared = two_rules(rt.alloc())?;
-    assert_eq!(rt;
+fn two_rules_share_a_watchpoint(rt: HostRuntime) {
+    let shared = accepted(&rt, "two rules", two_rules(rt.alloc()));
+    let terms = [below(2_400), below(2_399)];
+    same(
+        &rt,
+        "the watchpoints",
         shared.terms.as_slice(),
-        [below(2_400), below(2_399)].as_slice()
+        terms.as_slice(),
     );
-    assert_eq!(rt; shared.mentions.len(), 2);
+    same(&rt, "the rules", shared.mentions.len(), 2);
     mentions(&rt, &shared, 0, [0].as_slice());
     mentions(&rt, &shared, 1, [0, 1].as_slice());
-    Ok(())
 }
 
 #[test]
-fn each_part_makes_another_watchpoint(rt: HostRuntime) -> Result<(), ShareError> {
+fn each_part_makes_another_watchpoint(rt: HostRuntime) {
     let term = below(2_400);
     let terms = [
         term,
@@ -129,31 +134,35 @@ fn each_part_makes_another_watchpoint(rt: HostRuntime) -> Result<(), ShareError>
         },
         term,
     ];
-    let shared = shared_among(rt.alloc(), terms.as_slice())?;
-    assert_eq!(rt; shared.terms.as_slice(), &terms[..8]);
+    let shared = accepted(
+        &rt,
+        "nine rules",
+        shared_among(rt.alloc(), terms.as_slice()),
+    );
+    same(&rt, "the watchpoints", shared.terms.as_slice(), &terms[..8]);
     mentions(&rt, &shared, 7, [7].as_slice());
     mentions(&rt, &shared, 8, [0].as_slice());
-    Ok(())
 }
 
 #[test]
-fn a_full_table_and_one_more(rt: HostRuntime) -> Result<(), ShareError> {
-    let shared = shared_among_numbers(rt.alloc(), 176)?;
-    assert_eq!(rt; shared.terms.len(), 176);
+fn a_full_table_and_one_more(rt: HostRuntime) {
+    let shared = accepted(&rt, "176 numbers", shared_among_numbers(rt.alloc(), 176));
+    same(&rt, "the watchpoints", shared.terms.len(), 176);
     mentions(&rt, &shared, 175, [175].as_slice());
-    match shared_among_numbers(rt.alloc(), 177) {
-        Ok(_) => panic!(rt; "177 watchpoints are shared"),
-        Err(error) => assert_eq!(rt; error, ShareError::TooManyWatchpoints),
-    }
-    Ok(())
+    let refused = shared_among_numbers(rt.alloc(), 177).err();
+    same(
+        &rt,
+        "177 numbers",
+        refused,
+        Some(ShareError::TooManyWatchpoints),
+    );
 }
 
 #[test]
-fn no_rules(rt: HostRuntime) -> Result<(), ShareError> {
-    let shared = shared_among_numbers(rt.alloc(), 0)?;
-    assert_eq!(rt; shared.terms.len(), 0);
-    assert_eq!(rt; shared.mentions.len(), 0);
-    Ok(())
+fn no_rules(rt: HostRuntime) {
+    let shared = accepted(&rt, "no rules", shared_among_numbers(rt.alloc(), 0));
+    same(&rt, "the watchpoints", shared.terms.len(), 0);
+    same(&rt, "the rules", shared.mentions.len(), 0);
 }
 
 /// Where an allocation fails, the answer is `Memory`, and no other: `rt try --test --fail-alloc N`, for each N up to the
@@ -161,7 +170,7 @@ fn no_rules(rt: HostRuntime) -> Result<(), ShareError> {
 #[test]
 fn all_watchpoints_or_no_memory(rt: HostRuntime) {
     match two_rules(rt.alloc()) {
-        Ok(shared) => assert_eq!(rt; shared.terms.len(), 2),
-        Err(error) => assert_eq!(rt; error, ShareError::Memory),
+        Ok(shared) => same(&rt, "the watchpoints", shared.terms.len(), 2),
+        Err(error) => same(&rt, "the error", error, ShareError::Memory),
     }
 }

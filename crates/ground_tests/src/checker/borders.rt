@@ -1,13 +1,13 @@
 //! Each check at both borders.
 
-use super::{LOW_VOLTS, answers, answers_with, checked};
+use super::{LOW_VOLTS, all_answer_with, answers, answers_with, checked};
+use crate::shared::same;
 use field_checker::CheckError;
 use std::process::Abort;
-use std::test::Fail;
 
 #[test]
-fn message_ids_and_lengths(rt: HostRuntime) -> Result<(), Fail> {
-    let rows = [
+fn message_ids_and_lengths(rt: HostRuntime) {
+    let rows = &[
         ("mid 0x0883", "mid 0x0800", None),
         (
             "mid 0x0883",
@@ -67,15 +67,12 @@ fn message_ids_and_lengths(rt: HostRuntime) -> Result<(), Fail> {
             Some(CheckError::LengthRange { at: 29 }),
         ),
     ];
-    for (words, others, expected) in rows {
-        answers_with(&rt, (words, others), expected)?;
-    }
-    Ok(())
+    all_answer_with(&rt, rows);
 }
 
 #[test]
-fn places_masks_and_stale_ages(rt: HostRuntime) -> Result<(), Fail> {
-    let rows = [
+fn places_masks_and_stale_ages(rt: HostRuntime) {
+    let rows = &[
         ("at 12", "at 0", None),
         ("at 12", "at -0", None),
         ("at 12", "at -1", Some(CheckError::FieldOutside { at: 54 })),
@@ -112,15 +109,12 @@ fn places_masks_and_stale_ages(rt: HostRuntime) -> Result<(), Fail> {
         ),
         ("stale 2", "stale 4294967295", None),
     ];
-    for (words, others, expected) in rows {
-        answers_with(&rt, (words, others), expected)?;
-    }
-    Ok(())
+    all_answer_with(&rt, rows);
 }
 
 #[test]
-fn numbers_of_rules(rt: HostRuntime) -> Result<(), Fail> {
-    let rows = [
+fn numbers_of_rules(rt: HostRuntime) {
+    let rows = &[
         ("fails 2", "fails 1", None),
         (
             "fails 2",
@@ -195,76 +189,84 @@ fn numbers_of_rules(rt: HostRuntime) -> Result<(), Fail> {
             Some(CheckError::NumberRange { at: 153 }),
         ),
     ];
-    for (words, others, expected) in rows {
-        answers_with(&rt, (words, others), expected)?;
-    }
-    Ok(())
+    all_answer_with(&rt, rows);
 }
 
 /// A packet of 12 bytes, the fewest, with a field in its last two.
 #[test]
-fn shortest_packet(rt: HostRuntime) -> Result<(), Fail> {
+fn shortest_packet(rt: HostRuntime) {
     answers_with(
         &rt,
-        (
-            "length 16; field V = P u16be at 12",
-            "length 12; field V = P u16be at 10",
-        ),
+        "length 16; field V = P u16be at 12",
+        "length 12; field V = P u16be at 10",
         None,
-    )
+    );
 }
 
-/// The number of the fault of a text with a field of this type at a place, with a mask, and a comparison with a number.
-fn code_of<R: Abort + AllocGlobal>(
+/// The number of the text's first fault.
+fn code_of<R: Abort + AllocGlobal>(rt: &R, text: &str) -> Option<u8> {
+    match checked(rt, text) {
+        Ok(_) => None,
+        Err(error) => error.code(),
+    }
+}
+
+/// A text with a field of this type at a place, with a mask, and a comparison with a number, is accepted or has a first
+/// fault with this number.
+fn has_code<R: Abort + AllocGlobal>(
     rt: &R,
     kind: &str,
     (place, mask, value): (i64, i64, i64),
-) -> Result<Option<u8>, Fail> {
+    expected: Option<u8>,
+) {
     let text = format!(in rt.alloc();
         "packet P = mid 0x0883 length 16; field V = P {kind} at {place} mask {mask}; \
          rule LOW active fails 2 sequence 7 event error 1001 \"\" when V < {value};"
-    )?;
-    Ok(checked(rt, &text)?.err().and_then(CheckError::code))
+    )
+    .expect(rt, "no memory");
+    same(rt, text.as_str(), code_of(rt, text.as_str()), expected);
 }
 
-/// Each type: its last place in a packet of 16 bytes, its mask of all ones, and its least and greatest number.
-const TYPES: [(&str, i64, i64, i64, i64); 10] = [
-    ("u8", 15, 0xFF, 0, 0xFF),
-    ("i8", 15, 0xFF, -0x80, 0x7F),
-    ("u16be", 14, 0xFFFF, 0, 0xFFFF),
-    ("u16le", 14, 0xFFFF, 0, 0xFFFF),
-    ("i16be", 14, 0xFFFF, -0x8000, 0x7FFF),
-    ("i16le", 14, 0xFFFF, -0x8000, 0x7FFF),
-    ("u32be", 12, 0xFFFF_FFFF, 0, 0xFFFF_FFFF),
-    ("u32le", 12, 0xFFFF_FFFF, 0, 0xFFFF_FFFF),
-    ("i32be", 12, 0xFFFF_FFFF, -0x8000_0000, 0x7FFF_FFFF),
-    ("i32le", 12, 0xFFFF_FFFF, -0x8000_0000, 0x7FFF_FFFF),
-];
-
-/// What a type has is accepted, and what is next to it is refused. (The lexer refuses numbers of over 32 bits.)
-#[test]
-fn types(rt: HostRuntime) -> Result<(), Fail> {
-    for (kind, place, mask, least, greatest) in TYPES {
-        let rows = [
-            ((place, mask, least), None),
-            ((place, mask, greatest), None),
-            ((place.saturating_add(1), mask, least), Some(25)),
-            ((place, mask.saturating_add(1), least), Some(26)),
-            ((place, mask, least.saturating_sub(1)), Some(27)),
-            ((place, mask, greatest.saturating_add(1)), Some(27)),
-        ];
-        for (row, code) in rows {
-            if row.1 > 0xFFFF_FFFF || row.2 > 0xFFFF_FFFF {
-                continue;
-            }
-            assert_eq!(rt; code_of(&rt, kind, row)?, code, "of {kind} {row:?}");
-        }
+/// What a type has is accepted, and what is next to it is refused: its last place in a packet of 16 bytes, its mask of all
+/// ones, and its least and greatest number. (The lexer refuses numbers of over 32 bits.)
+fn has_borders<R: Abort + AllocGlobal>(
+    rt: &R,
+    kind: &str,
+    (place, mask, least, greatest): (i64, i64, i64, i64),
+) {
+    has_code(rt, kind, (place, mask, least), None);
+    has_code(rt, kind, (place, mask, greatest), None);
+    has_code(rt, kind, (place.saturating_add(1), mask, least), Some(25));
+    if mask < 0xFFFF_FFFF {
+        has_code(rt, kind, (place, mask + 1, least), Some(26));
     }
-    Ok(())
+    has_code(rt, kind, (place, mask, least.saturating_sub(1)), Some(27));
+    if greatest < 0xFFFF_FFFF {
+        has_code(rt, kind, (place, mask, greatest + 1), Some(27));
+    }
+}
+
+#[test]
+fn types(rt: HostRuntime) {
+    let rows = &[
+        ("u8", (15, 0xFF, 0, 0xFF)),
+        ("i8", (15, 0xFF, -0x80, 0x7F)),
+        ("u16be", (14, 0xFFFF, 0, 0xFFFF)),
+        ("u16le", (14, 0xFFFF, 0, 0xFFFF)),
+        ("i16be", (14, 0xFFFF, -0x8000, 0x7FFF)),
+        ("i16le", (14, 0xFFFF, -0x8000, 0x7FFF)),
+        ("u32be", (12, 0xFFFF_FFFF, 0, 0xFFFF_FFFF)),
+        ("u32le", (12, 0xFFFF_FFFF, 0, 0xFFFF_FFFF)),
+        ("i32be", (12, 0xFFFF_FFFF, -0x8000_0000, 0x7FFF_FFFF)),
+        ("i32le", (12, 0xFFFF_FFFF, -0x8000_0000, 0x7FFF_FFFF)),
+    ];
+    for &(kind, borders) in rows {
+        has_borders(&rt, kind, borders);
+    }
 }
 
 /// The text that the rows change is accepted.
 #[test]
-fn nothing_is_wrong(rt: HostRuntime) -> Result<(), Fail> {
-    answers(&rt, LOW_VOLTS, None)
+fn nothing_is_wrong(rt: HostRuntime) {
+    answers(&rt, &[LOW_VOLTS], None);
 }

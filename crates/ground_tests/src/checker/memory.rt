@@ -1,5 +1,6 @@
 //! Want of memory.
 
+use crate::shared::same;
 use field_checker::{CheckError, check};
 use rule_lexer::lex;
 use rule_parser::parse;
@@ -19,7 +20,7 @@ fn rules_or_no_memory(rt: HostRuntime) {
         return;
     };
     match check(rt.alloc(), &file) {
-        Ok(set) => assert_eq!(rt; set.rules.as_slice().len(), 1),
-        Err(error) => assert_eq!(rt; error, CheckError::Memory),
+        Ok(set) => same(&rt, "the rules", set.rules.as_slice().len(), 1),
+        Err(error) => same(&rt, "the error", error, CheckError::Memory),
     }
 }

@@ -1,45 +1,40 @@
 //! Names, and which of several faults is answered.
 
-use super::{answers, fails};
+use super::{all_fail, answers};
+use crate::shared::same;
 use field_checker::CheckError;
-use std::test::Fail;
 
 const RULE: &str =
-    "rule LOW active fails 2 sequence 7 event error 1001 \"low volts\" when V < 2400;";
+    "rule LOW active fails 2 sequence 7 event error 1001 \"low volts\" when V < 2400; ";
 
 #[test]
-fn first_faults(rt: HostRuntime) -> Result<(), Fail> {
-    fails(
-        &rt,
-        "packet P = mid 0x0808 length 16;",
-        CheckError::ReservedMid { at: 15 },
-    )?;
-    fails(
-        &rt,
-        "packet P = mid 0x1883 length 16;",
-        CheckError::MidRange { at: 15 },
-    )?;
-    fails(
-        &rt,
-        "packet P = mid 0x0883 length 11;",
-        CheckError::LengthRange { at: 29 },
-    )?;
-    fails(
-        &rt,
-        "field V = P u8 at 0;",
-        CheckError::UnknownName { at: 10 },
-    )?;
-    fails(
-        &rt,
-        "packet P = mid 0x0883 length 16; packet P = mid 0x0883 length 16;",
-        CheckError::DuplicateName { at: 40 },
-    )
+fn first_faults(rt: HostRuntime) {
+    let rows = &[
+        (
+            "packet P = mid 0x0808 length 16;",
+            CheckError::ReservedMid { at: 15 },
+        ),
+        (
+            "packet P = mid 0x1883 length 16;",
+            CheckError::MidRange { at: 15 },
+        ),
+        (
+            "packet P = mid 0x0883 length 11;",
+            CheckError::LengthRange { at: 29 },
+        ),
+        ("field V = P u8 at 0;", CheckError::UnknownName { at: 10 }),
+        (
+            "packet P = mid 0x0883 length 16; packet P = mid 0x0883 length 16;",
+            CheckError::DuplicateName { at: 40 },
+        ),
+    ];
+    all_fail(&rt, rows);
 }
 
 /// The fault at the least place is answered, whatever its number and its item.
 #[test]
-fn least_place(rt: HostRuntime) -> Result<(), Fail> {
-    let rows = [
+fn least_place(rt: HostRuntime) {
+    let rows = &[
         (
             "field V = P u8 at 0 stale -1;",
             CheckError::UnknownName { at: 10 },
@@ -62,27 +57,22 @@ fn least_place(rt: HostRuntime) -> Result<(), Fail> {
             CheckError::DuplicateName { at: 40 },
         ),
     ];
-    for (text, fault) in rows {
-        fails(&rt, text, fault)?;
-    }
-    Ok(())
+    all_fail(&rt, rows);
 }
 
 /// A name may be used before its declaration.
 #[test]
-fn uses_before_declarations(rt: HostRuntime) -> Result<(), Fail> {
-    let declared = "field V = P u16be at 12; packet P = mid 0x0883 length 16;";
-    let text = format!(in rt.alloc(); "{RULE} {declared}")?;
-    answers(&rt, &text, None)?;
-    let text = format!(in rt.alloc(); "{declared} {RULE}")?;
-    answers(&rt, &text, None)
+fn uses_before_declarations(rt: HostRuntime) {
+    let declared = "field V = P u16be at 12; packet P = mid 0x0883 length 16; ";
+    answers(&rt, &[RULE, declared], None);
+    answers(&rt, &[declared, RULE], None);
 }
 
 /// Where a name is declared twice, the first declaration of the wanted kind counts: its duplicate is refused at a greater
 /// place than what the first one refuses.
 #[test]
-fn first_declaration_counts(rt: HostRuntime) -> Result<(), Fail> {
-    let rows = [
+fn first_declaration_counts(rt: HostRuntime) {
+    let rows = &[
         (
             "field V = P u16be at 14; packet P = mid 0x0883 length 12; packet P = mid 0x0883 length 16;",
             CheckError::FieldOutside { at: 21 },
@@ -102,16 +92,13 @@ fn first_declaration_counts(rt: HostRuntime) -> Result<(), Fail> {
             CheckError::DuplicateName { at: 133 },
         ),
     ];
-    for (text, fault) in rows {
-        fails(&rt, text, fault)?;
-    }
-    Ok(())
+    all_fail(&rt, rows);
 }
 
 /// Names of packets, fields and rules share one space, but a use wants its kind.
 #[test]
-fn one_space(rt: HostRuntime) -> Result<(), Fail> {
-    let rows = [
+fn one_space(rt: HostRuntime) {
+    let rows = &[
         (
             "packet P = mid 0x0883 length 16; field P = P u8 at 12;",
             CheckError::DuplicateName { at: 39 },
@@ -131,16 +118,13 @@ fn one_space(rt: HostRuntime) -> Result<(), Fail> {
             CheckError::UnknownName { at: 60 },
         ),
     ];
-    for (text, fault) in rows {
-        fails(&rt, text, fault)?;
-    }
-    Ok(())
+    all_fail(&rt, rows);
 }
 
 /// Names are told apart by all their bytes, and their case.
 #[test]
-fn names_that_differ(rt: HostRuntime) -> Result<(), Fail> {
-    let rows = [
+fn names_that_differ(rt: HostRuntime) {
+    let rows = &[
         (
             "packet P = mid 0x0883 length 16; packet p = mid 0x0883 length 16;",
             None,
@@ -159,16 +143,15 @@ fn names_that_differ(rt: HostRuntime) -> Result<(), Fail> {
         ),
         ("", None),
     ];
-    for (text, expected) in rows {
-        answers(&rt, text, expected)?;
+    for &(text, expected) in rows {
+        answers(&rt, &[text], expected);
     }
-    Ok(())
 }
 
 /// A field's place is judged on its packet's length as written, also where that length is refused.
 #[test]
-fn length_as_written(rt: HostRuntime) -> Result<(), Fail> {
-    let rows = [
+fn length_as_written(rt: HostRuntime) {
+    let rows = &[
         (
             "field V = P u16be at 9; packet P = mid 0x0883 length 11;",
             CheckError::LengthRange { at: 53 },
@@ -186,18 +169,15 @@ fn length_as_written(rt: HostRuntime) -> Result<(), Fail> {
             CheckError::FieldOutside { at: 18 },
         ),
     ];
-    for (text, fault) in rows {
-        fails(&rt, text, fault)?;
-    }
-    Ok(())
+    all_fail(&rt, rows);
 }
 
 /// Comparisons are judged wherever they stand in a condition; the least place counts.
 #[test]
-fn conditions(rt: HostRuntime) -> Result<(), Fail> {
-    let declared = "packet P = mid 0x0883 length 16; field V = P i8 at 12;";
-    let rule = "rule LOW active fails 2 sequence 7 event error 1001 \"\" when";
-    let rows = [
+fn conditions(rt: HostRuntime) {
+    let declared = "packet P = mid 0x0883 length 16; field V = P i8 at 12; ";
+    let rule = "rule LOW active fails 2 sequence 7 event error 1001 \"\" when ";
+    let rows = &[
         ("V < -129", Some(CheckError::ConstRange { at: 119 })),
         ("V < -128", None),
         ("not V > 128", Some(CheckError::ConstRange { at: 123 })),
@@ -216,17 +196,15 @@ fn conditions(rt: HostRuntime) -> Result<(), Fail> {
         ),
         ("V < 0 or V < 1 and V < 2 xor not V < 3", None),
     ];
-    for (condition, expected) in rows {
-        let text = format!(in rt.alloc(); "{declared} {rule} {condition};")?;
-        answers(&rt, &text, expected)?;
+    for &(condition, expected) in rows {
+        answers(&rt, &[declared, rule, condition, ";"], expected);
     }
-    Ok(())
 }
 
 /// The number of each error.
 #[test]
 fn codes(rt: HostRuntime) {
-    let rows = [
+    let rows = &[
         (CheckError::DuplicateName { at: 1 }, Some(21)),
         (CheckError::UnknownName { at: 1 }, Some(22)),
         (CheckError::MidRange { at: 1 }, Some(23)),
@@ -238,7 +216,7 @@ fn codes(rt: HostRuntime) {
         (CheckError::LengthRange { at: 1 }, Some(29)),
         (CheckError::Memory, None),
     ];
-    for (error, code) in rows {
-        assert_eq!(rt; error.code(), code);
+    for &(error, code) in rows {
+        same(&rt, error, error.code(), code);
     }
 }

@@ -1,16 +1,29 @@
 //! First refusals: the lexer's before the parser's before the checker's. Those of limits stand beside the limits.
 
 use super::is_refused;
+use crate::shared::{joined, repeated, same};
 use field_checker::CheckError;
-use rpn_compiler::{CompileError, compile};
+use rpn_compiler::CompileError;
 use rule_lexer::LexError;
 use rule_parser::{ParseError, What};
-use std::test::Fail;
+use std::process::Abort;
+
+/// The text is refused so, with this number.
+fn is_refused_by<R: Abort + AllocGlobal>(rt: &R, text: &str, expected: CompileError, code: u8) {
+    is_refused(rt, text, expected);
+    same(rt, text, expected.code(), Some(code));
+}
+
+/// So with each row.
+fn all_are_refused<R: Abort + AllocGlobal>(rt: &R, rows: &[(&str, CompileError, u8)]) {
+    for &(text, expected, code) in rows {
+        is_refused_by(rt, text, expected, code);
+    }
+}
 
 #[test]
 fn first_refusals_by_place(rt: HostRuntime) {
-    let name = What::Name;
-    let table: [(&str, CompileError, u8); 18] = [
+    let table = &[
         ("@", CompileError::Lex(LexError::BadByte { at: 0 }), 1),
         (
             "4294967296",
@@ -35,7 +48,10 @@ fn first_refusals_by_place(rt: HostRuntime) {
         ),
         (
             "packet",
-            CompileError::Parse(ParseError::Expected { at: 6, what: name }),
+            CompileError::Parse(ParseError::Expected {
+                at: 6,
+                what: What::Name,
+            }),
             11,
         ),
         (
@@ -79,7 +95,10 @@ fn first_refusals_by_place(rt: HostRuntime) {
         // a fault of a later part at a lesser place, and one of an earlier part behind it
         (
             "packet P = mid 0x1883 length 16; packet",
-            CompileError::Parse(ParseError::Expected { at: 39, what: name }),
+            CompileError::Parse(ParseError::Expected {
+                at: 39,
+                what: What::Name,
+            }),
             11,
         ),
         (
@@ -98,48 +117,35 @@ fn first_refusals_by_place(rt: HostRuntime) {
             27,
         ),
     ];
-    for (text, expected, code) in table {
-        match compile(rt.alloc(), text.as_bytes()) {
-            Ok(_) => panic!(rt; "{text} is compiled"),
-            Err(error) => {
-                assert_eq!(rt; error, expected, "of {text}");
-                assert_eq!(rt; error.code(), Some(code), "of {text}");
-            }
-        }
-    }
+    all_are_refused(&rt, table);
 }
 
 #[test]
-fn a_name_a_condition_and_a_text_that_are_too_long(rt: HostRuntime) -> Result<(), Fail> {
-    let name = b"packet NAME_OF_THIRTY_THREE_BYTES_IN_ALL";
+fn a_name_a_condition_and_a_text_that_are_too_long(rt: HostRuntime) {
     is_refused(
         &rt,
-        name,
+        "packet NAME_OF_THIRTY_THREE_BYTES_IN_ALL",
         CompileError::Lex(LexError::NameTooLong { at: 7 }),
     );
-    let mut nested = b"rule R active fails 1 sequence 1 event info 1000 \"\" when ".to_vec(
-        rt.alloc(),
-    )?;
-    let sixty_fifth = nested.len() + 64;
-    nested.resize(sixty_fifth + 1, b'(')?;
+    let front = "rule R active fails 1 sequence 1 event info 1000 \"\" when ";
+    let nested = joined(&rt, &[front, repeated(&rt, "(", 65).as_str()]);
+    let sixty_fifth = front.len() + 64;
     is_refused(
         &rt,
-        nested.as_slice(),
+        nested.as_str(),
         CompileError::Parse(ParseError::TooNested { at: sixty_fifth }),
     );
-    let mut blanks = Vec::new(rt.alloc());
-    blanks.resize(65_537, b' ')?;
+    let blanks = repeated(&rt, " ", 65_537);
     is_refused(
         &rt,
-        blanks.as_slice(),
+        blanks.as_str(),
         CompileError::Lex(LexError::TextTooLong),
     );
-    Ok(())
 }
 
 #[test]
 fn the_numbers_of_limits(rt: HostRuntime) {
-    let table = [
+    let table = &[
         (CompileError::Lex(LexError::NameTooLong { at: 0 }), Some(3)),
         (CompileError::Lex(LexError::TextTooLong), Some(5)),
         (
@@ -152,7 +158,7 @@ fn the_numbers_of_limits(rt: HostRuntime) {
         (CompileError::TooDeep { rule: 3 }, Some(43)),
         (CompileError::Memory, None),
     ];
-    for (error, code) in table {
-        assert_eq!(rt; error.code(), code, "{error}");
+    for &(error, code) in table {
+        same(&rt, error, error.code(), code);
     }
 }

@@ -5,7 +5,7 @@ use rule_lexer::LexError;
 
 #[test]
 fn bytes_that_begin_nothing(rt: HostRuntime) {
-    let rows = [
+    let rows = &[
         ("@", 0),
         ("@ rule", 0),
         ("rule @ when", 5),
@@ -26,7 +26,7 @@ fn bytes_that_begin_nothing(rt: HostRuntime) {
         ("a\x7F", 1),
         ("#@\n@", 3),
     ];
-    for (text, at) in rows {
+    for &(text, at) in rows {
         fails(&rt, text.as_bytes(), LexError::BadByte { at });
     }
     fails(&rt, b"\x80", LexError::BadByte { at: 0 });
@@ -36,7 +36,7 @@ fn bytes_that_begin_nothing(rt: HostRuntime) {
 
 #[test]
 fn numbers_that_are_none(rt: HostRuntime) {
-    let rows = [
+    let rows = &[
         ("4294967296", 0),
         ("-4294967296", 0),
         ("99999999999999999999", 0),
@@ -54,28 +54,28 @@ fn numbers_that_are_none(rt: HostRuntime) {
         ("at -12ab mask", 3),
         ("at 0x", 3),
     ];
-    for (text, at) in rows {
+    for &(text, at) in rows {
         fails(&rt, text.as_bytes(), LexError::BadNumber { at });
     }
 }
 
 #[test]
 fn names_of_33_bytes(rt: HostRuntime) {
-    let rows = [
+    let rows = &[
         ("abcdefghijklmnopqrstuvwxyz_012345", 0),
         ("packetpacketpacketpacketpacket_12", 0),
         ("rule abcdefghijklmnopqrstuvwxyz_012345 active", 5),
         ("rule abcdefghijklmnopqrstuvwxyz_012345", 5),
         ("a#\nabcdefghijklmnopqrstuvwxyz_0123456789", 3),
     ];
-    for (text, at) in rows {
+    for &(text, at) in rows {
         fails(&rt, text.as_bytes(), LexError::NameTooLong { at });
     }
 }
 
 #[test]
 fn strings_that_are_none(rt: HostRuntime) {
-    let rows = [
+    let rows = &[
         ("\"", 0),
         ("\"abc", 0),
         ("\"a\nb\"", 0),
@@ -87,7 +87,7 @@ fn strings_that_are_none(rt: HostRuntime) {
         ("1000 \"a\nb\" when", 5),
         ("when \"", 5),
     ];
-    for (text, at) in rows {
+    for &(text, at) in rows {
         fails(&rt, text.as_bytes(), LexError::BadString { at });
     }
     fails(&rt, b"\"\x80\"", LexError::BadString { at: 0 });

@@ -1,12 +1,12 @@
 //! Tokens that stand alone.
 
-use super::is_one;
+use super::{are_each_one, is_one};
 use lc_model::{ApMode, CmpOp, EventKind, FieldType};
 use rule_lexer::TokenKind;
 
 #[test]
 fn words_of_the_grammar(rt: HostRuntime) {
-    let rows = [
+    let rows = &[
         ("packet", TokenKind::Packet),
         ("field", TokenKind::Field),
         ("rule", TokenKind::Rule),
@@ -25,14 +25,12 @@ fn words_of_the_grammar(rt: HostRuntime) {
         ("and", TokenKind::And),
         ("not", TokenKind::Not),
     ];
-    for (text, kind) in rows {
-        is_one(&rt, text, kind);
-    }
+    are_each_one(&rt, rows);
 }
 
 #[test]
 fn words_for_values(rt: HostRuntime) {
-    let rows = [
+    let rows = &[
         ("u8", TokenKind::FieldKind(FieldType::U8)),
         ("i8", TokenKind::FieldKind(FieldType::I8)),
         ("u16be", TokenKind::FieldKind(FieldType::U16Be)),
@@ -51,14 +49,12 @@ fn words_for_values(rt: HostRuntime) {
         ("error", TokenKind::Level(EventKind::Error)),
         ("critical", TokenKind::Level(EventKind::Critical)),
     ];
-    for (text, kind) in rows {
-        is_one(&rt, text, kind);
-    }
+    are_each_one(&rt, rows);
 }
 
 #[test]
 fn names(rt: HostRuntime) {
-    let rows = [
+    let rows: &[&str] = &[
         "a",
         "_",
         "_9",
@@ -81,7 +77,7 @@ fn names(rt: HostRuntime) {
 
 #[test]
 fn numbers(rt: HostRuntime) {
-    let rows = [
+    let rows = &[
         ("0", 0),
         ("-0", 0),
         ("007", 7),
@@ -97,14 +93,14 @@ fn numbers(rt: HostRuntime) {
         ("-0x10", -16),
         ("0x00000000000000001", 1),
     ];
-    for (text, value) in rows {
+    for &(text, value) in rows {
         is_one(&rt, text, TokenKind::Number(value));
     }
 }
 
 #[test]
 fn strings(rt: HostRuntime) {
-    let rows = [
+    let rows: &[&str] = &[
         "\"\"",
         "\" \"",
         "\"a~b\"",
@@ -118,7 +114,7 @@ fn strings(rt: HostRuntime) {
 
 #[test]
 fn signs(rt: HostRuntime) {
-    let rows = [
+    let rows = &[
         ("=", TokenKind::Equals),
         (";", TokenKind::Semicolon),
         ("(", TokenKind::Open),
@@ -130,7 +126,5 @@ fn signs(rt: HostRuntime) {
         (">=", TokenKind::Compare(CmpOp::GreaterOrEqual)),
         (">", TokenKind::Compare(CmpOp::Greater)),
     ];
-    for (text, kind) in rows {
-        is_one(&rt, text, kind);
-    }
+    are_each_one(&rt, rows);
 }

@@ -1,10 +1,11 @@
 //! Errors beside the tokens'.
 
-use rule_lexer::{LexError, TokenKind, lex};
+use crate::shared::same;
+use rule_lexer::{LexError, Token, TokenKind, lex};
 
 #[test]
 fn codes(rt: HostRuntime) {
-    let rows = [
+    let rows = &[
         (LexError::BadByte { at: 7 }, Some(1)),
         (LexError::BadNumber { at: 7 }, Some(2)),
         (LexError::NameTooLong { at: 7 }, Some(3)),
@@ -12,8 +13,8 @@ fn codes(rt: HostRuntime) {
         (LexError::TextTooLong, Some(5)),
         (LexError::Memory, None),
     ];
-    for (error, code) in rows {
-        assert_eq!(rt; error.code(), code, "of {error:?}");
+    for &(error, code) in rows {
+        same(&rt, error, error.code(), code);
     }
 }
 
@@ -22,15 +23,18 @@ fn codes(rt: HostRuntime) {
 /// with `out of memory`.)
 #[test]
 fn all_tokens_or_no_memory(rt: HostRuntime) {
-    match lex(
-        rt.alloc(),
-        b"a ; b ; c ; d ; e ; f ; g ; h ; i ; j ; k ; l ; m ; n ; o ; p ; q ; r ; s ; t ; u ; v",
-    ) {
+    let text =
+        b"a ; b ; c ; d ; e ; f ; g ; h ; i ; j ; k ; l ; m ; n ; o ; p ; q ; r ; s ; t ; u ; v";
+    match lex(rt.alloc(), text) {
         Ok(tokens) => {
-            assert_eq!(rt; tokens.len(), 43);
-            assert_eq!(rt; tokens[42].at, 84);
-            assert_eq!(rt; tokens[42].kind, TokenKind::Name);
+            same(&rt, "all tokens", tokens.len(), 43);
+            let last = Token {
+                at: 84,
+                text: b"v",
+                kind: TokenKind::Name,
+            };
+            same(&rt, "the last", tokens.last(), Some(&last));
         }
-        Err(error) => assert_eq!(rt; error, LexError::Memory),
+        Err(error) => same(&rt, "the error", error, LexError::Memory),
     }
 }

@@ -1,78 +1,68 @@
 //! Conditions: which operands each operator has, and where their first fault stands.
 
-use super::{parsed, refuses};
-use rule_parser::{Expression, Item, ParseError, Sign, What};
-use std::alloc::AllocError;
+use super::{FRONT, all_want, parsed};
+use crate::shared::{accepted, joined, replaced, same};
+use rule_parser::{Expression, Item, RuleFile, Sign, What};
 use std::process::Abort;
-use std::test::Fail;
 
-/// What stands before the condition of a rule.
-const FRONT: &str = "rule R active fails 1 sequence 2 event info 3 \"t\" when ";
-
-/// Writes the condition with parentheses around what each operator joins, and the names of its comparisons alone.
-fn write_tree(out: &mut String, e: &Expression) -> Result<(), AllocError> {
+/// A condition with parentheses around what each operator joins, and the names of its comparisons alone.
+fn tree<R: Abort + AllocGlobal>(rt: &R, e: &Expression) -> String {
     match e {
-        Expression::Compare(c) => {
-            for &byte in c.field.text {
-                out.push(char::from(byte))?;
-            }
-        }
-        Expression::Not(e) => {
-            out.push_str("not ")?;
-            write_tree(out, e)?;
-        }
-        Expression::And(a, b) => {
-            out.push_str("(")?;
-            write_tree(out, a)?;
-            out.push_str(" and ")?;
-            write_tree(out, b)?;
-            out.push_str(")")?;
-        }
-        Expression::Or(a, b) => {
-            out.push_str("(")?;
-            write_tree(out, a)?;
-            out.push_str(" or ")?;
-            write_tree(out, b)?;
-            out.push_str(")")?;
-        }
-        Expression::Xor(a, b) => {
-            out.push_str("(")?;
-            write_tree(out, a)?;
-            out.push_str(" xor ")?;
-            write_tree(out, b)?;
-            out.push_str(")")?;
-        }
+        Expression::Compare(c) => name(rt, c.field.text),
+        Expression::Not(e) => negated(rt, tree(rt, e)),
+        Expression::And(a, b) => both(rt, tree(rt, a), " and ", tree(rt, b)),
+        Expression::Or(a, b) => both(rt, tree(rt, a), " or ", tree(rt, b)),
+        Expression::Xor(a, b) => both(rt, tree(rt, a), " xor ", tree(rt, b)),
     }
-    Ok(())
 }
 
-/// The condition, where A, B, C and D stand for comparisons, is read as this tree.
-fn groups<R: Abort + AllocGlobal>(rt: &R, condition: &str, tree: &str) -> Result<(), Fail> {
-    let text = format!(in rt.alloc(); "{FRONT}{condition};")?;
-    let text = text.replace(rt.alloc(), "A", "A < 1")?;
-    let text = text.replace(rt.alloc(), "B", "B == 2")?;
-    let text = text.replace(rt.alloc(), "C", "C >= -3")?;
-    let text = text.replace(rt.alloc(), "D", "D != 0x4")?;
-    match parsed(rt, text.as_bytes()) {
-        Ok(file) => match file.items.as_slice() {
-            [item] => match item {
-                Item::Rule(rule) => {
-                    let mut found = String::new(rt.alloc());
-                    write_tree(&mut found, &rule.condition)?;
-                    assert_eq!(rt; found.as_str(), tree, "of {condition}");
-                }
-                _ => panic!(rt; "no rule in {condition}"),
-            },
-            _ => panic!(rt; "no single item in {condition}"),
+/// The tree of a comparison with this field.
+fn name<R: Abort + AllocGlobal>(rt: &R, field: &[u8]) -> String {
+    let text = accepted(rt, field, str::from_utf8(field));
+    joined(rt, &[text])
+}
+
+/// The tree of `not`.
+fn negated<R: Abort + AllocGlobal>(rt: &R, operand: String) -> String {
+    joined(rt, &["not ", operand.as_str()])
+}
+
+/// The tree of an operator, in its blanks, with two operands.
+fn both<R: Abort + AllocGlobal>(rt: &R, left: String, operator: &str, right: String) -> String {
+    joined(rt, &["(", left.as_str(), operator, right.as_str(), ")"])
+}
+
+/// The condition of the only item, a rule.
+fn only_condition<'f, 't>(file: &'f RuleFile<'t>) -> Option<&'f Expression<'t>> {
+    match file.items.as_slice() {
+        [item] => match item {
+            Item::Rule(rule) => Some(&rule.condition),
+            _ => None,
         },
-        Err(error) => panic!(rt; "{error} in {condition}"),
+        _ => None,
     }
-    Ok(())
+}
+
+/// The condition of a rule, where A, B, C and D stand for comparisons.
+fn written_out<R: Abort + AllocGlobal>(rt: &R, condition: &str) -> String {
+    let text = joined(rt, &[FRONT, condition, ";"]);
+    let text = replaced(rt, text.as_str(), "A", "A < 1");
+    let text = replaced(rt, text.as_str(), "B", "B == 2");
+    let text = replaced(rt, text.as_str(), "C", "C >= -3");
+    replaced(rt, text.as_str(), "D", "D != 0x4")
+}
+
+/// The condition is read as this tree.
+fn groups<R: Abort + AllocGlobal>(rt: &R, condition: &str, expected: &str) {
+    let text = written_out(rt, condition);
+    let file = accepted(rt, condition, parsed(rt, text.as_str()));
+    let found = only_condition(&file).expect(rt, condition);
+    same(rt, condition, tree(rt, found).as_str(), expected);
 }
 
 #[test]
-fn trees(rt: HostRuntime) -> Result<(), Fail> {
-    let rows = [
+fn trees(rt: HostRuntime) {
+    let rows = &[
         ("A", "A"),
         ("(A)", "A"),
         ("((A))", "A"),
@@ -99,15 +89,14 @@ fn trees(rt: HostRuntime) -> Result<(), Fail> {
         ("not A and B", "(not A and B)"),
         ("A and not B or not C", "((A and not B) or not C)"),
     ];
-    for (condition, tree) in rows {
-        groups(&rt, condition, tree)?;
+    for &(condition, tree) in rows {
+        groups(&rt, condition, tree);
     }
-    Ok(())
 }
 
 #[test]
-fn faults(rt: HostRuntime) -> Result<(), Fail> {
-    let rows = [
+fn faults(rt: HostRuntime) {
+    let rows = &[
         ("", "", What::Operand),
         ("", ";", What::Operand),
         ("", "1 > A;", What::Operand),
@@ -136,11 +125,5 @@ fn faults(rt: HostRuntime) -> Result<(), Fail> {
         ("((A < 1) ", ";", What::Sign(Sign::Close)),
         ("((A < 1) or B < 1) ", ") ;", What::Sign(Sign::Semicolon)),
     ];
-    for (front, back, what) in rows {
-        let front = format!(in rt.alloc(); "{FRONT}{front}")?;
-        let text = format!(in rt.alloc(); "{front}{back}")?;
-        let at = front.len();
-        refuses(&rt, &text, ParseError::Expected { at, what });
-    }
-    Ok(())
+    all_want(&rt, FRONT, rows);
 }

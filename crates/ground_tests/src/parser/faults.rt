@@ -1,34 +1,26 @@
 //! Items, and where the first fault of a text stands: at the end of the first of its two parts.
 
-use super::{reads, refuses};
+use super::{all_want, reads, refuses, wants};
+use crate::shared::{accepted, same};
 use rule_parser::{ParseError, Sign, What, Word};
 use std::process::Abort;
-use std::test::Fail;
-
-/// The two parts are a text whose first fault stands between them.
-fn wants<R: Abort + AllocGlobal>(rt: &R, front: &str, back: &str, what: What) -> Result<(), Fail> {
-    let text = format!(in rt.alloc(); "{front}{back}")?;
-    let at = front.len();
-    refuses(rt, &text, ParseError::Expected { at, what });
-    Ok(())
-}
 
 #[test]
 fn places_as_numbers(rt: HostRuntime) {
-    let rows = [
+    let rows = &[
         ("packet", 6, What::Name),
         ("packet ", 7, What::Name),
         ("packet # P", 10, What::Name),
         ("packet P = mid 1 length", 23, What::Number),
     ];
-    for (text, at, what) in rows {
+    for &(text, at, what) in rows {
         refuses(&rt, text, ParseError::Expected { at, what });
     }
 }
 
 #[test]
 fn items_that_are_read(rt: HostRuntime) {
-    let rows = [
+    let rows = &[
         ("", 0),
         (" # nothing\n", 0),
         ("packet P = mid 1 length 2;", 1),
@@ -50,14 +42,14 @@ fn items_that_are_read(rt: HostRuntime) {
             3,
         ),
     ];
-    for (text, count) in rows {
+    for &(text, count) in rows {
         reads(&rt, text, count);
     }
 }
 
 #[test]
-fn between_items(rt: HostRuntime) -> Result<(), Fail> {
-    let rows = [
+fn between_items(rt: HostRuntime) {
+    let rows = &[
         ("", ";"),
         ("", "P"),
         ("", "mid"),
@@ -67,15 +59,14 @@ fn between_items(rt: HostRuntime) -> Result<(), Fail> {
         ("packet P = mid 1 length 2; ", "and"),
         ("field V = P u8 at 0; ", "active"),
     ];
-    for (front, back) in rows {
-        wants(&rt, front, back, What::Item)?;
+    for &(front, back) in rows {
+        wants(&rt, &[front], back, What::Item);
     }
-    Ok(())
 }
 
 #[test]
-fn packets(rt: HostRuntime) -> Result<(), Fail> {
-    let rows = [
+fn packets(rt: HostRuntime) {
+    let rows = &[
         ("packet ", "packet = mid 1 length 2;", What::Name),
         ("packet ", "= mid 1 length 2;", What::Name),
         ("packet P", "", What::Sign(Sign::Equals)),
@@ -97,16 +88,13 @@ fn packets(rt: HostRuntime) -> Result<(), Fail> {
             What::Sign(Sign::Semicolon),
         ),
     ];
-    for (front, back, what) in rows {
-        wants(&rt, front, back, what)?;
-    }
-    Ok(())
+    all_want(&rt, "", rows);
 }
 
 /// Behind what may be left out, and where it is cut short, what is wanted is what would stand without it.
 #[test]
-fn fields(rt: HostRuntime) -> Result<(), Fail> {
-    let rows = [
+fn fields(rt: HostRuntime) {
+    let rows = &[
         ("field V", "", What::Sign(Sign::Equals)),
         ("field V = ", "u8 at 0;", What::Name),
         ("field V = P", "", What::FieldKind),
@@ -144,15 +132,12 @@ fn fields(rt: HostRuntime) -> Result<(), Fail> {
             What::Sign(Sign::Semicolon),
         ),
     ];
-    for (front, back, what) in rows {
-        wants(&rt, front, back, what)?;
-    }
-    Ok(())
+    all_want(&rt, "", rows);
 }
 
 #[test]
-fn rules(rt: HostRuntime) -> Result<(), Fail> {
-    let rows = [
+fn rules(rt: HostRuntime) {
+    let rows = &[
         ("rule ", "active fails 1", What::Name),
         ("rule R ", "on", What::State),
         ("rule R", "", What::State),
@@ -224,33 +209,39 @@ fn rules(rt: HostRuntime) -> Result<(), Fail> {
             What::Word(Word::When),
         ),
     ];
-    for (front, back, what) in rows {
-        wants(&rt, front, back, what)?;
-    }
-    Ok(())
+    all_want(&rt, "", rows);
 }
 
 /// The first of two items doesn't hide the second's fault, and the first fault of two counts.
 #[test]
-fn two_items(rt: HostRuntime) -> Result<(), Fail> {
-    wants(
-        &rt,
-        "packet P = mid 1 length 2; packet Q = mid ",
-        "; field",
-        What::Number,
-    )?;
-    wants(
-        &rt,
-        "packet P ",
-        "mid 1 length 2; packet = mid 1 length 2;",
-        What::Sign(Sign::Equals),
-    )
+fn two_items(rt: HostRuntime) {
+    let rows = &[
+        (
+            "packet P = mid 1 length 2; packet Q = mid ",
+            "; field",
+            What::Number,
+        ),
+        (
+            "packet P ",
+            "mid 1 length 2; packet = mid 1 length 2;",
+            What::Sign(Sign::Equals),
+        ),
+    ];
+    all_want(&rt, "", rows);
+}
+
+/// What is read where this is wanted at byte 7.
+fn says<R: Abort + AllocGlobal>(rt: &R, what: What, words: &str) {
+    let error = ParseError::Expected { at: 7, what };
+    same(rt, words, error.code(), Some(11));
+    let written = accepted(rt, words, format!(in rt.alloc(); "{error}"));
+    same(rt, words, written.as_str(), words);
 }
 
 /// What an engineer reads.
 #[test]
-fn words_of_faults(rt: HostRuntime) -> Result<(), Fail> {
-    let rows = [
+fn words_of_faults(rt: HostRuntime) {
+    let rows = &[
         (What::Item, "expected `packet`, `field` or `rule` at 7"),
         (What::Name, "expected a name at 7"),
         (What::Operand, "expected a name, `not` or `(` at 7"),
@@ -258,12 +249,14 @@ fn words_of_faults(rt: HostRuntime) -> Result<(), Fail> {
         (What::Sign(Sign::Semicolon), "expected `;` at 7"),
         (What::Sign(Sign::Close), "expected `)` at 7"),
     ];
-    for (what, words) in rows {
-        let error = ParseError::Expected { at: 7, what };
-        assert_eq!(&rt; error.code(), Some(11));
-        assert_eq!(&rt; format!(in rt.alloc(); "{error}")?.as_str(), words);
+    for &(what, words) in rows {
+        says(&rt, what, words);
     }
-    assert_eq!(&rt; ParseError::TooNested { at: 7 }.code(), Some(12));
-    assert_eq!(&rt; ParseError::Memory.code(), None);
-    Ok(())
+    same(
+        &rt,
+        "nesting",
+        ParseError::TooNested { at: 7 }.code(),
+        Some(12),
+    );
+    same(&rt, "memory", ParseError::Memory.code(), None);
 }
