@@ -13,8 +13,6 @@ mod meaning;
 mod names;
 mod packet;
 mod rule;
-#[cfg(test)]
-mod tests;
 
 pub use checker::check;
 pub use error::CheckError;

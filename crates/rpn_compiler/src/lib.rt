@@ -8,8 +8,6 @@ mod files;
 mod images;
 mod limits;
 mod lowered;
-#[cfg(test)]
-mod tests;
 
 pub use error::CompileError;
 pub use files::{TablePair, compile};

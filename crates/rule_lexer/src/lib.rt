@@ -11,8 +11,6 @@ mod lexer;
 mod number;
 mod scanner;
 mod sign;
-#[cfg(test)]
-mod tests;
 mod text;
 mod token;
 mod word;

@@ -12,8 +12,6 @@ mod operator;
 mod parser;
 mod reader;
 mod syntax;
-#[cfg(test)]
-mod tests;
 mod what;
 
 pub use error::ParseError;

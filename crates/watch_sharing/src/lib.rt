@@ -4,8 +4,6 @@
 mod error;
 mod shared;
 mod sharing;
-#[cfg(test)]
-mod tests;
 
 pub use error::ShareError;
 pub use shared::Shared;
