@@ -9,8 +9,8 @@ ghost use Rattle.lc_model.specs.Codes.{table_entries};
 ghost use Rattle.lc_model.specs.Tables.Equation.{equal_word};
 ghost use Rattle.lc_model.specs.Tables.Image.{Actionpoints, FitsWatchpoint, FitsEntry};
 
-use crate::LimitChecker;
 use lc_model::{ApMode, Bytes, CmpOp, EventKind, FieldType, Kind, Report, Term};
+use limit_checker::LimitChecker;
 use std::alloc::{AllocError, Global};
 use std::process::Abort;
 use table_file::{AdtImage, FileError, TableEntry, WdtImage, encode_adt, encode_wdt, preamble};

@@ -6,8 +6,8 @@ ghost use Rattle.lc_model.specs.declared.field.FieldType.TheVariants.{I8};
 ghost use Rattle.lc_model.specs.Tables.Image.{FitsWatchpoint};
 
 use super::{Images, LOW, Step, actionpoint, encoded, low, run, sample};
-use crate::LimitChecker;
 use lc_model::{ApMode, CmpOp, FieldType, Term};
+use limit_checker::LimitChecker;
 use std::alloc::{AllocError, Global};
 use std::test::*;
 use table_file::FileError;

@@ -4,16 +4,14 @@ ghost use Rattle.std.specs.Prelude.{IsTrue};
 ghost use Rattle.lc_model.specs.Tables.Image.{fits_32_bits};
 
 use super::{HASH, low_volts_entry};
-use crate::actionpoint::{ActionpointEntry, EQUAL_WORD};
-use crate::encode::{encode_adt, encode_wdt};
-use crate::error::FileError;
-use crate::image::{AdtImage, WdtImage};
-use crate::layout::Layout;
-use crate::watchpoint::WatchpointEntry;
 use lc_model::{CmpOp, FieldType, Term};
 use std::alloc::{AllocError, Global};
 use std::process::Abort;
 use std::test::*;
+use table_file::{
+    ActionpointEntry, AdtImage, EQUAL_WORD, FileError, Layout, WatchpointEntry, WdtImage,
+    encode_adt, encode_wdt,
+};
 
 /// A table of one watchpoint with this number is read as it was written.
 fn is_read_again<R: Abort>(

@@ -3,8 +3,8 @@
 ghost use Rattle.lc_model.specs.Tables.Image.{FitsWatchpoint};
 
 use super::{Images, LOW, Step, actionpoint, drive, encoded, low, run, sample, set};
-use crate::LimitChecker;
 use lc_model::{ApMode, CmpOp, FieldType, Term};
+use limit_checker::LimitChecker;
 use std::alloc::{AllocError, Global};
 use std::test::*;
 

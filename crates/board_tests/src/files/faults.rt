@@ -1,10 +1,9 @@
 //! Files that don't open: the first fault, in the order of the headers' fields.
 
 use super::{changed, low_volts_adt_file, low_volts_wdt_file, refused};
-use crate::error::FileError;
-use crate::file::open;
 use std::process::Abort;
 use std::test::*;
+use table_file::{FileError, open};
 
 /// Bytes that are wrong, each with its fault, in order: all but the last byte of a field, and the last one, too.
 const WRONG: [(usize, u8, FileError); 11] = [

@@ -1,7 +1,7 @@
 //! Want of memory.
 
 use super::{low_volts_adt_file, low_volts_wdt_file};
-use crate::error::FileError;
+use table_file::FileError;
 
 /// Where an allocation fails, the answer is `Memory`, and no other: `rt try --test --fail-alloc N`, for N from 1 to 3, has
 /// the values', the image's or the file's room refused here. (The other tests want the files, and fail then with `out of

@@ -1,11 +1,11 @@
 //! Both images of the text with each byte set to 0xFF in turn; the answers were worked out by hand, field by field.
 
 use super::{ACTIONPOINT, PREAMBLE, WATCHPOINT, adt, answer, start, wdt};
-use crate::WHOLE_IMAGE;
 use lc_model::Kind;
 use std::alloc::AllocError;
 use std::process::Abort;
 use std::test::*;
+use table_validator::WHOLE_IMAGE;
 
 /// Version, kind and counts; the hash may be any.
 fn preamble_answer(place: usize) -> Option<(u8, u16)> {

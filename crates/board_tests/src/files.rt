@@ -12,14 +12,10 @@ mod written;
 ghost use Rattle.std.specs.Prelude.{◌≡◌, length, IfOk};
 ghost use Rattle.lc_model.specs.Tables.Image.{Watchpoints, Actionpoints, image_length, FitsWatchpoint, FitsEntry};
 
-use crate::encode::{encode_adt, encode_wdt};
-use crate::error::FileError;
-use crate::file::open;
-use crate::image::{AdtImage, TableEntry, WdtImage};
-use crate::wrapping::wrap;
 use lc_model::{ApMode, Bytes, CmpOp, EventKind, FieldType, Kind, Report, Term};
 use std::alloc::{AllocError, Global};
 use std::process::Abort;
+use table_file::{AdtImage, FileError, TableEntry, WdtImage, encode_adt, encode_wdt, open, wrap};
 
 /// In place of the text's hash.
 const HASH: [u8; 32] = [7; 32];

@@ -4,15 +4,13 @@ use super::{
     HASH, changed, low_volts_adt, low_volts_adt_file, low_volts_term, low_volts_wdt,
     low_volts_wdt_file,
 };
-use crate::actionpoint::{ActionpointEntry, EQUAL_WORD};
-use crate::entry::{entry_bytes, is_blank};
-use crate::file::{TableFile, open};
-use crate::layout::Layout;
-use crate::preamble;
-use crate::watchpoint::WatchpointEntry;
 use lc_model::{ApMode, CmpOp, EventKind, FieldType, Kind, Report};
 use std::process::Abort;
 use std::test::*;
+use table_file::{
+    ActionpointEntry, EQUAL_WORD, Layout, TableFile, WatchpointEntry, entry_bytes, is_blank, open,
+    preamble,
+};
 
 /// The fields that are written, and an image of this length.
 fn has_written_fields<R: Abort>(rt: &R, file: &TableFile, name: &[u8], length: usize) {

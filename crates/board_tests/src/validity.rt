@@ -10,10 +10,10 @@ mod sound;
 mod whole_image;
 mod words;
 
-use crate::{WHOLE_IMAGE, validate};
 use lc_model::Kind;
 use std::alloc::{AllocError, Global};
 use std::process::Abort;
+use table_validator::{WHOLE_IMAGE, validate};
 
 /// The bytes before the entries.
 const PREAMBLE: usize = 40;

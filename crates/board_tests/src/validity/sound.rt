@@ -1,12 +1,12 @@
 //! Images that are taken, and what their readers find.
 
 use super::{ACTIONPOINT, LOW_VOLTS, PREAMBLE, adt, adt_with, answer, put, wdt};
-use crate::validate;
 use lc_model::{CmpOp, FieldType, Kind, Term};
 use std::alloc::AllocError;
 use std::process::Abort;
 use std::test::*;
 use table_file::preamble;
+use table_validator::validate;
 
 /// The watchpoint of the text.
 fn low_volts() -> Term {
