@@ -1,8 +1,9 @@
-//! Sources and sinks in memory, with a fault at each place in turn. They stand here and not in their crate, since a crate
-//! with tests is proved twice, and all others wait for that one.
+//! Sources and sinks in memory, with a fault at each place in turn.
 
+use crate::asserting::{holds, same};
 use lc_model::{ByteSink, ByteSource, DeviceFault, Limited, Pieces, Reading, Writing};
 use std::io;
+use std::process::Abort;
 use std::test::Fail;
 
 const TEXT: &[u8; 20] = b"watchpoint, stale: 7";
@@ -44,82 +45,85 @@ fn write_all(sink: &mut impl ByteSink, bytes: &[u8], most: usize) -> u64 {
     64
 }
 
+/// The whole text comes in pieces of this size, by so many reads.
+fn gives_the_text<R: Abort>(rt: &R, most: usize, reads: u64) {
+    let mut room = [0; 32];
+    let mut source = Pieces::new(TEXT, most);
+    let bytes = read_to_end(&mut source, &mut room);
+    same(rt, ("bytes in pieces of", most), bytes, (20, 20));
+    same(rt, ("text in pieces of", most), &room[..20], &TEXT[..]);
+    same(rt, ("reads of pieces of", most), source.reads(), reads);
+    same(rt, ("fault in pieces of", most), source.failed(), false);
+}
+
 #[test]
 fn reads_a_slice_in_pieces(rt: HostRuntime) {
     for (most, reads) in [(1, 21), (7, 4), (20, 2), (99, 2)] {
-        let mut room = [0; 32];
-        let mut source = Pieces::new(TEXT, most);
-        let (filled, before_fault) = read_to_end(&mut source, &mut room);
-        assert_eq!(rt; filled, 20, "pieces of {most}");
-        assert_eq!(rt; before_fault, 20, "pieces of {most}");
-        assert_eq!(rt; &room[..20], &TEXT[..], "pieces of {most}");
-        assert_eq!(rt; source.reads(), reads, "pieces of {most}");
-        assert!(rt; !source.failed(), "pieces of {most}");
+        gives_the_text(&rt, most, reads);
     }
+}
+
+/// The fault moves no byte, so reading on gives the whole text, by one read more.
+fn goes_on_behind_a_fault<R: Abort>(rt: &R, most: usize, reads: u64, fault: u64) {
+    let at = (most, fault);
+    let before = (fault - 1).saturating_mul(most as u64).min(20);
+    let mut room = [0; 32];
+    let mut source = Pieces::failing_at(TEXT, most, fault);
+    let (filled, before_fault) = read_to_end(&mut source, &mut room);
+    same(
+        rt,
+        ("bytes", at),
+        (filled, before_fault as u64),
+        (20, before),
+    );
+    same(rt, ("text", at), &room[..20], &TEXT[..]);
+    same(rt, ("reads", at), source.reads(), reads + 1);
+    same(rt, ("fault", at), source.failed(), true);
 }
 
 #[test]
 fn fails_at_the_read_that_is_told(rt: HostRuntime) {
     for (most, reads) in [(1, 21u64), (7, 4), (20, 2)] {
         for fault in 1..=reads {
-            let mut room = [0; 32];
-            let mut source = Pieces::failing_at(TEXT, most, fault);
-            let (filled, before_fault) = read_to_end(&mut source, &mut room);
-            // The fault moves no byte, so reading on gives them all, by one read more.
-            assert_eq!(rt; filled, 20, "pieces of {most}, fault at {fault}");
-            assert_eq!(rt;
-                &room[..20],
-                &TEXT[..],
-                "pieces of {most}, fault at {fault}"
-            );
-            assert_eq!(rt;
-                source.reads(),
-                reads + 1,
-                "pieces of {most}, fault at {fault}"
-            );
-            assert!(rt; source.failed(), "pieces of {most}, fault at {fault}");
-            let wanted = (fault - 1).saturating_mul(most as u64).min(20);
-            assert_eq!(rt;
-                before_fault as u64,
-                wanted,
-                "pieces of {most}, fault at {fault}"
-            );
+            goes_on_behind_a_fault(&rt, most, reads, fault);
         }
     }
+}
+
+/// Of the text, `most` bytes at a time, as many are taken as the limit lets through, and then there is a fault.
+fn takes_up_to<R: Abort>(rt: &R, most: usize, limit: usize) {
+    let mut room = [0; 20];
+    let mut sink = Limited::new(&mut room, limit);
+    let _calls = write_all(&mut sink, TEXT, most);
+    let taken = TEXT.get(..limit);
+    same(rt, ("taken", most, limit), Some(sink.bytes()), taken);
+    same(rt, ("fault", most, limit), sink.failed(), limit < 20);
 }
 
 #[test]
 fn takes_bytes_up_to_the_limit(rt: HostRuntime) {
     for most in [1, 7, 20] {
         for limit in 0..=20 {
-            let mut room = [0; 20];
-            let mut sink = Limited::new(&mut room, limit);
-            let _calls = write_all(&mut sink, TEXT, most);
-            assert_eq!(rt;
-                sink.bytes(),
-                &TEXT[..limit],
-                "{most} at a time, limit {limit}"
-            );
-            assert_eq!(rt;
-                sink.failed(),
-                limit < 20,
-                "{most} at a time, limit {limit}"
-            );
+            takes_up_to(&rt, most, limit);
         }
     }
+}
+
+/// The fault takes no byte, and the next write goes on.
+fn goes_on_behind_a_failed_write<R: Abort>(rt: &R, fault: u64) {
+    let mut room = [0; 20];
+    let mut sink = Limited::failing_at(&mut room, 20, fault);
+    same(rt, ("calls", fault), write_all(&mut sink, TEXT, 1), fault);
+    same(rt, ("fault", fault), sink.failed(), true);
+    same(rt, ("bytes", fault), sink.bytes().len() as u64, fault - 1);
+    same(rt, ("write", fault), sink.write(b"!"), Ok(1));
+    same(rt, ("bytes then", fault), sink.bytes().len() as u64, fault);
 }
 
 #[test]
 fn fails_at_the_write_that_is_told(rt: HostRuntime) {
     for fault in 1..=20u64 {
-        let mut room = [0; 20];
-        let mut sink = Limited::failing_at(&mut room, 20, fault);
-        assert_eq!(rt; write_all(&mut sink, TEXT, 1), fault);
-        assert!(rt; sink.failed());
-        assert_eq!(rt; sink.bytes().len() as u64, fault - 1);
-        // The fault took no byte, and the next write goes on.
-        assert_eq!(rt; sink.write(b"!"), Ok(1));
-        assert_eq!(rt; sink.bytes().len() as u64, fault);
+        goes_on_behind_a_failed_write(&rt, fault);
     }
 }
 
@@ -158,25 +162,28 @@ impl io::Write for Full {
 }
 
 #[test]
-fn reads_and_writes_by_the_standard_library(rt: HostRuntime) -> Result<(), Fail> {
+fn reads_by_the_standard_library(rt: HostRuntime) {
     let mut room = [0; 32];
     let mut source = Reading::new(&TEXT[..]);
-    assert_eq!(rt; read_to_end(&mut source, &mut room), (20, 20));
-    assert_eq!(rt; &room[..20], &TEXT[..]);
-    assert_eq!(rt; source.reads(), 2);
-    assert!(rt; !source.failed());
+    same(&rt, "bytes", read_to_end(&mut source, &mut room), (20, 20));
+    same(&rt, "text", &room[..20], &TEXT[..]);
+    same(&rt, "reads", source.reads(), 2);
+    holds(&rt, "no fault", !source.failed());
 
     let mut broken = Reading::new(Broken);
-    assert_eq!(rt; broken.read(&mut room), Err(DeviceFault));
-    assert_eq!(rt; broken.reads(), 1);
-    assert!(rt; broken.failed());
+    same(&rt, "broken", broken.read(&mut room), Err(DeviceFault));
+    same(&rt, "reads of a broken one", broken.reads(), 1);
+    holds(&rt, "fault", broken.failed());
+}
 
+#[test]
+fn writes_by_the_standard_library(rt: HostRuntime) -> Result<(), Fail> {
     let mut sink = Writing::new(Vec::new(rt.alloc()));
-    assert_eq!(rt; sink.write(TEXT), Ok(20));
-    assert!(rt; !sink.failed());
+    same(&rt, "bytes", sink.write(TEXT), Ok(20));
+    holds(&rt, "no fault", !sink.failed());
 
     let mut full = Writing::new(Full);
-    assert_eq!(rt; full.write(TEXT), Err(DeviceFault));
-    assert!(rt; full.failed());
+    same(&rt, "full", full.write(TEXT), Err(DeviceFault));
+    holds(&rt, "fault", full.failed());
     Ok(())
 }

@@ -4,10 +4,16 @@
 #![tactic(auto)]
 
 #[cfg(test)]
+mod asserting;
+#[cfg(test)]
 mod devices;
 #[cfg(test)]
 mod files;
 #[cfg(test)]
+mod images;
+#[cfg(test)]
 mod validity;
+#[cfg(test)]
+mod values;
 #[cfg(test)]
 mod watching;

@@ -3,41 +3,24 @@
 mod one_rule;
 mod sound_tables;
 
-ghost use Rattle.std.specs.Prelude.{◌≢◌, ◌<◌, ◌≤◌, ◌^◌, length, IfOk};
+ghost use Rattle.std.specs.Prelude.{◌≡◌, ◌≤◌, length};
 ghost use Rattle.std.specs.List.{AllByRecursion};
 ghost use Rattle.lc_model.specs.Codes.{table_entries};
-ghost use Rattle.lc_model.specs.Tables.Equation.{equal_word};
 ghost use Rattle.lc_model.specs.Tables.Image.{Actionpoints, FitsWatchpoint, FitsEntry};
 
-use lc_model::{ApMode, Bytes, CmpOp, EventKind, FieldType, Kind, Report, Term};
+use crate::asserting::{holds, same};
+use crate::values::{encoded_adt, encoded_wdt};
+use lc_model::{Kind, Term};
 use limit_checker::LimitChecker;
 use std::alloc::{AllocError, Global};
 use std::process::Abort;
-use table_file::{AdtImage, FileError, TableEntry, WdtImage, encode_adt, encode_wdt, preamble};
-use table_validator::validate;
-
-/// In place of a text's hash.
-const HASH: [u8; 32] = [7; 32];
+use table_file::{FileError, TableEntry, preamble};
+use table_validator::{ValidImage, validate};
 
 /// Telemetry of message id 0x0883 with 2,399 in the 16 bits at byte 12, which is low.
 const LOW: &[u8] = &[
     0x08, 0x83, 0xC0, 0, 0, 9, 0, 0, 0, 0, 0, 0, 0x09, 0x5F, 0, 0,
 ];
-
-/// The 16 bits are below 2,400; stale after this many agings.
-fn low(stale: u32) -> Term
-    ensures { FitsWatchpoint result }
-{
-    Term {
-        kind: FieldType::U16Be,
-        mid: 0x0883,
-        offset: 12,
-        mask: 0xFFFF,
-        stale,
-        op: CmpOp::Less,
-        value: 2400,
-    }
-}
 
 /// Images of tables.
 #[derive(Drop)]
@@ -58,62 +41,28 @@ fn encoded(
     requires actionpoints { AllByRecursion (FitsEntry Actionpoints) actionpoints.items }
 {
     let watchpoint_count = watchpoints.len() as u16;
-    let wdt = WdtImage {
-        hash: HASH,
-        watchpoints,
-    };
-    let adt = AdtImage {
-        hash: HASH,
-        watchpoint_count,
-        actionpoints,
-    };
     Ok(Images {
-        wdt: encode_wdt(alloc, &wdt)?,
-        adt: encode_adt(alloc, &adt)?,
+        wdt: encoded_wdt(alloc, watchpoints)?,
+        adt: encoded_adt(alloc, watchpoint_count, actionpoints)?,
     })
 }
 
-/// The actionpoint that requests a sequence after so many failures in a row, with these words before EQUAL.
-fn actionpoint(
-    alloc: Global,
-    mode: ApMode,
-    fails: u16,
-    sequence: u16,
-    words: &[u16],
-) -> Result<TableEntry, AllocError>
-    requires few { length words.now < 20 }
-    requires words { AllByRecursion (λ w. (w < 2 ^ 16) × (w ≢ equal_word)) words.now }
-    ensures { IfOk result (λ entry. FitsEntry Actionpoints entry) }
+/// The image, which is sound.
+fn valid<'a, R: Abort>(rt: &R, kind: Kind, image: &'a [u8]) -> ValidImage<'a>
+    ensures { result ≡ record { kind = kind; bytes = image.now } }
 {
-    Ok(TableEntry {
-        mode,
-        report: Report {
-            passive: 0,
-            pass_to_fail: 0,
-            fail_to_pass: 0,
-        },
-        sequence,
-        fails,
-        event_kind: EventKind::Error,
-        event_id: 1001,
-        text: Bytes::from_vec(Vec::new(alloc)),
-        words: Vec::from_slice(alloc, words)?,
-    })
+    validate(kind, image).expect(rt, "not sound")
 }
 
 /// Sets the Limit Checker from the images, which are sound and belong together.
 fn set<R: Abort>(rt: &R, checker: &mut LimitChecker, tables: &Images) {
-    match (
-        validate(Kind::Wdt, tables.wdt.as_slice()),
-        validate(Kind::Adt, tables.adt.as_slice()),
-    ) {
-        (Ok(wdt), Ok(adt)) => {
-            assert!(rt; preamble::hash(wdt.image()) == preamble::hash(adt.image()));
-            let watchpoints = preamble::watchpoint_count(wdt.image());
-            assert_eq!(rt; watchpoints, preamble::watchpoint_count(adt.image()));
-            checker.set(&wdt, &adt);
-        }
-        (wdt, adt) => panic!(rt; "{wdt:?} {adt:?}"),
+    let wdt = valid(rt, Kind::Wdt, tables.wdt.as_slice());
+    let adt = valid(rt, Kind::Adt, tables.adt.as_slice());
+    let is_match = preamble::hash(wdt.image()) == preamble::hash(adt.image())
+        && preamble::watchpoint_count(wdt.image()) == preamble::watchpoint_count(adt.image());
+    holds(rt, "the images belong together", is_match);
+    if is_match {
+        checker.set(&wdt, &adt);
     }
 }
 
@@ -121,17 +70,22 @@ fn set<R: Abort>(rt: &R, checker: &mut LimitChecker, tables: &Images) {
 enum Step {
     Packet(&'static [u8]),
     Age,
-    /// A sample, and the sequence that it is to request.
+    /// A sample of the first rule, and the sequence that it is to request.
     Sample(Option<u16>),
+    /// The same of another rule.
+    SampleOf(usize, Option<u16>),
 }
 
-/// Drives a Limit Checker through the steps; samples are those of the first rule.
+/// Drives a Limit Checker through the steps.
 fn drive<R: Abort>(rt: &R, checker: &mut LimitChecker, steps: &[Step]) {
     for (at, step) in steps.iter().enumerate() {
         match step {
             Step::Packet(bytes) => checker.telemetry(bytes),
             Step::Age => checker.age(),
-            Step::Sample(want) => assert_eq!(rt; sample(checker, 0), *want, "at {at}"),
+            Step::Sample(want) => same(rt, ("step", at), sample(checker, 0), *want),
+            Step::SampleOf(number, want) => {
+                same(rt, ("step", at), sample(checker, *number), *want);
+            }
         }
     }
 }

@@ -1,17 +1,15 @@
 //! Entries that no sound table has, and that are written and read all the same.
 
-ghost use Rattle.std.specs.Prelude.{IsTrue};
-ghost use Rattle.lc_model.specs.Tables.Image.{fits_32_bits};
+ghost use Rattle.std.specs.Prelude.{◌≡◌, IsTrue, length};
+ghost use Rattle.lc_model.specs.Tables.Image.{Actionpoints, fits_32_bits, image_length};
 
-use super::{HASH, low_volts_entry};
-use lc_model::{CmpOp, FieldType, Term};
+use crate::asserting::same;
+use crate::values::{actionpoint, encoded_adt, encoded_wdt};
+use lc_model::{ApMode, CmpOp, FieldType, Term};
 use std::alloc::{AllocError, Global};
 use std::process::Abort;
-use std::test::*;
-use table_file::{
-    ActionpointEntry, AdtImage, EQUAL_WORD, FileError, Layout, WatchpointEntry, WdtImage,
-    encode_adt, encode_wdt,
-};
+use std::test::Fail;
+use table_file::{ActionpointEntry, EQUAL_WORD, FileError, Layout, WatchpointEntry};
 
 /// A table of one watchpoint with this number is read as it was written.
 fn is_read_again<R: Abort>(
@@ -31,12 +29,9 @@ fn is_read_again<R: Abort>(
         op: CmpOp::Less,
         value,
     };
-    let image = WdtImage {
-        hash: HASH,
-        watchpoints: vec![in alloc; term].map_err(AllocError::from)?,
-    };
-    let bytes = encode_wdt(alloc, &image)?;
-    assert_eq!(rt; WatchpointEntry::of(&bytes, 0).term(), term);
+    let watchpoints = vec![in alloc; term].map_err(AllocError::from)?;
+    let image = encoded_wdt(alloc, watchpoints)?;
+    same(rt, kind, WatchpointEntry::of(&image, 0).term(), term);
     Ok(())
 }
 
@@ -49,21 +44,24 @@ fn numbers_beyond_their_type(rt: HostRuntime) -> Result<(), Fail> {
     Ok(())
 }
 
+/// An equation of a mention, EQUAL, and one word more.
+fn has_a_word_behind_equal<R: Abort>(rt: &R, image: &[u8])
+    requires { length image.now ≡ image_length Actionpoints }
+{
+    let read = ActionpointEntry::of(Layout::Actionpoints, image, 0);
+    same(rt, "words before EQUAL", read.equation_length(), 1);
+    same(rt, "words", read.word_count(), 20);
+    if read.word_count() == 20 {
+        same(rt, "behind EQUAL", read.word(2), 0xFFFF);
+        same(rt, "at the end", read.word(3), EQUAL_WORD);
+    }
+}
+
 #[test]
 fn words_up_to_the_first_equal(rt: HostRuntime) -> Result<(), Fail> {
-    let mut entry = low_volts_entry(rt.alloc())?;
-    entry.words = Vec::from_slice(rt.alloc(), &[0, EQUAL_WORD, 0xFFFF])?;
-    let image = AdtImage {
-        hash: HASH,
-        watchpoint_count: 1,
-        actionpoints: vec![in rt.alloc(); entry].map_err(AllocError::from)?,
-    };
-    let bytes = encode_adt(rt.alloc(), &image)?;
-    let read = ActionpointEntry::of(Layout::Actionpoints, &bytes, 0);
-    assert_eq!(rt; read.equation_length(), 1);
-    if read.word_count() == 20 {
-        assert_eq!(rt; read.word(2), 0xFFFF);
-        assert_eq!(rt; read.word(3), EQUAL_WORD);
-    }
+    let words = [0, EQUAL_WORD, 0xFFFF];
+    let entry = actionpoint(rt.alloc(), ApMode::Active, 2, 7, &words)?;
+    let image = encoded_adt(rt.alloc(), 1, vec![in rt.alloc(); entry]?)?;
+    has_a_word_behind_equal(&rt, &image);
     Ok(())
 }

@@ -1,10 +1,11 @@
 //! Each code of an entry: at the first entry and at the last, alone and beside others.
 
-use super::{ACTIONPOINT, WATCHPOINT, WORDS, adt, answer, put, start, wdt};
+use super::answer;
+use crate::asserting::same;
+use crate::images::{ACTIONPOINT, WATCHPOINT, WORDS, image_of, put, start};
 use lc_model::Kind;
 use std::alloc::AllocError;
 use std::process::Abort;
-use std::test::*;
 
 /// Bytes of a watchpoint's entry that are wrong, each with its code.
 const WATCHPOINT_FAULTS: [(usize, &[u8], u8); 17] = [
@@ -59,41 +60,35 @@ const NINE_WAIT: [u8; 36] = [
     1, 0xFF, 1, 0xFF, 1, 0xFF, 1, 0xFF, 5,
 ];
 
-/// The table with these bytes wrong in one entry is refused by this code there.
-fn refused_at<R: Abort>(
+/// A table with so many entries and these bytes wrong in one of them is refused by this code there.
+fn refused_at<R: Abort + AllocGlobal>(
     rt: &R,
     kind: Kind,
-    image: &mut Vec<u8>,
+    used: u8,
     entry: u16,
-    place: usize,
-    bytes: &[u8],
-    code: u8,
-) {
-    let length = match kind {
-        Kind::Wdt => WATCHPOINT,
-        Kind::Adt => ACTIONPOINT,
-    };
-    put(image, start(length, entry).saturating_add(place), bytes);
-    assert_eq!(rt;
-        answer(kind, image),
+    (place, bytes, code): (usize, &[u8], u8),
+) -> Result<(), AllocError> {
+    let mut image = image_of(rt.alloc(), kind, used)?;
+    put(&mut image, start(kind, entry).saturating_add(place), bytes);
+    same(
+        rt,
+        (place, bytes),
+        answer(kind, &image),
         Some((code, entry)),
-        "{bytes:?} at {place}"
     );
+    Ok(())
 }
 
 #[test]
 fn at_the_first_entry_and_at_the_last(rt: HostRuntime) -> Result<(), AllocError> {
     for entry in [0, 175] {
-        for (place, bytes, code) in WATCHPOINT_FAULTS {
-            let mut image = wdt(rt.alloc(), 176)?;
-            refused_at(&rt, Kind::Wdt, &mut image, entry, place, bytes, code);
+        for fault in WATCHPOINT_FAULTS {
+            refused_at(&rt, Kind::Wdt, 176, entry, fault)?;
         }
-        for (place, bytes, code) in ACTIONPOINT_FAULTS {
-            let mut image = adt(rt.alloc(), 176)?;
-            refused_at(&rt, Kind::Adt, &mut image, entry, place, bytes, code);
+        for fault in ACTIONPOINT_FAULTS {
+            refused_at(&rt, Kind::Adt, 176, entry, fault)?;
         }
-        let mut image = adt(rt.alloc(), 176)?;
-        refused_at(&rt, Kind::Adt, &mut image, entry, WORDS, &NINE_WAIT, 79);
+        refused_at(&rt, Kind::Adt, 176, entry, (WORDS, &NINE_WAIT, 79))?;
     }
     Ok(())
 }
@@ -102,12 +97,10 @@ fn at_the_first_entry_and_at_the_last(rt: HostRuntime) -> Result<(), AllocError>
 fn an_unused_entry_that_is_not_blank(rt: HostRuntime) -> Result<(), AllocError> {
     for (used, entry) in [(0, 0), (1, 1), (1, 175), (175, 175)] {
         for (place, byte) in [(0, 0), (0, 0xFE), (1, 1), (WATCHPOINT - 1, 1)] {
-            let mut image = wdt(rt.alloc(), used)?;
-            refused_at(&rt, Kind::Wdt, &mut image, entry, place, &[byte], 65);
+            refused_at(&rt, Kind::Wdt, used, entry, (place, &[byte], 65))?;
         }
         for (place, byte) in [(0, 1), (1, 0xFF), (ACTIONPOINT - 1, 1)] {
-            let mut image = adt(rt.alloc(), used)?;
-            refused_at(&rt, Kind::Adt, &mut image, entry, place, &[byte], 65);
+            refused_at(&rt, Kind::Adt, used, entry, (place, &[byte], 65))?;
         }
     }
     Ok(())
@@ -115,7 +108,7 @@ fn an_unused_entry_that_is_not_blank(rt: HostRuntime) -> Result<(), AllocError> 
 
 #[test]
 fn of_two_codes_in_an_entry_the_least_counts(rt: HostRuntime) -> Result<(), AllocError> {
-    for (place, bytes, code) in [
+    for fault in [
         // Without a type, mask and value aren't judged.
         (0, [0, 0].as_slice(), 66),
         (0, &[0, 1, 0x08, 0x83, 0, 0, 0, 12, 0, 0, 0, 0], 66),
@@ -124,10 +117,9 @@ fn of_two_codes_in_an_entry_the_least_counts(rt: HostRuntime) -> Result<(), Allo
         (2, &[0, 0, 0, 0, 0, 0, 0, 0, 0, 0], 68),
         (8, &[0, 0, 0, 0, 0, 0, 0, 0, 0, 0, 0, 0, 0xFF], 69),
     ] {
-        let mut image = wdt(rt.alloc(), 2)?;
-        refused_at(&rt, Kind::Wdt, &mut image, 1, place, bytes, code);
+        refused_at(&rt, Kind::Wdt, 2, 1, fault)?;
     }
-    for (place, bytes, code) in [
+    for fault in [
         (0, [0, 0, 0, 0, 0, 0, 0, 0, 0, 0, 0, 0].as_slice(), 71),
         (6, &[0, 0, 0, 0, 0, 0], 72),
         (8, &[0, 0, 0, 3, 0x03, 0xE9, 1], 73),
@@ -137,19 +129,25 @@ fn of_two_codes_in_an_entry_the_least_counts(rt: HostRuntime) -> Result<(), Allo
         (WORDS, &[0, 1, 0xFF, 0x01, 0xFF, 0x05], 77),
         (WORDS, &[0, 0, 0xFF, 0x01, 0, 0, 0, 0, 0xFF, 0x05], 78),
     ] {
-        let mut image = adt(rt.alloc(), 2)?;
-        refused_at(&rt, Kind::Adt, &mut image, 1, place, bytes, code);
+        refused_at(&rt, Kind::Adt, 2, 1, fault)?;
     }
     Ok(())
 }
 
 #[test]
 fn the_first_entry_counts_also_with_a_greater_code(rt: HostRuntime) -> Result<(), AllocError> {
-    let mut image = wdt(rt.alloc(), 176)?;
-    put(&mut image, start(WATCHPOINT, 175), &[0]);
-    refused_at(&rt, Kind::Wdt, &mut image, 3, 20, &[0xFF], 70);
-    let mut image = adt(rt.alloc(), 2)?;
-    put(&mut image, start(ACTIONPOINT, 2), &[0]);
-    refused_at(&rt, Kind::Adt, &mut image, 1, 6, &[0, 0], 81);
+    let mut image = image_of(rt.alloc(), Kind::Wdt, 176)?;
+    put(&mut image, start(Kind::Wdt, 175), &[0]);
+    put(&mut image, start(Kind::Wdt, 3).saturating_add(20), &[0xFF]);
+    same(&rt, "watchpoints", answer(Kind::Wdt, &image), Some((70, 3)));
+    let mut image = image_of(rt.alloc(), Kind::Adt, 2)?;
+    put(&mut image, start(Kind::Adt, 2), &[0]);
+    put(&mut image, start(Kind::Adt, 1).saturating_add(6), &[0, 0]);
+    same(
+        &rt,
+        "actionpoints",
+        answer(Kind::Adt, &image),
+        Some((81, 1)),
+    );
     Ok(())
 }

@@ -1,71 +1,67 @@
 //! Images that are taken, and what their readers find.
 
-use super::{ACTIONPOINT, LOW_VOLTS, PREAMBLE, adt, adt_with, answer, put, wdt};
-use lc_model::{CmpOp, FieldType, Kind, Term};
+ghost use Rattle.std.specs.Prelude.{◌≡◌, ◌<◌};
+ghost use Rattle.lc_model.specs.declared.kind.Kind.TheVariants.{Wdt, Adt};
+ghost use Rattle.lc_model.specs.Tables.Image.{own_count};
+
+use super::taken;
+use crate::asserting::same;
+use crate::images::{ACTIONPOINT, PREAMBLE, adt, adt_with, put, start, wdt};
+use crate::values::low;
+use lc_model::Kind;
 use std::alloc::AllocError;
 use std::process::Abort;
-use std::test::*;
+use std::test::Fail;
 use table_file::preamble;
-use table_validator::validate;
-
-/// The watchpoint of the text.
-fn low_volts() -> Term {
-    Term {
-        kind: FieldType::U16Be,
-        mid: 0x0883,
-        offset: 12,
-        mask: 0xFFFF,
-        stale: 2,
-        op: CmpOp::Less,
-        value: 2400,
-    }
-}
+use table_validator::{ValidImage, validate};
 
 #[test]
 fn empty_tables_and_full_ones(rt: HostRuntime) -> Result<(), AllocError> {
     for used in [0, 1, 2, 175, 176] {
-        assert_eq!(rt; answer(Kind::Wdt, &wdt(rt.alloc(), used)?), None);
-        assert_eq!(rt; answer(Kind::Adt, &adt(rt.alloc(), used)?), None);
+        taken(&rt, used, Kind::Wdt, &wdt(rt.alloc(), used)?);
+        taken(&rt, used, Kind::Adt, &adt(rt.alloc(), used)?);
     }
-    assert_eq!(rt; answer(Kind::Adt, &adt_with(rt.alloc(), 0, 0, &[])?), None);
+    let empty = adt_with(rt.alloc(), 0, 0, &[])?;
+    taken(&rt, "without watchpoints", Kind::Adt, &empty);
     Ok(())
 }
 
+/// The image lends what was handed in.
+fn lends<R: Abort>(rt: &R, valid: &ValidImage, kind: Kind, image: &[u8]) {
+    same(rt, "kind", valid.kind(), kind);
+    same(rt, "image", valid.image(), image);
+    same(rt, "entries", preamble::own_count(valid.image()), 2);
+}
+
 #[test]
-fn watchpoints_are_read(rt: HostRuntime) -> Result<(), AllocError> {
+fn watchpoints_are_read(rt: HostRuntime) -> Result<(), Fail> {
     let image = wdt(rt.alloc(), 2)?;
-    match validate(Kind::Wdt, &image) {
-        Ok(valid) => {
-            assert_eq!(rt; valid.kind(), Kind::Wdt);
-            assert_eq!(rt; valid.image(), image.as_slice());
-            let count = preamble::own_count(valid.image());
-            assert_eq!(rt; count, 2);
-            for number in 0..count as usize {
-                assert_eq!(rt; valid.watchpoint(number).term(), low_volts());
-            }
-        }
-        Err(fault) => panic!(rt; "{fault}"),
+    let valid = validate(Kind::Wdt, &image)?;
+    lends(&rt, &valid, Kind::Wdt, &image);
+    for number in 0..preamble::own_count(valid.image()) as usize {
+        same(&rt, number, valid.watchpoint(number).term(), low(2));
     }
     Ok(())
 }
 
+/// The actionpoint of the text.
+fn is_read<R: Abort>(rt: &R, valid: &ValidImage, number: usize)
+    requires kind { valid.now.kind ≡ Adt }
+    requires used { number < own_count valid.now.bytes }
+{
+    let entry = valid.actionpoint(number);
+    same(rt, ("text", number), entry.text(), b"low volts");
+    same(rt, ("sequence", number), entry.sequence(), 7);
+    same(rt, ("words", number), entry.equation_length(), 1);
+}
+
 #[test]
-fn actionpoints_are_read(rt: HostRuntime) -> Result<(), AllocError> {
+fn actionpoints_are_read(rt: HostRuntime) -> Result<(), Fail> {
     let image = adt(rt.alloc(), 2)?;
-    match validate(Kind::Adt, &image) {
-        Ok(valid) => {
-            assert_eq!(rt; valid.kind(), Kind::Adt);
-            assert_eq!(rt; valid.image(), image.as_slice());
-            let count = preamble::own_count(valid.image());
-            assert_eq!(rt; count, 2);
-            for number in 0..count as usize {
-                let entry = valid.actionpoint(number);
-                assert_eq!(rt; entry.text(), b"low volts".as_slice());
-                assert_eq!(rt; entry.sequence(), 7);
-                assert_eq!(rt; entry.equation_length(), 1);
-            }
-        }
-        Err(fault) => panic!(rt; "{fault}"),
+    let valid = validate(Kind::Adt, &image)?;
+    lends(&rt, &valid, Kind::Adt, &image);
+    for number in 0..preamble::own_count(valid.image()) as usize {
+        is_read(&rt, &valid, number);
     }
     Ok(())
 }
@@ -76,7 +72,7 @@ fn takes<R: Abort + AllocGlobal>(rt: &R, changes: &[(usize, &[u8])]) -> Result<(
     for (place, bytes) in changes {
         put(&mut image, PREAMBLE.saturating_add(*place), bytes);
     }
-    assert_eq!(rt; answer(Kind::Wdt, &image), None, "{changes:?}");
+    taken(rt, changes, Kind::Wdt, &image);
     Ok(())
 }
 
@@ -121,6 +117,18 @@ fn the_ends_of_each_range(rt: HostRuntime) -> Result<(), AllocError> {
     takes(&rt, &[(2, &[0x0F, 0xFF])])
 }
 
+/// The last actionpoint of a full table with other bytes at a place is taken.
+fn takes_at<R: Abort + AllocGlobal>(rt: &R, place: usize, bytes: &[u8]) -> Result<(), AllocError> {
+    let mut image = adt(rt.alloc(), 176)?;
+    put(
+        &mut image,
+        start(Kind::Adt, 175).saturating_add(place),
+        bytes,
+    );
+    taken(rt, (place, bytes), Kind::Adt, &image);
+    Ok(())
+}
+
 #[test]
 fn the_ends_of_an_actionpoint(rt: HostRuntime) -> Result<(), AllocError> {
     for (place, bytes) in [
@@ -134,10 +142,7 @@ fn the_ends_of_an_actionpoint(rt: HostRuntime) -> Result<(), AllocError> {
         (14, &[0; 32]),
         (14, b" !#$%&'()*+,-./0123456789~~~~~~"),
     ] {
-        let mut image = adt(rt.alloc(), 176)?;
-        put(&mut image, PREAMBLE + 175 * ACTIONPOINT + place, bytes);
-        assert_eq!(rt; answer(Kind::Adt, &image), None, "{place}");
+        takes_at(&rt, place, bytes)?;
     }
-    assert_eq!(rt; LOW_VOLTS.len(), 24);
     Ok(())
 }

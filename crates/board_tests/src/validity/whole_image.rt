@@ -1,17 +1,18 @@
 //! Faults of the image as a whole: they count before those of an entry, length first, then version, kind and counts.
 
-use super::{PREAMBLE, adt, put, refused_whole, wdt};
+use super::refused_whole;
+use crate::images::{PREAMBLE, adt, image_of, put, wdt};
 use lc_model::Kind;
 use std::alloc::AllocError;
-use std::test::*;
+use std::process::Abort;
 
 #[test]
 fn other_lengths(rt: HostRuntime) -> Result<(), AllocError> {
     let image = wdt(rt.alloc(), 1)?;
     for length in [0, 1, 39, 40, 64, 4_263] {
-        if let Some(front) = image.as_slice().get(..length) {
-            refused_whole(&rt, Kind::Wdt, front, 63);
-        }
+        let mut shorter = wdt(rt.alloc(), 1)?;
+        shorter.truncate(length);
+        refused_whole(&rt, Kind::Wdt, &shorter, 63);
     }
     let mut longer = wdt(rt.alloc(), 1)?;
     longer.push(0)?;
@@ -21,9 +22,21 @@ fn other_lengths(rt: HostRuntime) -> Result<(), AllocError> {
     Ok(())
 }
 
+/// The table with these bytes in its preamble is refused by this code.
+fn refused_with<R: Abort + AllocGlobal>(
+    rt: &R,
+    kind: Kind,
+    (place, bytes, code): (usize, &[u8], u8),
+) -> Result<(), AllocError> {
+    let mut image = image_of(rt.alloc(), kind, 1)?;
+    put(&mut image, place, bytes);
+    refused_whole(rt, kind, &image, code);
+    Ok(())
+}
+
 #[test]
 fn other_preambles(rt: HostRuntime) -> Result<(), AllocError> {
-    for (place, bytes, code) in [
+    for fault in [
         (0, [0, 0].as_slice(), 61),
         (0, &[0, 2], 61),
         (0, &[1, 1], 61),
@@ -36,20 +49,16 @@ fn other_preambles(rt: HostRuntime) -> Result<(), AllocError> {
         (4, &[0, 1, 0, 2], 64),
         (4, &[0, 0, 0, 1], 64),
     ] {
-        let mut image = wdt(rt.alloc(), 1)?;
-        put(&mut image, place, bytes);
-        refused_whole(&rt, Kind::Wdt, &image, code);
+        refused_with(&rt, Kind::Wdt, fault)?;
     }
-    for (place, bytes, code) in [
+    for fault in [
         (0, [0, 2].as_slice(), 61),
         (2, &[0, 1], 62),
         (4, &[0, 177, 0, 1], 64),
         (4, &[0, 1, 0, 177], 64),
         (6, &[1, 0], 64),
     ] {
-        let mut image = adt(rt.alloc(), 1)?;
-        put(&mut image, place, bytes);
-        refused_whole(&rt, Kind::Adt, &image, code);
+        refused_with(&rt, Kind::Adt, fault)?;
     }
     Ok(())
 }

@@ -1,44 +1,34 @@
 //! Equations, word by word.
 
-use super::{EQUAL, adt_with, answer};
+use super::{answer, taken};
+use crate::asserting::same;
+use crate::images::{AND, EQUAL, NOT, OR, XOR, adt_with};
 use lc_model::Kind;
-use std::alloc::AllocError;
+use std::alloc::{AllocError, Global};
 use std::process::Abort;
-use std::test::*;
 
-const AND: u16 = 0xFF01;
-
-const OR: u16 = 0xFF02;
-
-const XOR: u16 = 0xFF03;
-
-const NOT: u16 = 0xFF04;
+/// The words in a table's one entry, over so many watchpoints, are an equation.
+fn takes<R: Abort + AllocGlobal>(rt: &R, watchpoints: u8, words: &[u16]) -> Result<(), AllocError> {
+    let image = adt_with(rt.alloc(), 1, watchpoints, words)?;
+    taken(rt, words, Kind::Adt, &image);
+    Ok(())
+}
 
 /// The words in a table's one entry, over so many watchpoints, have this code.
-fn has<R: Abort + AllocGlobal>(
+fn refuses<R: Abort + AllocGlobal>(
     rt: &R,
     watchpoints: u8,
     words: &[u16],
-    code: Option<u8>,
+    code: u8,
 ) -> Result<(), AllocError> {
     let image = adt_with(rt.alloc(), 1, watchpoints, words)?;
-    match code {
-        Some(code) => {
-            assert_eq!(rt; answer(Kind::Adt, &image), Some((code, 0)), "{words:?}");
-        }
-        None => assert_eq!(rt; answer(Kind::Adt, &image), None, "{words:?}"),
-    }
+    same(rt, words, answer(Kind::Adt, &image), Some((code, 0)));
     Ok(())
 }
 
 /// So many mentions, so many ANDs, EQUAL.
-fn stacked<R: Abort + AllocGlobal>(
-    rt: &R,
-    mentions: usize,
-    ands: usize,
-    code: Option<u8>,
-) -> Result<(), AllocError> {
-    let mut words = Vec::new(rt.alloc());
+fn stacked(alloc: Global, mentions: usize, ands: usize) -> Result<Vec<u16>, AllocError> {
+    let mut words = Vec::new(alloc);
     for _ in 0..mentions {
         words.push(0)?;
     }
@@ -46,58 +36,63 @@ fn stacked<R: Abort + AllocGlobal>(
         words.push(AND)?;
     }
     words.push(EQUAL)?;
-    has(rt, 1, &words, code)
+    Ok(words)
 }
 
 #[test]
 fn equations(rt: HostRuntime) -> Result<(), AllocError> {
-    has(&rt, 1, &[0, EQUAL], None)?;
-    has(&rt, 176, &[175, EQUAL], None)?;
-    has(&rt, 1, &[0, NOT, EQUAL], None)?;
-    has(&rt, 1, &[0, 0, AND, EQUAL], None)?;
-    has(&rt, 2, &[0, 1, OR, NOT, 1, XOR, EQUAL], None)?;
-    has(&rt, 2, &[0, 1, NOT, 0, AND, OR, EQUAL], None)?;
-    stacked(&rt, 8, 7, None)
+    takes(&rt, 1, &[0, EQUAL])?;
+    takes(&rt, 176, &[175, EQUAL])?;
+    takes(&rt, 1, &[0, NOT, EQUAL])?;
+    takes(&rt, 1, &[0, 0, AND, EQUAL])?;
+    takes(&rt, 2, &[0, 1, OR, NOT, 1, XOR, EQUAL])?;
+    takes(&rt, 2, &[0, 1, NOT, 0, AND, OR, EQUAL])?;
+    takes(&rt, 1, &stacked(rt.alloc(), 8, 7)?)
 }
 
 #[test]
 fn operands_are_missing(rt: HostRuntime) -> Result<(), AllocError> {
-    has(&rt, 1, &[EQUAL], Some(78))?;
-    has(&rt, 1, &[NOT, EQUAL], Some(78))?;
-    has(&rt, 1, &[NOT, 0, EQUAL], Some(78))?;
-    has(&rt, 1, &[0, AND, EQUAL], Some(78))?;
-    has(&rt, 1, &[0, XOR, EQUAL], Some(78))?;
-    has(&rt, 1, &[0, AND, 0, EQUAL], Some(78))?;
-    has(&rt, 1, &[0, OR, 0, 0, EQUAL], Some(78))?;
-    has(&rt, 1, &[AND, 0, 0, EQUAL], Some(78))
+    for words in [
+        [EQUAL].as_slice(),
+        &[NOT, EQUAL],
+        &[NOT, 0, EQUAL],
+        &[0, AND, EQUAL],
+        &[0, XOR, EQUAL],
+        &[0, AND, 0, EQUAL],
+        &[0, OR, 0, 0, EQUAL],
+        &[AND, 0, 0, EQUAL],
+    ] {
+        refuses(&rt, 1, words, 78)?;
+    }
+    Ok(())
 }
 
 #[test]
 fn operands_are_too_many(rt: HostRuntime) -> Result<(), AllocError> {
-    stacked(&rt, 9, 8, Some(79))?;
-    stacked(&rt, 9, 7, Some(79))?;
-    stacked(&rt, 8, 6, Some(80))?;
-    has(&rt, 1, &[0, 0, EQUAL], Some(80))?;
+    refuses(&rt, 1, &stacked(rt.alloc(), 9, 8)?, 79)?;
+    refuses(&rt, 1, &stacked(rt.alloc(), 9, 7)?, 79)?;
+    refuses(&rt, 1, &stacked(rt.alloc(), 8, 6)?, 80)?;
+    refuses(&rt, 1, &[0, 0, EQUAL], 80)?;
     // Nine wait before the last AND finds but one: the least code counts.
-    stacked(&rt, 9, 9, Some(78))
+    refuses(&rt, 1, &stacked(rt.alloc(), 9, 9)?, 78)
 }
 
 #[test]
 fn words_that_are_none(rt: HostRuntime) -> Result<(), AllocError> {
     for word in [176, 0x0100, 0xFF00, 0xFF06, 0xFFFF] {
-        has(&rt, 176, &[word, EQUAL], Some(76))?;
-        has(&rt, 176, &[0, word, EQUAL], Some(76))?;
+        refuses(&rt, 176, &[word, EQUAL], 76)?;
+        refuses(&rt, 176, &[0, word, EQUAL], 76)?;
     }
-    has(&rt, 1, &[1, EQUAL], Some(77))?;
-    has(&rt, 0, &[0, EQUAL], Some(77))?;
-    has(&rt, 175, &[0, 175, AND, EQUAL], Some(77))
+    refuses(&rt, 1, &[1, EQUAL], 77)?;
+    refuses(&rt, 0, &[0, EQUAL], 77)?;
+    refuses(&rt, 175, &[0, 175, AND, EQUAL], 77)
 }
 
 #[test]
 fn where_an_equation_ends(rt: HostRuntime) -> Result<(), AllocError> {
-    has(&rt, 1, &[0], Some(74))?;
-    has(&rt, 1, &[AND, NOT, 0xFFFF], Some(74))?;
-    has(&rt, 1, &[0, EQUAL, EQUAL], Some(75))?;
-    has(&rt, 1, &[0, EQUAL, 0, 1], Some(75))?;
-    has(&rt, 1, &[EQUAL, 0, EQUAL], Some(75))
+    refuses(&rt, 1, &[0], 74)?;
+    refuses(&rt, 1, &[AND, NOT, 0xFFFF], 74)?;
+    refuses(&rt, 1, &[0, EQUAL, EQUAL], 75)?;
+    refuses(&rt, 1, &[0, EQUAL, 0, 1], 75)?;
+    refuses(&rt, 1, &[EQUAL, 0, EQUAL], 75)
 }

@@ -5,11 +5,14 @@ ghost use Rattle.lc_model.specs.Field.{is_in_type};
 ghost use Rattle.lc_model.specs.declared.field.FieldType.TheVariants.{I8};
 ghost use Rattle.lc_model.specs.Tables.Image.{FitsWatchpoint};
 
-use super::{Images, LOW, Step, actionpoint, encoded, low, run, sample};
+use super::{Images, LOW, Step, encoded, run, sample};
+use crate::asserting::same;
+use crate::values::{actionpoint, low};
 use lc_model::{ApMode, CmpOp, FieldType, Term};
 use limit_checker::LimitChecker;
 use std::alloc::{AllocError, Global};
-use std::test::*;
+use std::process::Abort;
+use std::test::Fail;
 use table_file::FileError;
 
 /// Telemetry of message id 0x0883 with 2,400 in the 16 bits at byte 12, which is not low; and the low one cut after 13
@@ -63,9 +66,23 @@ fn rule(alloc: Global, term: Term, mode: ApMode, fails: u16) -> Result<Images, F
     )
 }
 
+/// Drives the rule through the steps.
+fn follows<R: Abort + AllocGlobal>(
+    rt: &R,
+    term: Term,
+    mode: ApMode,
+    fails: u16,
+    steps: &[Step],
+) -> Result<(), FileError>
+    requires { FitsWatchpoint term }
+{
+    let tables = rule(rt.alloc(), term, mode, fails)?;
+    run(rt, rt.alloc(), &tables, steps)?;
+    Ok(())
+}
+
 #[test]
-fn two_failures_in_a_row_request_the_sequence_once(rt: HostRuntime) -> Result<(), Fail> {
-    let alloc = rt.alloc();
+fn two_failures_in_a_row_request_the_sequence_once(rt: HostRuntime) -> Result<(), FileError> {
     let steps = [
         Step::Sample(None),
         Step::Packet(LOW),
@@ -75,13 +92,11 @@ fn two_failures_in_a_row_request_the_sequence_once(rt: HostRuntime) -> Result<()
         Step::Packet(LOW),
         Step::Sample(None),
     ];
-    run(&rt, alloc, &rule(alloc, low(2), ApMode::Active, 2)?, &steps)?;
-    Ok(())
+    follows(&rt, low(2), ApMode::Active, 2, &steps)
 }
 
 #[test]
-fn a_pass_ends_the_run(rt: HostRuntime) -> Result<(), Fail> {
-    let alloc = rt.alloc();
+fn a_pass_ends_the_run(rt: HostRuntime) -> Result<(), FileError> {
     let steps = [
         Step::Packet(LOW),
         Step::Sample(None),
@@ -92,13 +107,11 @@ fn a_pass_ends_the_run(rt: HostRuntime) -> Result<(), Fail> {
         Step::Sample(None),
         Step::Sample(Some(7)),
     ];
-    run(&rt, alloc, &rule(alloc, low(2), ApMode::Active, 2)?, &steps)?;
-    Ok(())
+    follows(&rt, low(2), ApMode::Active, 2, &steps)
 }
 
 #[test]
-fn watchpoints_age_after_samples(rt: HostRuntime) -> Result<(), Fail> {
-    let alloc = rt.alloc();
+fn watchpoints_age_after_samples(rt: HostRuntime) -> Result<(), FileError> {
     let aged_after = [
         Step::Packet(LOW),
         Step::Sample(None),
@@ -107,12 +120,7 @@ fn watchpoints_age_after_samples(rt: HostRuntime) -> Result<(), Fail> {
         Step::Age,
         Step::Sample(None),
     ];
-    run(
-        &rt,
-        alloc,
-        &rule(alloc, low(2), ApMode::Active, 2)?,
-        &aged_after,
-    )?;
+    follows(&rt, low(2), ApMode::Active, 2, &aged_after)?;
     let aged_before = [
         Step::Packet(LOW),
         Step::Age,
@@ -123,18 +131,11 @@ fn watchpoints_age_after_samples(rt: HostRuntime) -> Result<(), Fail> {
         Step::Sample(None),
         Step::Sample(Some(7)),
     ];
-    run(
-        &rt,
-        alloc,
-        &rule(alloc, low(2), ApMode::Active, 2)?,
-        &aged_before,
-    )?;
-    Ok(())
+    follows(&rt, low(2), ApMode::Active, 2, &aged_before)
 }
 
 #[test]
-fn stale_ends_the_run(rt: HostRuntime) -> Result<(), Fail> {
-    let alloc = rt.alloc();
+fn stale_ends_the_run(rt: HostRuntime) -> Result<(), FileError> {
     let steps = [
         Step::Packet(LOW),
         Step::Sample(None),
@@ -145,13 +146,11 @@ fn stale_ends_the_run(rt: HostRuntime) -> Result<(), Fail> {
         Step::Sample(None),
         Step::Sample(Some(7)),
     ];
-    run(&rt, alloc, &rule(alloc, low(1), ApMode::Active, 2)?, &steps)?;
-    Ok(())
+    follows(&rt, low(1), ApMode::Active, 2, &steps)
 }
 
 #[test]
-fn a_stale_age_of_0_means_never(rt: HostRuntime) -> Result<(), Fail> {
-    let alloc = rt.alloc();
+fn a_stale_age_of_0_means_never(rt: HostRuntime) -> Result<(), FileError> {
     let steps = [
         Step::Packet(LOW),
         Step::Age,
@@ -161,13 +160,11 @@ fn a_stale_age_of_0_means_never(rt: HostRuntime) -> Result<(), Fail> {
         Step::Age,
         Step::Sample(Some(7)),
     ];
-    run(&rt, alloc, &rule(alloc, low(0), ApMode::Active, 2)?, &steps)?;
-    Ok(())
+    follows(&rt, low(0), ApMode::Active, 2, &steps)
 }
 
 #[test]
-fn a_packet_must_hold_the_whole_field(rt: HostRuntime) -> Result<(), Fail> {
-    let alloc = rt.alloc();
+fn a_packet_must_hold_the_whole_field(rt: HostRuntime) -> Result<(), FileError> {
     let cut = [
         Step::Packet(LOW_IN_13),
         Step::Sample(None),
@@ -175,20 +172,18 @@ fn a_packet_must_hold_the_whole_field(rt: HostRuntime) -> Result<(), Fail> {
         Step::Packet(&[]),
         Step::Sample(None),
     ];
-    run(&rt, alloc, &rule(alloc, low(2), ApMode::Active, 1)?, &cut)?;
+    follows(&rt, low(2), ApMode::Active, 1, &cut)?;
     let whole = [
         Step::Packet(LOW_IN_14),
         Step::Sample(None),
         Step::Packet(LOW_IN_14),
         Step::Sample(Some(7)),
     ];
-    run(&rt, alloc, &rule(alloc, low(2), ApMode::Active, 2)?, &whole)?;
-    Ok(())
+    follows(&rt, low(2), ApMode::Active, 2, &whole)
 }
 
 #[test]
-fn passive_and_disabled_rules_request_nothing(rt: HostRuntime) -> Result<(), Fail> {
-    let alloc = rt.alloc();
+fn passive_and_disabled_rules_request_nothing(rt: HostRuntime) -> Result<(), FileError> {
     for mode in [ApMode::Passive, ApMode::Disabled] {
         let steps = [
             Step::Packet(LOW),
@@ -197,24 +192,24 @@ fn passive_and_disabled_rules_request_nothing(rt: HostRuntime) -> Result<(), Fai
             Step::Sample(None),
             Step::Sample(None),
         ];
-        run(&rt, alloc, &rule(alloc, low(2), mode, 2)?, &steps)?;
+        follows(&rt, low(2), mode, 2, &steps)?;
     }
     Ok(())
 }
 
 #[test]
-fn signed_bytes_are_masked_and_compared(rt: HostRuntime) -> Result<(), Fail> {
-    let alloc = rt.alloc();
+fn signed_bytes_are_masked_and_compared(rt: HostRuntime) -> Result<(), FileError> {
     let negative = [
         Step::Packet(BYTE_1),
         Step::Sample(None),
         Step::Packet(BYTE_80),
         Step::Sample(Some(7)),
     ];
-    run(
+    follows(
         &rt,
-        alloc,
-        &rule(alloc, signed(0xFF, CmpOp::Less, 0), ApMode::Active, 1)?,
+        signed(0xFF, CmpOp::Less, 0),
+        ApMode::Active,
+        1,
         &negative,
     )?;
     let masked = [
@@ -223,21 +218,21 @@ fn signed_bytes_are_masked_and_compared(rt: HostRuntime) -> Result<(), Fail> {
         Step::Packet(BYTE_FF),
         Step::Sample(Some(7)),
     ];
-    run(
+    follows(
         &rt,
-        alloc,
-        &rule(alloc, signed(0x80, CmpOp::Equal, -128), ApMode::Active, 1)?,
+        signed(0x80, CmpOp::Equal, -128),
+        ApMode::Active,
+        1,
         &masked,
-    )?;
-    Ok(())
+    )
 }
 
 #[test]
-fn a_new_one_has_no_rules(rt: HostRuntime) -> Result<(), Fail> {
+fn a_new_one_has_no_rules(rt: HostRuntime) -> Result<(), FileError> {
     let mut checker = LimitChecker::new(rt.alloc())?;
     checker.telemetry(LOW);
     checker.age();
-    assert_eq!(rt; checker.rule_count(), 0);
-    assert_eq!(rt; sample(&mut checker, 0), None);
+    same(&rt, "rules", checker.rule_count(), 0);
+    same(&rt, "sample", sample(&mut checker, 0), None);
     Ok(())
 }

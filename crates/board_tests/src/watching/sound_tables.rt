@@ -1,20 +1,20 @@
 //! Sound tables that no compiler writes, full ones, and tables that are set one after another.
 
-ghost use Rattle.lc_model.specs.Tables.Image.{FitsWatchpoint};
+ghost use Rattle.std.specs.Prelude.{◌<◌, ◌≤◌, ◌^◌, length, IfOk};
+ghost use Rattle.std.specs.List.{AllByRecursion};
+ghost use Rattle.lc_model.specs.Codes.{table_entries};
+ghost use Rattle.lc_model.specs.Tables.Image.{Actionpoints, FitsEntry, FitsWatchpoint};
 
-use super::{Images, LOW, Step, actionpoint, drive, encoded, low, run, sample, set};
+use super::{Images, LOW, Step, drive, encoded, run, set};
+use crate::asserting::same;
+use crate::images::{self, AND, EQUAL, NOT, OR, XOR, put, table, wdt};
+use crate::values::{actionpoint, low};
 use lc_model::{ApMode, CmpOp, FieldType, Term};
 use limit_checker::LimitChecker;
 use std::alloc::{AllocError, Global};
-use std::test::*;
-
-const AND: u16 = 0xFF01;
-
-const OR: u16 = 0xFF02;
-
-const XOR: u16 = 0xFF03;
-
-const NOT: u16 = 0xFF04;
+use std::process::Abort;
+use std::test::Fail;
+use table_file::{FileError, TableEntry};
 
 /// Telemetry of message id 0x0883 with eight bytes at byte 12: none is 1; the second; the first and the third; the first,
 /// the third and the fourth; the first, the third and the last.
@@ -53,11 +53,20 @@ fn flag(offset: u32) -> Term
     }
 }
 
+/// The active actionpoint that requests a sequence after one failure.
+fn at_once(alloc: Global, sequence: u16, words: &[u16]) -> Result<TableEntry, AllocError>
+    requires few { length words.now < 20 }
+    requires words { AllByRecursion (λ w. w < 2 ^ 16) words.now }
+    ensures { IfOk result (λ entry. FitsEntry Actionpoints entry) }
+{
+    actionpoint(alloc, ApMode::Active, 1, sequence, words)
+}
+
 #[test]
 fn a_watchpoint_that_no_rule_mentions(rt: HostRuntime) -> Result<(), Fail> {
     let alloc = rt.alloc();
     let watchpoints = vec![in alloc; flag(12), flag(13), flag(14)]?;
-    let entry = actionpoint(alloc, ApMode::Active, 1, 7, &[1])?;
+    let entry = at_once(alloc, 7, &[1])?;
     let tables = encoded(alloc, watchpoints, vec![in alloc; entry]?)?;
     let steps = [
         Step::Packet(FIRST_AND_THIRD),
@@ -73,33 +82,35 @@ fn a_watchpoint_that_no_rule_mentions(rt: HostRuntime) -> Result<(), Fail> {
 fn one_watchpoint_twice(rt: HostRuntime) -> Result<(), Fail> {
     let alloc = rt.alloc();
     let watchpoints = vec![in alloc; low(2), low(2)]?;
-    let never = actionpoint(alloc, ApMode::Active, 1, 7, &[0, 1, XOR])?;
-    let both = actionpoint(alloc, ApMode::Active, 1, 8, &[1, 0, AND])?;
+    let never = at_once(alloc, 7, &[0, 1, XOR])?;
+    let both = at_once(alloc, 8, &[1, 0, AND])?;
     let tables = encoded(alloc, watchpoints, vec![in alloc; never, both]?)?;
-    let mut checker = LimitChecker::new(alloc)?;
-    set(&rt, &mut checker, &tables);
-    assert_eq!(rt; sample(&mut checker, 1), None);
-    checker.telemetry(LOW);
-    assert_eq!(rt; sample(&mut checker, 0), None);
-    assert_eq!(rt; sample(&mut checker, 1), Some(8));
+    let steps = [
+        Step::SampleOf(1, None),
+        Step::Packet(LOW),
+        Step::SampleOf(0, None),
+        Step::SampleOf(1, Some(8)),
+    ];
+    run(&rt, alloc, &tables, &steps)?;
     Ok(())
 }
 
 #[test]
 fn what_is_negated_twice(rt: HostRuntime) -> Result<(), Fail> {
     let alloc = rt.alloc();
-    let watchpoints = vec![in alloc; flag(13)]?;
-    let twice = actionpoint(alloc, ApMode::Active, 1, 7, &[0, NOT, NOT])?;
+    let twice = at_once(alloc, 7, &[0, NOT, NOT])?;
     let once = actionpoint(alloc, ApMode::Active, 2, 8, &[0, NOT])?;
-    let tables = encoded(alloc, watchpoints, vec![in alloc; twice, once]?)?;
-    let mut checker = LimitChecker::new(alloc)?;
-    set(&rt, &mut checker, &tables);
-    checker.telemetry(NONE);
-    assert_eq!(rt; sample(&mut checker, 0), None);
-    assert_eq!(rt; sample(&mut checker, 1), None);
-    assert_eq!(rt; sample(&mut checker, 1), Some(8));
-    checker.telemetry(SECOND);
-    assert_eq!(rt; sample(&mut checker, 0), Some(7));
+    let actionpoints = vec![in alloc; twice, once]?;
+    let tables = encoded(alloc, vec![in alloc; flag(13)]?, actionpoints)?;
+    let steps = [
+        Step::Packet(NONE),
+        Step::SampleOf(0, None),
+        Step::SampleOf(1, None),
+        Step::SampleOf(1, Some(8)),
+        Step::Packet(SECOND),
+        Step::SampleOf(0, Some(7)),
+    ];
+    run(&rt, alloc, &tables, &steps)?;
     Ok(())
 }
 
@@ -117,7 +128,7 @@ fn eight_operands_that_wait(rt: HostRuntime) -> Result<(), Fail> {
         flag(19),
     ]?;
     let words = [0, 1, 2, 3, 4, 5, 6, 7, OR, AND, XOR, OR, AND, OR, AND];
-    let entry = actionpoint(alloc, ApMode::Active, 1, 7, &words)?;
+    let entry = at_once(alloc, 7, &words)?;
     let tables = encoded(alloc, watchpoints, vec![in alloc; entry]?)?;
     let steps = [
         Step::Packet(NONE),
@@ -135,79 +146,85 @@ fn eight_operands_that_wait(rt: HostRuntime) -> Result<(), Fail> {
     Ok(())
 }
 
-/// An image with its first entry, of this length, 176 times.
-fn filled(alloc: Global, image: &[u8], length: usize) -> Result<Vec<u8>, AllocError> {
-    let mut full = Vec::new(alloc);
-    if let Some(front) = image.get(..8) {
-        full.extend_from_slice(front)?;
-    }
-    for count in [5, 7] {
-        if let Some(there) = full.get_mut(count) {
-            *there = 176;
-        }
-    }
-    if let Some(hash) = image.get(8..40) {
-        full.extend_from_slice(hash)?;
-    }
-    for _ in 0..176 {
-        if let Some(entry) = image.get(40..length.saturating_add(40)) {
-            full.extend_from_slice(entry)?;
-        }
-    }
-    Ok(full)
-}
-
 #[test]
 fn full_tables(rt: HostRuntime) -> Result<(), Fail> {
     let alloc = rt.alloc();
-    let words = [
-        175, 0, XOR, 1, XOR, 2, XOR, 3, XOR, 4, XOR, 5, XOR, 6, XOR, 7, XOR, NOT, NOT,
-    ];
-    let entry = actionpoint(alloc, ApMode::Active, 1, 7, &words)?;
-    let some = encoded(alloc, vec![in alloc; low(2)]?, vec![in alloc; entry]?)?;
-    let full = Images {
-        wdt: filled(alloc, some.wdt.as_slice(), 24)?,
-        adt: filled(alloc, some.adt.as_slice(), 86)?,
+    let mut entry = images::actionpoint(
+        alloc,
+        &[
+            175, 0, XOR, 1, XOR, 2, XOR, 3, XOR, 4, XOR, 5, XOR, 6, XOR, 7, XOR, NOT, NOT, EQUAL,
+        ],
+    )?;
+    // One failure is enough.
+    put(&mut entry, 8, &[0, 1]);
+    let tables = Images {
+        wdt: wdt(alloc, 176)?,
+        adt: table(alloc, 2, 176, 176, &entry)?,
     };
     let mut checker = LimitChecker::new(alloc)?;
-    set(&rt, &mut checker, &full);
-    assert_eq!(rt; checker.rule_count(), 176);
-    checker.telemetry(LOW);
-    for number in [0, 1, 174, 175] {
-        assert_eq!(rt; sample(&mut checker, number), Some(7));
-    }
+    set(&rt, &mut checker, &tables);
+    same(&rt, "rules", checker.rule_count(), 176);
+    let steps = [
+        Step::Packet(LOW),
+        Step::Sample(Some(7)),
+        Step::SampleOf(1, Some(7)),
+        Step::SampleOf(174, Some(7)),
+        Step::SampleOf(175, Some(7)),
+    ];
+    drive(&rt, &mut checker, &steps);
     Ok(())
+}
+
+/// The tables of the low-volts watchpoint and these actionpoints.
+fn with_actionpoints(alloc: Global, actionpoints: Vec<TableEntry>) -> Result<Images, FileError>
+    requires few { length actionpoints.items ≤ table_entries }
+    requires fit { AllByRecursion (FitsEntry Actionpoints) actionpoints.items }
+{
+    let watchpoints = vec![in alloc; low(2)].map_err(AllocError::from)?;
+    encoded(alloc, watchpoints, actionpoints)
+}
+
+/// Two rules, of which the first requests sequence 7.
+fn two_rules(alloc: Global) -> Result<Images, FileError> {
+    let first = at_once(alloc, 7, &[0])?;
+    let second = at_once(alloc, 8, &[0, NOT])?;
+    let actionpoints = vec![in alloc; first, second].map_err(AllocError::from)?;
+    with_actionpoints(alloc, actionpoints)
+}
+
+/// One rule, which requests sequence 9.
+fn one_rule(alloc: Global) -> Result<Images, FileError> {
+    let entry = at_once(alloc, 9, &[0])?;
+    with_actionpoints(alloc, vec![in alloc; entry].map_err(AllocError::from)?)
+}
+
+/// With these tables in force there are so many rules, and this is what comes of the steps.
+fn goes_on_with<R: Abort>(
+    rt: &R,
+    checker: &mut LimitChecker,
+    tables: &Images,
+    rules: usize,
+    steps: &[Step],
+) {
+    set(rt, checker, tables);
+    same(rt, "rules", checker.rule_count(), rules);
+    drive(rt, checker, steps);
 }
 
 #[test]
 fn tables_one_after_another(rt: HostRuntime) -> Result<(), Fail> {
     let alloc = rt.alloc();
-    let first = actionpoint(alloc, ApMode::Active, 1, 7, &[0])?;
-    let second = actionpoint(alloc, ApMode::Active, 1, 8, &[0, NOT])?;
-    let two = encoded(
-        alloc,
-        vec![in alloc; low(2)]?,
-        vec![in alloc; first, second]?,
-    )?;
-    let third = actionpoint(alloc, ApMode::Active, 1, 9, &[0])?;
-    let one = encoded(alloc, vec![in alloc; low(2)]?, vec![in alloc; third]?)?;
+    let two = two_rules(alloc)?;
+    let one = one_rule(alloc)?;
     let none = encoded(alloc, Vec::new(alloc), Vec::new(alloc))?;
     let mut checker = LimitChecker::new(alloc)?;
-    let steps = [Step::Sample(None), Step::Packet(LOW), Step::Sample(Some(7))];
     for _ in 0..2 {
-        set(&rt, &mut checker, &two);
-        assert_eq!(rt; checker.rule_count(), 2);
-        drive(&rt, &mut checker, &steps);
+        let steps = [Step::Sample(None), Step::Packet(LOW), Step::Sample(Some(7))];
+        goes_on_with(&rt, &mut checker, &two, 2, &steps);
     }
-    set(&rt, &mut checker, &one);
-    assert_eq!(rt; checker.rule_count(), 1);
-    drive(
-        &rt,
-        &mut checker,
-        &[Step::Packet(LOW), Step::Sample(Some(9))],
-    );
-    set(&rt, &mut checker, &none);
-    assert_eq!(rt; checker.rule_count(), 0);
-    drive(&rt, &mut checker, &[Step::Packet(LOW), Step::Sample(None)]);
+    let steps = [Step::Packet(LOW), Step::Sample(Some(9))];
+    goes_on_with(&rt, &mut checker, &one, 1, &steps);
+    let steps = [Step::Packet(LOW), Step::Sample(None)];
+    goes_on_with(&rt, &mut checker, &none, 0, &steps);
     Ok(())
 }

@@ -1,0 +1,129 @@
+//! The two images of the low-volts text, by their bytes, with as many entries as one likes.
+//!
+//! The text is `packet P = mid 0x0883 length 16; field V = P u16be at 12 stale 2; rule LOW active fails 2 sequence 7 event
+//! error 1001 "low volts" when V < 2400;`.
+
+use lc_model::Kind;
+use std::alloc::{AllocError, Global};
+
+/// In place of the text's hash.
+pub const HASH: [u8; 32] = [7; 32];
+
+/// The bytes before the entries.
+pub const PREAMBLE: usize = 40;
+
+/// The bytes of a watchpoint's entry, and of an actionpoint's.
+pub const WATCHPOINT: usize = 24;
+
+pub const ACTIONPOINT: usize = 86;
+
+/// From an actionpoint's first byte to its words.
+pub const WORDS: usize = 46;
+
+/// The words that are no watchpoint's number.
+pub const AND: u16 = 0xFF01;
+
+pub const OR: u16 = 0xFF02;
+
+pub const XOR: u16 = 0xFF03;
+
+pub const NOT: u16 = 0xFF04;
+
+pub const EQUAL: u16 = 0xFF05;
+
+/// Type, operator, message id, offset, mask, zero, stale age, comparison value.
+pub const LOW_VOLTS: [u8; WATCHPOINT] = [
+    3, 1, 0x08, 0x83, 0, 0, 0, 12, 0, 0, 0xFF, 0xFF, 0, 0, 0, 0, 0, 0, 0, 2, 0, 0, 0x09, 0x60,
+];
+
+/// State, maxima of events, sequence 7, fails 2, event type 3, event id 1001, text.
+pub const LOW: [u8; 23] = *b"\x01\x00\x00\x00\x00\x00\x00\x07\x00\x02\x00\x03\x03\xE9low volts";
+
+/// A table whose first entries, so many, are this one.
+pub fn table(
+    alloc: Global,
+    kind: u8,
+    used: u8,
+    watchpoints: u8,
+    entry: &[u8],
+) -> Result<Vec<u8>, AllocError> {
+    let mut image = Vec::from_slice(alloc, &[0, 1, 0, kind, 0, used, 0, watchpoints])?;
+    image.extend_from_slice(&HASH)?;
+    for number in 0..176 {
+        if number < used {
+            image.extend_from_slice(entry)?;
+        } else {
+            push_blank(&mut image, entry.len())?;
+        }
+    }
+    Ok(image)
+}
+
+/// Adds an entry of this length that isn't used.
+fn push_blank(image: &mut Vec<u8>, length: usize) -> Result<(), AllocError> {
+    image.push(0xFF)?;
+    for _ in 1..length {
+        image.push(0)?;
+    }
+    Ok(())
+}
+
+/// A table of so many watchpoints.
+pub fn wdt(alloc: Global, used: u8) -> Result<Vec<u8>, AllocError> {
+    table(alloc, 1, used, used, &LOW_VOLTS)
+}
+
+/// An actionpoint's entry with these words and zeros behind them.
+pub fn actionpoint(alloc: Global, words: &[u16]) -> Result<Vec<u8>, AllocError> {
+    let mut entry = Vec::from_slice(alloc, &LOW)?;
+    entry.extend_from_slice(&[0; 23])?;
+    for word in words {
+        entry.extend_from_slice(&word.to_be_bytes())?;
+    }
+    for _ in words.len()..20 {
+        entry.extend_from_slice(&[0, 0])?;
+    }
+    Ok(entry)
+}
+
+/// A table of so many actionpoints with these words, over so many watchpoints.
+pub fn adt_with(
+    alloc: Global,
+    used: u8,
+    watchpoints: u8,
+    words: &[u16],
+) -> Result<Vec<u8>, AllocError> {
+    let entry = actionpoint(alloc, words)?;
+    table(alloc, 2, used, watchpoints, &entry)
+}
+
+/// A table of so many actionpoints over one watchpoint.
+pub fn adt(alloc: Global, used: u8) -> Result<Vec<u8>, AllocError> {
+    adt_with(alloc, used, 1, &[0, EQUAL])
+}
+
+/// A table of so many entries, with one watchpoint beside actionpoints.
+pub fn image_of(alloc: Global, kind: Kind, used: u8) -> Result<Vec<u8>, AllocError> {
+    match kind {
+        Kind::Wdt => wdt(alloc, used),
+        Kind::Adt => adt(alloc, used),
+    }
+}
+
+/// Where an entry of this kind begins.
+pub fn start(kind: Kind, entry: u16) -> usize {
+    let length = match kind {
+        Kind::Wdt => WATCHPOINT,
+        Kind::Adt => ACTIONPOINT,
+    };
+    PREAMBLE.saturating_add(length.saturating_mul(entry as usize))
+}
+
+/// Puts bytes to a place of an image or a file.
+pub fn put(bytes: &mut Vec<u8>, place: usize, new: &[u8]) {
+    for index in 0..new.len() {
+        if let Some(there) = bytes.get_mut(place.saturating_add(index)) {
+            *there = new[index];
+        }
+    }
+}
