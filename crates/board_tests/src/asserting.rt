@@ -5,7 +5,7 @@ use std::fmt::Debug;
 use std::process::Abort;
 
 /// Ends the test where the two differ.
-pub fn same<R: Abort, W: Debug + Drop, T: Debug + PartialEq + Drop>(
+pub fn same<R: Abort, W: Copy + Debug, T: Copy + Debug + PartialEq>(
     rt: &R,
     what: W,
     found: T,
@@ -15,6 +15,6 @@ pub fn same<R: Abort, W: Debug + Drop, T: Debug + PartialEq + Drop>(
 }
 
 /// Ends the test where this isn't so.
-pub fn holds<R: Abort, W: Debug + Drop>(rt: &R, what: W, is_so: bool) {
+pub fn holds<R: Abort, W: Copy + Debug>(rt: &R, what: W, is_so: bool) {
     assert!(rt; is_so, "{what:?}");
 }

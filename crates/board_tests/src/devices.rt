@@ -1,5 +1,7 @@
 //! Sources and sinks in memory, with a fault at each place in turn.
 
+ghost use Rattle.std.specs.Prelude.{◌<◌, ◌≤◌};
+
 use crate::asserting::{holds, same};
 use lc_model::{ByteSink, ByteSource, DeviceFault, Limited, Pieces, Reading, Writing};
 use std::io;
@@ -46,25 +48,31 @@ fn write_all(sink: &mut impl ByteSink, bytes: &[u8], most: usize) -> u64 {
 }
 
 /// The whole text comes in pieces of this size, by so many reads.
-fn gives_the_text<R: Abort>(rt: &R, most: usize, reads: u64) {
+fn gives_the_text<R: Abort>(rt: &R, most: usize, reads: u64)
+    requires { 0 < most }
+{
     let mut room = [0; 32];
     let mut source = Pieces::new(TEXT, most);
     let bytes = read_to_end(&mut source, &mut room);
     same(rt, ("bytes in pieces of", most), bytes, (20, 20));
-    same(rt, ("text in pieces of", most), &room[..20], &TEXT[..]);
+    holds(rt, ("text in pieces of", most), room.starts_with(TEXT));
     same(rt, ("reads of pieces of", most), source.reads(), reads);
-    same(rt, ("fault in pieces of", most), source.failed(), false);
+    holds(rt, ("no fault", most), !source.failed());
 }
 
 #[test]
 fn reads_a_slice_in_pieces(rt: HostRuntime) {
-    for (most, reads) in [(1, 21), (7, 4), (20, 2), (99, 2)] {
-        gives_the_text(&rt, most, reads);
-    }
+    gives_the_text(&rt, 1, 21);
+    gives_the_text(&rt, 7, 4);
+    gives_the_text(&rt, 20, 2);
+    gives_the_text(&rt, 99, 2);
 }
 
 /// The fault moves no byte, so reading on gives the whole text, by one read more.
-fn goes_on_behind_a_fault<R: Abort>(rt: &R, most: usize, reads: u64, fault: u64) {
+fn goes_on_behind_a_fault<R: Abort>(rt: &R, most: usize, fault: u64, reads: u64)
+    requires most { 0 < most }
+    requires fault { 0 < fault }
+{
     let at = (most, fault);
     let before = (fault - 1).saturating_mul(most as u64).min(20);
     let mut room = [0; 32];
@@ -76,45 +84,52 @@ fn goes_on_behind_a_fault<R: Abort>(rt: &R, most: usize, reads: u64, fault: u64)
         (filled, before_fault as u64),
         (20, before),
     );
-    same(rt, ("text", at), &room[..20], &TEXT[..]);
-    same(rt, ("reads", at), source.reads(), reads + 1);
-    same(rt, ("fault", at), source.failed(), true);
+    holds(rt, ("text", at), room.starts_with(TEXT));
+    same(rt, ("reads", at), source.reads(), reads);
+    holds(rt, ("fault", at), source.failed());
 }
 
 #[test]
 fn fails_at_the_read_that_is_told(rt: HostRuntime) {
-    for (most, reads) in [(1, 21u64), (7, 4), (20, 2)] {
-        for fault in 1..=reads {
-            goes_on_behind_a_fault(&rt, most, reads, fault);
-        }
+    for fault in 1..=21 {
+        goes_on_behind_a_fault(&rt, 1, fault, 22);
+    }
+    for fault in 1..=4 {
+        goes_on_behind_a_fault(&rt, 7, fault, 5);
+    }
+    for fault in 1..=2 {
+        goes_on_behind_a_fault(&rt, 20, fault, 3);
     }
 }
 
 /// Of the text, `most` bytes at a time, as many are taken as the limit lets through, and then there is a fault.
-fn takes_up_to<R: Abort>(rt: &R, most: usize, limit: usize) {
+fn takes_up_to<R: Abort>(rt: &R, most: usize, limit: usize)
+    requires { limit ≤ 20 }
+{
     let mut room = [0; 20];
     let mut sink = Limited::new(&mut room, limit);
     let _calls = write_all(&mut sink, TEXT, most);
-    let taken = TEXT.get(..limit);
-    same(rt, ("taken", most, limit), Some(sink.bytes()), taken);
+    same(rt, ("taken", most, limit), sink.bytes(), &TEXT[..limit]);
     same(rt, ("fault", most, limit), sink.failed(), limit < 20);
 }
 
 #[test]
 fn takes_bytes_up_to_the_limit(rt: HostRuntime) {
-    for most in [1, 7, 20] {
-        for limit in 0..=20 {
-            takes_up_to(&rt, most, limit);
-        }
+    for limit in 0..=20 {
+        takes_up_to(&rt, 1, limit);
+        takes_up_to(&rt, 7, limit);
+        takes_up_to(&rt, 20, limit);
     }
 }
 
 /// The fault takes no byte, and the next write goes on.
-fn goes_on_behind_a_failed_write<R: Abort>(rt: &R, fault: u64) {
+fn goes_on_behind_a_failed_write<R: Abort>(rt: &R, fault: u64)
+    requires { 0 < fault }
+{
     let mut room = [0; 20];
     let mut sink = Limited::failing_at(&mut room, 20, fault);
     same(rt, ("calls", fault), write_all(&mut sink, TEXT, 1), fault);
-    same(rt, ("fault", fault), sink.failed(), true);
+    holds(rt, ("fault", fault), sink.failed());
     same(rt, ("bytes", fault), sink.bytes().len() as u64, fault - 1);
     same(rt, ("write", fault), sink.write(b"!"), Ok(1));
     same(rt, ("bytes then", fault), sink.bytes().len() as u64, fault);
@@ -122,7 +137,7 @@ fn goes_on_behind_a_failed_write<R: Abort>(rt: &R, fault: u64) {
 
 #[test]
 fn fails_at_the_write_that_is_told(rt: HostRuntime) {
-    for fault in 1..=20u64 {
+    for fault in 1..=20 {
         goes_on_behind_a_failed_write(&rt, fault);
     }
 }

@@ -22,7 +22,7 @@ fn answer(kind: Kind, image: &[u8]) -> Option<(u8, u16)> {
 }
 
 /// The image is sound.
-fn taken<R: Abort, W: Debug + Drop>(rt: &R, what: W, kind: Kind, image: &[u8]) {
+fn taken<R: Abort, W: Copy + Debug>(rt: &R, what: W, kind: Kind, image: &[u8]) {
     same(rt, what, answer(kind, image), None);
 }
 
