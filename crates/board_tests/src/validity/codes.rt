@@ -7,8 +7,11 @@ use lc_model::Kind;
 use std::alloc::AllocError;
 use std::process::Abort;
 
-/// Bytes of a watchpoint's entry that are wrong, each with its code.
-const WATCHPOINT_FAULTS: [(usize, &[u8], u8); 17] = [
+/// A place in an entry, the wrong bytes there, and their code.
+type Fault<'a> = (usize, &'a [u8], u8);
+
+/// Faults of a watchpoint's entry.
+const WATCHPOINT_FAULTS: [Fault; 17] = [
     (12, &[0, 0, 0, 1], 65),
     (12, &[1, 0, 0, 0], 65),
     (0, &[0], 66),
@@ -29,8 +32,14 @@ const WATCHPOINT_FAULTS: [(usize, &[u8], u8); 17] = [
     (0, &[2, 1, 0x08, 0x83, 0, 0, 0, 12, 0, 0, 0, 0xFF], 70),
 ];
 
-/// The same of an actionpoint's entry.
-const ACTIONPOINT_FAULTS: [(usize, &[u8], u8); 21] = [
+/// Nine mentions, eight ANDs, EQUAL.
+const NINE_WAIT: [u8; 36] = [
+    0, 0, 0, 0, 0, 0, 0, 0, 0, 0, 0, 0, 0, 0, 0, 0, 0, 0, 0xFF, 1, 0xFF, 1, 0xFF, 1, 0xFF, 1, 0xFF,
+    1, 0xFF, 1, 0xFF, 1, 0xFF, 1, 0xFF, 5,
+];
+
+/// Faults of an actionpoint's entry.
+const ACTIONPOINT_FAULTS: [Fault; 22] = [
     (0, &[0], 71),
     (0, &[4], 71),
     (10, &[0, 0], 72),
@@ -48,79 +57,78 @@ const ACTIONPOINT_FAULTS: [(usize, &[u8], u8); 21] = [
     (WORDS, &[0, 176], 76),
     (WORDS, &[0, 1], 77),
     (WORDS, &[0xFF, 0x01], 78),
+    (WORDS, &NINE_WAIT, 79),
     (WORDS, &[0, 0, 0, 0, 0xFF, 0x05], 80),
     (6, &[0, 0], 81),
     (8, &[0, 0], 81),
     (6, &[0, 0, 0, 0], 81),
 ];
 
-/// Nine mentions, eight ANDs, EQUAL.
-const NINE_WAIT: [u8; 36] = [
-    0, 0, 0, 0, 0, 0, 0, 0, 0, 0, 0, 0, 0, 0, 0, 0, 0, 0, 0xFF, 1, 0xFF, 1, 0xFF, 1, 0xFF, 1, 0xFF,
-    1, 0xFF, 1, 0xFF, 1, 0xFF, 1, 0xFF, 5,
-];
-
-/// A table with so many entries and these bytes wrong in one of them is refused by this code there.
-fn refused_at<R: Abort + AllocGlobal>(
+/// In a table with so many entries each fault alone, in this one, is refused by its code there.
+fn refused<R: Abort + AllocGlobal>(
     rt: &R,
     kind: Kind,
     used: u8,
     entry: u16,
-    (place, bytes, code): (usize, &[u8], u8),
+    faults: &[Fault],
 ) -> Result<(), AllocError> {
-    let mut image = image_of(rt.alloc(), kind, used)?;
-    put(&mut image, start(kind, entry).saturating_add(place), bytes);
-    same(
-        rt,
-        (place, bytes),
-        answer(kind, &image),
-        Some((code, entry)),
-    );
+    for (place, bytes, code) in faults {
+        let mut image = image_of(rt.alloc(), kind, used)?;
+        put(&mut image, start(kind, entry).saturating_add(*place), bytes);
+        same(
+            rt,
+            (*place, *bytes),
+            answer(kind, &image),
+            Some((*code, entry)),
+        );
+    }
     Ok(())
 }
 
 #[test]
 fn at_the_first_entry_and_at_the_last(rt: HostRuntime) -> Result<(), AllocError> {
     for entry in [0, 175] {
-        for fault in WATCHPOINT_FAULTS {
-            refused_at(&rt, Kind::Wdt, 176, entry, fault)?;
-        }
-        for fault in ACTIONPOINT_FAULTS {
-            refused_at(&rt, Kind::Adt, 176, entry, fault)?;
-        }
-        refused_at(&rt, Kind::Adt, 176, entry, (WORDS, &NINE_WAIT, 79))?;
+        refused(&rt, Kind::Wdt, 176, entry, &WATCHPOINT_FAULTS)?;
+        refused(&rt, Kind::Adt, 176, entry, &ACTIONPOINT_FAULTS)?;
     }
     Ok(())
+}
+
+/// In tables with so many entries this one is not used.
+fn must_be_blank<R: Abort + AllocGlobal>(rt: &R, used: u8, entry: u16) -> Result<(), AllocError> {
+    let watchpoints: [Fault; 4] = [
+        (0, &[0], 65),
+        (0, &[0xFE], 65),
+        (1, &[1], 65),
+        (WATCHPOINT - 1, &[1], 65),
+    ];
+    refused(rt, Kind::Wdt, used, entry, &watchpoints)?;
+    let actionpoints: [Fault; 3] = [(0, &[1], 65), (1, &[0xFF], 65), (ACTIONPOINT - 1, &[1], 65)];
+    refused(rt, Kind::Adt, used, entry, &actionpoints)
 }
 
 #[test]
 fn an_unused_entry_that_is_not_blank(rt: HostRuntime) -> Result<(), AllocError> {
-    for (used, entry) in [(0, 0), (1, 1), (1, 175), (175, 175)] {
-        for (place, byte) in [(0, 0), (0, 0xFE), (1, 1), (WATCHPOINT - 1, 1)] {
-            refused_at(&rt, Kind::Wdt, used, entry, (place, &[byte], 65))?;
-        }
-        for (place, byte) in [(0, 1), (1, 0xFF), (ACTIONPOINT - 1, 1)] {
-            refused_at(&rt, Kind::Adt, used, entry, (place, &[byte], 65))?;
-        }
-    }
-    Ok(())
+    must_be_blank(&rt, 0, 0)?;
+    must_be_blank(&rt, 1, 1)?;
+    must_be_blank(&rt, 1, 175)?;
+    must_be_blank(&rt, 175, 175)
 }
 
 #[test]
 fn of_two_codes_in_an_entry_the_least_counts(rt: HostRuntime) -> Result<(), AllocError> {
-    for fault in [
+    let watchpoints: [Fault; 6] = [
         // Without a type, mask and value aren't judged.
-        (0, [0, 0].as_slice(), 66),
+        (0, &[0, 0], 66),
         (0, &[0, 1, 0x08, 0x83, 0, 0, 0, 12, 0, 0, 0, 0], 66),
         (0, &[0, 1, 0x08, 0x83, 0, 0, 0, 12, 0, 0, 0, 1, 1], 65),
         (1, &[0, 0, 0], 67),
         (2, &[0, 0, 0, 0, 0, 0, 0, 0, 0, 0], 68),
         (8, &[0, 0, 0, 0, 0, 0, 0, 0, 0, 0, 0, 0, 0xFF], 69),
-    ] {
-        refused_at(&rt, Kind::Wdt, 2, 1, fault)?;
-    }
-    for fault in [
-        (0, [0, 0, 0, 0, 0, 0, 0, 0, 0, 0, 0, 0].as_slice(), 71),
+    ];
+    refused(&rt, Kind::Wdt, 2, 1, &watchpoints)?;
+    let actionpoints: [Fault; 8] = [
+        (0, &[0, 0, 0, 0, 0, 0, 0, 0, 0, 0, 0, 0], 71),
         (6, &[0, 0, 0, 0, 0, 0], 72),
         (8, &[0, 0, 0, 3, 0x03, 0xE9, 1], 73),
         (WORDS, &[0xFF, 0xFF, 0, 0], 74),
@@ -128,10 +136,8 @@ fn of_two_codes_in_an_entry_the_least_counts(rt: HostRuntime) -> Result<(), Allo
         (WORDS, &[0, 1, 0xFF, 0xFF, 0xFF, 0x05], 76),
         (WORDS, &[0, 1, 0xFF, 0x01, 0xFF, 0x05], 77),
         (WORDS, &[0, 0, 0xFF, 0x01, 0, 0, 0, 0, 0xFF, 0x05], 78),
-    ] {
-        refused_at(&rt, Kind::Adt, 2, 1, fault)?;
-    }
-    Ok(())
+    ];
+    refused(&rt, Kind::Adt, 2, 1, &actionpoints)
 }
 
 #[test]

@@ -78,43 +78,34 @@ fn takes<R: Abort + AllocGlobal>(rt: &R, changes: &[(usize, &[u8])]) -> Result<(
 
 #[test]
 fn the_ends_of_each_range(rt: HostRuntime) -> Result<(), AllocError> {
-    takes(
-        &rt,
+    let ends: [&[(usize, &[u8])]; 9] = [
         &[(0, &[1]), (8, &[0, 0, 0, 0xFF]), (20, &[0, 0, 0, 0xFF])],
-    )?;
-    takes(
-        &rt,
         &[(0, &[2]), (8, &[0, 0, 0, 1]), (20, &[0, 0, 0, 0x7F])],
-    )?;
-    takes(
-        &rt,
         &[
             (0, &[2]),
             (8, &[0, 0, 0, 0x80]),
             (20, &[0xFF, 0xFF, 0xFF, 0x80]),
         ],
-    )?;
-    takes(&rt, &[(0, &[6]), (20, &[0xFF, 0xFF, 0x80, 0])])?;
-    takes(&rt, &[(0, &[8]), (8, &[0xFF; 4]), (20, &[0xFF; 4])])?;
-    takes(&rt, &[(0, &[10]), (8, &[0xFF; 4]), (20, &[0x80, 0, 0, 0])])?;
-    takes(
-        &rt,
+        &[(0, &[6]), (20, &[0xFF, 0xFF, 0x80, 0])],
+        &[(0, &[8]), (8, &[0xFF; 4]), (20, &[0xFF; 4])],
+        &[(0, &[10]), (8, &[0xFF; 4]), (20, &[0x80, 0, 0, 0])],
         &[
             (0, &[9]),
             (8, &[0x80, 0, 0, 0]),
             (20, &[0x7F, 0xFF, 0xFF, 0xFF]),
         ],
-    )?;
-    takes(
-        &rt,
         &[
             (1, &[6]),
             (2, &[0x08, 0]),
             (4, &[0xFF; 4]),
             (16, &[0xFF; 4]),
         ],
-    )?;
-    takes(&rt, &[(2, &[0x0F, 0xFF])])
+        &[(2, &[0x0F, 0xFF])],
+    ];
+    for changes in ends {
+        takes(&rt, changes)?;
+    }
+    Ok(())
 }
 
 /// The last actionpoint of a full table with other bytes at a place is taken.

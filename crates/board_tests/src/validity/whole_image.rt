@@ -1,43 +1,55 @@
 //! Faults of the image as a whole: they count before those of an entry, length first, then version, kind and counts.
 
 use super::refused_whole;
+use crate::asserting::same;
 use crate::images::{PREAMBLE, adt, image_of, put, wdt};
 use lc_model::Kind;
 use std::alloc::AllocError;
 use std::process::Abort;
 
+/// The first bytes of a table of watchpoints, so many, are none.
+fn refused_front<R: Abort>(rt: &R, image: &[u8], length: usize) {
+    let front = image.get(..length).unwrap_or_default();
+    same(rt, "front", front.len(), length);
+    refused_whole(rt, Kind::Wdt, front, 63);
+}
+
 #[test]
-fn other_lengths(rt: HostRuntime) -> Result<(), AllocError> {
+fn shorter_images(rt: HostRuntime) -> Result<(), AllocError> {
     let image = wdt(rt.alloc(), 1)?;
     for length in [0, 1, 39, 40, 64, 4_263] {
-        let mut shorter = wdt(rt.alloc(), 1)?;
-        shorter.truncate(length);
-        refused_whole(&rt, Kind::Wdt, &shorter, 63);
+        refused_front(&rt, &image, length);
     }
-    let mut longer = wdt(rt.alloc(), 1)?;
-    longer.push(0)?;
-    refused_whole(&rt, Kind::Wdt, &longer, 63);
+    Ok(())
+}
+
+#[test]
+fn longer_images_and_those_of_the_other_table(rt: HostRuntime) -> Result<(), AllocError> {
+    let mut image = wdt(rt.alloc(), 1)?;
     refused_whole(&rt, Kind::Adt, &image, 63);
+    image.push(0)?;
+    refused_whole(&rt, Kind::Wdt, &image, 63);
     refused_whole(&rt, Kind::Wdt, &adt(rt.alloc(), 1)?, 63);
     Ok(())
 }
 
-/// The table with these bytes in its preamble is refused by this code.
-fn refused_with<R: Abort + AllocGlobal>(
-    rt: &R,
-    kind: Kind,
-    (place, bytes, code): (usize, &[u8], u8),
-) -> Result<(), AllocError> {
-    let mut image = image_of(rt.alloc(), kind, 1)?;
-    put(&mut image, place, bytes);
-    refused_whole(rt, kind, &image, code);
+/// A place in the preamble, the wrong bytes there, and their code.
+type Fault<'a> = (usize, &'a [u8], u8);
+
+/// Each fault alone is refused by its code.
+fn refused<R: Abort + AllocGlobal>(rt: &R, kind: Kind, faults: &[Fault]) -> Result<(), AllocError> {
+    for (place, bytes, code) in faults {
+        let mut image = image_of(rt.alloc(), kind, 1)?;
+        put(&mut image, *place, bytes);
+        refused_whole(rt, kind, &image, *code);
+    }
     Ok(())
 }
 
 #[test]
 fn other_preambles(rt: HostRuntime) -> Result<(), AllocError> {
-    for fault in [
-        (0, [0, 0].as_slice(), 61),
+    let watchpoints: [Fault; 11] = [
+        (0, &[0, 0], 61),
         (0, &[0, 2], 61),
         (0, &[1, 1], 61),
         (2, &[0, 0], 62),
@@ -48,19 +60,16 @@ fn other_preambles(rt: HostRuntime) -> Result<(), AllocError> {
         (4, &[0, 2, 0, 1], 64),
         (4, &[0, 1, 0, 2], 64),
         (4, &[0, 0, 0, 1], 64),
-    ] {
-        refused_with(&rt, Kind::Wdt, fault)?;
-    }
-    for fault in [
-        (0, [0, 2].as_slice(), 61),
+    ];
+    refused(&rt, Kind::Wdt, &watchpoints)?;
+    let actionpoints: [Fault; 5] = [
+        (0, &[0, 2], 61),
         (2, &[0, 1], 62),
         (4, &[0, 177, 0, 1], 64),
         (4, &[0, 1, 0, 177], 64),
         (6, &[1, 0], 64),
-    ] {
-        refused_with(&rt, Kind::Adt, fault)?;
-    }
-    Ok(())
+    ];
+    refused(&rt, Kind::Adt, &actionpoints)
 }
 
 #[test]
