@@ -6,7 +6,6 @@ use crate::asserting::{holds, same};
 use lc_model::{ByteSink, ByteSource, DeviceFault, Limited, Pieces, Reading, Writing};
 use std::io;
 use std::process::Abort;
-use std::test::Fail;
 
 const TEXT: &[u8; 20] = b"watchpoint, stale: 7";
 
@@ -54,10 +53,10 @@ fn gives_the_text<R: Abort>(rt: &R, most: usize, reads: u64)
     let mut room = [0; 32];
     let mut source = Pieces::new(TEXT, most);
     let bytes = read_to_end(&mut source, &mut room);
-    same(rt, ("bytes in pieces of", most), bytes, (20, 20));
-    holds(rt, ("text in pieces of", most), room.starts_with(TEXT));
-    same(rt, ("reads of pieces of", most), source.reads(), reads);
-    holds(rt, ("no fault", most), !source.failed());
+    same(rt, ("bytes", most), bytes, (20, 20));
+    holds(rt, ("text", most), room.starts_with(TEXT));
+    let after = (source.reads(), source.failed());
+    same(rt, ("reads, fault", most), after, (reads, false));
 }
 
 #[test]
@@ -85,8 +84,8 @@ fn goes_on_behind_a_fault<R: Abort>(rt: &R, most: usize, fault: u64, reads: u64)
         (20, before),
     );
     holds(rt, ("text", at), room.starts_with(TEXT));
-    same(rt, ("reads", at), source.reads(), reads);
-    holds(rt, ("fault", at), source.failed());
+    let after = (source.reads(), source.failed());
+    same(rt, ("reads, fault", at), after, (reads, true));
 }
 
 #[test]
@@ -128,11 +127,11 @@ fn goes_on_behind_a_failed_write<R: Abort>(rt: &R, fault: u64)
 {
     let mut room = [0; 20];
     let mut sink = Limited::failing_at(&mut room, 20, fault);
-    same(rt, ("calls", fault), write_all(&mut sink, TEXT, 1), fault);
-    holds(rt, ("fault", fault), sink.failed());
-    same(rt, ("bytes", fault), sink.bytes().len() as u64, fault - 1);
-    same(rt, ("write", fault), sink.write(b"!"), Ok(1));
-    same(rt, ("bytes then", fault), sink.bytes().len() as u64, fault);
+    let calls = write_all(&mut sink, TEXT, 1);
+    let before = (calls, sink.failed(), sink.bytes().len() as u64);
+    same(rt, ("before", fault), before, (fault, true, fault - 1));
+    let behind = (sink.write(b"!"), sink.bytes().len() as u64);
+    same(rt, ("behind", fault), behind, (Ok(1), fault));
 }
 
 #[test]
@@ -181,24 +180,26 @@ fn reads_by_the_standard_library(rt: HostRuntime) {
     let mut room = [0; 32];
     let mut source = Reading::new(&TEXT[..]);
     same(&rt, "bytes", read_to_end(&mut source, &mut room), (20, 20));
-    same(&rt, "text", &room[..20], &TEXT[..]);
-    same(&rt, "reads", source.reads(), 2);
-    holds(&rt, "no fault", !source.failed());
-
-    let mut broken = Reading::new(Broken);
-    same(&rt, "broken", broken.read(&mut room), Err(DeviceFault));
-    same(&rt, "reads of a broken one", broken.reads(), 1);
-    holds(&rt, "fault", broken.failed());
+    holds(&rt, "text", room.starts_with(TEXT));
+    let after = (source.reads(), source.failed());
+    same(&rt, "reads, fault", after, (2, false));
 }
 
 #[test]
-fn writes_by_the_standard_library(rt: HostRuntime) -> Result<(), Fail> {
-    let mut sink = Writing::new(Vec::new(rt.alloc()));
-    same(&rt, "bytes", sink.write(TEXT), Ok(20));
-    holds(&rt, "no fault", !sink.failed());
+fn fails_where_the_standard_library_does(rt: HostRuntime) {
+    let mut broken = Reading::new(Broken);
+    let read = broken.read(&mut [0; 32]);
+    let after = (read, broken.reads(), broken.failed());
+    same(&rt, "read", after, (Err(DeviceFault), 1, true));
 
     let mut full = Writing::new(Full);
-    same(&rt, "full", full.write(TEXT), Err(DeviceFault));
-    holds(&rt, "fault", full.failed());
-    Ok(())
+    let written = (full.write(TEXT), full.failed());
+    same(&rt, "write", written, (Err(DeviceFault), true));
+}
+
+#[test]
+fn writes_by_the_standard_library(rt: HostRuntime) {
+    let mut sink = Writing::new(Vec::new(rt.alloc()));
+    let written = (sink.write(TEXT), sink.failed());
+    same(&rt, "write", written, (Ok(20), false));
 }

@@ -91,8 +91,8 @@ fn drive<R: Abort>(rt: &R, checker: &mut LimitChecker, steps: &[Step]) {
 }
 
 /// Drives a Limit Checker with these tables through the steps.
-fn run<R: Abort>(rt: &R, alloc: Global, tables: &Images, steps: &[Step]) -> Result<(), AllocError> {
-    let mut checker = LimitChecker::new(alloc)?;
+fn run<R: Abort + AllocGlobal>(rt: &R, tables: &Images, steps: &[Step]) -> Result<(), AllocError> {
+    let mut checker = LimitChecker::new(rt.alloc())?;
     set(rt, &mut checker, tables);
     drive(rt, &mut checker, steps);
     Ok(())

@@ -2,6 +2,7 @@
 
 use super::{changed, low_volts_adt_file, low_volts_wdt_file, refused};
 use crate::asserting::same;
+use std::alloc::AllocError;
 use std::process::Abort;
 use std::test::Fail;
 use table_file::{FileError, open};
@@ -21,11 +22,22 @@ const WRONG: [(usize, u8, FileError); 11] = [
     (75, 0xA9, FileError::SizeMismatch),
 ];
 
+/// The file with other bytes at some places has this fault.
+fn refused_with<R: Abort + AllocGlobal>(
+    rt: &R,
+    file: &[u8],
+    changes: &[(usize, u8)],
+    fault: FileError,
+) -> Result<(), AllocError> {
+    refused(rt, &changed(rt.alloc(), file, changes)?, fault);
+    Ok(())
+}
+
 #[test]
 fn one_field_is_wrong(rt: HostRuntime) -> Result<(), Fail> {
     let file = low_volts_wdt_file(rt.alloc())?;
     for (place, byte, fault) in WRONG {
-        refused(&rt, &changed(rt.alloc(), &file, &[(place, byte)])?, fault);
+        refused_with(&rt, &file, &[(place, byte)], fault)?;
     }
     Ok(())
 }
@@ -36,8 +48,7 @@ fn of_two_the_first_counts(rt: HostRuntime) -> Result<(), Fail> {
     for (place, byte, fault) in WRONG {
         for (other, wrong, _) in WRONG {
             if place < other {
-                let both = changed(rt.alloc(), &file, &[(place, byte), (other, wrong)])?;
-                refused(&rt, &both, fault);
+                refused_with(&rt, &file, &[(place, byte), (other, wrong)], fault)?;
             }
         }
     }

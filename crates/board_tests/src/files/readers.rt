@@ -15,15 +15,22 @@ use table_file::{
     preamble,
 };
 
+/// Spacecraft, processor and application, seconds and subseconds, and what is reserved.
+fn numbers(file: &TableFile) -> [u32; 6] {
+    [
+        file.spacecraft(),
+        file.processor(),
+        file.application(),
+        file.seconds(),
+        file.subseconds(),
+        file.reserved(),
+    ]
+}
+
 /// The fields that are written, and an image of this length.
 fn has_written_fields<R: Abort>(rt: &R, file: &TableFile, name: &[u8], length: usize) {
-    same(rt, "spacecraft", file.spacecraft(), 66);
-    same(rt, "processor", file.processor(), 1);
-    same(rt, "application", file.application(), 0);
-    same(rt, "seconds", file.seconds(), 0);
-    same(rt, "subseconds", file.subseconds(), 0);
+    same(rt, "numbers", numbers(file), [66, 1, 0, 0, 0, 0]);
     same(rt, "description", file.description(), &[0; 32]);
-    same(rt, "reserved", file.reserved(), 0);
     same(rt, "name", file.name(), name);
     same(rt, "name's field", file.name_field().len(), 40);
     same(rt, "image", file.image().len(), length);
@@ -36,19 +43,6 @@ fn the_two_files_open(rt: HostRuntime) -> Result<(), Fail> {
     let adt = low_volts_adt_file(rt.alloc())?;
     has_written_fields(&rt, &open(&adt)?, b"LC.LC_ADT", 15_176);
     Ok(())
-}
-
-/// The fields that `any_value_of_the_other_fields` changes.
-fn has_other_fields<R: Abort>(rt: &R, file: &TableFile) {
-    same(rt, "spacecraft", file.spacecraft(), 0x0100_0042);
-    same(rt, "processor", file.processor(), 0x0200_0001);
-    same(rt, "application", file.application(), 3);
-    same(rt, "seconds", file.seconds(), 4);
-    same(rt, "subseconds", file.subseconds(), 5);
-    same(rt, "description", file.description().first(), Some(&b'd'));
-    same(rt, "description's end", file.description().last(), Some(&6));
-    same(rt, "reserved", file.reserved(), 0x0700_0000);
-    same(rt, "name", file.name(), b"\x08C.LC_WDT");
 }
 
 #[test]
@@ -66,7 +60,12 @@ fn any_value_of_the_other_fields(rt: HostRuntime) -> Result<(), Fail> {
         (76, 8),
     ];
     let bytes = changed(rt.alloc(), &wdt, &other)?;
-    has_other_fields(&rt, &open(&bytes)?);
+    let file = open(&bytes)?;
+    let expected = [0x0100_0042, 0x0200_0001, 3, 4, 5, 0x0700_0000];
+    same(&rt, "numbers", numbers(&file), expected);
+    same(&rt, "description", file.description().first(), Some(&b'd'));
+    same(&rt, "its end", file.description().last(), Some(&6));
+    same(&rt, "name", file.name(), b"\x08C.LC_WDT");
     Ok(())
 }
 
@@ -87,25 +86,31 @@ fn names_with_and_without_a_zero(rt: HostRuntime) -> Result<(), Fail> {
 fn has_preamble<R: Abort>(rt: &R, image: &[u8], kind_code: u16)
     requires { preamble_length ≤ length image.now }
 {
-    same(rt, "version", preamble::version(image), 1);
-    same(rt, "kind", preamble::kind_code(image), kind_code);
-    same(rt, "entries", preamble::own_count(image), 1);
-    same(rt, "watchpoints", preamble::watchpoint_count(image), 1);
+    let numbers = [
+        preamble::version(image),
+        preamble::kind_code(image),
+        preamble::own_count(image),
+        preamble::watchpoint_count(image),
+    ];
+    same(rt, "version, kind, counts", numbers, [1, kind_code, 1, 1]);
     same(rt, "hash", preamble::hash(image), &HASH);
 }
 
 /// The low-volts watchpoint, field by field.
 fn has_low_volts<R: Abort>(rt: &R, entry: &WatchpointEntry) {
-    same(rt, "type", entry.type_code(), 3);
-    same(rt, "type", entry.field_type(), Some(FieldType::U16Be));
-    same(rt, "operator", entry.operator_code(), 1);
-    same(rt, "operator", entry.operator(), CmpOp::Less);
+    let kind = (entry.type_code(), entry.field_type());
+    same(rt, "type", kind, (3, Some(FieldType::U16Be)));
+    let operator = (entry.operator_code(), entry.operator());
+    same(rt, "operator", operator, (1, CmpOp::Less));
     same(rt, "message id", entry.message_id(), 0x0883);
-    same(rt, "offset", entry.offset(), 12);
-    same(rt, "mask", entry.mask(), 0xFFFF);
-    same(rt, "zero", entry.zero_field(), 0);
-    same(rt, "stale", entry.stale(), 2);
-    same(rt, "value", entry.value_bits(), 2400);
+    let numbers = [
+        entry.offset(),
+        entry.mask(),
+        entry.zero_field(),
+        entry.stale(),
+        entry.value_bits(),
+    ];
+    same(rt, "numbers", numbers, [12, 0xFFFF, 0, 2, 2400]);
     same(rt, "term", entry.term(), low(2));
 }
 
@@ -130,19 +135,18 @@ fn the_watchpoints_image(rt: HostRuntime) -> Result<(), Fail> {
 
 /// The low-volts actionpoint, field by field.
 fn has_low<R: Abort>(rt: &R, entry: &ActionpointEntry) {
+    let state = (entry.state_code(), entry.mode());
+    same(rt, "state", state, (1, ApMode::Active));
     let report = Report {
         passive: 0,
         pass_to_fail: 0,
         fail_to_pass: 0,
     };
-    same(rt, "state", entry.state_code(), 1);
-    same(rt, "mode", entry.mode(), ApMode::Active);
     same(rt, "report", entry.report(), report);
-    same(rt, "sequence", entry.sequence(), 7);
-    same(rt, "fails", entry.fails(), 2);
-    same(rt, "event type", entry.event_code(), 3);
-    same(rt, "event type", entry.event_kind(), EventKind::Error);
-    same(rt, "event id", entry.event_id(), 1001);
+    let counts = (entry.sequence(), entry.fails());
+    same(rt, "sequence, fails", counts, (7, 2));
+    let event = (entry.event_code(), entry.event_kind(), entry.event_id());
+    same(rt, "event", event, (3, EventKind::Error, 1001));
     same(rt, "text", entry.text(), b"low volts");
     same(rt, "text's field", entry.text_field().len(), 32);
 }
@@ -152,9 +156,8 @@ fn has_one_mention<R: Abort>(rt: &R, entry: &ActionpointEntry) {
     same(rt, "words before EQUAL", entry.equation_length(), 1);
     same(rt, "words", entry.word_count(), 20);
     if entry.word_count() == 20 {
-        same(rt, "mention", entry.word(0), 0);
-        same(rt, "end", entry.word(1), EQUAL_WORD);
-        same(rt, "last word", entry.word(19), 0);
+        let words = [entry.word(0), entry.word(1), entry.word(19)];
+        same(rt, "words 0, 1, 19", words, [0, EQUAL_WORD, 0]);
     }
 }
 

@@ -77,7 +77,7 @@ fn follows<R: Abort + AllocGlobal>(
     requires { FitsWatchpoint term }
 {
     let tables = rule(rt.alloc(), term, mode, fails)?;
-    run(rt, rt.alloc(), &tables, steps)?;
+    run(rt, &tables, steps)?;
     Ok(())
 }
 

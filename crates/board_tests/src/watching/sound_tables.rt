@@ -1,8 +1,7 @@
 //! Sound tables that no compiler writes, full ones, and tables that are set one after another.
 
-ghost use Rattle.std.specs.Prelude.{◌<◌, ◌≤◌, ◌^◌, length, IfOk};
+ghost use Rattle.std.specs.Prelude.{◌<◌, ◌^◌, length, IfOk};
 ghost use Rattle.std.specs.List.{AllByRecursion};
-ghost use Rattle.lc_model.specs.Codes.{table_entries};
 ghost use Rattle.lc_model.specs.Tables.Image.{Actionpoints, FitsEntry, FitsWatchpoint};
 
 use super::{Images, LOW, Step, drive, encoded, run, set};
@@ -62,46 +61,55 @@ fn at_once(alloc: Global, sequence: u16, words: &[u16]) -> Result<TableEntry, Al
     actionpoint(alloc, ApMode::Active, 1, sequence, words)
 }
 
-#[test]
-fn a_watchpoint_that_no_rule_mentions(rt: HostRuntime) -> Result<(), Fail> {
-    let alloc = rt.alloc();
+/// Three flags, and one rule over the second.
+fn second_of_three(alloc: Global) -> Result<Images, Fail> {
     let watchpoints = vec![in alloc; flag(12), flag(13), flag(14)]?;
     let entry = at_once(alloc, 7, &[1])?;
-    let tables = encoded(alloc, watchpoints, vec![in alloc; entry]?)?;
+    Ok(encoded(alloc, watchpoints, vec![in alloc; entry]?)?)
+}
+
+#[test]
+fn a_watchpoint_that_no_rule_mentions(rt: HostRuntime) -> Result<(), Fail> {
     let steps = [
         Step::Packet(FIRST_AND_THIRD),
         Step::Sample(None),
         Step::Packet(SECOND),
         Step::Sample(Some(7)),
     ];
-    run(&rt, alloc, &tables, &steps)?;
+    run(&rt, &second_of_three(rt.alloc())?, &steps)?;
     Ok(())
+}
+
+/// The low-volts watchpoint twice, a rule that one of them alone holds, and a rule that both hold.
+fn one_or_both(alloc: Global) -> Result<Images, Fail> {
+    let watchpoints = vec![in alloc; low(2), low(2)]?;
+    let one = at_once(alloc, 7, &[0, 1, XOR])?;
+    let both = at_once(alloc, 8, &[1, 0, AND])?;
+    Ok(encoded(alloc, watchpoints, vec![in alloc; one, both]?)?)
 }
 
 #[test]
 fn one_watchpoint_twice(rt: HostRuntime) -> Result<(), Fail> {
-    let alloc = rt.alloc();
-    let watchpoints = vec![in alloc; low(2), low(2)]?;
-    let never = at_once(alloc, 7, &[0, 1, XOR])?;
-    let both = at_once(alloc, 8, &[1, 0, AND])?;
-    let tables = encoded(alloc, watchpoints, vec![in alloc; never, both]?)?;
     let steps = [
         Step::SampleOf(1, None),
         Step::Packet(LOW),
         Step::SampleOf(0, None),
         Step::SampleOf(1, Some(8)),
     ];
-    run(&rt, alloc, &tables, &steps)?;
+    run(&rt, &one_or_both(rt.alloc())?, &steps)?;
     Ok(())
+}
+
+/// A flag, negated twice, and negated once in a rule of two failures in a row.
+fn twice_and_once(alloc: Global) -> Result<Images, Fail> {
+    let twice = at_once(alloc, 7, &[0, NOT, NOT])?;
+    let once = actionpoint(alloc, ApMode::Active, 2, 8, &[0, NOT])?;
+    let actionpoints = vec![in alloc; twice, once]?;
+    Ok(encoded(alloc, vec![in alloc; flag(13)]?, actionpoints)?)
 }
 
 #[test]
 fn what_is_negated_twice(rt: HostRuntime) -> Result<(), Fail> {
-    let alloc = rt.alloc();
-    let twice = at_once(alloc, 7, &[0, NOT, NOT])?;
-    let once = actionpoint(alloc, ApMode::Active, 2, 8, &[0, NOT])?;
-    let actionpoints = vec![in alloc; twice, once]?;
-    let tables = encoded(alloc, vec![in alloc; flag(13)]?, actionpoints)?;
     let steps = [
         Step::Packet(NONE),
         Step::SampleOf(0, None),
@@ -110,13 +118,12 @@ fn what_is_negated_twice(rt: HostRuntime) -> Result<(), Fail> {
         Step::Packet(SECOND),
         Step::SampleOf(0, Some(7)),
     ];
-    run(&rt, alloc, &tables, &steps)?;
+    run(&rt, &twice_and_once(rt.alloc())?, &steps)?;
     Ok(())
 }
 
-#[test]
-fn eight_operands_that_wait(rt: HostRuntime) -> Result<(), Fail> {
-    let alloc = rt.alloc();
+/// Eight flags, all of which wait before the first operator.
+fn eight_waiting(alloc: Global) -> Result<Images, Fail> {
     let watchpoints = vec![in alloc;
         flag(12),
         flag(13),
@@ -129,7 +136,11 @@ fn eight_operands_that_wait(rt: HostRuntime) -> Result<(), Fail> {
     ]?;
     let words = [0, 1, 2, 3, 4, 5, 6, 7, OR, AND, XOR, OR, AND, OR, AND];
     let entry = at_once(alloc, 7, &words)?;
-    let tables = encoded(alloc, watchpoints, vec![in alloc; entry]?)?;
+    Ok(encoded(alloc, watchpoints, vec![in alloc; entry]?)?)
+}
+
+#[test]
+fn eight_operands_that_wait(rt: HostRuntime) -> Result<(), Fail> {
     let steps = [
         Step::Packet(NONE),
         Step::Sample(None),
@@ -142,60 +153,8 @@ fn eight_operands_that_wait(rt: HostRuntime) -> Result<(), Fail> {
         Step::Packet(AND_FOURTH),
         Step::Sample(Some(7)),
     ];
-    run(&rt, alloc, &tables, &steps)?;
+    run(&rt, &eight_waiting(rt.alloc())?, &steps)?;
     Ok(())
-}
-
-#[test]
-fn full_tables(rt: HostRuntime) -> Result<(), Fail> {
-    let alloc = rt.alloc();
-    let mut entry = images::actionpoint(
-        alloc,
-        &[
-            175, 0, XOR, 1, XOR, 2, XOR, 3, XOR, 4, XOR, 5, XOR, 6, XOR, 7, XOR, NOT, NOT, EQUAL,
-        ],
-    )?;
-    // One failure is enough.
-    put(&mut entry, 8, &[0, 1]);
-    let tables = Images {
-        wdt: wdt(alloc, 176)?,
-        adt: table(alloc, 2, 176, 176, &entry)?,
-    };
-    let mut checker = LimitChecker::new(alloc)?;
-    set(&rt, &mut checker, &tables);
-    same(&rt, "rules", checker.rule_count(), 176);
-    let steps = [
-        Step::Packet(LOW),
-        Step::Sample(Some(7)),
-        Step::SampleOf(1, Some(7)),
-        Step::SampleOf(174, Some(7)),
-        Step::SampleOf(175, Some(7)),
-    ];
-    drive(&rt, &mut checker, &steps);
-    Ok(())
-}
-
-/// The tables of the low-volts watchpoint and these actionpoints.
-fn with_actionpoints(alloc: Global, actionpoints: Vec<TableEntry>) -> Result<Images, FileError>
-    requires few { length actionpoints.items ≤ table_entries }
-    requires fit { AllByRecursion (FitsEntry Actionpoints) actionpoints.items }
-{
-    let watchpoints = vec![in alloc; low(2)].map_err(AllocError::from)?;
-    encoded(alloc, watchpoints, actionpoints)
-}
-
-/// Two rules, of which the first requests sequence 7.
-fn two_rules(alloc: Global) -> Result<Images, FileError> {
-    let first = at_once(alloc, 7, &[0])?;
-    let second = at_once(alloc, 8, &[0, NOT])?;
-    let actionpoints = vec![in alloc; first, second].map_err(AllocError::from)?;
-    with_actionpoints(alloc, actionpoints)
-}
-
-/// One rule, which requests sequence 9.
-fn one_rule(alloc: Global) -> Result<Images, FileError> {
-    let entry = at_once(alloc, 9, &[0])?;
-    with_actionpoints(alloc, vec![in alloc; entry].map_err(AllocError::from)?)
 }
 
 /// With these tables in force there are so many rules, and this is what comes of the steps.
@@ -211,20 +170,61 @@ fn goes_on_with<R: Abort>(
     drive(rt, checker, steps);
 }
 
+/// 176 times the low-volts watchpoint, and 176 times a rule of twenty words and one failure.
+fn full(alloc: Global) -> Result<Images, AllocError> {
+    let words = [
+        175, 0, XOR, 1, XOR, 2, XOR, 3, XOR, 4, XOR, 5, XOR, 6, XOR, 7, XOR, NOT, NOT, EQUAL,
+    ];
+    let mut entry = images::actionpoint(alloc, &words)?;
+    put(&mut entry, 8, &[0, 1]);
+    Ok(Images {
+        wdt: wdt(alloc, 176)?,
+        adt: table(alloc, 2, 176, 176, &entry)?,
+    })
+}
+
+#[test]
+fn full_tables(rt: HostRuntime) -> Result<(), AllocError> {
+    let mut checker = LimitChecker::new(rt.alloc())?;
+    let steps = [
+        Step::Packet(LOW),
+        Step::Sample(Some(7)),
+        Step::SampleOf(1, Some(7)),
+        Step::SampleOf(174, Some(7)),
+        Step::SampleOf(175, Some(7)),
+    ];
+    goes_on_with(&rt, &mut checker, &full(rt.alloc())?, 176, &steps);
+    Ok(())
+}
+
+/// Two rules over the low-volts watchpoint, of which the first requests sequence 7.
+fn two_rules(alloc: Global) -> Result<Images, Fail> {
+    let first = at_once(alloc, 7, &[0])?;
+    let second = at_once(alloc, 8, &[0, NOT])?;
+    let actionpoints = vec![in alloc; first, second]?;
+    Ok(encoded(alloc, vec![in alloc; low(2)]?, actionpoints)?)
+}
+
+/// One rule, which requests sequence 9.
+fn one_rule(alloc: Global) -> Result<Images, Fail> {
+    let entry = at_once(alloc, 9, &[0])?;
+    Ok(encoded(alloc, vec![in alloc; low(2)]?, vec![in alloc; entry]?)?)
+}
+
+fn no_rules(alloc: Global) -> Result<Images, FileError> {
+    encoded(alloc, Vec::new(alloc), Vec::new(alloc))
+}
+
 #[test]
 fn tables_one_after_another(rt: HostRuntime) -> Result<(), Fail> {
-    let alloc = rt.alloc();
-    let two = two_rules(alloc)?;
-    let one = one_rule(alloc)?;
-    let none = encoded(alloc, Vec::new(alloc), Vec::new(alloc))?;
-    let mut checker = LimitChecker::new(alloc)?;
-    for _ in 0..2 {
-        let steps = [Step::Sample(None), Step::Packet(LOW), Step::Sample(Some(7))];
-        goes_on_with(&rt, &mut checker, &two, 2, &steps);
-    }
+    let mut checker = LimitChecker::new(rt.alloc())?;
+    let steps = [Step::Sample(None), Step::Packet(LOW), Step::Sample(Some(7))];
+    let two = two_rules(rt.alloc())?;
+    goes_on_with(&rt, &mut checker, &two, 2, &steps);
+    goes_on_with(&rt, &mut checker, &two, 2, &steps);
     let steps = [Step::Packet(LOW), Step::Sample(Some(9))];
-    goes_on_with(&rt, &mut checker, &one, 1, &steps);
+    goes_on_with(&rt, &mut checker, &one_rule(rt.alloc())?, 1, &steps);
     let steps = [Step::Packet(LOW), Step::Sample(None)];
-    goes_on_with(&rt, &mut checker, &none, 0, &steps);
+    goes_on_with(&rt, &mut checker, &no_rules(rt.alloc())?, 0, &steps);
     Ok(())
 }
