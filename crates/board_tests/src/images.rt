@@ -77,11 +77,9 @@ pub fn wdt(alloc: Global, used: u8) -> Result<Vec<u8>, AllocError> {
 pub fn actionpoint(alloc: Global, words: &[u16]) -> Result<Vec<u8>, AllocError> {
     let mut entry = Vec::from_slice(alloc, &LOW)?;
     entry.extend_from_slice(&[0; 23])?;
-    for word in words {
+    for number in 0..20 {
+        let word = words.get(number).copied().unwrap_or(0);
         entry.extend_from_slice(&word.to_be_bytes())?;
-    }
-    for _ in words.len()..20 {
-        entry.extend_from_slice(&[0, 0])?;
     }
     Ok(entry)
 }

@@ -8,7 +8,9 @@ mod whole_image;
 mod words;
 
 use crate::asserting::same;
+use crate::images::{image_of, put};
 use lc_model::Kind;
+use std::alloc::AllocError;
 use std::fmt::Debug;
 use std::process::Abort;
 use table_validator::{WHOLE_IMAGE, validate};
@@ -29,4 +31,29 @@ fn taken<R: Abort, W: Copy + Debug>(rt: &R, what: W, kind: Kind, image: &[u8]) {
 /// The image as a whole is refused by this code.
 fn refused_whole<R: Abort>(rt: &R, kind: Kind, image: &[u8], code: u8) {
     same(rt, kind, answer(kind, image), Some((code, WHOLE_IMAGE)));
+}
+
+/// Bytes that are wrong, the place that they begin at, and their code.
+type Fault<'a> = (usize, &'a [u8], u8);
+
+/// In a table with so many entries each fault alone, its place counted from here on, is refused by its code at this entry.
+fn refused<R: Abort + AllocGlobal>(
+    rt: &R,
+    kind: Kind,
+    used: u8,
+    from: usize,
+    entry: u16,
+    faults: &[Fault],
+) -> Result<(), AllocError> {
+    for (place, bytes, code) in faults {
+        let mut image = image_of(rt.alloc(), kind, used)?;
+        put(&mut image, from.saturating_add(*place), bytes);
+        same(
+            rt,
+            (*place, *bytes),
+            answer(kind, &image),
+            Some((*code, entry)),
+        );
+    }
+    Ok(())
 }

@@ -32,19 +32,44 @@ struct Images {
 /// The images of tables of these watchpoints and actionpoints.
 fn encoded(
     alloc: Global,
-    watchpoints: Vec<Term>,
+    watchpoints: &[Term],
     actionpoints: Vec<TableEntry>,
 ) -> Result<Images, FileError>
-    requires few_watchpoints { length watchpoints.items ≤ table_entries }
+    requires few_watchpoints { length watchpoints.now ≤ table_entries }
     requires few_actionpoints { length actionpoints.items ≤ table_entries }
-    requires watchpoints { AllByRecursion FitsWatchpoint watchpoints.items }
+    requires watchpoints { AllByRecursion FitsWatchpoint watchpoints.now }
     requires actionpoints { AllByRecursion (FitsEntry Actionpoints) actionpoints.items }
 {
-    let watchpoint_count = watchpoints.len() as u16;
     Ok(Images {
-        wdt: encoded_wdt(alloc, watchpoints)?,
-        adt: encoded_adt(alloc, watchpoint_count, actionpoints)?,
+        wdt: encoded_wdt(alloc, Vec::from_slice(alloc, watchpoints)?)?,
+        adt: encoded_adt(alloc, watchpoints.len() as u16, actionpoints)?,
     })
+}
+
+/// The same, of one actionpoint.
+fn with_one(alloc: Global, watchpoints: &[Term], entry: TableEntry) -> Result<Images, FileError>
+    requires few_watchpoints { length watchpoints.now ≤ table_entries }
+    requires watchpoints { AllByRecursion FitsWatchpoint watchpoints.now }
+    requires entry { FitsEntry Actionpoints entry }
+{
+    let actionpoints = vec![in alloc; entry].map_err(AllocError::from)?;
+    encoded(alloc, watchpoints, actionpoints)
+}
+
+/// The same, of two.
+fn with_two(
+    alloc: Global,
+    watchpoints: &[Term],
+    first: TableEntry,
+    second: TableEntry,
+) -> Result<Images, FileError>
+    requires few_watchpoints { length watchpoints.now ≤ table_entries }
+    requires watchpoints { AllByRecursion FitsWatchpoint watchpoints.now }
+    requires first { FitsEntry Actionpoints first }
+    requires second { FitsEntry Actionpoints second }
+{
+    let actionpoints = vec![in alloc; first, second].map_err(AllocError::from)?;
+    encoded(alloc, watchpoints, actionpoints)
 }
 
 /// The image, which is sound.

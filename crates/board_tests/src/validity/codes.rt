@@ -1,14 +1,11 @@
 //! Each code of an entry: at the first entry and at the last, alone and beside others.
 
-use super::answer;
+use super::{Fault, answer, refused};
 use crate::asserting::same;
 use crate::images::{ACTIONPOINT, WATCHPOINT, WORDS, image_of, put, start};
 use lc_model::Kind;
 use std::alloc::AllocError;
 use std::process::Abort;
-
-/// A place in an entry, the wrong bytes there, and their code.
-type Fault<'a> = (usize, &'a [u8], u8);
 
 /// Faults of a watchpoint's entry.
 const WATCHPOINT_FAULTS: [Fault; 17] = [
@@ -65,31 +62,21 @@ const ACTIONPOINT_FAULTS: [Fault; 22] = [
 ];
 
 /// In a table with so many entries each fault alone, in this one, is refused by its code there.
-fn refused<R: Abort + AllocGlobal>(
+fn refused_at<R: Abort + AllocGlobal>(
     rt: &R,
     kind: Kind,
     used: u8,
     entry: u16,
     faults: &[Fault],
 ) -> Result<(), AllocError> {
-    for (place, bytes, code) in faults {
-        let mut image = image_of(rt.alloc(), kind, used)?;
-        put(&mut image, start(kind, entry).saturating_add(*place), bytes);
-        same(
-            rt,
-            (*place, *bytes),
-            answer(kind, &image),
-            Some((*code, entry)),
-        );
-    }
-    Ok(())
+    refused(rt, kind, used, start(kind, entry), entry, faults)
 }
 
 #[test]
 fn at_the_first_entry_and_at_the_last(rt: HostRuntime) -> Result<(), AllocError> {
     for entry in [0, 175] {
-        refused(&rt, Kind::Wdt, 176, entry, &WATCHPOINT_FAULTS)?;
-        refused(&rt, Kind::Adt, 176, entry, &ACTIONPOINT_FAULTS)?;
+        refused_at(&rt, Kind::Wdt, 176, entry, &WATCHPOINT_FAULTS)?;
+        refused_at(&rt, Kind::Adt, 176, entry, &ACTIONPOINT_FAULTS)?;
     }
     Ok(())
 }
@@ -102,9 +89,9 @@ fn must_be_blank<R: Abort + AllocGlobal>(rt: &R, used: u8, entry: u16) -> Result
         (1, &[1], 65),
         (WATCHPOINT - 1, &[1], 65),
     ];
-    refused(rt, Kind::Wdt, used, entry, &watchpoints)?;
+    refused_at(rt, Kind::Wdt, used, entry, &watchpoints)?;
     let actionpoints: [Fault; 3] = [(0, &[1], 65), (1, &[0xFF], 65), (ACTIONPOINT - 1, &[1], 65)];
-    refused(rt, Kind::Adt, used, entry, &actionpoints)
+    refused_at(rt, Kind::Adt, used, entry, &actionpoints)
 }
 
 #[test]
@@ -126,7 +113,7 @@ fn of_two_codes_in_an_entry_the_least_counts(rt: HostRuntime) -> Result<(), Allo
         (2, &[0, 0, 0, 0, 0, 0, 0, 0, 0, 0], 68),
         (8, &[0, 0, 0, 0, 0, 0, 0, 0, 0, 0, 0, 0, 0xFF], 69),
     ];
-    refused(&rt, Kind::Wdt, 2, 1, &watchpoints)?;
+    refused_at(&rt, Kind::Wdt, 2, 1, &watchpoints)?;
     let actionpoints: [Fault; 8] = [
         (0, &[0, 0, 0, 0, 0, 0, 0, 0, 0, 0, 0, 0], 71),
         (6, &[0, 0, 0, 0, 0, 0], 72),
@@ -137,7 +124,7 @@ fn of_two_codes_in_an_entry_the_least_counts(rt: HostRuntime) -> Result<(), Allo
         (WORDS, &[0, 1, 0xFF, 0x01, 0xFF, 0x05], 77),
         (WORDS, &[0, 0, 0xFF, 0x01, 0, 0, 0, 0, 0xFF, 0x05], 78),
     ];
-    refused(&rt, Kind::Adt, 2, 1, &actionpoints)
+    refused_at(&rt, Kind::Adt, 2, 1, &actionpoints)
 }
 
 #[test]

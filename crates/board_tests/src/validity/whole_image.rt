@@ -1,11 +1,12 @@
 //! Faults of the image as a whole: they count before those of an entry, length first, then version, kind and counts.
 
-use super::refused_whole;
+use super::{Fault, refused, refused_whole};
 use crate::asserting::same;
-use crate::images::{PREAMBLE, adt, image_of, put, wdt};
+use crate::images::{PREAMBLE, adt, put, wdt};
 use lc_model::Kind;
 use std::alloc::AllocError;
 use std::process::Abort;
+use table_validator::WHOLE_IMAGE;
 
 /// The first bytes of a table of watchpoints, so many, are none.
 fn refused_front<R: Abort>(rt: &R, image: &[u8], length: usize) {
@@ -33,19 +34,6 @@ fn longer_images_and_those_of_the_other_table(rt: HostRuntime) -> Result<(), All
     Ok(())
 }
 
-/// A place in the preamble, the wrong bytes there, and their code.
-type Fault<'a> = (usize, &'a [u8], u8);
-
-/// Each fault alone is refused by its code.
-fn refused<R: Abort + AllocGlobal>(rt: &R, kind: Kind, faults: &[Fault]) -> Result<(), AllocError> {
-    for (place, bytes, code) in faults {
-        let mut image = image_of(rt.alloc(), kind, 1)?;
-        put(&mut image, *place, bytes);
-        refused_whole(rt, kind, &image, *code);
-    }
-    Ok(())
-}
-
 #[test]
 fn other_preambles(rt: HostRuntime) -> Result<(), AllocError> {
     let watchpoints: [Fault; 11] = [
@@ -61,7 +49,7 @@ fn other_preambles(rt: HostRuntime) -> Result<(), AllocError> {
         (4, &[0, 1, 0, 2], 64),
         (4, &[0, 0, 0, 1], 64),
     ];
-    refused(&rt, Kind::Wdt, &watchpoints)?;
+    refused(&rt, Kind::Wdt, 1, 0, WHOLE_IMAGE, &watchpoints)?;
     let actionpoints: [Fault; 5] = [
         (0, &[0, 2], 61),
         (2, &[0, 1], 62),
@@ -69,7 +57,7 @@ fn other_preambles(rt: HostRuntime) -> Result<(), AllocError> {
         (4, &[0, 1, 0, 177], 64),
         (6, &[1, 0], 64),
     ];
-    refused(&rt, Kind::Adt, &actionpoints)
+    refused(&rt, Kind::Adt, 1, 0, WHOLE_IMAGE, &actionpoints)
 }
 
 #[test]

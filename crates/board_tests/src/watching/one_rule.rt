@@ -5,12 +5,11 @@ ghost use Rattle.lc_model.specs.Field.{is_in_type};
 ghost use Rattle.lc_model.specs.declared.field.FieldType.TheVariants.{I8};
 ghost use Rattle.lc_model.specs.Tables.Image.{FitsWatchpoint};
 
-use super::{Images, LOW, Step, encoded, run, sample};
+use super::{LOW, Step, run, sample, with_one};
 use crate::asserting::same;
 use crate::values::{actionpoint, low};
 use lc_model::{ApMode, CmpOp, FieldType, Term};
 use limit_checker::LimitChecker;
-use std::alloc::{AllocError, Global};
 use std::process::Abort;
 use std::test::Fail;
 use table_file::FileError;
@@ -53,20 +52,7 @@ fn signed(mask: u32, op: CmpOp, value: i64) -> Term
     }
 }
 
-/// The rule that requests sequence 7 after so many failures in a row.
-fn rule(alloc: Global, term: Term, mode: ApMode, fails: u16) -> Result<Images, FileError>
-    requires { FitsWatchpoint term }
-{
-    let watchpoints = vec![in alloc; term].map_err(AllocError::from)?;
-    let entry = actionpoint(alloc, mode, fails, 7, &[0])?;
-    encoded(
-        alloc,
-        watchpoints,
-        vec![in alloc; entry].map_err(AllocError::from)?,
-    )
-}
-
-/// Drives the rule through the steps.
+/// Drives the rule that requests sequence 7 after so many failures in a row through the steps.
 fn follows<R: Abort + AllocGlobal>(
     rt: &R,
     term: Term,
@@ -76,7 +62,8 @@ fn follows<R: Abort + AllocGlobal>(
 ) -> Result<(), FileError>
     requires { FitsWatchpoint term }
 {
-    let tables = rule(rt.alloc(), term, mode, fails)?;
+    let entry = actionpoint(rt.alloc(), mode, fails, 7, &[0])?;
+    let tables = with_one(rt.alloc(), &[term], entry)?;
     run(rt, &tables, steps)?;
     Ok(())
 }

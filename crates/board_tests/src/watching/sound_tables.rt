@@ -4,7 +4,7 @@ ghost use Rattle.std.specs.Prelude.{◌<◌, ◌^◌, length, IfOk};
 ghost use Rattle.std.specs.List.{AllByRecursion};
 ghost use Rattle.lc_model.specs.Tables.Image.{Actionpoints, FitsEntry, FitsWatchpoint};
 
-use super::{Images, LOW, Step, drive, encoded, run, set};
+use super::{Images, LOW, Step, drive, encoded, run, set, with_one, with_two};
 use crate::asserting::same;
 use crate::images::{self, AND, EQUAL, NOT, OR, XOR, put, table, wdt};
 use crate::values::{actionpoint, low};
@@ -12,7 +12,6 @@ use lc_model::{ApMode, CmpOp, FieldType, Term};
 use limit_checker::LimitChecker;
 use std::alloc::{AllocError, Global};
 use std::process::Abort;
-use std::test::Fail;
 use table_file::{FileError, TableEntry};
 
 /// Telemetry of message id 0x0883 with eight bytes at byte 12: none is 1; the second; the first and the third; the first,
@@ -62,14 +61,13 @@ fn at_once(alloc: Global, sequence: u16, words: &[u16]) -> Result<TableEntry, Al
 }
 
 /// Three flags, and one rule over the second.
-fn second_of_three(alloc: Global) -> Result<Images, Fail> {
-    let watchpoints = vec![in alloc; flag(12), flag(13), flag(14)]?;
+fn second_of_three(alloc: Global) -> Result<Images, FileError> {
     let entry = at_once(alloc, 7, &[1])?;
-    Ok(encoded(alloc, watchpoints, vec![in alloc; entry]?)?)
+    with_one(alloc, &[flag(12), flag(13), flag(14)], entry)
 }
 
 #[test]
-fn a_watchpoint_that_no_rule_mentions(rt: HostRuntime) -> Result<(), Fail> {
+fn a_watchpoint_that_no_rule_mentions(rt: HostRuntime) -> Result<(), FileError> {
     let steps = [
         Step::Packet(FIRST_AND_THIRD),
         Step::Sample(None),
@@ -81,15 +79,14 @@ fn a_watchpoint_that_no_rule_mentions(rt: HostRuntime) -> Result<(), Fail> {
 }
 
 /// The low-volts watchpoint twice, a rule that one of them alone holds, and a rule that both hold.
-fn one_or_both(alloc: Global) -> Result<Images, Fail> {
-    let watchpoints = vec![in alloc; low(2), low(2)]?;
+fn one_or_both(alloc: Global) -> Result<Images, FileError> {
     let one = at_once(alloc, 7, &[0, 1, XOR])?;
     let both = at_once(alloc, 8, &[1, 0, AND])?;
-    Ok(encoded(alloc, watchpoints, vec![in alloc; one, both]?)?)
+    with_two(alloc, &[low(2), low(2)], one, both)
 }
 
 #[test]
-fn one_watchpoint_twice(rt: HostRuntime) -> Result<(), Fail> {
+fn one_watchpoint_twice(rt: HostRuntime) -> Result<(), FileError> {
     let steps = [
         Step::SampleOf(1, None),
         Step::Packet(LOW),
@@ -101,15 +98,14 @@ fn one_watchpoint_twice(rt: HostRuntime) -> Result<(), Fail> {
 }
 
 /// A flag, negated twice, and negated once in a rule of two failures in a row.
-fn twice_and_once(alloc: Global) -> Result<Images, Fail> {
+fn twice_and_once(alloc: Global) -> Result<Images, FileError> {
     let twice = at_once(alloc, 7, &[0, NOT, NOT])?;
     let once = actionpoint(alloc, ApMode::Active, 2, 8, &[0, NOT])?;
-    let actionpoints = vec![in alloc; twice, once]?;
-    Ok(encoded(alloc, vec![in alloc; flag(13)]?, actionpoints)?)
+    with_two(alloc, &[flag(13)], twice, once)
 }
 
 #[test]
-fn what_is_negated_twice(rt: HostRuntime) -> Result<(), Fail> {
+fn what_is_negated_twice(rt: HostRuntime) -> Result<(), FileError> {
     let steps = [
         Step::Packet(NONE),
         Step::SampleOf(0, None),
@@ -123,8 +119,8 @@ fn what_is_negated_twice(rt: HostRuntime) -> Result<(), Fail> {
 }
 
 /// Eight flags, all of which wait before the first operator.
-fn eight_waiting(alloc: Global) -> Result<Images, Fail> {
-    let watchpoints = vec![in alloc;
+fn eight_waiting(alloc: Global) -> Result<Images, FileError> {
+    let watchpoints = [
         flag(12),
         flag(13),
         flag(14),
@@ -133,14 +129,14 @@ fn eight_waiting(alloc: Global) -> Result<Images, Fail> {
         flag(17),
         flag(18),
         flag(19),
-    ]?;
+    ];
     let words = [0, 1, 2, 3, 4, 5, 6, 7, OR, AND, XOR, OR, AND, OR, AND];
     let entry = at_once(alloc, 7, &words)?;
-    Ok(encoded(alloc, watchpoints, vec![in alloc; entry]?)?)
+    with_one(alloc, &watchpoints, entry)
 }
 
 #[test]
-fn eight_operands_that_wait(rt: HostRuntime) -> Result<(), Fail> {
+fn eight_operands_that_wait(rt: HostRuntime) -> Result<(), FileError> {
     let steps = [
         Step::Packet(NONE),
         Step::Sample(None),
@@ -198,25 +194,24 @@ fn full_tables(rt: HostRuntime) -> Result<(), AllocError> {
 }
 
 /// Two rules over the low-volts watchpoint, of which the first requests sequence 7.
-fn two_rules(alloc: Global) -> Result<Images, Fail> {
+fn two_rules(alloc: Global) -> Result<Images, FileError> {
     let first = at_once(alloc, 7, &[0])?;
     let second = at_once(alloc, 8, &[0, NOT])?;
-    let actionpoints = vec![in alloc; first, second]?;
-    Ok(encoded(alloc, vec![in alloc; low(2)]?, actionpoints)?)
+    with_two(alloc, &[low(2)], first, second)
 }
 
 /// One rule, which requests sequence 9.
-fn one_rule(alloc: Global) -> Result<Images, Fail> {
+fn one_rule(alloc: Global) -> Result<Images, FileError> {
     let entry = at_once(alloc, 9, &[0])?;
-    Ok(encoded(alloc, vec![in alloc; low(2)]?, vec![in alloc; entry]?)?)
+    with_one(alloc, &[low(2)], entry)
 }
 
 fn no_rules(alloc: Global) -> Result<Images, FileError> {
-    encoded(alloc, Vec::new(alloc), Vec::new(alloc))
+    encoded(alloc, &[], Vec::new(alloc))
 }
 
 #[test]
-fn tables_one_after_another(rt: HostRuntime) -> Result<(), Fail> {
+fn tables_one_after_another(rt: HostRuntime) -> Result<(), FileError> {
     let mut checker = LimitChecker::new(rt.alloc())?;
     let steps = [Step::Sample(None), Step::Packet(LOW), Step::Sample(Some(7))];
     let two = two_rules(rt.alloc())?;
