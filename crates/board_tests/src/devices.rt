@@ -2,7 +2,7 @@
 
 ghost use Rattle.std.specs.Prelude.{◌<◌, ◌≤◌};
 
-use crate::asserting::{holds, same};
+use crate::shared::{holds, same};
 use lc_model::{ByteSink, ByteSource, DeviceFault, Limited, Pieces, Reading, Writing};
 use std::io;
 use std::process::Abort;

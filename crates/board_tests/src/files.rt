@@ -6,7 +6,7 @@ mod readers;
 mod unsound;
 mod written;
 
-use crate::asserting::{holds, same};
+use crate::shared::{holds, same};
 use crate::images::put;
 use crate::values::{low_volts_adt, low_volts_wdt};
 use lc_model::Kind;

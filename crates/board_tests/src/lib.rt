@@ -1,16 +1,18 @@
-//! The tests of the crates that fly: `table_file`, `table_validator`, `limit_checker`, and the sources and sinks of
-//! `lc_model`. They stand in a crate of their own, since a crate with tests is proved twice by the gate, and other crates
-//! wait for it. They use public calls alone.
+//! The tests of the crates that fly (`table_file`, `table_validator`, `limit_checker`), and of the sources and sinks of
+//! `lc_model` below them.
+//!
+//! They stand here, by public calls alone, since the gate proves a crate with tests twice, and the crates above wait for it.
+//! Expected values come from the formats and the Limit Checker's guide, never from what the crates answer.
 #![tactic(auto)]
 
-#[cfg(test)]
-mod asserting;
 #[cfg(test)]
 mod devices;
 #[cfg(test)]
 mod files;
 #[cfg(test)]
 mod images;
+#[cfg(test)]
+mod shared;
 #[cfg(test)]
 mod validity;
 #[cfg(test)]

@@ -7,7 +7,7 @@ mod sound;
 mod whole_image;
 mod words;
 
-use crate::asserting::same;
+use crate::shared::same;
 use crate::images::{image_of, put};
 use lc_model::Kind;
 use std::alloc::AllocError;

@@ -8,7 +8,7 @@ ghost use Rattle.std.specs.List.{AllByRecursion};
 ghost use Rattle.lc_model.specs.Codes.{table_entries};
 ghost use Rattle.lc_model.specs.Tables.Image.{Actionpoints, FitsWatchpoint, FitsEntry};
 
-use crate::asserting::{holds, same};
+use crate::shared::{holds, same};
 use crate::values::{encoded_adt, encoded_wdt};
 use lc_model::{Kind, Term};
 use limit_checker::LimitChecker;

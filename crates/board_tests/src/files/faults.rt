@@ -1,7 +1,7 @@
 //! Files that don't open: the first fault, in the order of the headers' fields.
 
 use super::{changed, low_volts_adt_file, low_volts_wdt_file, refused};
-use crate::asserting::same;
+use crate::shared::same;
 use std::alloc::AllocError;
 use std::process::Abort;
 use std::test::Fail;

@@ -1,7 +1,7 @@
 //! Want of memory.
 
 use super::{low_volts_adt_file, low_volts_wdt_file};
-use crate::asserting::same;
+use crate::shared::same;
 use std::process::Abort;
 use table_file::FileError;
 

@@ -3,7 +3,7 @@
 ghost use Rattle.std.specs.Prelude.{◌≡◌, IsTrue, length};
 ghost use Rattle.lc_model.specs.Tables.Image.{Actionpoints, fits_32_bits, image_length};
 
-use crate::asserting::same;
+use crate::shared::same;
 use crate::values::{actionpoint, encoded_adt, encoded_wdt};
 use lc_model::{ApMode, CmpOp, FieldType, Term};
 use std::alloc::{AllocError, Global};

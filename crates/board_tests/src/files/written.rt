@@ -1,7 +1,7 @@
 //! The two files, byte for byte.
 
 use super::{has, low_volts_adt_file, low_volts_wdt_file};
-use crate::asserting::same;
+use crate::shared::same;
 use crate::images::{adt, wdt};
 use std::process::Abort;
 use std::test::Fail;

@@ -1,7 +1,7 @@
 //! Each code of an entry: at the first entry and at the last, alone and beside others.
 
 use super::{Fault, answer, refused};
-use crate::asserting::same;
+use crate::shared::same;
 use crate::images::{ACTIONPOINT, WATCHPOINT, WORDS, image_of, put, start};
 use lc_model::Kind;
 use std::alloc::AllocError;

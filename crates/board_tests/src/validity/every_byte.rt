@@ -1,7 +1,7 @@
 //! Both images of the text with each byte set to 0xFF in turn; the answers were worked out by hand, field by field.
 
 use super::answer;
-use crate::asserting::same;
+use crate::shared::same;
 use crate::images::{ACTIONPOINT, PREAMBLE, WATCHPOINT, adt, start, wdt};
 use lc_model::Kind;
 use std::alloc::AllocError;

@@ -5,7 +5,7 @@ ghost use Rattle.lc_model.specs.declared.kind.Kind.TheVariants.{Wdt, Adt};
 ghost use Rattle.lc_model.specs.Tables.Image.{own_count};
 
 use super::taken;
-use crate::asserting::same;
+use crate::shared::same;
 use crate::images::{ACTIONPOINT, PREAMBLE, adt, adt_with, put, start, wdt};
 use crate::values::low;
 use lc_model::Kind;

@@ -1,7 +1,7 @@
 //! Faults of the image as a whole: they count before those of an entry, length first, then version, kind and counts.
 
 use super::{Fault, refused, refused_whole};
-use crate::asserting::same;
+use crate::shared::same;
 use crate::images::{PREAMBLE, adt, put, wdt};
 use lc_model::Kind;
 use std::alloc::AllocError;

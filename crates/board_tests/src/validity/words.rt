@@ -1,7 +1,7 @@
 //! Equations, word by word.
 
 use super::{answer, taken};
-use crate::asserting::same;
+use crate::shared::same;
 use crate::images::{AND, EQUAL, NOT, OR, XOR, adt_with};
 use lc_model::Kind;
 use std::alloc::AllocError;

@@ -6,7 +6,7 @@ ghost use Rattle.lc_model.specs.declared.field.FieldType.TheVariants.{I8};
 ghost use Rattle.lc_model.specs.Tables.Image.{FitsWatchpoint};
 
 use super::{LOW, Step, run, sample, with_one};
-use crate::asserting::same;
+use crate::shared::same;
 use crate::values::{actionpoint, low};
 use lc_model::{ApMode, CmpOp, FieldType, Term};
 use limit_checker::LimitChecker;

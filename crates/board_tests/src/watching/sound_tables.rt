@@ -5,7 +5,7 @@ ghost use Rattle.std.specs.List.{AllByRecursion};
 ghost use Rattle.lc_model.specs.Tables.Image.{Actionpoints, FitsEntry, FitsWatchpoint};
 
 use super::{Images, LOW, Step, drive, encoded, run, set, with_one, with_two};
-use crate::asserting::same;
+use crate::shared::same;
 use crate::images::{self, AND, EQUAL, NOT, OR, XOR, put, table, wdt};
 use crate::values::{actionpoint, low};
 use lc_model::{ApMode, CmpOp, FieldType, Term};
