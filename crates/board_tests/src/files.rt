@@ -6,8 +6,8 @@ mod readers;
 mod unsound;
 mod written;
 
-use crate::shared::{holds, same};
 use crate::images::put;
+use crate::shared::{holds, same};
 use crate::values::{low_volts_adt, low_volts_wdt};
 use lc_model::Kind;
 use std::alloc::{AllocError, Global};

@@ -3,8 +3,12 @@
 //! The text is `packet P = mid 0x0883 length 16; field V = P u16be at 12 stale 2; rule LOW active fails 2 sequence 7 event
 //! error 1001 "low volts" when V < 2400;`.
 
+ghost use Rattle.std.specs.Prelude.{◌≡◌};
+
 use lc_model::Kind;
 use std::alloc::{AllocError, Global};
+use std::process::Abort;
+use table_validator::{ValidImage, validate};
 
 /// In place of the text's hash.
 pub const HASH: [u8; 32] = [7; 32];
@@ -39,8 +43,8 @@ pub const LOW_VOLTS: [u8; WATCHPOINT] = [
 /// State, maxima of events, sequence 7, fails 2, event type 3, event id 1001, text.
 pub const LOW: [u8; 23] = *b"\x01\x00\x00\x00\x00\x00\x00\x07\x00\x02\x00\x03\x03\xE9low volts";
 
-/// A table whose first entries, so many, are this one.
-pub fn table(
+/// The bytes of a table whose first entries, so many, are this one.
+fn bytes_of(
     alloc: Global,
     kind: u8,
     used: u8,
@@ -68,43 +72,54 @@ fn push_blank(image: &mut Vec<u8>, length: usize) -> Result<(), AllocError> {
     Ok(())
 }
 
+/// A table whose first entries, so many, are this one.
+pub fn table<R: Abort + AllocGlobal>(
+    rt: &R,
+    kind: u8,
+    used: u8,
+    watchpoints: u8,
+    entry: &[u8],
+) -> Vec<u8> {
+    bytes_of(rt.alloc(), kind, used, watchpoints, entry).expect(rt, "out of memory")
+}
+
 /// A table of so many watchpoints.
-pub fn wdt(alloc: Global, used: u8) -> Result<Vec<u8>, AllocError> {
-    table(alloc, 1, used, used, &LOW_VOLTS)
+pub fn wdt<R: Abort + AllocGlobal>(rt: &R, used: u8) -> Vec<u8> {
+    table(rt, 1, used, used, &LOW_VOLTS)
 }
 
 /// An actionpoint's entry with these words and zeros behind them.
-pub fn actionpoint(alloc: Global, words: &[u16]) -> Result<Vec<u8>, AllocError> {
-    let mut entry = Vec::from_slice(alloc, &LOW)?;
-    entry.extend_from_slice(&[0; 23])?;
-    for number in 0..20 {
-        let word = words.get(number).copied().unwrap_or(0);
-        entry.extend_from_slice(&word.to_be_bytes())?;
+pub fn actionpoint(words: &[u16]) -> [u8; ACTIONPOINT] {
+    let mut entry = [0; ACTIONPOINT];
+    put(&mut entry, 0, &LOW);
+    let mut place = WORDS;
+    for word in words {
+        put(&mut entry, place, &word.to_be_bytes());
+        place = place.saturating_add(2);
     }
-    Ok(entry)
+    entry
 }
 
 /// A table of so many actionpoints with these words, over so many watchpoints.
-pub fn adt_with(
-    alloc: Global,
+pub fn adt_with<R: Abort + AllocGlobal>(
+    rt: &R,
     used: u8,
     watchpoints: u8,
     words: &[u16],
-) -> Result<Vec<u8>, AllocError> {
-    let entry = actionpoint(alloc, words)?;
-    table(alloc, 2, used, watchpoints, &entry)
+) -> Vec<u8> {
+    table(rt, 2, used, watchpoints, &actionpoint(words))
 }
 
 /// A table of so many actionpoints over one watchpoint.
-pub fn adt(alloc: Global, used: u8) -> Result<Vec<u8>, AllocError> {
-    adt_with(alloc, used, 1, &[0, EQUAL])
+pub fn adt<R: Abort + AllocGlobal>(rt: &R, used: u8) -> Vec<u8> {
+    adt_with(rt, used, 1, &[0, EQUAL])
 }
 
 /// A table of so many entries, with one watchpoint beside actionpoints.
-pub fn image_of(alloc: Global, kind: Kind, used: u8) -> Result<Vec<u8>, AllocError> {
+pub fn image_of<R: Abort + AllocGlobal>(rt: &R, kind: Kind, used: u8) -> Vec<u8> {
     match kind {
-        Kind::Wdt => wdt(alloc, used),
-        Kind::Adt => adt(alloc, used),
+        Kind::Wdt => wdt(rt, used),
+        Kind::Adt => adt(rt, used),
     }
 }
 
@@ -118,10 +133,17 @@ pub fn start(kind: Kind, entry: u16) -> usize {
 }
 
 /// Puts bytes to a place of an image or a file.
-pub fn put(bytes: &mut Vec<u8>, place: usize, new: &[u8]) {
+pub fn put(bytes: &mut [u8], place: usize, new: &[u8]) {
     for index in 0..new.len() {
         if let Some(there) = bytes.get_mut(place.saturating_add(index)) {
             *there = new[index];
         }
     }
+}
+
+/// The image, which is sound.
+pub fn valid<'a, R: Abort>(rt: &R, kind: Kind, image: &'a [u8]) -> ValidImage<'a>
+    ensures { result ≡ record { kind = kind; bytes = image.now } }
+{
+    validate(kind, image).expect(rt, "not sound")
 }

@@ -7,10 +7,9 @@ mod sound;
 mod whole_image;
 mod words;
 
-use crate::shared::same;
 use crate::images::{image_of, put};
+use crate::shared::same;
 use lc_model::Kind;
-use std::alloc::AllocError;
 use std::fmt::Debug;
 use std::process::Abort;
 use table_validator::{WHOLE_IMAGE, validate};
@@ -44,9 +43,9 @@ fn refused<R: Abort + AllocGlobal>(
     from: usize,
     entry: u16,
     faults: &[Fault],
-) -> Result<(), AllocError> {
+) {
     for (place, bytes, code) in faults {
-        let mut image = image_of(rt.alloc(), kind, used)?;
+        let mut image = image_of(rt, kind, used);
         put(&mut image, from.saturating_add(*place), bytes);
         same(
             rt,
@@ -55,5 +54,4 @@ fn refused<R: Abort + AllocGlobal>(
             Some((*code, entry)),
         );
     }
-    Ok(())
 }

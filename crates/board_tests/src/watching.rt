@@ -3,11 +3,12 @@
 mod one_rule;
 mod sound_tables;
 
-ghost use Rattle.std.specs.Prelude.{◌≡◌, ◌≤◌, length};
+ghost use Rattle.std.specs.Prelude.{◌≤◌, length};
 ghost use Rattle.std.specs.List.{AllByRecursion};
 ghost use Rattle.lc_model.specs.Codes.{table_entries};
 ghost use Rattle.lc_model.specs.Tables.Image.{Actionpoints, FitsWatchpoint, FitsEntry};
 
+use crate::images::valid;
 use crate::shared::{holds, same};
 use crate::values::{encoded_adt, encoded_wdt};
 use lc_model::{Kind, Term};
@@ -15,7 +16,6 @@ use limit_checker::LimitChecker;
 use std::alloc::{AllocError, Global};
 use std::process::Abort;
 use table_file::{FileError, TableEntry, preamble};
-use table_validator::{ValidImage, validate};
 
 /// Telemetry of message id 0x0883 with 2,399 in the 16 bits at byte 12, which is low.
 const LOW: &[u8] = &[
@@ -70,13 +70,6 @@ fn with_two(
 {
     let actionpoints = vec![in alloc; first, second].map_err(AllocError::from)?;
     encoded(alloc, watchpoints, actionpoints)
-}
-
-/// The image, which is sound.
-fn valid<'a, R: Abort>(rt: &R, kind: Kind, image: &'a [u8]) -> ValidImage<'a>
-    ensures { result ≡ record { kind = kind; bytes = image.now } }
-{
-    validate(kind, image).expect(rt, "not sound")
 }
 
 /// Sets the Limit Checker from the images, which are sound and belong together.

@@ -4,8 +4,8 @@ ghost use Rattle.std.specs.Prelude.{◌≡◌, ◌≤◌, length};
 ghost use Rattle.lc_model.specs.Tables.Image.{Watchpoints, Actionpoints, image_length, preamble_length};
 
 use super::{changed, low_volts_adt_file, low_volts_wdt_file};
-use crate::shared::{holds, same};
 use crate::images::{HASH, put};
+use crate::shared::{holds, same};
 use crate::values::{low, low_volts_adt, low_volts_wdt};
 use lc_model::{ApMode, CmpOp, EventKind, FieldType, Kind, Report};
 use std::process::Abort;

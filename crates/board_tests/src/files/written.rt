@@ -1,8 +1,8 @@
 //! The two files, byte for byte.
 
 use super::{has, low_volts_adt_file, low_volts_wdt_file};
-use crate::shared::same;
 use crate::images::{adt, wdt};
+use crate::shared::same;
 use std::process::Abort;
 use std::test::Fail;
 
@@ -24,7 +24,7 @@ fn low_volts_watchpoints(rt: HostRuntime) -> Result<(), Fail> {
     let file = low_volts_wdt_file(rt.alloc())?;
     same(&rt, "length", file.len(), 4_380);
     has_headers(&rt, &file, b"\x00\x00\x10\xA8LC.LC_WDT");
-    has(&rt, &file, 116, &wdt(rt.alloc(), 1)?);
+    has(&rt, &file, 116, &wdt(&rt, 1));
     Ok(())
 }
 
@@ -33,6 +33,6 @@ fn low_volts_actionpoints(rt: HostRuntime) -> Result<(), Fail> {
     let file = low_volts_adt_file(rt.alloc())?;
     same(&rt, "length", file.len(), 15_292);
     has_headers(&rt, &file, b"\x00\x00\x3B\x48LC.LC_ADT");
-    has(&rt, &file, 116, &adt(rt.alloc(), 1)?);
+    has(&rt, &file, 116, &adt(&rt, 1));
     Ok(())
 }

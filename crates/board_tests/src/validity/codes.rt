@@ -1,10 +1,9 @@
 //! Each code of an entry: at the first entry and at the last, alone and beside others.
 
 use super::{Fault, answer, refused};
-use crate::shared::same;
 use crate::images::{ACTIONPOINT, WATCHPOINT, WORDS, image_of, put, start};
+use crate::shared::same;
 use lc_model::Kind;
-use std::alloc::AllocError;
 use std::process::Abort;
 
 /// Faults of a watchpoint's entry.
@@ -62,48 +61,41 @@ const ACTIONPOINT_FAULTS: [Fault; 22] = [
 ];
 
 /// In a table with so many entries each fault alone, in this one, is refused by its code there.
-fn refused_at<R: Abort + AllocGlobal>(
-    rt: &R,
-    kind: Kind,
-    used: u8,
-    entry: u16,
-    faults: &[Fault],
-) -> Result<(), AllocError> {
-    refused(rt, kind, used, start(kind, entry), entry, faults)
+fn refused_at<R: Abort + AllocGlobal>(rt: &R, kind: Kind, used: u8, entry: u16, faults: &[Fault]) {
+    refused(rt, kind, used, start(kind, entry), entry, faults);
 }
 
 #[test]
-fn at_the_first_entry_and_at_the_last(rt: HostRuntime) -> Result<(), AllocError> {
+fn at_the_first_entry_and_at_the_last(rt: HostRuntime) {
     for entry in [0, 175] {
-        refused_at(&rt, Kind::Wdt, 176, entry, &WATCHPOINT_FAULTS)?;
-        refused_at(&rt, Kind::Adt, 176, entry, &ACTIONPOINT_FAULTS)?;
+        refused_at(&rt, Kind::Wdt, 176, entry, &WATCHPOINT_FAULTS);
+        refused_at(&rt, Kind::Adt, 176, entry, &ACTIONPOINT_FAULTS);
     }
-    Ok(())
 }
 
 /// In tables with so many entries this one is not used.
-fn must_be_blank<R: Abort + AllocGlobal>(rt: &R, used: u8, entry: u16) -> Result<(), AllocError> {
+fn must_be_blank<R: Abort + AllocGlobal>(rt: &R, used: u8, entry: u16) {
     let watchpoints: [Fault; 4] = [
         (0, &[0], 65),
         (0, &[0xFE], 65),
         (1, &[1], 65),
         (WATCHPOINT - 1, &[1], 65),
     ];
-    refused_at(rt, Kind::Wdt, used, entry, &watchpoints)?;
+    refused_at(rt, Kind::Wdt, used, entry, &watchpoints);
     let actionpoints: [Fault; 3] = [(0, &[1], 65), (1, &[0xFF], 65), (ACTIONPOINT - 1, &[1], 65)];
-    refused_at(rt, Kind::Adt, used, entry, &actionpoints)
+    refused_at(rt, Kind::Adt, used, entry, &actionpoints);
 }
 
 #[test]
-fn an_unused_entry_that_is_not_blank(rt: HostRuntime) -> Result<(), AllocError> {
-    must_be_blank(&rt, 0, 0)?;
-    must_be_blank(&rt, 1, 1)?;
-    must_be_blank(&rt, 1, 175)?;
-    must_be_blank(&rt, 175, 175)
+fn an_unused_entry_that_is_not_blank(rt: HostRuntime) {
+    must_be_blank(&rt, 0, 0);
+    must_be_blank(&rt, 1, 1);
+    must_be_blank(&rt, 1, 175);
+    must_be_blank(&rt, 175, 175);
 }
 
 #[test]
-fn of_two_codes_in_an_entry_the_least_counts(rt: HostRuntime) -> Result<(), AllocError> {
+fn of_two_codes_in_an_entry_the_least_counts(rt: HostRuntime) {
     let watchpoints: [Fault; 6] = [
         // Without a type, mask and value aren't judged.
         (0, &[0, 0], 66),
@@ -113,7 +105,7 @@ fn of_two_codes_in_an_entry_the_least_counts(rt: HostRuntime) -> Result<(), Allo
         (2, &[0, 0, 0, 0, 0, 0, 0, 0, 0, 0], 68),
         (8, &[0, 0, 0, 0, 0, 0, 0, 0, 0, 0, 0, 0, 0xFF], 69),
     ];
-    refused_at(&rt, Kind::Wdt, 2, 1, &watchpoints)?;
+    refused_at(&rt, Kind::Wdt, 2, 1, &watchpoints);
     let actionpoints: [Fault; 8] = [
         (0, &[0, 0, 0, 0, 0, 0, 0, 0, 0, 0, 0, 0], 71),
         (6, &[0, 0, 0, 0, 0, 0], 72),
@@ -124,16 +116,16 @@ fn of_two_codes_in_an_entry_the_least_counts(rt: HostRuntime) -> Result<(), Allo
         (WORDS, &[0, 1, 0xFF, 0x01, 0xFF, 0x05], 77),
         (WORDS, &[0, 0, 0xFF, 0x01, 0, 0, 0, 0, 0xFF, 0x05], 78),
     ];
-    refused_at(&rt, Kind::Adt, 2, 1, &actionpoints)
+    refused_at(&rt, Kind::Adt, 2, 1, &actionpoints);
 }
 
 #[test]
-fn the_first_entry_counts_also_with_a_greater_code(rt: HostRuntime) -> Result<(), AllocError> {
-    let mut image = image_of(rt.alloc(), Kind::Wdt, 176)?;
+fn the_first_entry_counts_also_with_a_greater_code(rt: HostRuntime) {
+    let mut image = image_of(&rt, Kind::Wdt, 176);
     put(&mut image, start(Kind::Wdt, 175), &[0]);
     put(&mut image, start(Kind::Wdt, 3).saturating_add(20), &[0xFF]);
     same(&rt, "watchpoints", answer(Kind::Wdt, &image), Some((70, 3)));
-    let mut image = image_of(rt.alloc(), Kind::Adt, 2)?;
+    let mut image = image_of(&rt, Kind::Adt, 2);
     put(&mut image, start(Kind::Adt, 2), &[0]);
     put(&mut image, start(Kind::Adt, 1).saturating_add(6), &[0, 0]);
     same(
@@ -142,5 +134,4 @@ fn the_first_entry_counts_also_with_a_greater_code(rt: HostRuntime) -> Result<()
         answer(Kind::Adt, &image),
         Some((81, 1)),
     );
-    Ok(())
 }

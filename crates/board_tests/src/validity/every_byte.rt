@@ -1,10 +1,9 @@
 //! Both images of the text with each byte set to 0xFF in turn; the answers were worked out by hand, field by field.
 
 use super::answer;
-use crate::shared::same;
 use crate::images::{ACTIONPOINT, PREAMBLE, WATCHPOINT, adt, start, wdt};
+use crate::shared::same;
 use lc_model::Kind;
-use std::alloc::AllocError;
 use std::process::Abort;
 use table_validator::WHOLE_IMAGE;
 
@@ -71,8 +70,8 @@ fn with_one_byte<R: Abort>(
 }
 
 #[test]
-fn of_the_watchpoints(rt: HostRuntime) -> Result<(), AllocError> {
-    let mut image = wdt(rt.alloc(), 1)?;
+fn of_the_watchpoints(rt: HostRuntime) {
+    let mut image = wdt(&rt, 1);
     same(&rt, "length", image.len(), 4_264);
     for place in 0..PREAMBLE {
         with_one_byte(&rt, Kind::Wdt, &mut image, place, preamble_answer(place));
@@ -88,12 +87,11 @@ fn of_the_watchpoints(rt: HostRuntime) -> Result<(), AllocError> {
             with_one_byte(&rt, Kind::Wdt, &mut image, at, expected);
         }
     }
-    Ok(())
 }
 
 #[test]
-fn of_the_actionpoints(rt: HostRuntime) -> Result<(), AllocError> {
-    let mut image = adt(rt.alloc(), 1)?;
+fn of_the_actionpoints(rt: HostRuntime) {
+    let mut image = adt(&rt, 1);
     same(&rt, "length", image.len(), 15_176);
     for place in 0..PREAMBLE {
         with_one_byte(&rt, Kind::Adt, &mut image, place, preamble_answer(place));
@@ -109,5 +107,4 @@ fn of_the_actionpoints(rt: HostRuntime) -> Result<(), AllocError> {
             with_one_byte(&rt, Kind::Adt, &mut image, at, expected);
         }
     }
-    Ok(())
 }

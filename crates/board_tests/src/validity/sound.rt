@@ -5,25 +5,22 @@ ghost use Rattle.lc_model.specs.declared.kind.Kind.TheVariants.{Wdt, Adt};
 ghost use Rattle.lc_model.specs.Tables.Image.{own_count};
 
 use super::taken;
+use crate::images::{ACTIONPOINT, PREAMBLE, adt, adt_with, put, start, valid, wdt};
 use crate::shared::same;
-use crate::images::{ACTIONPOINT, PREAMBLE, adt, adt_with, put, start, wdt};
 use crate::values::low;
 use lc_model::Kind;
-use std::alloc::AllocError;
 use std::process::Abort;
-use std::test::Fail;
 use table_file::preamble;
-use table_validator::{ValidImage, validate};
+use table_validator::ValidImage;
 
 #[test]
-fn empty_tables_and_full_ones(rt: HostRuntime) -> Result<(), AllocError> {
+fn empty_tables_and_full_ones(rt: HostRuntime) {
     for used in [0, 1, 2, 175, 176] {
-        taken(&rt, used, Kind::Wdt, &wdt(rt.alloc(), used)?);
-        taken(&rt, used, Kind::Adt, &adt(rt.alloc(), used)?);
+        taken(&rt, used, Kind::Wdt, &wdt(&rt, used));
+        taken(&rt, used, Kind::Adt, &adt(&rt, used));
     }
-    let empty = adt_with(rt.alloc(), 0, 0, &[])?;
+    let empty = adt_with(&rt, 0, 0, &[]);
     taken(&rt, "without watchpoints", Kind::Adt, &empty);
-    Ok(())
 }
 
 /// The image lends what was handed in.
@@ -34,14 +31,13 @@ fn lends<R: Abort>(rt: &R, valid: &ValidImage, kind: Kind, image: &[u8]) {
 }
 
 #[test]
-fn watchpoints_are_read(rt: HostRuntime) -> Result<(), Fail> {
-    let image = wdt(rt.alloc(), 2)?;
-    let valid = validate(Kind::Wdt, &image)?;
+fn watchpoints_are_read(rt: HostRuntime) {
+    let image = wdt(&rt, 2);
+    let valid = valid(&rt, Kind::Wdt, &image);
     lends(&rt, &valid, Kind::Wdt, &image);
     for number in 0..preamble::own_count(valid.image()) as usize {
         same(&rt, number, valid.watchpoint(number).term(), low(2));
     }
-    Ok(())
 }
 
 /// The actionpoint of the text.
@@ -56,28 +52,26 @@ fn is_read<R: Abort>(rt: &R, valid: &ValidImage, number: usize)
 }
 
 #[test]
-fn actionpoints_are_read(rt: HostRuntime) -> Result<(), Fail> {
-    let image = adt(rt.alloc(), 2)?;
-    let valid = validate(Kind::Adt, &image)?;
+fn actionpoints_are_read(rt: HostRuntime) {
+    let image = adt(&rt, 2);
+    let valid = valid(&rt, Kind::Adt, &image);
     lends(&rt, &valid, Kind::Adt, &image);
     for number in 0..preamble::own_count(valid.image()) as usize {
         is_read(&rt, &valid, number);
     }
-    Ok(())
 }
 
 /// The watchpoint with other bytes is taken.
-fn takes<R: Abort + AllocGlobal>(rt: &R, changes: &[(usize, &[u8])]) -> Result<(), AllocError> {
-    let mut image = wdt(rt.alloc(), 1)?;
+fn takes<R: Abort + AllocGlobal>(rt: &R, changes: &[(usize, &[u8])]) {
+    let mut image = wdt(rt, 1);
     for (place, bytes) in changes {
         put(&mut image, PREAMBLE.saturating_add(*place), bytes);
     }
     taken(rt, changes, Kind::Wdt, &image);
-    Ok(())
 }
 
 #[test]
-fn the_ends_of_each_range(rt: HostRuntime) -> Result<(), AllocError> {
+fn the_ends_of_each_range(rt: HostRuntime) {
     let ends: [&[(usize, &[u8])]; 9] = [
         &[(0, &[1]), (8, &[0, 0, 0, 0xFF]), (20, &[0, 0, 0, 0xFF])],
         &[(0, &[2]), (8, &[0, 0, 0, 1]), (20, &[0, 0, 0, 0x7F])],
@@ -103,25 +97,23 @@ fn the_ends_of_each_range(rt: HostRuntime) -> Result<(), AllocError> {
         &[(2, &[0x0F, 0xFF])],
     ];
     for changes in ends {
-        takes(&rt, changes)?;
+        takes(&rt, changes);
     }
-    Ok(())
 }
 
 /// The last actionpoint of a full table with other bytes at a place is taken.
-fn takes_at<R: Abort + AllocGlobal>(rt: &R, place: usize, bytes: &[u8]) -> Result<(), AllocError> {
-    let mut image = adt(rt.alloc(), 176)?;
+fn takes_at<R: Abort + AllocGlobal>(rt: &R, place: usize, bytes: &[u8]) {
+    let mut image = adt(rt, 176);
     put(
         &mut image,
         start(Kind::Adt, 175).saturating_add(place),
         bytes,
     );
     taken(rt, (place, bytes), Kind::Adt, &image);
-    Ok(())
 }
 
 #[test]
-fn the_ends_of_an_actionpoint(rt: HostRuntime) -> Result<(), AllocError> {
+fn the_ends_of_an_actionpoint(rt: HostRuntime) {
     for (place, bytes) in [
         (0, [2].as_slice()),
         (0, &[3]),
@@ -133,7 +125,6 @@ fn the_ends_of_an_actionpoint(rt: HostRuntime) -> Result<(), AllocError> {
         (14, &[0; 32]),
         (14, b" !#$%&'()*+,-./0123456789~~~~~~"),
     ] {
-        takes_at(&rt, place, bytes)?;
+        takes_at(&rt, place, bytes);
     }
-    Ok(())
 }

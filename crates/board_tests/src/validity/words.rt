@@ -1,35 +1,27 @@
 //! Equations, word by word.
 
 use super::{answer, taken};
-use crate::shared::same;
 use crate::images::{AND, EQUAL, NOT, OR, XOR, adt_with};
+use crate::shared::same;
 use lc_model::Kind;
-use std::alloc::AllocError;
 use std::process::Abort;
 
 /// Over so many watchpoints, the words in a table's one entry are an equation.
-fn takes<R: Abort + AllocGlobal>(rt: &R, watchpoints: u8, words: &[u16]) -> Result<(), AllocError> {
-    let image = adt_with(rt.alloc(), 1, watchpoints, words)?;
+fn takes<R: Abort + AllocGlobal>(rt: &R, watchpoints: u8, words: &[u16]) {
+    let image = adt_with(rt, 1, watchpoints, words);
     taken(rt, words, Kind::Adt, &image);
-    Ok(())
 }
 
 /// Over so many watchpoints, each of these equations has this code.
-fn refused<R: Abort + AllocGlobal>(
-    rt: &R,
-    watchpoints: u8,
-    code: u8,
-    equations: &[&[u16]],
-) -> Result<(), AllocError> {
+fn refused<R: Abort + AllocGlobal>(rt: &R, watchpoints: u8, code: u8, equations: &[&[u16]]) {
     for words in equations {
-        let image = adt_with(rt.alloc(), 1, watchpoints, words)?;
+        let image = adt_with(rt, 1, watchpoints, words);
         same(rt, *words, answer(Kind::Adt, &image), Some((code, 0)));
     }
-    Ok(())
 }
 
 #[test]
-fn equations(rt: HostRuntime) -> Result<(), AllocError> {
+fn equations(rt: HostRuntime) {
     let rows: [(u8, &[u16]); 7] = [
         (1, &[0, EQUAL]),
         (176, &[175, EQUAL]),
@@ -46,13 +38,12 @@ fn equations(rt: HostRuntime) -> Result<(), AllocError> {
         ),
     ];
     for (watchpoints, words) in rows {
-        takes(&rt, watchpoints, words)?;
+        takes(&rt, watchpoints, words);
     }
-    Ok(())
 }
 
 #[test]
-fn operands_are_missing(rt: HostRuntime) -> Result<(), AllocError> {
+fn operands_are_missing(rt: HostRuntime) {
     let equations: [&[u16]; 9] = [
         &[EQUAL],
         &[NOT, EQUAL],
@@ -67,11 +58,11 @@ fn operands_are_missing(rt: HostRuntime) -> Result<(), AllocError> {
             0, 0, 0, 0, 0, 0, 0, 0, 0, AND, AND, AND, AND, AND, AND, AND, AND, AND, EQUAL,
         ],
     ];
-    refused(&rt, 1, 78, &equations)
+    refused(&rt, 1, 78, &equations);
 }
 
 #[test]
-fn operands_are_too_many(rt: HostRuntime) -> Result<(), AllocError> {
+fn operands_are_too_many(rt: HostRuntime) {
     let nine_wait: [&[u16]; 2] = [
         &[
             0, 0, 0, 0, 0, 0, 0, 0, 0, AND, AND, AND, AND, AND, AND, AND, AND, EQUAL,
@@ -80,27 +71,27 @@ fn operands_are_too_many(rt: HostRuntime) -> Result<(), AllocError> {
             0, 0, 0, 0, 0, 0, 0, 0, 0, AND, AND, AND, AND, AND, AND, AND, EQUAL,
         ],
     ];
-    refused(&rt, 1, 79, &nine_wait)?;
+    refused(&rt, 1, 79, &nine_wait);
     let two_are_left: [&[u16]; 2] = [
         &[0, 0, 0, 0, 0, 0, 0, 0, AND, AND, AND, AND, AND, AND, EQUAL],
         &[0, 0, EQUAL],
     ];
-    refused(&rt, 1, 80, &two_are_left)
+    refused(&rt, 1, 80, &two_are_left);
 }
 
 #[test]
-fn words_that_are_none(rt: HostRuntime) -> Result<(), AllocError> {
+fn words_that_are_none(rt: HostRuntime) {
     for word in [176, 0x0100, 0xFF00, 0xFF06, 0xFFFF] {
-        refused(&rt, 176, 76, &[&[word, EQUAL], &[0, word, EQUAL]])?;
+        refused(&rt, 176, 76, &[&[word, EQUAL], &[0, word, EQUAL]]);
     }
-    refused(&rt, 1, 77, &[&[1, EQUAL]])?;
-    refused(&rt, 0, 77, &[&[0, EQUAL]])?;
-    refused(&rt, 175, 77, &[&[0, 175, AND, EQUAL]])
+    refused(&rt, 1, 77, &[&[1, EQUAL]]);
+    refused(&rt, 0, 77, &[&[0, EQUAL]]);
+    refused(&rt, 175, 77, &[&[0, 175, AND, EQUAL]]);
 }
 
 #[test]
-fn where_an_equation_ends(rt: HostRuntime) -> Result<(), AllocError> {
-    refused(&rt, 1, 74, &[&[0], &[AND, NOT, 0xFFFF]])?;
+fn where_an_equation_ends(rt: HostRuntime) {
+    refused(&rt, 1, 74, &[&[0], &[AND, NOT, 0xFFFF]]);
     let behind: [&[u16]; 3] = [&[0, EQUAL, EQUAL], &[0, EQUAL, 0, 1], &[EQUAL, 0, EQUAL]];
-    refused(&rt, 1, 75, &behind)
+    refused(&rt, 1, 75, &behind);
 }

@@ -5,8 +5,8 @@ ghost use Rattle.std.specs.List.{AllByRecursion};
 ghost use Rattle.lc_model.specs.Tables.Image.{Actionpoints, FitsEntry, FitsWatchpoint};
 
 use super::{Images, LOW, Step, drive, encoded, run, set, with_one, with_two};
-use crate::shared::same;
 use crate::images::{self, AND, EQUAL, NOT, OR, XOR, put, table, wdt};
+use crate::shared::same;
 use crate::values::{actionpoint, low};
 use lc_model::{ApMode, CmpOp, FieldType, Term};
 use limit_checker::LimitChecker;
@@ -167,16 +167,15 @@ fn goes_on_with<R: Abort>(
 }
 
 /// 176 times the low-volts watchpoint, and 176 times a rule of twenty words and one failure.
-fn full(alloc: Global) -> Result<Images, AllocError> {
-    let words = [
+fn full<R: Abort + AllocGlobal>(rt: &R) -> Images {
+    let mut entry = images::actionpoint(&[
         175, 0, XOR, 1, XOR, 2, XOR, 3, XOR, 4, XOR, 5, XOR, 6, XOR, 7, XOR, NOT, NOT, EQUAL,
-    ];
-    let mut entry = images::actionpoint(alloc, &words)?;
+    ]);
     put(&mut entry, 8, &[0, 1]);
-    Ok(Images {
-        wdt: wdt(alloc, 176)?,
-        adt: table(alloc, 2, 176, 176, &entry)?,
-    })
+    Images {
+        wdt: wdt(rt, 176),
+        adt: table(rt, 2, 176, 176, &entry),
+    }
 }
 
 #[test]
@@ -189,7 +188,7 @@ fn full_tables(rt: HostRuntime) -> Result<(), AllocError> {
         Step::SampleOf(174, Some(7)),
         Step::SampleOf(175, Some(7)),
     ];
-    goes_on_with(&rt, &mut checker, &full(rt.alloc())?, 176, &steps);
+    goes_on_with(&rt, &mut checker, &full(&rt), 176, &steps);
     Ok(())
 }
 
