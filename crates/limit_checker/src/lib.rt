@@ -7,8 +7,6 @@ mod checker;
 mod equation;
 mod field;
 mod layout;
-#[cfg(test)]
-mod tests;
 mod watchpoint;
 
 pub use checker::LimitChecker;

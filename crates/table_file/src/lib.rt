@@ -14,8 +14,6 @@ mod name;
 mod numbers;
 mod output;
 pub mod preamble;
-#[cfg(test)]
-mod tests;
 mod watchpoint;
 mod wrapping;
 

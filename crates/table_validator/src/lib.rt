@@ -9,8 +9,6 @@ mod field;
 mod image;
 mod operands;
 mod preamble;
-#[cfg(test)]
-mod tests;
 mod watchpoint;
 mod words;
 

@@ -1,10 +1,11 @@
 //! Files that don't open: the first fault, in the order of the headers' fields.
 
 use super::{changed, low_volts_adt_file, low_volts_wdt_file, refused};
-use crate::error::FileError;
-use crate::file::open;
+use crate::shared::same;
+use std::alloc::AllocError;
 use std::process::Abort;
-use std::test::*;
+use std::test::Fail;
+use table_file::{FileError, open};
 
 /// Bytes that are wrong, each with its fault, in order: all but the last byte of a field, and the last one, too.
 const WRONG: [(usize, u8, FileError); 11] = [
@@ -21,11 +22,22 @@ const WRONG: [(usize, u8, FileError); 11] = [
     (75, 0xA9, FileError::SizeMismatch),
 ];
 
+/// The file with other bytes at some places has this fault.
+fn refused_with<R: Abort + AllocGlobal>(
+    rt: &R,
+    file: &[u8],
+    changes: &[(usize, u8)],
+    fault: FileError,
+) -> Result<(), AllocError> {
+    refused(rt, &changed(rt.alloc(), file, changes)?, fault);
+    Ok(())
+}
+
 #[test]
 fn one_field_is_wrong(rt: HostRuntime) -> Result<(), Fail> {
     let file = low_volts_wdt_file(rt.alloc())?;
     for (place, byte, fault) in WRONG {
-        refused(&rt, &changed(rt.alloc(), &file, &[(place, byte)])?, fault);
+        refused_with(&rt, &file, &[(place, byte)], fault)?;
     }
     Ok(())
 }
@@ -36,8 +48,7 @@ fn of_two_the_first_counts(rt: HostRuntime) -> Result<(), Fail> {
     for (place, byte, fault) in WRONG {
         for (other, wrong, _) in WRONG {
             if place < other {
-                let both = changed(rt.alloc(), &file, &[(place, byte), (other, wrong)])?;
-                refused(&rt, &both, fault);
+                refused_with(&rt, &file, &[(place, byte), (other, wrong)], fault)?;
             }
         }
     }
@@ -77,17 +88,15 @@ fn a_longer_file(rt: HostRuntime) -> Result<(), Fail> {
 #[test]
 fn an_empty_image(rt: HostRuntime) -> Result<(), Fail> {
     let file = low_volts_wdt_file(rt.alloc())?;
-    let headers = changed(rt.alloc(), &file, &[(74, 0), (75, 0)])?;
-    match headers.get(..116).map(open) {
-        Some(Ok(opened)) => assert!(rt; opened.image().is_empty()),
-        _ => panic!(&rt; "not opened"),
-    }
+    let mut headers = changed(rt.alloc(), &file, &[(74, 0), (75, 0)])?;
+    headers.truncate(116);
+    same(&rt, "image", open(&headers)?.image(), &[]);
     Ok(())
 }
 
 #[test]
 fn codes(rt: HostRuntime) {
-    let rows = [
+    for (error, code) in [
         (FileError::ShortFile, Some(51)),
         (FileError::NotCfe, Some(52)),
         (FileError::WrongSubtype, Some(53)),
@@ -95,8 +104,8 @@ fn codes(rt: HostRuntime) {
         (FileError::PartialLoad, Some(55)),
         (FileError::SizeMismatch, Some(56)),
         (FileError::Memory, None),
-    ];
-    for (error, code) in rows {
-        assert_eq!(rt; error.code(), code, "of {error:?}");
+    ] {
+        let found = error.code();
+        same(&rt, error, found, code);
     }
 }

@@ -1,11 +1,11 @@
 //! Both images of the text with each byte set to 0xFF in turn; the answers were worked out by hand, field by field.
 
-use super::{ACTIONPOINT, PREAMBLE, WATCHPOINT, adt, answer, start, wdt};
-use crate::WHOLE_IMAGE;
+use super::answer;
+use crate::images::{ACTIONPOINT, PREAMBLE, WATCHPOINT, adt, start, wdt};
+use crate::shared::same;
 use lc_model::Kind;
-use std::alloc::AllocError;
 use std::process::Abort;
-use std::test::*;
+use table_validator::WHOLE_IMAGE;
 
 /// Version, kind and counts; the hash may be any.
 fn preamble_answer(place: usize) -> Option<(u8, u16)> {
@@ -64,15 +64,15 @@ fn with_one_byte<R: Abort>(
     if place < image.len() {
         let byte = image[place];
         image[place] = 0xFF;
-        assert_eq!(rt; answer(kind, image), expected, "at {place}");
+        same(rt, place, answer(kind, image), expected);
         image[place] = byte;
     }
 }
 
 #[test]
-fn of_the_watchpoints(rt: HostRuntime) -> Result<(), AllocError> {
-    let mut image = wdt(rt.alloc(), 1)?;
-    assert_eq!(rt; image.len(), 4_264);
+fn of_the_watchpoints(rt: HostRuntime) {
+    let mut image = wdt(&rt, 1);
+    same(&rt, "length", image.len(), 4_264);
     for place in 0..PREAMBLE {
         with_one_byte(&rt, Kind::Wdt, &mut image, place, preamble_answer(place));
     }
@@ -83,17 +83,16 @@ fn of_the_watchpoints(rt: HostRuntime) -> Result<(), AllocError> {
             } else {
                 blank_answer(entry, place)
             };
-            let at = start(WATCHPOINT, entry).saturating_add(place);
+            let at = start(Kind::Wdt, entry).saturating_add(place);
             with_one_byte(&rt, Kind::Wdt, &mut image, at, expected);
         }
     }
-    Ok(())
 }
 
 #[test]
-fn of_the_actionpoints(rt: HostRuntime) -> Result<(), AllocError> {
-    let mut image = adt(rt.alloc(), 1)?;
-    assert_eq!(rt; image.len(), 15_176);
+fn of_the_actionpoints(rt: HostRuntime) {
+    let mut image = adt(&rt, 1);
+    same(&rt, "length", image.len(), 15_176);
     for place in 0..PREAMBLE {
         with_one_byte(&rt, Kind::Adt, &mut image, place, preamble_answer(place));
     }
@@ -104,9 +103,8 @@ fn of_the_actionpoints(rt: HostRuntime) -> Result<(), AllocError> {
             } else {
                 blank_answer(entry, place)
             };
-            let at = start(ACTIONPOINT, entry).saturating_add(place);
+            let at = start(Kind::Adt, entry).saturating_add(place);
             with_one_byte(&rt, Kind::Adt, &mut image, at, expected);
         }
     }
-    Ok(())
 }

@@ -5,11 +5,13 @@ ghost use Rattle.lc_model.specs.Field.{is_in_type};
 ghost use Rattle.lc_model.specs.declared.field.FieldType.TheVariants.{I8};
 ghost use Rattle.lc_model.specs.Tables.Image.{FitsWatchpoint};
 
-use super::{Images, LOW, Step, actionpoint, encoded, low, run, sample};
-use crate::LimitChecker;
+use super::{LOW, Step, run, sample, with_one};
+use crate::shared::same;
+use crate::values::{actionpoint, low};
 use lc_model::{ApMode, CmpOp, FieldType, Term};
-use std::alloc::{AllocError, Global};
-use std::test::*;
+use limit_checker::LimitChecker;
+use std::process::Abort;
+use std::test::Fail;
 use table_file::FileError;
 
 /// Telemetry of message id 0x0883 with 2,400 in the 16 bits at byte 12, which is not low; and the low one cut after 13
@@ -50,22 +52,24 @@ fn signed(mask: u32, op: CmpOp, value: i64) -> Term
     }
 }
 
-/// The rule that requests sequence 7 after so many failures in a row.
-fn rule(alloc: Global, term: Term, mode: ApMode, fails: u16) -> Result<Images, FileError>
+/// Drives the rule that requests sequence 7 after so many failures in a row through the steps.
+fn follows<R: Abort + AllocGlobal>(
+    rt: &R,
+    term: Term,
+    mode: ApMode,
+    fails: u16,
+    steps: &[Step],
+) -> Result<(), FileError>
     requires { FitsWatchpoint term }
 {
-    let watchpoints = vec![in alloc; term].map_err(AllocError::from)?;
-    let entry = actionpoint(alloc, mode, fails, 7, &[0])?;
-    encoded(
-        alloc,
-        watchpoints,
-        vec![in alloc; entry].map_err(AllocError::from)?,
-    )
+    let entry = actionpoint(rt.alloc(), mode, fails, 7, &[0])?;
+    let tables = with_one(rt.alloc(), &[term], entry)?;
+    run(rt, &tables, steps)?;
+    Ok(())
 }
 
 #[test]
-fn two_failures_in_a_row_request_the_sequence_once(rt: HostRuntime) -> Result<(), Fail> {
-    let alloc = rt.alloc();
+fn two_failures_in_a_row_request_the_sequence_once(rt: HostRuntime) -> Result<(), FileError> {
     let steps = [
         Step::Sample(None),
         Step::Packet(LOW),
@@ -75,13 +79,11 @@ fn two_failures_in_a_row_request_the_sequence_once(rt: HostRuntime) -> Result<()
         Step::Packet(LOW),
         Step::Sample(None),
     ];
-    run(&rt, alloc, &rule(alloc, low(2), ApMode::Active, 2)?, &steps)?;
-    Ok(())
+    follows(&rt, low(2), ApMode::Active, 2, &steps)
 }
 
 #[test]
-fn a_pass_ends_the_run(rt: HostRuntime) -> Result<(), Fail> {
-    let alloc = rt.alloc();
+fn a_pass_ends_the_run(rt: HostRuntime) -> Result<(), FileError> {
     let steps = [
         Step::Packet(LOW),
         Step::Sample(None),
@@ -92,13 +94,11 @@ fn a_pass_ends_the_run(rt: HostRuntime) -> Result<(), Fail> {
         Step::Sample(None),
         Step::Sample(Some(7)),
     ];
-    run(&rt, alloc, &rule(alloc, low(2), ApMode::Active, 2)?, &steps)?;
-    Ok(())
+    follows(&rt, low(2), ApMode::Active, 2, &steps)
 }
 
 #[test]
-fn watchpoints_age_after_samples(rt: HostRuntime) -> Result<(), Fail> {
-    let alloc = rt.alloc();
+fn watchpoints_age_after_samples(rt: HostRuntime) -> Result<(), FileError> {
     let aged_after = [
         Step::Packet(LOW),
         Step::Sample(None),
@@ -107,12 +107,7 @@ fn watchpoints_age_after_samples(rt: HostRuntime) -> Result<(), Fail> {
         Step::Age,
         Step::Sample(None),
     ];
-    run(
-        &rt,
-        alloc,
-        &rule(alloc, low(2), ApMode::Active, 2)?,
-        &aged_after,
-    )?;
+    follows(&rt, low(2), ApMode::Active, 2, &aged_after)?;
     let aged_before = [
         Step::Packet(LOW),
         Step::Age,
@@ -123,18 +118,11 @@ fn watchpoints_age_after_samples(rt: HostRuntime) -> Result<(), Fail> {
         Step::Sample(None),
         Step::Sample(Some(7)),
     ];
-    run(
-        &rt,
-        alloc,
-        &rule(alloc, low(2), ApMode::Active, 2)?,
-        &aged_before,
-    )?;
-    Ok(())
+    follows(&rt, low(2), ApMode::Active, 2, &aged_before)
 }
 
 #[test]
-fn stale_ends_the_run(rt: HostRuntime) -> Result<(), Fail> {
-    let alloc = rt.alloc();
+fn stale_ends_the_run(rt: HostRuntime) -> Result<(), FileError> {
     let steps = [
         Step::Packet(LOW),
         Step::Sample(None),
@@ -145,13 +133,11 @@ fn stale_ends_the_run(rt: HostRuntime) -> Result<(), Fail> {
         Step::Sample(None),
         Step::Sample(Some(7)),
     ];
-    run(&rt, alloc, &rule(alloc, low(1), ApMode::Active, 2)?, &steps)?;
-    Ok(())
+    follows(&rt, low(1), ApMode::Active, 2, &steps)
 }
 
 #[test]
-fn a_stale_age_of_0_means_never(rt: HostRuntime) -> Result<(), Fail> {
-    let alloc = rt.alloc();
+fn a_stale_age_of_0_means_never(rt: HostRuntime) -> Result<(), FileError> {
     let steps = [
         Step::Packet(LOW),
         Step::Age,
@@ -161,13 +147,11 @@ fn a_stale_age_of_0_means_never(rt: HostRuntime) -> Result<(), Fail> {
         Step::Age,
         Step::Sample(Some(7)),
     ];
-    run(&rt, alloc, &rule(alloc, low(0), ApMode::Active, 2)?, &steps)?;
-    Ok(())
+    follows(&rt, low(0), ApMode::Active, 2, &steps)
 }
 
 #[test]
-fn a_packet_must_hold_the_whole_field(rt: HostRuntime) -> Result<(), Fail> {
-    let alloc = rt.alloc();
+fn a_packet_must_hold_the_whole_field(rt: HostRuntime) -> Result<(), FileError> {
     let cut = [
         Step::Packet(LOW_IN_13),
         Step::Sample(None),
@@ -175,20 +159,18 @@ fn a_packet_must_hold_the_whole_field(rt: HostRuntime) -> Result<(), Fail> {
         Step::Packet(&[]),
         Step::Sample(None),
     ];
-    run(&rt, alloc, &rule(alloc, low(2), ApMode::Active, 1)?, &cut)?;
+    follows(&rt, low(2), ApMode::Active, 1, &cut)?;
     let whole = [
         Step::Packet(LOW_IN_14),
         Step::Sample(None),
         Step::Packet(LOW_IN_14),
         Step::Sample(Some(7)),
     ];
-    run(&rt, alloc, &rule(alloc, low(2), ApMode::Active, 2)?, &whole)?;
-    Ok(())
+    follows(&rt, low(2), ApMode::Active, 2, &whole)
 }
 
 #[test]
-fn passive_and_disabled_rules_request_nothing(rt: HostRuntime) -> Result<(), Fail> {
-    let alloc = rt.alloc();
+fn passive_and_disabled_rules_request_nothing(rt: HostRuntime) -> Result<(), FileError> {
     for mode in [ApMode::Passive, ApMode::Disabled] {
         let steps = [
             Step::Packet(LOW),
@@ -197,24 +179,24 @@ fn passive_and_disabled_rules_request_nothing(rt: HostRuntime) -> Result<(), Fai
             Step::Sample(None),
             Step::Sample(None),
         ];
-        run(&rt, alloc, &rule(alloc, low(2), mode, 2)?, &steps)?;
+        follows(&rt, low(2), mode, 2, &steps)?;
     }
     Ok(())
 }
 
 #[test]
-fn signed_bytes_are_masked_and_compared(rt: HostRuntime) -> Result<(), Fail> {
-    let alloc = rt.alloc();
+fn signed_bytes_are_masked_and_compared(rt: HostRuntime) -> Result<(), FileError> {
     let negative = [
         Step::Packet(BYTE_1),
         Step::Sample(None),
         Step::Packet(BYTE_80),
         Step::Sample(Some(7)),
     ];
-    run(
+    follows(
         &rt,
-        alloc,
-        &rule(alloc, signed(0xFF, CmpOp::Less, 0), ApMode::Active, 1)?,
+        signed(0xFF, CmpOp::Less, 0),
+        ApMode::Active,
+        1,
         &negative,
     )?;
     let masked = [
@@ -223,21 +205,21 @@ fn signed_bytes_are_masked_and_compared(rt: HostRuntime) -> Result<(), Fail> {
         Step::Packet(BYTE_FF),
         Step::Sample(Some(7)),
     ];
-    run(
+    follows(
         &rt,
-        alloc,
-        &rule(alloc, signed(0x80, CmpOp::Equal, -128), ApMode::Active, 1)?,
+        signed(0x80, CmpOp::Equal, -128),
+        ApMode::Active,
+        1,
         &masked,
-    )?;
-    Ok(())
+    )
 }
 
 #[test]
-fn a_new_one_has_no_rules(rt: HostRuntime) -> Result<(), Fail> {
+fn a_new_one_has_no_rules(rt: HostRuntime) -> Result<(), FileError> {
     let mut checker = LimitChecker::new(rt.alloc())?;
     checker.telemetry(LOW);
     checker.age();
-    assert_eq!(rt; checker.rule_count(), 0);
-    assert_eq!(rt; sample(&mut checker, 0), None);
+    same(&rt, "rules", checker.rule_count(), 0);
+    same(&rt, "sample", sample(&mut checker, 0), None);
     Ok(())
 }

@@ -1,0 +1,38 @@
+//! The two files, byte for byte.
+
+use super::{has, low_volts_adt_file, low_volts_wdt_file};
+use crate::images::{adt, wdt};
+use crate::shared::same;
+use std::process::Abort;
+use std::test::Fail;
+
+/// The headers, from the cFE's magic word on; they differ in the image's length and the table's name.
+fn has_headers<R: Abort>(rt: &R, file: &[u8], length_and_name: &[u8; 13]) {
+    has(
+        rt,
+        file,
+        0,
+        b"cFE1\x00\x00\x00\x08\x00\x00\x00\x40\x00\x00\x00\x42\x00\x00\x00\x01",
+    );
+    has(rt, file, 20, &[0; 52]);
+    has(rt, file, 72, length_and_name);
+    has(rt, file, 85, &[0; 31]);
+}
+
+#[test]
+fn low_volts_watchpoints(rt: HostRuntime) -> Result<(), Fail> {
+    let file = low_volts_wdt_file(rt.alloc())?;
+    same(&rt, "length", file.len(), 4_380);
+    has_headers(&rt, &file, b"\x00\x00\x10\xA8LC.LC_WDT");
+    has(&rt, &file, 116, &wdt(&rt, 1));
+    Ok(())
+}
+
+#[test]
+fn low_volts_actionpoints(rt: HostRuntime) -> Result<(), Fail> {
+    let file = low_volts_adt_file(rt.alloc())?;
+    same(&rt, "length", file.len(), 15_292);
+    has_headers(&rt, &file, b"\x00\x00\x3B\x48LC.LC_ADT");
+    has(&rt, &file, 116, &adt(&rt, 1));
+    Ok(())
+}
