@@ -49,25 +49,16 @@ fn bytes_of(
     watchpoints: u8,
     entry: &[u8],
 ) -> Result<Vec<u8>, AllocError> {
+    let mut blank = [0; ACTIONPOINT];
+    blank[0] = 0xFF;
+    let blank = blank.get(..entry.len()).unwrap_or_default();
     let mut image = Vec::from_slice(alloc, &[0, 1, 0, kind, 0, used, 0, watchpoints])?;
     image.extend_from_slice(&HASH)?;
     for number in 0..176 {
-        if number < used {
-            image.extend_from_slice(entry)?;
-        } else {
-            push_blank(&mut image, entry.len())?;
-        }
+        let bytes = if number < used { entry } else { blank };
+        image.extend_from_slice(bytes)?;
     }
     Ok(image)
-}
-
-/// Adds an entry of this length that isn't used.
-fn push_blank(image: &mut Vec<u8>, length: usize) -> Result<(), AllocError> {
-    image.push(0xFF)?;
-    for _ in 1..length {
-        image.push(0)?;
-    }
-    Ok(())
 }
 
 /// A table whose first entries, so many, are this one.

@@ -3,19 +3,18 @@
 mod one_rule;
 mod sound_tables;
 
-ghost use Rattle.std.specs.Prelude.{◌≤◌, length};
+ghost use Rattle.std.specs.Prelude.{◌<◌, ◌≤◌, ◌^◌, length};
 ghost use Rattle.std.specs.List.{AllByRecursion};
 ghost use Rattle.lc_model.specs.Codes.{table_entries};
 ghost use Rattle.lc_model.specs.Tables.Image.{Actionpoints, FitsWatchpoint, FitsEntry};
 
 use crate::images::valid;
 use crate::shared::{holds, same};
-use crate::values::{encoded_adt, encoded_wdt};
-use lc_model::{Kind, Term};
+use crate::values::{actionpoint, encoded_adt, encoded_wdt};
+use lc_model::{ApMode, Kind, Term};
 use limit_checker::LimitChecker;
-use std::alloc::{AllocError, Global};
 use std::process::Abort;
-use table_file::{FileError, TableEntry, preamble};
+use table_file::{TableEntry, preamble};
 
 /// Telemetry of message id 0x0883 with 2,399 in the 16 bits at byte 12, which is low.
 const LOW: &[u8] = &[
@@ -30,46 +29,77 @@ struct Images {
 }
 
 /// The images of tables of these watchpoints and actionpoints.
-fn encoded(
-    alloc: Global,
+fn encoded<R: Abort + AllocGlobal>(
+    rt: &R,
     watchpoints: &[Term],
     actionpoints: Vec<TableEntry>,
-) -> Result<Images, FileError>
+) -> Images
     requires few_watchpoints { length watchpoints.now ≤ table_entries }
     requires few_actionpoints { length actionpoints.items ≤ table_entries }
     requires watchpoints { AllByRecursion FitsWatchpoint watchpoints.now }
     requires actionpoints { AllByRecursion (FitsEntry Actionpoints) actionpoints.items }
 {
-    Ok(Images {
-        wdt: encoded_wdt(alloc, Vec::from_slice(alloc, watchpoints)?)?,
-        adt: encoded_adt(alloc, watchpoints.len() as u16, actionpoints)?,
-    })
+    let count = watchpoints.len() as u16;
+    let terms = Vec::from_slice(rt.alloc(), watchpoints).expect(rt, "out of memory");
+    Images {
+        wdt: encoded_wdt(rt.alloc(), terms).expect(rt, "out of memory"),
+        adt: encoded_adt(rt.alloc(), count, actionpoints).expect(rt, "out of memory"),
+    }
 }
 
 /// The same, of one actionpoint.
-fn with_one(alloc: Global, watchpoints: &[Term], entry: TableEntry) -> Result<Images, FileError>
+fn with_one<R: Abort + AllocGlobal>(rt: &R, watchpoints: &[Term], entry: TableEntry) -> Images
     requires few_watchpoints { length watchpoints.now ≤ table_entries }
     requires watchpoints { AllByRecursion FitsWatchpoint watchpoints.now }
     requires entry { FitsEntry Actionpoints entry }
 {
-    let actionpoints = vec![in alloc; entry].map_err(AllocError::from)?;
-    encoded(alloc, watchpoints, actionpoints)
+    let actionpoints = vec![in rt.alloc(); entry].expect(rt, "out of memory");
+    encoded(rt, watchpoints, actionpoints)
 }
 
 /// The same, of two.
-fn with_two(
-    alloc: Global,
+fn with_two<R: Abort + AllocGlobal>(
+    rt: &R,
     watchpoints: &[Term],
     first: TableEntry,
     second: TableEntry,
-) -> Result<Images, FileError>
+) -> Images
     requires few_watchpoints { length watchpoints.now ≤ table_entries }
     requires watchpoints { AllByRecursion FitsWatchpoint watchpoints.now }
     requires first { FitsEntry Actionpoints first }
     requires second { FitsEntry Actionpoints second }
 {
-    let actionpoints = vec![in alloc; first, second].map_err(AllocError::from)?;
-    encoded(alloc, watchpoints, actionpoints)
+    let actionpoints = vec![in rt.alloc(); first, second].expect(rt, "out of memory");
+    encoded(rt, watchpoints, actionpoints)
+}
+
+/// The actionpoint that requests a sequence after so many failures in a row, with these words before EQUAL.
+fn rule<R: Abort + AllocGlobal>(
+    rt: &R,
+    mode: ApMode,
+    fails: u16,
+    sequence: u16,
+    words: &[u16],
+) -> TableEntry
+    requires few { length words.now < 20 }
+    requires words { AllByRecursion (λ w. w < 2 ^ 16) words.now }
+    ensures { FitsEntry Actionpoints result }
+{
+    actionpoint(rt.alloc(), mode, fails, sequence, words).expect(rt, "out of memory")
+}
+
+/// The same of an active one, after the first failure.
+fn at_once<R: Abort + AllocGlobal>(rt: &R, sequence: u16, words: &[u16]) -> TableEntry
+    requires few { length words.now < 20 }
+    requires words { AllByRecursion (λ w. w < 2 ^ 16) words.now }
+    ensures { FitsEntry Actionpoints result }
+{
+    rule(rt, ApMode::Active, 1, sequence, words)
+}
+
+/// A Limit Checker without tables.
+fn fresh<R: Abort + AllocGlobal>(rt: &R) -> LimitChecker {
+    LimitChecker::new(rt.alloc()).expect(rt, "out of memory")
 }
 
 /// Sets the Limit Checker from the images, which are sound and belong together.
@@ -109,11 +139,10 @@ fn drive<R: Abort>(rt: &R, checker: &mut LimitChecker, steps: &[Step]) {
 }
 
 /// Drives a Limit Checker with these tables through the steps.
-fn run<R: Abort + AllocGlobal>(rt: &R, tables: &Images, steps: &[Step]) -> Result<(), AllocError> {
-    let mut checker = LimitChecker::new(rt.alloc())?;
+fn run<R: Abort + AllocGlobal>(rt: &R, tables: &Images, steps: &[Step]) {
+    let mut checker = fresh(rt);
     set(rt, &mut checker, tables);
     drive(rt, &mut checker, steps);
-    Ok(())
 }
 
 /// Samples a rule, if there is one of this number.

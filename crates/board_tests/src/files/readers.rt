@@ -69,16 +69,22 @@ fn any_value_of_the_other_fields(rt: HostRuntime) -> Result<(), Fail> {
     Ok(())
 }
 
+/// The file opens, and has this name.
+fn is_named<R: Abort>(rt: &R, file: &[u8], name: &[u8]) {
+    let file = open(file).expect(rt, "refused");
+    same(rt, "name", file.name(), name);
+}
+
 #[test]
 fn names_with_and_without_a_zero(rt: HostRuntime) -> Result<(), Fail> {
     let mut file = low_volts_wdt_file(rt.alloc())?;
     put(&mut file, 76, b"\0");
-    same(&rt, "a zero in front", open(&file)?.name(), b"");
+    is_named(&rt, &file, b"");
     put(&mut file, 76, b"LC\0");
     put(&mut file, 100, b"x");
-    same(&rt, "a zero within", open(&file)?.name(), b"LC");
+    is_named(&rt, &file, b"LC");
     put(&mut file, 76, &[b'n'; 40]);
-    same(&rt, "no zero", open(&file)?.name(), &[b'n'; 40]);
+    is_named(&rt, &file, &[b'n'; 40]);
     Ok(())
 }
 

@@ -4,7 +4,6 @@ use super::{Fault, refused, refused_whole};
 use crate::images::{PREAMBLE, adt, put, wdt};
 use crate::shared::same;
 use lc_model::Kind;
-use std::alloc::AllocError;
 use std::process::Abort;
 use table_validator::WHOLE_IMAGE;
 
@@ -24,13 +23,12 @@ fn shorter_images(rt: HostRuntime) {
 }
 
 #[test]
-fn longer_images_and_those_of_the_other_table(rt: HostRuntime) -> Result<(), AllocError> {
+fn longer_images_and_those_of_the_other_table(rt: HostRuntime) {
     let mut image = wdt(&rt, 1);
     refused_whole(&rt, Kind::Adt, &image, 63);
-    image.push(0)?;
+    image.push(0).expect(&rt, "out of memory");
     refused_whole(&rt, Kind::Wdt, &image, 63);
     refused_whole(&rt, Kind::Wdt, &adt(&rt, 1), 63);
-    Ok(())
 }
 
 #[test]
@@ -60,16 +58,13 @@ fn other_preambles(rt: HostRuntime) {
 }
 
 #[test]
-fn of_several_the_first_counts(rt: HostRuntime) -> Result<(), AllocError> {
+fn of_several_the_first_counts(rt: HostRuntime) {
     let mut image = wdt(&rt, 1);
     put(&mut image, PREAMBLE, &[0]);
-    put(&mut image, 4, &[0, 2]);
-    refused_whole(&rt, Kind::Wdt, &image, 64);
-    put(&mut image, 2, &[0, 2]);
-    refused_whole(&rt, Kind::Wdt, &image, 62);
-    put(&mut image, 0, &[0, 2]);
-    refused_whole(&rt, Kind::Wdt, &image, 61);
-    image.push(0)?;
+    for (place, bytes, code) in [(4, [0, 2], 64), (2, [0, 2], 62), (0, [0, 2], 61)] {
+        put(&mut image, place, &bytes);
+        refused_whole(&rt, Kind::Wdt, &image, code);
+    }
+    image.push(0).expect(&rt, "out of memory");
     refused_whole(&rt, Kind::Wdt, &image, 63);
-    Ok(())
 }

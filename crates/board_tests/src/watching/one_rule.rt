@@ -5,14 +5,11 @@ ghost use Rattle.lc_model.specs.Field.{is_in_type};
 ghost use Rattle.lc_model.specs.declared.field.FieldType.TheVariants.{I8};
 ghost use Rattle.lc_model.specs.Tables.Image.{FitsWatchpoint};
 
-use super::{LOW, Step, run, sample, with_one};
+use super::{LOW, Step, fresh, rule, run, sample, with_one};
 use crate::shared::same;
-use crate::values::{actionpoint, low};
+use crate::values::low;
 use lc_model::{ApMode, CmpOp, FieldType, Term};
-use limit_checker::LimitChecker;
 use std::process::Abort;
-use std::test::Fail;
-use table_file::FileError;
 
 /// Telemetry of message id 0x0883 with 2,400 in the 16 bits at byte 12, which is not low; and the low one cut after 13
 /// bytes, and after 14.
@@ -53,23 +50,15 @@ fn signed(mask: u32, op: CmpOp, value: i64) -> Term
 }
 
 /// Drives the rule that requests sequence 7 after so many failures in a row through the steps.
-fn follows<R: Abort + AllocGlobal>(
-    rt: &R,
-    term: Term,
-    mode: ApMode,
-    fails: u16,
-    steps: &[Step],
-) -> Result<(), FileError>
+fn follows<R: Abort + AllocGlobal>(rt: &R, term: Term, mode: ApMode, fails: u16, steps: &[Step])
     requires { FitsWatchpoint term }
 {
-    let entry = actionpoint(rt.alloc(), mode, fails, 7, &[0])?;
-    let tables = with_one(rt.alloc(), &[term], entry)?;
-    run(rt, &tables, steps)?;
-    Ok(())
+    let tables = with_one(rt, &[term], rule(rt, mode, fails, 7, &[0]));
+    run(rt, &tables, steps);
 }
 
 #[test]
-fn two_failures_in_a_row_request_the_sequence_once(rt: HostRuntime) -> Result<(), FileError> {
+fn two_failures_in_a_row_request_the_sequence_once(rt: HostRuntime) {
     let steps = [
         Step::Sample(None),
         Step::Packet(LOW),
@@ -79,11 +68,11 @@ fn two_failures_in_a_row_request_the_sequence_once(rt: HostRuntime) -> Result<()
         Step::Packet(LOW),
         Step::Sample(None),
     ];
-    follows(&rt, low(2), ApMode::Active, 2, &steps)
+    follows(&rt, low(2), ApMode::Active, 2, &steps);
 }
 
 #[test]
-fn a_pass_ends_the_run(rt: HostRuntime) -> Result<(), FileError> {
+fn a_pass_ends_the_run(rt: HostRuntime) {
     let steps = [
         Step::Packet(LOW),
         Step::Sample(None),
@@ -94,11 +83,11 @@ fn a_pass_ends_the_run(rt: HostRuntime) -> Result<(), FileError> {
         Step::Sample(None),
         Step::Sample(Some(7)),
     ];
-    follows(&rt, low(2), ApMode::Active, 2, &steps)
+    follows(&rt, low(2), ApMode::Active, 2, &steps);
 }
 
 #[test]
-fn watchpoints_age_after_samples(rt: HostRuntime) -> Result<(), FileError> {
+fn watchpoints_age_after_samples(rt: HostRuntime) {
     let aged_after = [
         Step::Packet(LOW),
         Step::Sample(None),
@@ -107,7 +96,7 @@ fn watchpoints_age_after_samples(rt: HostRuntime) -> Result<(), FileError> {
         Step::Age,
         Step::Sample(None),
     ];
-    follows(&rt, low(2), ApMode::Active, 2, &aged_after)?;
+    follows(&rt, low(2), ApMode::Active, 2, &aged_after);
     let aged_before = [
         Step::Packet(LOW),
         Step::Age,
@@ -118,11 +107,11 @@ fn watchpoints_age_after_samples(rt: HostRuntime) -> Result<(), FileError> {
         Step::Sample(None),
         Step::Sample(Some(7)),
     ];
-    follows(&rt, low(2), ApMode::Active, 2, &aged_before)
+    follows(&rt, low(2), ApMode::Active, 2, &aged_before);
 }
 
 #[test]
-fn stale_ends_the_run(rt: HostRuntime) -> Result<(), FileError> {
+fn stale_ends_the_run(rt: HostRuntime) {
     let steps = [
         Step::Packet(LOW),
         Step::Sample(None),
@@ -133,11 +122,11 @@ fn stale_ends_the_run(rt: HostRuntime) -> Result<(), FileError> {
         Step::Sample(None),
         Step::Sample(Some(7)),
     ];
-    follows(&rt, low(1), ApMode::Active, 2, &steps)
+    follows(&rt, low(1), ApMode::Active, 2, &steps);
 }
 
 #[test]
-fn a_stale_age_of_0_means_never(rt: HostRuntime) -> Result<(), FileError> {
+fn a_stale_age_of_0_means_never(rt: HostRuntime) {
     let steps = [
         Step::Packet(LOW),
         Step::Age,
@@ -147,11 +136,11 @@ fn a_stale_age_of_0_means_never(rt: HostRuntime) -> Result<(), FileError> {
         Step::Age,
         Step::Sample(Some(7)),
     ];
-    follows(&rt, low(0), ApMode::Active, 2, &steps)
+    follows(&rt, low(0), ApMode::Active, 2, &steps);
 }
 
 #[test]
-fn a_packet_must_hold_the_whole_field(rt: HostRuntime) -> Result<(), FileError> {
+fn a_packet_must_hold_the_whole_field(rt: HostRuntime) {
     let cut = [
         Step::Packet(LOW_IN_13),
         Step::Sample(None),
@@ -159,18 +148,18 @@ fn a_packet_must_hold_the_whole_field(rt: HostRuntime) -> Result<(), FileError> 
         Step::Packet(&[]),
         Step::Sample(None),
     ];
-    follows(&rt, low(2), ApMode::Active, 1, &cut)?;
+    follows(&rt, low(2), ApMode::Active, 1, &cut);
     let whole = [
         Step::Packet(LOW_IN_14),
         Step::Sample(None),
         Step::Packet(LOW_IN_14),
         Step::Sample(Some(7)),
     ];
-    follows(&rt, low(2), ApMode::Active, 2, &whole)
+    follows(&rt, low(2), ApMode::Active, 2, &whole);
 }
 
 #[test]
-fn passive_and_disabled_rules_request_nothing(rt: HostRuntime) -> Result<(), FileError> {
+fn passive_and_disabled_rules_request_nothing(rt: HostRuntime) {
     for mode in [ApMode::Passive, ApMode::Disabled] {
         let steps = [
             Step::Packet(LOW),
@@ -179,13 +168,12 @@ fn passive_and_disabled_rules_request_nothing(rt: HostRuntime) -> Result<(), Fil
             Step::Sample(None),
             Step::Sample(None),
         ];
-        follows(&rt, low(2), mode, 2, &steps)?;
+        follows(&rt, low(2), mode, 2, &steps);
     }
-    Ok(())
 }
 
 #[test]
-fn signed_bytes_are_masked_and_compared(rt: HostRuntime) -> Result<(), FileError> {
+fn signed_bytes_are_masked_and_compared(rt: HostRuntime) {
     let negative = [
         Step::Packet(BYTE_1),
         Step::Sample(None),
@@ -198,7 +186,7 @@ fn signed_bytes_are_masked_and_compared(rt: HostRuntime) -> Result<(), FileError
         ApMode::Active,
         1,
         &negative,
-    )?;
+    );
     let masked = [
         Step::Packet(BYTE_1),
         Step::Sample(None),
@@ -211,15 +199,14 @@ fn signed_bytes_are_masked_and_compared(rt: HostRuntime) -> Result<(), FileError
         ApMode::Active,
         1,
         &masked,
-    )
+    );
 }
 
 #[test]
-fn a_new_one_has_no_rules(rt: HostRuntime) -> Result<(), FileError> {
-    let mut checker = LimitChecker::new(rt.alloc())?;
+fn a_new_one_has_no_rules(rt: HostRuntime) {
+    let mut checker = fresh(&rt);
     checker.telemetry(LOW);
     checker.age();
     same(&rt, "rules", checker.rule_count(), 0);
     same(&rt, "sample", sample(&mut checker, 0), None);
-    Ok(())
 }

@@ -1,18 +1,16 @@
 //! Sound tables that no compiler writes, full ones, and tables that are set one after another.
 
-ghost use Rattle.std.specs.Prelude.{◌<◌, ◌^◌, length, IfOk};
-ghost use Rattle.std.specs.List.{AllByRecursion};
-ghost use Rattle.lc_model.specs.Tables.Image.{Actionpoints, FitsEntry, FitsWatchpoint};
+ghost use Rattle.lc_model.specs.Tables.Image.{FitsWatchpoint};
 
-use super::{Images, LOW, Step, drive, encoded, run, set, with_one, with_two};
+use super::{
+    Images, LOW, Step, at_once, drive, encoded, fresh, rule, run, set, with_one, with_two,
+};
 use crate::images::{self, AND, EQUAL, NOT, OR, XOR, put, table, wdt};
 use crate::shared::same;
-use crate::values::{actionpoint, low};
+use crate::values::low;
 use lc_model::{ApMode, CmpOp, FieldType, Term};
 use limit_checker::LimitChecker;
-use std::alloc::{AllocError, Global};
 use std::process::Abort;
-use table_file::{FileError, TableEntry};
 
 /// Telemetry of message id 0x0883 with eight bytes at byte 12: none is 1; the second; the first and the third; the first,
 /// the third and the fourth; the first, the third and the last.
@@ -51,61 +49,50 @@ fn flag(offset: u32) -> Term
     }
 }
 
-/// The active actionpoint that requests a sequence after one failure.
-fn at_once(alloc: Global, sequence: u16, words: &[u16]) -> Result<TableEntry, AllocError>
-    requires few { length words.now < 20 }
-    requires words { AllByRecursion (λ w. w < 2 ^ 16) words.now }
-    ensures { IfOk result (λ entry. FitsEntry Actionpoints entry) }
-{
-    actionpoint(alloc, ApMode::Active, 1, sequence, words)
-}
-
 /// Three flags, and one rule over the second.
-fn second_of_three(alloc: Global) -> Result<Images, FileError> {
-    let entry = at_once(alloc, 7, &[1])?;
-    with_one(alloc, &[flag(12), flag(13), flag(14)], entry)
+fn second_of_three<R: Abort + AllocGlobal>(rt: &R) -> Images {
+    let entry = at_once(rt, 7, &[1]);
+    with_one(rt, &[flag(12), flag(13), flag(14)], entry)
 }
 
 #[test]
-fn a_watchpoint_that_no_rule_mentions(rt: HostRuntime) -> Result<(), FileError> {
+fn a_watchpoint_that_no_rule_mentions(rt: HostRuntime) {
     let steps = [
         Step::Packet(FIRST_AND_THIRD),
         Step::Sample(None),
         Step::Packet(SECOND),
         Step::Sample(Some(7)),
     ];
-    run(&rt, &second_of_three(rt.alloc())?, &steps)?;
-    Ok(())
+    run(&rt, &second_of_three(&rt), &steps);
 }
 
 /// The low-volts watchpoint twice, a rule that one of them alone holds, and a rule that both hold.
-fn one_or_both(alloc: Global) -> Result<Images, FileError> {
-    let one = at_once(alloc, 7, &[0, 1, XOR])?;
-    let both = at_once(alloc, 8, &[1, 0, AND])?;
-    with_two(alloc, &[low(2), low(2)], one, both)
+fn one_or_both<R: Abort + AllocGlobal>(rt: &R) -> Images {
+    let one = at_once(rt, 7, &[0, 1, XOR]);
+    let both = at_once(rt, 8, &[1, 0, AND]);
+    with_two(rt, &[low(2), low(2)], one, both)
 }
 
 #[test]
-fn one_watchpoint_twice(rt: HostRuntime) -> Result<(), FileError> {
+fn one_watchpoint_twice(rt: HostRuntime) {
     let steps = [
         Step::SampleOf(1, None),
         Step::Packet(LOW),
         Step::SampleOf(0, None),
         Step::SampleOf(1, Some(8)),
     ];
-    run(&rt, &one_or_both(rt.alloc())?, &steps)?;
-    Ok(())
+    run(&rt, &one_or_both(&rt), &steps);
 }
 
 /// A flag, negated twice, and negated once in a rule of two failures in a row.
-fn twice_and_once(alloc: Global) -> Result<Images, FileError> {
-    let twice = at_once(alloc, 7, &[0, NOT, NOT])?;
-    let once = actionpoint(alloc, ApMode::Active, 2, 8, &[0, NOT])?;
-    with_two(alloc, &[flag(13)], twice, once)
+fn twice_and_once<R: Abort + AllocGlobal>(rt: &R) -> Images {
+    let twice = at_once(rt, 7, &[0, NOT, NOT]);
+    let once = rule(rt, ApMode::Active, 2, 8, &[0, NOT]);
+    with_two(rt, &[flag(13)], twice, once)
 }
 
 #[test]
-fn what_is_negated_twice(rt: HostRuntime) -> Result<(), FileError> {
+fn what_is_negated_twice(rt: HostRuntime) {
     let steps = [
         Step::Packet(NONE),
         Step::SampleOf(0, None),
@@ -114,12 +101,11 @@ fn what_is_negated_twice(rt: HostRuntime) -> Result<(), FileError> {
         Step::Packet(SECOND),
         Step::SampleOf(0, Some(7)),
     ];
-    run(&rt, &twice_and_once(rt.alloc())?, &steps)?;
-    Ok(())
+    run(&rt, &twice_and_once(&rt), &steps);
 }
 
 /// Eight flags, all of which wait before the first operator.
-fn eight_waiting(alloc: Global) -> Result<Images, FileError> {
+fn eight_waiting<R: Abort + AllocGlobal>(rt: &R) -> Images {
     let watchpoints = [
         flag(12),
         flag(13),
@@ -131,12 +117,12 @@ fn eight_waiting(alloc: Global) -> Result<Images, FileError> {
         flag(19),
     ];
     let words = [0, 1, 2, 3, 4, 5, 6, 7, OR, AND, XOR, OR, AND, OR, AND];
-    let entry = at_once(alloc, 7, &words)?;
-    with_one(alloc, &watchpoints, entry)
+    let entry = at_once(rt, 7, &words);
+    with_one(rt, &watchpoints, entry)
 }
 
 #[test]
-fn eight_operands_that_wait(rt: HostRuntime) -> Result<(), FileError> {
+fn eight_operands_that_wait(rt: HostRuntime) {
     let steps = [
         Step::Packet(NONE),
         Step::Sample(None),
@@ -149,8 +135,7 @@ fn eight_operands_that_wait(rt: HostRuntime) -> Result<(), FileError> {
         Step::Packet(AND_FOURTH),
         Step::Sample(Some(7)),
     ];
-    run(&rt, &eight_waiting(rt.alloc())?, &steps)?;
-    Ok(())
+    run(&rt, &eight_waiting(&rt), &steps);
 }
 
 /// With these tables in force there are so many rules, and this is what comes of the steps.
@@ -179,8 +164,8 @@ fn full<R: Abort + AllocGlobal>(rt: &R) -> Images {
 }
 
 #[test]
-fn full_tables(rt: HostRuntime) -> Result<(), AllocError> {
-    let mut checker = LimitChecker::new(rt.alloc())?;
+fn full_tables(rt: HostRuntime) {
+    let mut checker = fresh(&rt);
     let steps = [
         Step::Packet(LOW),
         Step::Sample(Some(7)),
@@ -189,36 +174,34 @@ fn full_tables(rt: HostRuntime) -> Result<(), AllocError> {
         Step::SampleOf(175, Some(7)),
     ];
     goes_on_with(&rt, &mut checker, &full(&rt), 176, &steps);
-    Ok(())
 }
 
 /// Two rules over the low-volts watchpoint, of which the first requests sequence 7.
-fn two_rules(alloc: Global) -> Result<Images, FileError> {
-    let first = at_once(alloc, 7, &[0])?;
-    let second = at_once(alloc, 8, &[0, NOT])?;
-    with_two(alloc, &[low(2)], first, second)
+fn two_rules<R: Abort + AllocGlobal>(rt: &R) -> Images {
+    let plain = at_once(rt, 7, &[0]);
+    let negated = at_once(rt, 8, &[0, NOT]);
+    with_two(rt, &[low(2)], plain, negated)
 }
 
 /// One rule, which requests sequence 9.
-fn one_rule(alloc: Global) -> Result<Images, FileError> {
-    let entry = at_once(alloc, 9, &[0])?;
-    with_one(alloc, &[low(2)], entry)
+fn one_rule<R: Abort + AllocGlobal>(rt: &R) -> Images {
+    let entry = at_once(rt, 9, &[0]);
+    with_one(rt, &[low(2)], entry)
 }
 
-fn no_rules(alloc: Global) -> Result<Images, FileError> {
-    encoded(alloc, &[], Vec::new(alloc))
+fn no_rules<R: Abort + AllocGlobal>(rt: &R) -> Images {
+    encoded(rt, &[], Vec::new(rt.alloc()))
 }
 
 #[test]
-fn tables_one_after_another(rt: HostRuntime) -> Result<(), FileError> {
-    let mut checker = LimitChecker::new(rt.alloc())?;
+fn tables_one_after_another(rt: HostRuntime) {
+    let mut checker = fresh(&rt);
     let steps = [Step::Sample(None), Step::Packet(LOW), Step::Sample(Some(7))];
-    let two = two_rules(rt.alloc())?;
+    let two = two_rules(&rt);
     goes_on_with(&rt, &mut checker, &two, 2, &steps);
     goes_on_with(&rt, &mut checker, &two, 2, &steps);
     let steps = [Step::Packet(LOW), Step::Sample(Some(9))];
-    goes_on_with(&rt, &mut checker, &one_rule(rt.alloc())?, 1, &steps);
+    goes_on_with(&rt, &mut checker, &one_rule(&rt), 1, &steps);
     let steps = [Step::Packet(LOW), Step::Sample(None)];
-    goes_on_with(&rt, &mut checker, &no_rules(rt.alloc())?, 0, &steps);
-    Ok(())
+    goes_on_with(&rt, &mut checker, &no_rules(&rt), 0, &steps);
 }
