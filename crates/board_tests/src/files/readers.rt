@@ -5,11 +5,10 @@ ghost use Rattle.lc_model.specs.Tables.Image.{Watchpoints, Actionpoints, image_l
 
 use super::{adt_file, changed, opened, wdt_file};
 use crate::images::{HASH, put};
-use crate::shared::{holds, same};
+use crate::shared::same;
 use crate::values::{low, low_volts_adt, low_volts_wdt};
 use lc_model::{ApMode, CmpOp, EventKind, FieldType, Kind, Report};
 use std::process::Abort;
-use std::test::Fail;
 use table_file::{
     ActionpointEntry, EQUAL_WORD, Layout, TableFile, WatchpointEntry, entry_bytes, is_blank,
     preamble,
@@ -127,12 +126,11 @@ fn has_blank_entries<R: Abort>(rt: &R, image: &[u8])
 }
 
 #[test]
-fn the_watchpoints_image(rt: HostRuntime) -> Result<(), Fail> {
-    let image = low_volts_wdt(rt.alloc())?;
+fn the_watchpoints_image(rt: HostRuntime) {
+    let image = low_volts_wdt(rt.alloc()).expect(&rt, "out of memory");
     has_preamble(&rt, &image, 1);
     has_low_volts(&rt, &WatchpointEntry::of(&image, 0));
     has_blank_entries(&rt, &image);
-    Ok(())
 }
 
 /// The low-volts actionpoint, field by field.
@@ -164,20 +162,19 @@ fn has_one_mention<R: Abort>(rt: &R, entry: &ActionpointEntry) {
 }
 
 #[test]
-fn the_actionpoints_image(rt: HostRuntime) -> Result<(), Fail> {
-    let image = low_volts_adt(rt.alloc())?;
+fn the_actionpoints_image(rt: HostRuntime) {
+    let image = low_volts_adt(rt.alloc()).expect(&rt, "out of memory");
     has_preamble(&rt, &image, 2);
     let entry = ActionpointEntry::of(Layout::Actionpoints, &image, 0);
     has_low(&rt, &entry);
     has_one_mention(&rt, &entry);
-    Ok(())
 }
 
 /// Of the images of both tables, each has the layout of its own kind alone.
 #[test]
-fn layouts_by_length(rt: HostRuntime) -> Result<(), Fail> {
-    let wdt = low_volts_wdt(rt.alloc())?;
-    let adt = low_volts_adt(rt.alloc())?;
+fn layouts_by_length(rt: HostRuntime) {
+    let wdt = low_volts_wdt(rt.alloc()).expect(&rt, "out of memory");
+    let adt = low_volts_adt(rt.alloc()).expect(&rt, "out of memory");
     for (kind, image, layout) in [
         (Kind::Wdt, &wdt, Some(Layout::Watchpoints)),
         (Kind::Adt, &adt, Some(Layout::Actionpoints)),
@@ -186,5 +183,4 @@ fn layouts_by_length(rt: HostRuntime) -> Result<(), Fail> {
     ] {
         same(&rt, kind, Layout::of_image(kind, image), layout);
     }
-    Ok(())
 }

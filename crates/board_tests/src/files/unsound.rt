@@ -7,7 +7,6 @@ use crate::shared::same;
 use crate::values::{actionpoint, encoded_adt, encoded_wdt};
 use lc_model::{ApMode, CmpOp, FieldType, Term};
 use std::process::Abort;
-use std::test::Fail;
 use table_file::{ActionpointEntry, EQUAL_WORD, Layout, WatchpointEntry};
 
 /// A table of one watchpoint with this number is read as it was written.
@@ -50,10 +49,10 @@ fn has_a_word_behind_equal<R: Abort>(rt: &R, image: &[u8])
 }
 
 #[test]
-fn words_up_to_the_first_equal(rt: HostRuntime) -> Result<(), Fail> {
+fn words_up_to_the_first_equal(rt: HostRuntime) {
     let words = [0, EQUAL_WORD, 0xFFFF];
-    let entry = actionpoint(rt.alloc(), ApMode::Active, 2, 7, &words)?;
-    let image = encoded_adt(rt.alloc(), 1, vec![in rt.alloc(); entry]?)?;
+    let entry = actionpoint(rt.alloc(), ApMode::Active, 2, 7, &words).expect(&rt, "out of memory");
+    let entries = vec![in rt.alloc(); entry].expect(&rt, "out of memory");
+    let image = encoded_adt(rt.alloc(), 1, entries).expect(&rt, "out of memory");
     has_a_word_behind_equal(&rt, &image);
-    Ok(())
 }
