@@ -10,27 +10,42 @@ use crate::images::put;
 use crate::shared::{holds, same};
 use crate::values::{low_volts_adt, low_volts_wdt};
 use lc_model::Kind;
-use std::alloc::{AllocError, Global};
+use std::alloc::Global;
 use std::process::Abort;
-use table_file::{FileError, open, wrap};
+use table_file::{FileError, TableFile, open, wrap};
 
-fn low_volts_wdt_file(alloc: Global) -> Result<Vec<u8>, FileError> {
+/// The file of the text's watchpoints, if there is memory.
+fn made_wdt_file(alloc: Global) -> Result<Vec<u8>, FileError> {
     let image = low_volts_wdt(alloc)?;
-    wrap(alloc, Kind::Wdt, image.as_slice())
+    wrap(alloc, Kind::Wdt, &image)
 }
 
-fn low_volts_adt_file(alloc: Global) -> Result<Vec<u8>, FileError> {
+/// The file of its actionpoints, if there is memory.
+fn made_adt_file(alloc: Global) -> Result<Vec<u8>, FileError> {
     let image = low_volts_adt(alloc)?;
-    wrap(alloc, Kind::Adt, image.as_slice())
+    wrap(alloc, Kind::Adt, &image)
+}
+
+fn wdt_file<R: Abort + AllocGlobal>(rt: &R) -> Vec<u8> {
+    made_wdt_file(rt.alloc()).expect(rt, "out of memory")
+}
+
+fn adt_file<R: Abort + AllocGlobal>(rt: &R) -> Vec<u8> {
+    made_adt_file(rt.alloc()).expect(rt, "out of memory")
+}
+
+/// The file, which has no fault.
+fn opened<'a, R: Abort>(rt: &R, file: &'a [u8]) -> TableFile<'a> {
+    open(file).expect(rt, "refused")
 }
 
 /// The file with other bytes at some places.
-fn changed(alloc: Global, file: &[u8], changes: &[(usize, u8)]) -> Result<Vec<u8>, AllocError> {
-    let mut copy = Vec::from_slice(alloc, file)?;
+fn changed<R: Abort + AllocGlobal>(rt: &R, file: &[u8], changes: &[(usize, u8)]) -> Vec<u8> {
+    let mut copy = Vec::from_slice(rt.alloc(), file).expect(rt, "out of memory");
     for (place, byte) in changes {
         put(&mut copy, *place, &[*byte]);
     }
-    Ok(copy)
+    copy
 }
 
 /// The bytes at a place are these.

@@ -90,8 +90,7 @@ pub fn encoded_adt(
 pub fn low_volts_wdt(alloc: Global) -> Result<Vec<u8>, FileError>
     ensures { IfOk result (λ bytes. length bytes.items ≡ image_length Watchpoints) }
 {
-    let watchpoints = vec![in alloc; low(2)].map_err(AllocError::from)?;
-    encoded_wdt(alloc, watchpoints)
+    encoded_wdt(alloc, Vec::from_slice(alloc, &[low(2)])?)
 }
 
 /// The low-volts text's image of actionpoints.
@@ -99,5 +98,6 @@ pub fn low_volts_adt(alloc: Global) -> Result<Vec<u8>, FileError>
     ensures { IfOk result (λ bytes. length bytes.items ≡ image_length Actionpoints) }
 {
     let entry = actionpoint(alloc, ApMode::Active, 2, 7, &[0])?;
-    encoded_adt(alloc, 1, vec![in alloc; entry].map_err(AllocError::from)?)
+    let actionpoints = vec![in alloc; entry].map_err(|_| FileError::Memory)?;
+    encoded_adt(alloc, 1, actionpoints)
 }

@@ -1,11 +1,9 @@
 //! Files that don't open: the first fault, in the order of the headers' fields.
 
-use super::{changed, low_volts_adt_file, low_volts_wdt_file, refused};
+use super::{adt_file, changed, opened, refused, wdt_file};
 use crate::shared::same;
-use std::alloc::AllocError;
 use std::process::Abort;
-use std::test::Fail;
-use table_file::{FileError, open};
+use table_file::FileError;
 
 /// Bytes that are wrong, each with its fault, in order: all but the last byte of a field, and the last one, too.
 const WRONG: [(usize, u8, FileError); 11] = [
@@ -28,31 +26,28 @@ fn refused_with<R: Abort + AllocGlobal>(
     file: &[u8],
     changes: &[(usize, u8)],
     fault: FileError,
-) -> Result<(), AllocError> {
-    refused(rt, &changed(rt.alloc(), file, changes)?, fault);
-    Ok(())
+) {
+    refused(rt, &changed(rt, file, changes), fault);
 }
 
 #[test]
-fn one_field_is_wrong(rt: HostRuntime) -> Result<(), Fail> {
-    let file = low_volts_wdt_file(rt.alloc())?;
+fn one_field_is_wrong(rt: HostRuntime) {
+    let file = wdt_file(&rt);
     for (place, byte, fault) in WRONG {
-        refused_with(&rt, &file, &[(place, byte)], fault)?;
+        refused_with(&rt, &file, &[(place, byte)], fault);
     }
-    Ok(())
 }
 
 #[test]
-fn of_two_the_first_counts(rt: HostRuntime) -> Result<(), Fail> {
-    let file = low_volts_wdt_file(rt.alloc())?;
+fn of_two_the_first_counts(rt: HostRuntime) {
+    let file = wdt_file(&rt);
     for (place, byte, fault) in WRONG {
         for (other, wrong, _) in WRONG {
             if place < other {
-                refused_with(&rt, &file, &[(place, byte), (other, wrong)], fault)?;
+                refused_with(&rt, &file, &[(place, byte), (other, wrong)], fault);
             }
         }
     }
-    Ok(())
 }
 
 /// Each shorter file: without whole headers it is too short, whatever stands there; else its size is wrong.
@@ -68,30 +63,27 @@ fn cut<R: Abort>(rt: &R, file: &[u8]) {
 }
 
 #[test]
-fn shorter_files(rt: HostRuntime) -> Result<(), Fail> {
-    cut(&rt, &low_volts_wdt_file(rt.alloc())?);
-    cut(&rt, &low_volts_adt_file(rt.alloc())?);
+fn shorter_files(rt: HostRuntime) {
+    cut(&rt, &wdt_file(&rt));
+    cut(&rt, &adt_file(&rt));
     refused(&rt, &[0xFF; 115], FileError::ShortFile);
     refused(&rt, &[0xFF; 116], FileError::NotCfe);
-    Ok(())
 }
 
 #[test]
-fn a_longer_file(rt: HostRuntime) -> Result<(), Fail> {
-    let mut file = low_volts_wdt_file(rt.alloc())?;
-    file.push(0)?;
+fn a_longer_file(rt: HostRuntime) {
+    let mut file = wdt_file(&rt);
+    file.push(0).expect(&rt, "out of memory");
     refused(&rt, &file, FileError::SizeMismatch);
-    Ok(())
 }
 
 /// Headers alone, with 0 as the number of bytes, are the file of an empty image.
 #[test]
-fn an_empty_image(rt: HostRuntime) -> Result<(), Fail> {
-    let file = low_volts_wdt_file(rt.alloc())?;
-    let mut headers = changed(rt.alloc(), &file, &[(74, 0), (75, 0)])?;
+fn an_empty_image(rt: HostRuntime) {
+    let file = wdt_file(&rt);
+    let mut headers = changed(&rt, &file, &[(74, 0), (75, 0)]);
     headers.truncate(116);
-    same(&rt, "image", open(&headers)?.image(), &[]);
-    Ok(())
+    same(&rt, "image", opened(&rt, &headers).image(), &[]);
 }
 
 #[test]

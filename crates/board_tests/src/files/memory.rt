@@ -1,6 +1,6 @@
 //! Want of memory.
 
-use super::{low_volts_adt_file, low_volts_wdt_file};
+use super::{made_adt_file, made_wdt_file};
 use crate::shared::same;
 use std::process::Abort;
 use table_file::FileError;
@@ -18,11 +18,11 @@ fn whole_or_no_memory<R: Abort>(rt: &R, file: Result<Vec<u8>, FileError>, length
 /// memory`.)
 #[test]
 fn all_watchpoints_or_no_memory(rt: HostRuntime) {
-    whole_or_no_memory(&rt, low_volts_wdt_file(rt.alloc()), 4_380);
+    whole_or_no_memory(&rt, made_wdt_file(rt.alloc()), 4_380);
 }
 
 /// The same for N from 1 to 5: the text's, the words', the values', the image's and the file's room.
 #[test]
 fn all_actionpoints_or_no_memory(rt: HostRuntime) {
-    whole_or_no_memory(&rt, low_volts_adt_file(rt.alloc()), 15_292);
+    whole_or_no_memory(&rt, made_adt_file(rt.alloc()), 15_292);
 }

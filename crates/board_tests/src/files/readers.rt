@@ -3,15 +3,14 @@
 ghost use Rattle.std.specs.Prelude.{◌≡◌, ◌≤◌, length};
 ghost use Rattle.lc_model.specs.Tables.Image.{Watchpoints, Actionpoints, image_length, preamble_length};
 
-use super::{changed, low_volts_adt_file, low_volts_wdt_file};
+use super::{adt_file, changed, opened, wdt_file};
 use crate::images::put;
-use crate::shared::{holds, same};
+use crate::shared::same;
 use crate::values::{HASH, low, low_volts_adt, low_volts_wdt};
 use lc_model::{ApMode, CmpOp, EventKind, FieldType, Kind, Report};
 use std::process::Abort;
-use std::test::Fail;
 use table_file::{
-    ActionpointEntry, EQUAL_WORD, Layout, TableFile, WatchpointEntry, entry_bytes, is_blank, open,
+    ActionpointEntry, EQUAL_WORD, Layout, TableFile, WatchpointEntry, entry_bytes, is_blank,
     preamble,
 };
 
@@ -37,17 +36,16 @@ fn has_written_fields<R: Abort>(rt: &R, file: &TableFile, name: &[u8], length: u
 }
 
 #[test]
-fn the_two_files_open(rt: HostRuntime) -> Result<(), Fail> {
-    let wdt = low_volts_wdt_file(rt.alloc())?;
-    has_written_fields(&rt, &open(&wdt)?, b"LC.LC_WDT", 4_264);
-    let adt = low_volts_adt_file(rt.alloc())?;
-    has_written_fields(&rt, &open(&adt)?, b"LC.LC_ADT", 15_176);
-    Ok(())
+fn the_two_files_open(rt: HostRuntime) {
+    let wdt = wdt_file(&rt);
+    has_written_fields(&rt, &opened(&rt, &wdt), b"LC.LC_WDT", 4_264);
+    let adt = adt_file(&rt);
+    has_written_fields(&rt, &opened(&rt, &adt), b"LC.LC_ADT", 15_176);
 }
 
 #[test]
-fn any_value_of_the_other_fields(rt: HostRuntime) -> Result<(), Fail> {
-    let wdt = low_volts_wdt_file(rt.alloc())?;
+fn any_value_of_the_other_fields(rt: HostRuntime) {
+    let wdt = wdt_file(&rt);
     let other = [
         (12, 1),
         (16, 2),
@@ -59,25 +57,23 @@ fn any_value_of_the_other_fields(rt: HostRuntime) -> Result<(), Fail> {
         (64, 7),
         (76, 8),
     ];
-    let bytes = changed(rt.alloc(), &wdt, &other)?;
-    let file = open(&bytes)?;
+    let bytes = changed(&rt, &wdt, &other);
+    let file = opened(&rt, &bytes);
     let expected = [0x0100_0042, 0x0200_0001, 3, 4, 5, 0x0700_0000];
     same(&rt, "numbers", numbers(&file), expected);
     same(&rt, "description", file.description().first(), Some(&b'd'));
     same(&rt, "its end", file.description().last(), Some(&6));
     same(&rt, "name", file.name(), b"\x08C.LC_WDT");
-    Ok(())
 }
 
 /// The file opens, and has this name.
 fn is_named<R: Abort>(rt: &R, file: &[u8], name: &[u8]) {
-    let file = open(file).expect(rt, "refused");
-    same(rt, "name", file.name(), name);
+    same(rt, "name", opened(rt, file).name(), name);
 }
 
 #[test]
-fn names_with_and_without_a_zero(rt: HostRuntime) -> Result<(), Fail> {
-    let mut file = low_volts_wdt_file(rt.alloc())?;
+fn names_with_and_without_a_zero(rt: HostRuntime) {
+    let mut file = wdt_file(&rt);
     put(&mut file, 76, b"\0");
     is_named(&rt, &file, b"");
     put(&mut file, 76, b"LC\0");
@@ -85,7 +81,6 @@ fn names_with_and_without_a_zero(rt: HostRuntime) -> Result<(), Fail> {
     is_named(&rt, &file, b"LC");
     put(&mut file, 76, &[b'n'; 40]);
     is_named(&rt, &file, &[b'n'; 40]);
-    Ok(())
 }
 
 /// The fields in front of an image's entries: version 1, and one entry over one watchpoint.
@@ -131,12 +126,11 @@ fn has_blank_entries<R: Abort>(rt: &R, image: &[u8])
 }
 
 #[test]
-fn the_watchpoints_image(rt: HostRuntime) -> Result<(), Fail> {
-    let image = low_volts_wdt(rt.alloc())?;
+fn the_watchpoints_image(rt: HostRuntime) {
+    let image = low_volts_wdt(rt.alloc()).expect(&rt, "out of memory");
     has_preamble(&rt, &image, 1);
     has_low_volts(&rt, &WatchpointEntry::of(&image, 0));
     has_blank_entries(&rt, &image);
-    Ok(())
 }
 
 /// The low-volts actionpoint, field by field.
@@ -168,20 +162,19 @@ fn has_one_mention<R: Abort>(rt: &R, entry: &ActionpointEntry) {
 }
 
 #[test]
-fn the_actionpoints_image(rt: HostRuntime) -> Result<(), Fail> {
-    let image = low_volts_adt(rt.alloc())?;
+fn the_actionpoints_image(rt: HostRuntime) {
+    let image = low_volts_adt(rt.alloc()).expect(&rt, "out of memory");
     has_preamble(&rt, &image, 2);
     let entry = ActionpointEntry::of(Layout::Actionpoints, &image, 0);
     has_low(&rt, &entry);
     has_one_mention(&rt, &entry);
-    Ok(())
 }
 
 /// Of the images of both tables, each has the layout of its own kind alone.
 #[test]
-fn layouts_by_length(rt: HostRuntime) -> Result<(), Fail> {
-    let wdt = low_volts_wdt(rt.alloc())?;
-    let adt = low_volts_adt(rt.alloc())?;
+fn layouts_by_length(rt: HostRuntime) {
+    let wdt = low_volts_wdt(rt.alloc()).expect(&rt, "out of memory");
+    let adt = low_volts_adt(rt.alloc()).expect(&rt, "out of memory");
     for (kind, image, layout) in [
         (Kind::Wdt, &wdt, Some(Layout::Watchpoints)),
         (Kind::Adt, &adt, Some(Layout::Actionpoints)),
@@ -190,5 +183,4 @@ fn layouts_by_length(rt: HostRuntime) -> Result<(), Fail> {
     ] {
         same(&rt, kind, Layout::of_image(kind, image), layout);
     }
-    Ok(())
 }

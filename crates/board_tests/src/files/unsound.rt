@@ -6,18 +6,11 @@ ghost use Rattle.lc_model.specs.Tables.Image.{Actionpoints, fits_32_bits, image_
 use crate::shared::same;
 use crate::values::{actionpoint, encoded_adt, encoded_wdt};
 use lc_model::{ApMode, CmpOp, FieldType, Term};
-use std::alloc::{AllocError, Global};
 use std::process::Abort;
-use std::test::Fail;
-use table_file::{ActionpointEntry, EQUAL_WORD, FileError, Layout, WatchpointEntry};
+use table_file::{ActionpointEntry, EQUAL_WORD, Layout, WatchpointEntry};
 
 /// A table of one watchpoint with this number is read as it was written.
-fn is_read_again<R: Abort>(
-    rt: &R,
-    alloc: Global,
-    kind: FieldType,
-    value: i64,
-) -> Result<(), FileError>
+fn is_read_again<R: Abort + AllocGlobal>(rt: &R, kind: FieldType, value: i64)
     requires { IsTrue (fits_32_bits kind value) }
 {
     let term = Term {
@@ -29,19 +22,17 @@ fn is_read_again<R: Abort>(
         op: CmpOp::Less,
         value,
     };
-    let watchpoints = vec![in alloc; term].map_err(AllocError::from)?;
-    let image = encoded_wdt(alloc, watchpoints)?;
+    let watchpoints = Vec::from_slice(rt.alloc(), &[term]).expect(rt, "out of memory");
+    let image = encoded_wdt(rt.alloc(), watchpoints).expect(rt, "out of memory");
     same(rt, kind, WatchpointEntry::of(&image, 0).term(), term);
-    Ok(())
 }
 
 #[test]
-fn numbers_beyond_their_type(rt: HostRuntime) -> Result<(), Fail> {
-    is_read_again(&rt, rt.alloc(), FieldType::U8, 256)?;
-    is_read_again(&rt, rt.alloc(), FieldType::U16Le, 0xFFFF_FFFF)?;
-    is_read_again(&rt, rt.alloc(), FieldType::I8, -0x8000_0000)?;
-    is_read_again(&rt, rt.alloc(), FieldType::I16Be, 0x7FFF_FFFF)?;
-    Ok(())
+fn numbers_beyond_their_type(rt: HostRuntime) {
+    is_read_again(&rt, FieldType::U8, 256);
+    is_read_again(&rt, FieldType::U16Le, 0xFFFF_FFFF);
+    is_read_again(&rt, FieldType::I8, -0x8000_0000);
+    is_read_again(&rt, FieldType::I16Be, 0x7FFF_FFFF);
 }
 
 /// An equation of a mention, EQUAL, and one word more.
@@ -58,10 +49,10 @@ fn has_a_word_behind_equal<R: Abort>(rt: &R, image: &[u8])
 }
 
 #[test]
-fn words_up_to_the_first_equal(rt: HostRuntime) -> Result<(), Fail> {
+fn words_up_to_the_first_equal(rt: HostRuntime) {
     let words = [0, EQUAL_WORD, 0xFFFF];
-    let entry = actionpoint(rt.alloc(), ApMode::Active, 2, 7, &words)?;
-    let image = encoded_adt(rt.alloc(), 1, vec![in rt.alloc(); entry]?)?;
+    let entry = actionpoint(rt.alloc(), ApMode::Active, 2, 7, &words).expect(&rt, "out of memory");
+    let entries = vec![in rt.alloc(); entry].expect(&rt, "out of memory");
+    let image = encoded_adt(rt.alloc(), 1, entries).expect(&rt, "out of memory");
     has_a_word_behind_equal(&rt, &image);
-    Ok(())
 }

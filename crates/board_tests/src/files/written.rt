@@ -1,10 +1,9 @@
 //! The two files, byte for byte.
 
-use super::{has, low_volts_adt_file, low_volts_wdt_file};
+use super::{adt_file, has, wdt_file};
 use crate::images::{adt, wdt};
 use crate::shared::same;
 use std::process::Abort;
-use std::test::Fail;
 
 /// The headers, from the cFE's magic word on; they differ in the image's length and the table's name.
 fn has_headers<R: Abort>(rt: &R, file: &[u8], length_and_name: &[u8; 13]) {
@@ -20,19 +19,17 @@ fn has_headers<R: Abort>(rt: &R, file: &[u8], length_and_name: &[u8; 13]) {
 }
 
 #[test]
-fn low_volts_watchpoints(rt: HostRuntime) -> Result<(), Fail> {
-    let file = low_volts_wdt_file(rt.alloc())?;
+fn low_volts_watchpoints(rt: HostRuntime) {
+    let file = wdt_file(&rt);
     same(&rt, "length", file.len(), 4_380);
     has_headers(&rt, &file, b"\x00\x00\x10\xA8LC.LC_WDT");
     has(&rt, &file, 116, &wdt(&rt, 1));
-    Ok(())
 }
 
 #[test]
-fn low_volts_actionpoints(rt: HostRuntime) -> Result<(), Fail> {
-    let file = low_volts_adt_file(rt.alloc())?;
+fn low_volts_actionpoints(rt: HostRuntime) {
+    let file = adt_file(&rt);
     same(&rt, "length", file.len(), 15_292);
     has_headers(&rt, &file, b"\x00\x00\x3B\x48LC.LC_ADT");
     has(&rt, &file, 116, &adt(&rt, 1));
-    Ok(())
 }
