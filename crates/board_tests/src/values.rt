@@ -5,7 +5,7 @@ ghost use Rattle.std.specs.List.{AllByRecursion};
 ghost use Rattle.lc_model.specs.Codes.{table_entries};
 ghost use Rattle.lc_model.specs.Tables.Image.{Watchpoints, Actionpoints, image_length, FitsWatchpoint, FitsEntry};
 
-use lc_model::{ApMode, Bytes, CmpOp, EventKind, FieldType, Report, Term};
+use lc_model::{ApMode, Bytes, CmpOp, EventKind, FieldType, ReportMaxima, Term};
 use std::alloc::{AllocError, Global};
 use table_file::{AdtImage, FileError, TableEntry, WdtImage, encode_adt, encode_wdt};
 
@@ -41,7 +41,7 @@ pub fn actionpoint(
 {
     Ok(TableEntry {
         mode,
-        report: Report {
+        report: ReportMaxima {
             passive: 0,
             pass_to_fail: 0,
             fail_to_pass: 0,

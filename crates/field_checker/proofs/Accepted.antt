@@ -6,16 +6,9 @@ use Rattle.lc_model.specs.Condition.{Operator}
 use Rattle.lc_model.specs.Text.Token.{Token}
 use Rattle.lc_model.specs.Text.Syntax as model
 use Rattle.lc_model.specs.Text.Meaning.{TextFault, fault_if, fault_outside, faults, faults_of, name_faults, packet_faults, field_faults, condition_faults, packet_named, field_named}
+use Rattle.lc_model.proofs.Facts.{append_none_first, append_none_second, some_same}
 
 -- ---- lists of faults
-
-pub front_is_empty : {A : Type 0} (xs ys : List A) → xs ++ ys ≡ [] → xs ≡ []
-front_is_empty [] ys e = refl
-front_is_empty (x ∷ xs) ys e = absurd (cc e)
-
-pub rest_is_empty : {A : Type 0} (xs ys : List A) → xs ++ ys ≡ [] → ys ≡ []
-rest_is_empty [] ys e = e
-rest_is_empty (x ∷ xs) ys e = absurd (cc e)
 
 not_refused : (b : Bool) (code at : ℕ) → fault_if b code at ≡ [] → b ≡ false
 not_refused true code at e = absurd (cc e)
@@ -24,8 +17,8 @@ not_refused false code at e = refl
 -- nothing of the item at an index is refused
 pub clean_at : {A : Type 0} (f : A → List TextFault) (xs : List A) (i : ℕ) (d : A) → i < length xs → flat_map f xs ≡ [] → f (get_or xs i d) ≡ []
 clean_at f [] i d lt e = absurd (omega (arith, lt))
-clean_at f (x ∷ xs) zero d lt e = front_is_empty (f x) (flat_map f xs) e
-clean_at f (x ∷ xs) (suc i) d lt e = clean_at f xs i d (omega (arith, lt)) (rest_is_empty (f x) (flat_map f xs) e)
+clean_at f (x ∷ xs) zero d lt e = append_none_first (f x) (flat_map f xs) e
+clean_at f (x ∷ xs) (suc i) d lt e = clean_at f xs i d (omega (arith, lt)) (append_none_second (f x) (flat_map f xs) e)
 
 -- ---- numbers
 
@@ -38,12 +31,9 @@ at_most_outside low high code n e = at_most low high n.value (not_refused _ code
 
 -- ---- names
 
-some_is : {A : Type 0} (x y : A) → Some x ≡ Some y → x ≡ y
-some_is x y e = cc e
-
 -- the first that passes, or one behind it
 found : {A : Type 0} (P : A → Type 0) (b : Bool) (x y : A) (behind : Option A) → P x → (behind ≡ Some y → P y) → cond b (Some x) behind ≡ Some y → P y
-found P true x y behind here there e = subst P (some_is x y e) here
+found P true x y behind here there e = subst P (some_same x y e) here
 found P false x y behind here there e = there e
 
 -- nothing is refused of the packet, and of the field, that a name names
@@ -52,37 +42,37 @@ packet_among : (items others : List model.Item) (name : Token) (p : model.Packet
 packet_among items [] name p clean e = absurd (cc e)
 packet_among items (model.Packet q ∷ others) name p clean e =
     found (λ p. packet_faults p ≡ []) (bytes_eq q.name.text name.text) q p (packet_named others name)
-    (rest_is_empty (name_faults items (model.Packet q)) (packet_faults q)
-    (front_is_empty (faults_of items (model.Packet q)) (flat_map (faults_of items) others) clean))
-    (packet_among items others name p (rest_is_empty (faults_of items (model.Packet q)) (flat_map (faults_of items) others) clean)) e
+    (append_none_second (name_faults items (model.Packet q)) (packet_faults q)
+    (append_none_first (faults_of items (model.Packet q)) (flat_map (faults_of items) others) clean))
+    (packet_among items others name p (append_none_second (faults_of items (model.Packet q)) (flat_map (faults_of items) others) clean)) e
 packet_among items (model.Field f ∷ others) name p clean e =
-    packet_among items others name p (rest_is_empty (faults_of items (model.Field f)) (flat_map (faults_of items) others) clean) e
+    packet_among items others name p (append_none_second (faults_of items (model.Field f)) (flat_map (faults_of items) others) clean) e
 packet_among items (model.Rule r ∷ others) name p clean e =
-    packet_among items others name p (rest_is_empty (faults_of items (model.Rule r)) (flat_map (faults_of items) others) clean) e
+    packet_among items others name p (append_none_second (faults_of items (model.Rule r)) (flat_map (faults_of items) others) clean) e
 
 field_among : (items others : List model.Item) (name : Token) (f : model.FieldItem) → flat_map (faults_of items) others ≡ [] →
     field_named others name ≡ Some f → field_faults items f ≡ []
 field_among items [] name f clean e = absurd (cc e)
 field_among items (model.Field g ∷ others) name f clean e =
     found (λ f. field_faults items f ≡ []) (bytes_eq g.name.text name.text) g f (field_named others name)
-    (rest_is_empty (name_faults items (model.Field g)) (field_faults items g)
-    (front_is_empty (faults_of items (model.Field g)) (flat_map (faults_of items) others) clean))
-    (field_among items others name f (rest_is_empty (faults_of items (model.Field g)) (flat_map (faults_of items) others) clean)) e
+    (append_none_second (name_faults items (model.Field g)) (field_faults items g)
+    (append_none_first (faults_of items (model.Field g)) (flat_map (faults_of items) others) clean))
+    (field_among items others name f (append_none_second (faults_of items (model.Field g)) (flat_map (faults_of items) others) clean)) e
 field_among items (model.Packet p ∷ others) name f clean e =
-    field_among items others name f (rest_is_empty (faults_of items (model.Packet p)) (flat_map (faults_of items) others) clean) e
+    field_among items others name f (append_none_second (faults_of items (model.Packet p)) (flat_map (faults_of items) others) clean) e
 field_among items (model.Rule r ∷ others) name f clean e =
-    field_among items others name f (rest_is_empty (faults_of items (model.Rule r)) (flat_map (faults_of items) others) clean) e
+    field_among items others name f (append_none_second (faults_of items (model.Rule r)) (flat_map (faults_of items) others) clean) e
 
 -- the packet of a field is there, and its message id has 16 bits
 pub packet_is_there : (items : List model.Item) (name : Token) (f : model.FieldItem) → faults items ≡ [] → field_named items name ≡ Some f →
     is_none (packet_named items f.packet) ≡ false
 packet_is_there items name f clean e =
-    not_refused _ 22 f.packet.at (front_is_empty _ _ (front_is_empty _ _ (front_is_empty _ _ (field_among items items name f clean e))))
+    not_refused _ 22 f.packet.at (append_none_first _ _ (append_none_first _ _ (append_none_first _ _ (field_among items items name f clean e))))
 
 pub mid_is_short : (items : List model.Item) (name : Token) (p : model.PacketItem) → faults items ≡ [] → packet_named items name ≡ Some p →
     nat_abs p.mid.value < 2 ^ 16
 mid_is_short items name p clean e =
-    let most = at_most_outside 0x0800 0x0FFF 23 p.mid (front_is_empty _ _ (front_is_empty _ _ (packet_among items items name p clean e))) in omega arith
+    let most = at_most_outside 0x0800 0x0FFF 23 p.mid (append_none_first _ _ (append_none_first _ _ (packet_among items items name p clean e))) in omega arith
 
 -- ---- conditions
 
@@ -105,7 +95,7 @@ left_clean items o a b whole operand is same clean =
       smaller = omega arith;
       clean =
           ap (condition_faults items) same
-          ∙ front_is_empty (condition_faults items a) (condition_faults items b) (sym (ap (condition_faults items) is) ∙ clean);
+          ∙ append_none_first (condition_faults items a) (condition_faults items b) (sym (ap (condition_faults items) is) ∙ clean);
     }
 
 pub right_clean : (items : List model.Item) (o : Operator) (a b whole operand : model.Expression) → whole ≡ model.Join o a b → operand ≡ b →
@@ -116,5 +106,5 @@ right_clean items o a b whole operand is same clean =
       smaller = omega arith;
       clean =
           ap (condition_faults items) same
-          ∙ rest_is_empty (condition_faults items a) (condition_faults items b) (sym (ap (condition_faults items) is) ∙ clean);
+          ∙ append_none_second (condition_faults items a) (condition_faults items b) (sym (ap (condition_faults items) is) ∙ clean);
     }

@@ -7,13 +7,11 @@ use Rattle.lc_model.specs.declared.rule.Rule.{Rule}
 use Rattle.lc_model.specs.Rule.{NamedRule, rule_of, rules_of}
 use Rattle.lc_model.specs.Text.Syntax as model
 use Rattle.lc_model.specs.Text.Meaning.{condition_in, named_rule, option_map_two, rules_in}
+use Rattle.lc_model.proofs.Facts.{some_same}
 use Rattle.rule_parser.specs.declared.syntax.Item.{Item}
 use Rattle.rule_parser.specs.declared.syntax.Item.TheVariants as item
 use Rattle.rule_parser.specs.declared.syntax.RuleItem.{RuleItem}
 use Rattle.rule_parser.specs.Syntax.{item_of, items_of}
-
-some_is : {A : Type 0} (x y : A) → Some x ≡ Some y → x ≡ y
-some_is x y e = cc e
 
 -- the rules before this one, this one, and those after it
 pub one_meant : (items others : List model.Item) (done : List NamedRule) (r : model.RuleItem) (rule : NamedRule) →
@@ -26,7 +24,7 @@ one_meant items others done r rule e = joined (condition_in items r.condition) (
     joined None rules e = absurd (cc e)
     joined (Some c) None e = refl
     joined (Some c) (Some rs) e =
-        ap Some (ap (λ first. done ++ first ∷ rs) (some_is (named_rule r c) rule e) ∙ sym (append_assoc done (rule ∷ []) rs))
+        ap Some (ap (λ first. done ++ first ∷ rs) (some_same (named_rule r c) rule e) ∙ sym (append_assoc done (rule ∷ []) rs))
 
 -- an item that is no rule
 pub none_meant : (items others : List model.Item) (i : Item) → ((r : RuleItem) → i ≡ item.Rule r → ⊥) →

@@ -14,17 +14,6 @@ use crate::names::Names;
 use lc_model::FieldType;
 use rule_parser::{FieldItem, Number, PacketItem};
 
-/// The mask of all ones.
-pub(crate) fn full_mask(kind: FieldType) -> u32
-    ensures { result ≡ full_mask kind }
-{
-    match kind {
-        FieldType::U8 | FieldType::I8 => 0xFF,
-        FieldType::U16Be | FieldType::U16Le | FieldType::I16Be | FieldType::I16Le => 0xFFFF,
-        FieldType::U32Be | FieldType::U32Le | FieldType::I32Be | FieldType::I32Le => 0xFFFF_FFFF,
-    }
-}
-
 /// Whether a byte of the field is outside its packet, as far as it's known: its packet may be named by no item.
 fn is_outside(field: &FieldItem, packet: Option<&PacketItem>) -> bool
     ensures { result ≡ is_outside (field_of field.now) (option_map (λ p. packet_of p.now) packet.entry) }
@@ -43,7 +32,7 @@ impl Faults {
         ensures { first_of self.new ≡ after (first_of self.old) (option_map_or (fault_outside 1 (full_mask kind) 26) (option_map number_of mask) []) }
     {
         if let Some(mask) = mask {
-            self.refuse_outside(mask, 1, full_mask(kind), Check::MaskRange);
+            self.refuse_outside(mask, 1, kind.full_mask(), Check::MaskRange);
         }
     }
 

@@ -9,9 +9,8 @@ ghost use Rattle.lc_model.specs.Text.Meaning as meaning;
 ghost use Rattle.lc_model.specs.Text.Meaning.{condition_faults, condition_in, faults, named_rule, report_faults, rule_faults, rules_in, term_of};
 ghost use Rattle.rule_parser.specs.Syntax.{comparison_of, expression_of, field_of, items_of, number_of, packet_of, report_of, rule_of};
 
-use crate::field::full_mask;
 use crate::names::Names;
-use lc_model::{Bytes, Cond, Report, Rule, Term};
+use lc_model::{Bytes, Cond, ReportMaxima, Rule, Term};
 use rule_parser::{
     Comparison, Expression, FieldItem, Item, Number, PacketItem, ReportItem, RuleItem,
 };
@@ -49,7 +48,7 @@ fn watchpoint(field: &FieldItem, packet: &PacketItem, comparison: &Comparison) -
         kind: field.kind,
         mid: short(packet.mid),
         offset: magnitude(field.offset),
-        mask: field.mask.map_or(full_mask(field.kind), magnitude),
+        mask: field.mask.map_or(field.kind.full_mask(), magnitude),
         stale: field.stale.map_or(0, magnitude),
         op: comparison.op,
         value: comparison.value.value,
@@ -102,17 +101,17 @@ fn condition<'a>(
 }
 
 /// The most reports of each kind, none where they aren't written.
-fn report(item: Option<ReportItem>) -> Report
+fn report(item: Option<ReportItem>) -> ReportMaxima
     requires { option_map_or report_faults (option_map report_of item) [] ≡ [] }
     ensures { result ≡ option_map_or meaning.report_of (option_map report_of item) (record { passive = 0; pass_to_fail = 0; fail_to_pass = 0 }) }
 {
     match item {
-        Some(item) => Report {
+        Some(item) => ReportMaxima {
             passive: item.passive.value.unsigned_abs() as u8,
             pass_to_fail: short(item.pass_to_fail),
             fail_to_pass: short(item.fail_to_pass),
         },
-        None => Report {
+        None => ReportMaxima {
             passive: 0,
             pass_to_fail: 0,
             fail_to_pass: 0,

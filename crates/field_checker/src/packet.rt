@@ -10,28 +10,19 @@ ghost use Rattle.field_checker.specs.Faults.{after, first_of};
 
 use crate::fault::Check;
 use crate::faults::Faults;
+use lc_model::mids;
 use rule_parser::{Number, PacketItem};
-
-/// The message ids of telemetry with a secondary header (CCSDS 133.0-B).
-const FIRST_TELEMETRY_MID: u32 = 0x0800;
-
-const LAST_TELEMETRY_MID: u32 = 0x0FFF;
-
-/// The message ids of the host's own telemetry, which no rule watches.
-const EVENT_MID: i64 = 0x0808;
-
-const LC_HOUSEKEEPING_MID: i64 = 0x08A7;
 
 /// A packet's least and most bytes.
 const SHORTEST_PACKET: u32 = 12;
 
 const LONGEST_PACKET: u32 = 2_048;
 
-/// Whether the message id is one of the host's own.
+/// Whether the message id is one of the host's own telemetry, which no rule watches.
 fn is_reserved(mid: Number) -> bool
     ensures { result ≡ list_any (λ reserved. int_eq mid.value (pos reserved)) reserved_mids }
 {
-    mid.value == EVENT_MID || mid.value == LC_HOUSEKEEPING_MID
+    mid.value == i64::from(mids::EVENT) || mid.value == i64::from(mids::LC_HOUSEKEEPING)
 }
 
 impl Faults {
@@ -42,8 +33,8 @@ impl Faults {
     {
         self.refuse_outside(
             packet.mid,
-            FIRST_TELEMETRY_MID,
-            LAST_TELEMETRY_MID,
+            mids::FIRST_TELEMETRY.into(),
+            mids::LAST_TELEMETRY.into(),
             Check::MidRange,
         );
         self.refuse_if(is_reserved(packet.mid), Check::ReservedMid, packet.mid.at);

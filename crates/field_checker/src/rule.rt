@@ -1,8 +1,7 @@
 //! Checks of rules.
 
-ghost use Rattle.std.specs.Prelude.{◌≡◌, [], option_map, not};
+ghost use Rattle.std.specs.Prelude.{◌≡◌, [], option_map};
 ghost use Rattle.std.specs.Option.{option_map_or};
-ghost use Rattle.lc_model.specs.Field.{is_in_type};
 ghost use Rattle.lc_model.specs.Text.Meaning.{compare_faults, condition_faults, report_faults, rule_faults};
 ghost use Rattle.rule_parser.specs.Syntax.{comparison_of, expression_of, field_of, items_of, name_of, number_of, report_of, rule_of};
 ghost use Rattle.field_checker.specs.Faults.{after, first_of};
@@ -10,7 +9,6 @@ ghost use Rattle.field_checker.specs.Faults.{after, first_of};
 use crate::fault::Check;
 use crate::faults::Faults;
 use crate::names::Names;
-use lc_model::FieldType;
 use rule_parser::{Comparison, Expression, ReportItem, RuleItem};
 
 /// The least event id of a rule.
@@ -20,20 +18,6 @@ const FIRST_EVENT_ID: u32 = 1_000;
 const MOST_OF_8_BITS: u32 = 0xFF;
 
 const MOST_OF_16_BITS: u32 = 0xFFFF;
-
-/// Whether the number is one of the type's.
-fn is_in_type(kind: FieldType, value: i64) -> bool
-    ensures { result ≡ is_in_type kind value }
-{
-    match kind {
-        FieldType::U8 => (0..=0xFF).contains(&value),
-        FieldType::I8 => (-0x80..=0x7F).contains(&value),
-        FieldType::U16Be | FieldType::U16Le => (0..=0xFFFF).contains(&value),
-        FieldType::I16Be | FieldType::I16Le => (-0x8000..=0x7FFF).contains(&value),
-        FieldType::U32Be | FieldType::U32Le => (0..=0xFFFF_FFFF).contains(&value),
-        FieldType::I32Be | FieldType::I32Le => (-0x8000_0000..=0x7FFF_FFFF).contains(&value),
-    }
-}
 
 impl Faults {
     /// Meets the faults of the maxima of events, where they are written.
@@ -56,7 +40,7 @@ impl Faults {
         let value = comparison.value;
         match names.field(comparison.field) {
             Some(field) => {
-                let outside = !is_in_type(field.kind, value.value);
+                let outside = !field.kind.has(value.value);
                 self.refuse_if(outside, Check::ConstRange, value.at);
             }
             None => self.refuse_if(true, Check::UnknownName, comparison.field.at),

@@ -2,17 +2,15 @@
 use Rattle.std.proofs.Common.{◌≡◌, refl, ◌∙◌, ap, ℕ, ◌≤◌, Bool, true, false, ◌&&◌, ◌==◌, nat_le, List, [], Result, Ok, Err, IsErr, inl, inr, arith}
 use Rattle.lc_model.specs.Packet.{message_id, function_code, payload, is_telemetry_mid, sample_mid}
 use Rattle.lc_model.specs.Refusal.{Refusal}
-use Rattle.lc_model.specs.Command.{SampleRequest, sample_request}
+use Rattle.lc_model.specs.Command.{sample_request}
+use Rattle.lc_model.specs.declared.command.SampleRequest.{SampleRequest}
 use Rattle.lc_model.specs.Events.Request.{Request}
 use Rattle.lc_model.specs.Host.FixedTables.{is_taken}
+use Rattle.lc_model.proofs.Facts.{and_second}
 use Rattle.limit_checker.specs.Watcher.{Watcher, after_packet}
-use Rattle.flight_run.specs.declared.packet.Arrival.TheVariants.{Telemetry, Nothing}
+use Rattle.flight_run.specs.declared.arrival.Arrival.TheVariants.{Telemetry, Nothing}
 use Rattle.flight_run.specs.Arrival.{IsSampling, IsArrival}
 use Rattle.flight_run.specs.Flight.{Kept, sampled, after_arrival, with_requests, handled}
-
-and_second : (a b : Bool) → (a && b) ≡ true → b ≡ true
-and_second true b e = e
-and_second false b e = absurd (cc e)
 
 no_sample : (mid : ℕ) → is_telemetry_mid mid ≡ true → (mid == sample_mid) ≡ false
 no_sample mid is =

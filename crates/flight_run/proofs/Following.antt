@@ -5,7 +5,8 @@ use Rattle.std.specs.Prelude.{slice_set}
 use Rattle.lc_model.specs.declared.mode.LcMode.TheVariants.{Active}
 use Rattle.lc_model.specs.declared.field.Term.{Term}
 use Rattle.lc_model.specs.Rule.{Actionpoint}
-use Rattle.lc_model.specs.Command.{SampleRequest, takes}
+use Rattle.lc_model.specs.Command.{takes}
+use Rattle.lc_model.specs.declared.command.SampleRequest.{SampleRequest}
 use Rattle.lc_model.specs.Events.Request.{Request}
 use Rattle.lc_model.specs.LimitChecker.Steps.{Point, is_sampled, sampled_point, sampled_points}
 use Rattle.lc_model.specs.Kept.Summary.{WatchResult, Tally}

@@ -15,6 +15,7 @@ use Rattle.lc_model.specs.Host.FixedTables.{halves_of, fixed_halves, lc_from_sta
 use Rattle.lc_model.specs.Kept.Summary.{WatchResult, Tally, LcNow, lc_now, now_by, tallied}
 use Rattle.lc_model.specs.Kept.Next.{by_counts}
 use Rattle.lc_model.specs.Laws.LimitChecker.{InForceIsSensible, IsSensible, IsSettled, SamePacketStep, StaysSettled}
+use Rattle.lc_model.proofs.Facts.{and_second, tested_equal}
 use Rattle.limit_checker.specs.Watcher.{Watcher, fresh_point}
 use Rattle.flight_run.specs.Flight.{after_arrival, count_after, request_bytes, handled, all_handled}
 use Rattle.flight_run.proofs.Counting.{bytes-append}
@@ -86,14 +87,6 @@ or_cases : (a b : Bool) (P : Type 0) → (a || b) ≡ true → (a ≡ true → P
 or_cases true b P e first second = first refl
 or_cases false b P e first second = second e
 
-and_second : (a b : Bool) → (a && b) ≡ true → b ≡ true
-and_second true b e = e
-and_second false b e = absurd (cc e)
-
--- a number that a test finds
-number_is : (m n : ℕ) → (m == n) ≡ true → m ≡ n
-number_is m n e = grind (arith, e)
-
 module _ (agrees : SamePacketStep fixed_halves) (settles : StaysSettled fixed_halves) (text : Text) (is_sensible : IsSensible fixed_halves (halves_of text)) where
   module _ (packet : List ℕ) (lc : Lc TextImage) (watch : List WatchResult) (points : List (Point Tally)) (follows : Follows text lc watch points) where
     by_steps : (after : Watcher × List Request) → StepsAlike text (lc_packet by_counts fixed_halves packet (now_with text watch points)) after →
@@ -119,7 +112,7 @@ module _ (agrees : SamePacketStep fixed_halves) (settles : StaysSettled fixed_ha
         (and_second (is_none (stream_fault packet)) (is_telemetry_mid (message_id packet) || message_id packet == sample_mid) is)
         (λ telemetry. subst (GoOn text (lc_packet by_lists fixed_halves packet lc)) (sym (on_telemetry packet (watching text watch points) (is, telemetry)))
         (by_steps _ (telemetry_alike text watch points packet telemetry)))
-        (λ sample. let mid : message_id packet ≡ sample_mid = number_is (message_id packet) sample_mid sample in
+        (λ sample. let mid : message_id packet ≡ sample_mid = tested_equal (message_id packet) sample_mid sample in
         subst (GoOn text (lc_packet by_lists fixed_halves packet lc)) (sym (on_sample packet (watching text watch points) (record { taken = is; mid = mid })))
         (by_steps _ (sample_alike text watch points (as_many text lc watch points follows) packet mid)))
 

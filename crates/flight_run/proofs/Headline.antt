@@ -1,10 +1,12 @@
 -- From how a run ends to the theorem.
-use Rattle.std.proofs.Common.{◌≡◌, refl, sym, ◌∙◌, ap, subst, inl, inr, ℕ, List, [], ◌++◌, length, Option, Some, None, Result, Ok, Err, arith, append-nil}
+use Rattle.std.proofs.Common.{◌≡◌, refl, sym, ◌∙◌, ap, subst, inl, inr, ℕ, ◌^◌, List, [], ◌++◌, length, Option, Some, None, Result, Ok, Err, arith, append-nil}
 use Rattle.std.specs.Io.KnownBytes.{Appends, Consumes, IsAtEnd}
 use Rattle.lc_model.specs.Rule.{NamedRule}
-use Rattle.lc_model.specs.Tables.Compiling.{Limits, Compiles, text_order_limits}
+use Rattle.lc_model.specs.Tables.Compiling.{Limits, Compiles}
+use Rattle.lc_model.specs.Tables.InForce.{limits}
 use Rattle.lc_model.specs.Tables.Compiling as compiling
 use Rattle.lc_model.specs.Host.FixedTables.{fixed_output}
+use Rattle.lc_model.specs.Host.Outcome.{Devices, IsUntouched, TookAndWrote}
 use Rattle.lc_model.specs.Host.Stream.{StreamEntry, End, Whole, Bad}
 use Rattle.lc_model.specs.Host.Stream as stream
 use Rattle.lc_model.specs.Laws.Reading.{AtMostOneReading, AtMostOneVerdict}
@@ -14,13 +16,13 @@ use Rattle.rpn_compiler.specs.Fault.{Refuses}
 use Rattle.flight_run.specs.declared.error.Report.{Report}
 use Rattle.flight_run.specs.declared.error.RunError.{RunError}
 use Rattle.flight_run.specs.declared.error.RunError.TheVariants.{Compile, BadRecord, Truncated, Read, Write, ReadBound, Memory}
-use Rattle.flight_run.specs.Outcome.{Devices, TookAndWrote, IsOutcome, records}
-use Rattle.flight_run.specs.RunOne.{IsUntouched, IsRunOf, IsRun, refusal_of, IsUndisturbed, answer, WritesWhatIsCalledFor}
+use Rattle.flight_run.specs.Ending.{IsOutcome, records}
+use Rattle.flight_run.specs.RunOne.{IsRunOf, IsRun, refusal_of, IsUndisturbed, answer, WritesWhatIsCalledFor}
 
 -- ---- how a run begins
 
 -- a text that has no compiled form
-refused_by : (source : List ℕ) (d : Devices) → IsUntouched d → (error : CompileError) → Refuses (compiling.IsRefused text_order_limits source) error →
+refused_by : (source : List ℕ) (d : Devices) → IsUntouched d → (error : CompileError) → Refuses (compiling.IsRefused limits source) error →
     IsRun source d (Err (refusal_of error))
 refused_by source d untouched error (inl memory) = subst (λ (e : CompileError). IsRun source d (Err (refusal_of e))) (sym memory) untouched
 refused_by source d untouched compiler.Memory (inr known) = untouched
@@ -39,13 +41,13 @@ refused_by source d untouched (compiler.EquationTooLong rule) (inr (refusal, is,
 refused_by source d untouched (compiler.TooDeep rule) (inr (refusal, is, why)) =
     record { first = refl; refusal = refusal; is = is; why = why; untouched = untouched }
 
-pub refused : (source : List ℕ) (d : Devices) → IsUntouched d → (error : CompileError) → Refuses (compiling.IsRefused text_order_limits source) error →
+pub refused : (source : List ℕ) (d : Devices) → IsUntouched d → (error : CompileError) → Refuses (compiling.IsRefused limits source) error →
     (answer : RunError) → answer ≡ refusal_of error → IsRun source d (Err answer)
 refused source d untouched error why answer is =
     subst (λ (e : RunError). IsRun source d (Err e)) (sym is) (refused_by source d untouched error why)
 
 -- a text that has one
-pub begun : (source : List ℕ) (rules : List NamedRule) (d : Devices) (result : Result Report RunError) → Compiles text_order_limits source rules →
+pub begun : (source : List ℕ) (rules : List NamedRule) (d : Devices) (result : Result Report RunError) → Compiles limits source rules →
     IsOutcome (fixed_output (record { source = source; rules = rules })) d result → IsRun source d result
 begun source rules d (Ok report) reads outcome = record { rules = rules; compiles = reads; outcome = outcome }
 begun source rules d (Err (BadRecord n)) reads outcome = record { rules = rules; compiles = reads; outcome = outcome }
@@ -87,23 +89,23 @@ module _ (one_reading : AtMostOneReading) (one_verdict : (limits : Limits) (text
   abbrev Called : List NamedRule → List ℕ → List ℕ → Result Report RunError → Type 0
   Called rules whole before result =
       let output : List ℕ = fixed_output (record { source = source; rules = rules }) (records whole).0 in
-      (d.gained_after ≡ Some (before ++ output)) × (result ≡ answer (records whole) (length output))
+      (d.sink_after.gained ≡ Some (before ++ output)) × (result ≡ answer (records whole) (length output))
 
-  module _ (rules : List NamedRule) (whole before : List ℕ) (left : d.left ≡ Some whole) (gained : d.gained ≡ Some before) where
+  module _ (rules : List NamedRule) (whole before : List ℕ) (left : d.source.rest ≡ Some whole) (gained : d.sink.gained ≡ Some before) where
     output : List StreamEntry → List ℕ
     output = fixed_output (record { source = source; rules = rules })
 
     -- what was written over records that are all the stream's
-    over_all : (bytes : List ℕ) → TookAndWrote (fixed_output (record { source = source; rules = rules })) d bytes → (records bytes).0 ≡ (records whole).0 →
-        d.gained_after ≡ Some (before ++ fixed_output (record { source = source; rules = rules }) (records whole).0)
+    over_all : (bytes : List ℕ) → TookAndWrote records (fixed_output (record { source = source; rules = rules })) (2 ^ 32) d bytes → (records bytes).0 ≡ (records whole).0 →
+        d.sink_after.gained ≡ Some (before ++ fixed_output (record { source = source; rules = rules }) (records whole).0)
     over_all bytes so same =
-        wrote_known before d.gained d.gained_after (fixed_output (record { source = source; rules = rules }) (records bytes).0) gained so.wrote
+        wrote_known before d.sink.gained d.sink_after.gained (fixed_output (record { source = source; rules = rules }) (records bytes).0) gained so.wrote
         ∙ ap (λ entries. Some (before ++ fixed_output (record { source = source; rules = rules }) entries)) same
 
     by_outcome : (result : Result Report RunError) → IsUndisturbed d result → IsOutcome (fixed_output (record { source = source; rules = rules })) d result →
         Called rules whole before result
     by_outcome (Ok report) calm outcome =
-        let all : outcome.bytes ≡ whole = took_all whole outcome.bytes d.left_after (took_known whole d.left d.left_after outcome.bytes left outcome.so.took) outcome.at_the_end in
+        let all : outcome.bytes ≡ whole = took_all whole outcome.bytes d.source_after.rest (took_known whole d.source.rest d.source_after.rest outcome.bytes left outcome.so.took) outcome.at_the_end in
         let same : (records outcome.bytes).0 ≡ (records whole).0 = ap (λ bytes. (records bytes).0) all in
         let ends : (records whole).1 ≡ Whole = ap (λ bytes. (records bytes).1) (sym all) ∙ outcome.whole in (
           over_all outcome.bytes outcome.so same,
@@ -114,14 +116,14 @@ module _ (one_reading : AtMostOneReading) (one_verdict : (limits : Limits) (text
               ∙ ap (λ e. answer ((records whole).0, e) (length (fixed_output (record { source = source; rules = rules }) (records whole).0))) (sym ends),
         )
     by_outcome (Err (BadRecord n)) calm outcome =
-        let begins : Begins whole outcome.bytes d.left_after = took_known whole d.left d.left_after outcome.bytes left outcome.so.took in
+        let begins : Begins whole outcome.bytes d.source_after.rest = took_known whole d.source.rest d.source_after.rest outcome.bytes left outcome.so.took in
         let found : records whole ≡ ((records outcome.bytes).0, Bad n) = ap records begins.all ∙ outcome.bad begins.rest in (
           over_all outcome.bytes outcome.so (sym (ap (λ (r : List StreamEntry × End). r.0) found)),
           ap (λ e. answer ((records whole).0, e) (length (fixed_output (record { source = source; rules = rules }) (records whole).0)))
               (sym (ap (λ (r : List StreamEntry × End). r.1) found)),
         )
     by_outcome (Err (Truncated n)) calm outcome =
-        let all : outcome.bytes ≡ whole = took_all whole outcome.bytes d.left_after (took_known whole d.left d.left_after outcome.bytes left outcome.so.took) outcome.at_the_end in
+        let all : outcome.bytes ≡ whole = took_all whole outcome.bytes d.source_after.rest (took_known whole d.source.rest d.source_after.rest outcome.bytes left outcome.so.took) outcome.at_the_end in
         let ends : (records whole).1 ≡ stream.Truncated n = ap (λ bytes. (records bytes).1) (sym all) ∙ outcome.cut in (
           over_all outcome.bytes outcome.so (ap (λ bytes. (records bytes).0) all),
           ap (λ e. answer ((records whole).0, e) (length (fixed_output (record { source = source; rules = rules }) (records whole).0))) (sym ends),
@@ -145,5 +147,5 @@ module _ (one_reading : AtMostOneReading) (one_verdict : (limits : Limits) (text
   headline (Err Read) run = of_run (Err Read) run
   headline (Err ReadBound) run = of_run (Err ReadBound) run
   headline (Err (Write sent)) run = of_run (Err (Write sent)) run
-  headline (Err (Compile number error)) run = λ rules whole before reads left gained calm. absurd ((one_verdict text_order_limits source).not_both rules run.refusal reads run.why)
+  headline (Err (Compile number error)) run = λ rules whole before reads left gained calm. absurd ((one_verdict limits source).not_both rules run.refusal reads run.why)
   headline (Err Memory) run = λ rules whole before reads left gained calm. absurd (calm.memory refl)

@@ -1,7 +1,6 @@
 pub mod Slices
-pub mod Fronts
+pub mod StreamFronts
 pub mod Taking
-pub mod Requests
 pub mod Counting
 pub mod OneRequest
 pub mod Opened
@@ -10,6 +9,7 @@ pub mod Arrivals
 pub mod Following
 pub mod Texts
 pub mod Follows
+pub mod Advancing
 pub mod Courses
 pub mod Headline
 pub mod Started

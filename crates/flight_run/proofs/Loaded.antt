@@ -4,11 +4,11 @@ use Rattle.std.proofs.lemmas.List.{length-map}
 use Rattle.lc_model.specs.declared.kind.Kind.TheVariants.{Wdt, Adt}
 use Rattle.lc_model.specs.Rule.{NamedRule, actions}
 use Rattle.lc_model.specs.Text.Reading.{TextRefusal, ForText}
-use Rattle.lc_model.specs.Tables.Compiling.{limit_refusal, first_refused, text_order_limits}
+use Rattle.lc_model.specs.Tables.Compiling.{limit_refusal, first_refused}
+use Rattle.lc_model.specs.Tables.InForce.{limits, layouts}
 use Rattle.lc_model.specs.Tables.Equation.{terms_of}
 use Rattle.lc_model.specs.Tables.Half.{IsHalf, IsMatch}
 use Rattle.lc_model.specs.Tables.HalvesAndBytes.{Text}
-use Rattle.lc_model.specs.Tables.Image.{version_1_layouts}
 use Rattle.lc_model.specs.Tables.Spelled.{spelled_terms, spelled_rules}
 use Rattle.lc_model.specs.Laws.Correspondence.{HalvesInOrderSpellTheText}
 use Rattle.lc_model.specs.Laws.Tables.{HalvesOfOneText}
@@ -26,41 +26,26 @@ module _ (rules : List NamedRule) (pair : TablePair) (are : AreFilesOf rules pai
   abbrev pub adt : List ℕ
   adt = are.tables.adt.0
 
-  wdt_half : IsHalf version_1_layouts Wdt wdt are.text
+  wdt_half : IsHalf layouts Wdt wdt are.text
   wdt_half = are.tables.wdt.3
 
-  adt_half : IsHalf version_1_layouts Adt adt are.text
+  adt_half : IsHalf layouts Adt adt are.text
   adt_half = are.tables.adt.3
 
   module _ (w a : TableImage) (wdt_is : w ≡ (let image : TableImage = record { kind = Wdt; bytes = wdt } in image))
       (adt_is : a ≡ (let image : TableImage = record { kind = Adt; bytes = adt } in image)) where
     -- they belong together
     pub belong : HalvesOfOneText → IsMatch w.bytes a.bytes
-    belong law = rw (wdt_is, adt_is) (law version_1_layouts are.text wdt adt rules are.compiles.0 wdt_half adt_half).match
+    belong law = rw (wdt_is, adt_is) (law layouts are.text wdt adt rules are.compiles.0 wdt_half adt_half).match
 
     -- what they spell is what the text says
-    pub said : HalvesInOrderSpellTheText → fresh (spelled_terms w.bytes) (spelled_rules version_1_layouts w.bytes a.bytes) ≡ fresh (terms_of rules) (actions rules)
+    pub said : HalvesInOrderSpellTheText → fresh (spelled_terms w.bytes) (spelled_rules layouts w.bytes a.bytes) ≡ fresh (terms_of rules) (actions rules)
     said law =
         let text : Text = record { source = are.text; rules = rules } in
-        let spelled = law version_1_layouts text wdt adt are.compiles.0 wdt_half adt_half are.tables.words_in_order in
+        let spelled = law layouts text wdt adt are.compiles.0 wdt_half adt_half are.tables.words_in_order in
         rw (wdt_is, adt_is) (ap₂ fresh spelled.0 spelled.1)
 
 -- a Limit Checker with these rules, before its first packet
 pub at_rest : (rules : List NamedRule) (watcher : Watcher) → watcher ≡ fresh (terms_of rules) (actions rules) →
     (let kept : Kept = record { watcher = watcher; count = 0 } in kept) ≡ at_start rules
 at_rest rules watcher is = ap (λ (w : Watcher). let kept : Kept = record { watcher = w; count = 0 } in kept) is
-
--- ---- as many rules as there are entries
-
-few_by : (a b : Bool) (x : Option TextRefusal) → (if a then Some (ForText 31) else if b then Some (ForText 41) else x) ≡ None → b ≡ false
-few_by true b x e = absurd (cc e)
-few_by false true x e = absurd (cc e)
-few_by false false x e = refl
-
-pub few : (rules : List NamedRule) (watcher : Watcher) → limit_refusal text_order_limits rules ≡ None → watcher ≡ fresh (terms_of rules) (actions rules) →
-    length watcher.rules ≤ 176
-few rules watcher none is =
-    let in_limits : nat_lt 176 (length rules) ≡ false = few_by (nat_lt 176 (length (terms_of rules))) _ (first_refused text_order_limits rules) none in
-    let most : length rules ≤ 176 = grind (arith, in_limits) in
-    let same : length watcher.rules ≡ length rules = ap (λ (w : Watcher). length w.rules) is ∙ length-map rules (λ (r : NamedRule). r.action) in
-    omega (arith, most, same)

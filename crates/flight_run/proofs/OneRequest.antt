@@ -10,7 +10,7 @@ use Rattle.lc_model.specs.declared.mode.ApResult.{ApResult}
 use Rattle.lc_model.specs.declared.mode.ApResult.TheVariants.{Pass, Fail}
 use Rattle.lc_model.specs.Rule.{Actionpoint}
 use Rattle.lc_model.specs.LimitChecker.Past.{is_result}
-use Rattle.lc_model.specs.Events.Request.{Request, Event, Sequence, turned_to_fail, turned_to_pass}
+use Rattle.lc_model.specs.Events.Request.{Request, Event, Sequence, Housekeeping, turned_to_fail, turned_to_pass}
 use Rattle.lc_model.specs.Events.Outgoing.{sequence_request}
 use Rattle.lc_model.specs.LimitChecker.Reaction.{Reaction, failure_requests}
 use Rattle.lc_model.specs.LimitChecker.Steps.{Point, is_disabled, is_sampled, sampled_point}
@@ -23,17 +23,20 @@ use Rattle.flight_run.specs.Flight.{count_after, request_bytes}
 abbrev pub AreEvents : List Request → Type 0
 AreEvents [] = ⊤
 AreEvents (Event sender id kind text ∷ requests) = AreEvents requests
+AreEvents (Housekeeping mode points ∷ requests) = AreEvents requests
 AreEvents (Sequence number ∷ requests) = ⊥
 
 -- at most one is
 abbrev pub HasAtMostOne : List Request → Type 0
 HasAtMostOne [] = ⊤
 HasAtMostOne (Event sender id kind text ∷ requests) = HasAtMostOne requests
+HasAtMostOne (Housekeeping mode points ∷ requests) = HasAtMostOne requests
 HasAtMostOne (Sequence number ∷ requests) = AreEvents requests
 
 behind_events : (events requests : List Request) → AreEvents events → HasAtMostOne requests → HasAtMostOne (events ++ requests)
 behind_events [] requests all one = one
 behind_events (Event sender id kind text ∷ events) requests all one = behind_events events requests all one
+behind_events (Housekeeping mode points ∷ events) requests all one = behind_events events requests all one
 behind_events (Sequence number ∷ events) requests all one = absurd all
 
 -- ---- what a sample leads to
@@ -111,11 +114,13 @@ sample_keeps_rules n w = among (slice_get w.rules n) (slice_get w.points n)
 no_bytes : (c : ℕ) (requests : List Request) → AreEvents requests → request_bytes c requests ≡ []
 no_bytes c [] all = refl
 no_bytes c (Event sender id kind text ∷ requests) all = no_bytes c requests all
+no_bytes c (Housekeeping mode points ∷ requests) all = no_bytes c requests all
 no_bytes c (Sequence number ∷ requests) all = absurd all
 
 no_count : (c : ℕ) (requests : List Request) → AreEvents requests → count_after c requests ≡ c
 no_count c [] all = refl
 no_count c (Event sender id kind text ∷ requests) all = no_count c requests all
+no_count c (Housekeeping mode points ∷ requests) all = no_count c requests all
 no_count c (Sequence number ∷ requests) all = absurd all
 
 -- the requests send this sequence's request, or nothing
@@ -126,6 +131,7 @@ SendAs c requests (Some number) = (count_after c requests ≡ (c + 1) % 16384) �
 pub send_as : (c : ℕ) (requests : List Request) → c < 16384 → HasAtMostOne requests → SendAs c requests (sequence_in requests)
 send_as c [] small one = (refl, refl)
 send_as c (Event sender id kind text ∷ requests) small one = send_as c requests small one
+send_as c (Housekeeping mode points ∷ requests) small one = send_as c requests small one
 send_as c (Sequence number ∷ requests) small one =
     let same : c % 16384 ≡ c = omega (arith, small) in (
       no_count ((c + 1) % 16384) requests one,

@@ -5,7 +5,8 @@ use Rattle.lc_model.specs.declared.kind.Kind.{Kind}
 use Rattle.lc_model.specs.declared.kind.Kind.TheVariants.{Wdt, Adt}
 use Rattle.lc_model.specs.Laws.Tables.{IsTableFile}
 use Rattle.lc_model.specs.Tables.File.{TableFile, wrapped}
-use Rattle.lc_model.specs.Tables.Image.{version_1_layouts, IsSound, fault_of}
+use Rattle.lc_model.specs.Tables.Image.{IsSound, fault_of}
+use Rattle.lc_model.specs.Tables.InForce.{layouts}
 use Rattle.lc_model.specs.Tables.Interpretation.{compiled_size}
 use Rattle.table_file.specs.declared.error.FileError.{FileError}
 use Rattle.table_validator.specs.declared.fault.TableFault.{TableFault}
@@ -23,7 +24,7 @@ taken (Ok image) e = refl
 taken (Err fault) e = absurd (cc e)
 
 -- what was wrapped fits the fields of a file
-pub fits : (kind : Kind) (image : List ℕ) → length image ≡ compiled_size version_1_layouts kind → IsTableFile (wrapped kind image)
+pub fits : (kind : Kind) (image : List ℕ) → length image ≡ compiled_size layouts kind → IsTableFile (wrapped kind image)
 fits Wdt image size = record {
   spacecraft = omega arith;
   processor = omega arith;
@@ -55,6 +56,6 @@ module _ (kind : Kind) (opened : Result TableFile FileError) (file : TableFile) 
   same = ap image_of (sym opens ∙ is_wrapped)
 
   -- the validator takes it
-  pub is_taken : (found : List ℕ) → found ≡ file.image → IsSound version_1_layouts kind image → (r : Result TableImage TableFault) →
-      refusal r ≡ fault_of version_1_layouts kind found → IsOk r
-  is_taken found found_is sound r answer = taken r (answer ∙ ap (fault_of version_1_layouts kind) (found_is ∙ same) ∙ sound)
+  pub is_accepted : (found : List ℕ) → found ≡ file.image → IsSound layouts kind image → (r : Result TableImage TableFault) →
+      refusal r ≡ fault_of layouts kind found → IsOk r
+  is_accepted found found_is sound r answer = taken r (answer ∙ ap (fault_of layouts kind) (found_is ∙ same) ∙ sound)

@@ -1,6 +1,7 @@
 -- Samples of rules one after the other, with the bytes of their requests.
 use Rattle.std.proofs.Common.{◌≡◌, refl, sym, ◌∙◌, ap, ℕ, suc, ◌+◌, ◌-◌, ◌<◌, ◌≤◌, true, false, if◌then◌else◌, List, [], ◌++◌, length, Ok, arith, append_assoc, append-nil}
-use Rattle.lc_model.specs.Command.{SampleRequest, takes}
+use Rattle.lc_model.specs.Command.{takes}
+use Rattle.lc_model.specs.declared.command.SampleRequest.{SampleRequest}
 use Rattle.lc_model.specs.Events.Request.{Request}
 use Rattle.limit_checker.specs.Watcher.{Watcher, after_aging, after_sample}
 use Rattle.flight_run.specs.Flight.{Kept, sampled, sampled_from, with_requests}

@@ -1,5 +1,5 @@
 -- A part of a slice that was written: what stands in front of its end.
-use Rattle.std.proofs.Common.{◌≡◌, ℕ, ◌+◌, ◌-◌, ◌≤◌, List, ◌++◌, arith, length, take, slice_range, sym, ap, ◌∙◌, le_refl, drop_at, length-take-le, take_all, drop, length-drop}
+use Rattle.std.proofs.Common.{◌≡◌, ℕ, ◌+◌, ◌-◌, ◌≤◌, List, ◌++◌, arith, length, take, slice_range, sym, ap, ◌∙◌, le_refl, drop_at, length-take-le}
 use Rattle.std.proofs.lemmas.Slice.{take-put_mid_below}
 use borrow.Rule.Slice.PartMut.{put_mid, post_of}
 use lib.Seq.{take-add, take-append-le}
@@ -20,8 +20,3 @@ pub take-put_mid : (a k n : ℕ) (xs ys : List ℕ) → a ≤ length xs → n �
 take-put_mid a k n xs ys within fits =
     ap (λ l. take a xs ++ l) (sym (slice_range-put_mid a k n xs ys within fits))
     ∙ take_split a (a + n) xs (put_mid a k xs ys) (omega arith) (take-put_mid_below _ _ _ _ _ (le_refl _) within)
-
--- the front up to a, and the first n elements behind it
-pub take-range : (a n : ℕ) (xs : List ℕ) → take a xs ++ take n (take (length xs - a) (drop a xs)) ≡ take (a + n) xs
-take-range a n xs =
-    ap (λ ys. take a xs ++ take n ys) (take_all (length xs - a) (drop a xs) (omega (arith, length-drop a xs))) ∙ sym (take-add a n xs)

@@ -6,7 +6,8 @@ use Rattle.std.specs.Option.{option_map_or}
 use Rattle.lc_model.specs.declared.mode.LcMode.TheVariants.{Active}
 use Rattle.lc_model.specs.Packet.{message_id, function_code, payload, is_telemetry_mid, lc_command_mid, lc_housekeeping_request_mid, sample_mid}
 use Rattle.lc_model.specs.Refusal.{Refusal, ◌>>=◌}
-use Rattle.lc_model.specs.Command.{SampleRequest, sample_request}
+use Rattle.lc_model.specs.Command.{sample_request}
+use Rattle.lc_model.specs.declared.command.SampleRequest.{SampleRequest}
 use Rattle.lc_model.specs.Tables.Equation.{terms_of}
 use Rattle.lc_model.specs.Rule.{actions}
 use Rattle.lc_model.specs.Tables.Slot.{in_use}
@@ -16,6 +17,7 @@ use Rattle.lc_model.specs.LimitChecker.Steps.{Point, in_force, is_short, sampled
 use Rattle.lc_model.specs.Host.FixedTables.{halves_of, fixed_halves}
 use Rattle.lc_model.specs.Kept.Summary.{WatchResult, Tally, LcNow}
 use Rattle.lc_model.specs.Kept.Next.{by_counts}
+use Rattle.lc_model.proofs.Facts.{and_first, and_second}
 use Rattle.limit_checker.specs.Watcher.{Watcher, after_packet, after_aging}
 use Rattle.flight_run.specs.Flight.{sampled, sampled_from, count_after, request_bytes}
 use Rattle.flight_run.proofs.Following.{sampled_alike}
@@ -65,14 +67,6 @@ pub record StepsAlike (text : Text) (step : LcNow TextImage × List Request) (af
   pub model : step.0 ≡ now_with text watch points
   pub program : after.0 ≡ watching text watch points
   pub requests : SendsAlike step.1 after.1
-
-and_first : (a b : Bool) → (a && b) ≡ true → a ≡ true
-and_first true b e = refl
-and_first false b e = absurd (cc e)
-
-and_second : (a b : Bool) → (a && b) ≡ true → b ≡ true
-and_second true b e = e
-and_second false b e = absurd (cc e)
 
 -- no message id of telemetry is a command's
 no_command : (mid command : ℕ) → 0x1000 ≤ command → is_telemetry_mid mid ≡ true → (mid == command) ≡ false

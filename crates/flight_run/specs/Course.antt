@@ -1,8 +1,8 @@
--- A run between two records.
-use Rattle.std.specs.Prelude.{◌≡◌, ℕ, ◌+◌, ◌<◌, ◌≤◌, true, false, List, length, take, filter_map, Option, Some, None}
+-- A run between two records, by any step of a record: what it makes of a state, and the bytes that it leads to.
+use Rattle.std.specs.Prelude.{◌≡◌, ℕ, ◌+◌, ◌<◌, ◌≤◌, true, false, List, [], ◌∷◌, ◌++◌, length, take, Option, Some, None, ⊤}
 use Rattle.std.specs.Io.KnownBytes.{Appends, Consumes}
-use Rattle.lc_model.specs.Host.Stream.{StreamEntry}
-use Rattle.lc_model.specs.Host.FixedTables.{packet_in}
+use Rattle.lc_model.specs.Host.Outcome.{Devices}
+use Rattle.lc_model.specs.Host.Stream.{StreamEntry, Record, packets_alone, front}
 use Rattle.flight_run.specs.declared.intake.Stop.{Stop}
 use Rattle.flight_run.specs.declared.intake.Stop.TheVariants.{Bad, Truncated, Fault, Bound}
 use Rattle.flight_run.specs.declared.error.RunError.{RunError}
@@ -10,52 +10,7 @@ use Rattle.flight_run.specs.declared.error.RunError.TheVariants as error
 use Rattle.flight_run.specs.declared.error.RunError.TheVariants.{BadRecord, Read, ReadBound, Write}
 use Rattle.flight_run.specs.declared.run.Halt.{Halt}
 use Rattle.flight_run.specs.declared.run.Halt.TheVariants.{Stopped, Unsent}
-use Rattle.flight_run.specs.Intake.{EndsHere, IsRecord, StopsHere}
-use Rattle.flight_run.specs.Flight.{Kept, handled, all_handled}
-use Rattle.flight_run.specs.Outcome.{Devices}
-
--- the bytes of all sequence requests over these records, from what is kept at first on
-unfoldable pub output_from : Kept → List StreamEntry → List ℕ
-output_from kept entries = (all_handled (filter_map packet_in entries) kept).1
-
--- one record was handled, and so many bytes written; so many reads were made before
-pub record Advances (d : Devices) (before : ℕ) (kept after : Kept) (count : ℕ) : Type 0 where
-  pub taken : List ℕ
-  pub body : List ℕ
-  pub took : Consumes d.left d.left_after taken
-  pub is : IsRecord taken body
-  pub wrote : Appends d.gained d.gained_after (handled body kept).1
-  pub moved : after ≡ (handled body kept).0
-  pub counted : count ≡ length (handled body kept).1
-  pub few : count ≤ 2112
-  pub each : d.reads ≤ before + length taken
-  pub no_read_failed : d.read_fails ≡ false
-  pub no_write_failed : d.write_fails ≡ false
-
--- the source ended in front of a record
-pub record Lands (d : Devices) (kept after : Kept) : Type 0 where
-  pub ends : EndsHere d.left d.left_after false d.read_fails
-  pub idle : d.gained_after ≡ d.gained
-  pub same : after ≡ kept
-  pub no_write_failed : d.write_fails ≡ false
-
--- no record was taken
-pub record HaltsUnread (d : Devices) (before : ℕ) (stop : Stop) : Type 0 where
-  pub stops : StopsHere d.left d.left_after false d.read_fails before d.reads stop
-  pub idle : d.gained_after ≡ d.gained
-  pub no_write_failed : d.write_fails ≡ false
-
--- a record was taken, but only the first bytes that it leads to were written, this many
-pub record HaltsUnsent (d : Devices) (kept : Kept) (sent : ℕ) : Type 0 where
-  pub taken : List ℕ
-  pub body : List ℕ
-  pub took : Consumes d.left d.left_after taken
-  pub is : IsRecord taken body
-  pub wrote : Appends d.gained d.gained_after (take sent (handled body kept).1)
-  pub fewer : sent < length (handled body kept).1
-  pub few : sent ≤ 2112
-  pub no_read_failed : d.read_fails ≡ false
-  pub write_failed : d.write_fails ≡ true
+use Rattle.flight_run.specs.Intake.{EndsHere, StopsHere}
 
 -- how a run ends by this, behind so many records and bytes
 abbrev pub ended_by : Halt → (records bytes : ℕ) → RunError
@@ -65,17 +20,80 @@ ended_by (Stopped Fault) records bytes = Read
 ended_by (Stopped Bound) records bytes = ReadBound
 ended_by (Unsent sent) records bytes = Write (bytes + sent)
 
--- why a run goes no further
-abbrev pub Halts : Devices → ℕ → Kept → Halt → Type 0
-Halts d before kept (Stopped stop) = HaltsUnread d before stop
-Halts d before kept (Unsent sent) = HaltsUnsent d kept sent
+-- at most so many bytes of one record were sent
+abbrev pub IsFew : ℕ → Halt → Type 0
+IsFew most (Stopped stop) = ⊤
+IsFew most (Unsent sent) = sent ≤ most
 
--- what the next record leads to
-abbrev pub GoesOn : Devices → ℕ → (kept after : Kept) → Option ℕ → Type 0
-GoesOn d before kept after None = Lands d kept after
-GoesOn d before kept after (Some count) = Advances d before kept after count
+-- these bytes are this record, whatever follows them
+abbrev pub IsRecordOf : List ℕ → StreamEntry → Type 0
+IsRecordOf bytes entry = (rest : List ℕ) → front packets_alone 1 (bytes ++ rest) ≡ Record entry rest
 
--- at most the bytes that one record leads to were sent
-abbrev pub IsFew : Halt → Type 0
-IsFew (Stopped stop) = Unit {0}
-IsFew (Unsent sent) = sent ≤ 2112
+-- ---- all records
+
+module _ {State : Type 0} (step : StreamEntry → State → State × List ℕ) where
+  -- the state behind these records, and the bytes of all of them
+  unfoldable pub over_records : List StreamEntry → State → State × List ℕ
+  over_records [] state = (state, [])
+  over_records (entry ∷ entries) state =
+      let first : State × List ℕ = step entry state in
+      let others : State × List ℕ = over_records entries first.0 in
+      (others.0, first.1 ++ others.1)
+
+  -- the bytes of these records, from this state on
+  unfoldable pub output_from : State → List StreamEntry → List ℕ
+  output_from state entries = (over_records entries state).1
+
+-- ---- the next record
+
+module _ {State : Type 0} (step : StreamEntry → State → State × List ℕ) (most : ℕ) (d : Devices) where
+  -- it was handled, and so many bytes written
+  pub record Advances (state after : State) (count : ℕ) : Type 0 where
+    pub taken : List ℕ
+    pub entry : StreamEntry
+    pub took : Consumes d.source.rest d.source_after.rest taken
+    pub is : IsRecordOf taken entry
+    pub wrote : Appends d.sink.gained d.sink_after.gained (step entry state).1
+    pub moved : after ≡ (step entry state).0
+    pub counted : count ≡ length (step entry state).1
+    pub few : count ≤ most
+    pub each : d.source_after.reads ≤ d.source.reads + length taken
+    pub no_read_failed : d.source_after.failed ≡ false
+    pub no_write_failed : d.sink_after.failed ≡ false
+
+  -- the source ended in front of it
+  pub record ComesToTheEnd (state after : State) : Type 0 where
+    pub ends : EndsHere d.source d.source_after
+    pub no_read_failed : d.source_after.failed ≡ false
+    pub idle : d.sink_after.gained ≡ d.sink.gained
+    pub same : after ≡ state
+    pub no_write_failed : d.sink_after.failed ≡ false
+
+  -- it was not taken
+  pub record HaltsUnread (stop : Stop) : Type 0 where
+    pub readable : d.source.failed ≡ false
+    pub stops : StopsHere d.source d.source_after stop
+    pub idle : d.sink_after.gained ≡ d.sink.gained
+    pub no_write_failed : d.sink_after.failed ≡ false
+
+  -- it was taken, but only the first bytes that it leads to were written, this many
+  pub record HaltsUnsent (state : State) (sent : ℕ) : Type 0 where
+    pub taken : List ℕ
+    pub entry : StreamEntry
+    pub took : Consumes d.source.rest d.source_after.rest taken
+    pub is : IsRecordOf taken entry
+    pub wrote : Appends d.sink.gained d.sink_after.gained (take sent (step entry state).1)
+    pub fewer : sent < length (step entry state).1
+    pub few : sent ≤ most
+    pub no_read_failed : d.source_after.failed ≡ false
+    pub write_failed : d.sink_after.failed ≡ true
+
+  -- why a run goes no further
+  abbrev pub Halts : State → Halt → Type 0
+  Halts state (Stopped stop) = HaltsUnread stop
+  Halts state (Unsent sent) = HaltsUnsent state sent
+
+  -- what the next record leads to
+  abbrev pub GoesOn : (state after : State) → Option ℕ → Type 0
+  GoesOn state after None = ComesToTheEnd state after
+  GoesOn state after (Some count) = Advances state after count

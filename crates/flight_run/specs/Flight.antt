@@ -1,11 +1,13 @@
 -- What the program keeps between two packets, and what a packet makes of it, in the Limit Checker's numbers.
-use Rattle.std.specs.Prelude.{ℕ, zero, suc, ◌+◌, ◌%◌, ◌==◌, not, List, [], ◌∷◌, ◌++◌, length, if◌then◌else◌, Result, Ok, Err}
+use Rattle.std.specs.Prelude.{ℕ, zero, suc, ◌+◌, ◌%◌, ◌==◌, not, List, [], ◌∷◌, ◌++◌, length, if◌then◌else◌, Option, Some, None, Result, Ok, Err}
 use Rattle.std.specs.List.{concat}
 use Rattle.lc_model.specs.Packet.{message_id, function_code, payload, sample_mid}
 use Rattle.lc_model.specs.Refusal.{Refusal}
-use Rattle.lc_model.specs.Command.{SampleRequest, sample_request, takes}
-use Rattle.lc_model.specs.Events.Request.{Request, Event, Sequence}
-use Rattle.lc_model.specs.Host.FixedTables.{is_taken, sequences_sent}
+use Rattle.lc_model.specs.Command.{sample_request, takes}
+use Rattle.lc_model.specs.declared.command.SampleRequest.{SampleRequest}
+use Rattle.lc_model.specs.Events.Request.{Request, Event, Sequence, Housekeeping}
+use Rattle.lc_model.specs.Host.FixedTables.{is_taken, packet_in, sequences_sent}
+use Rattle.lc_model.specs.Host.Stream.{StreamEntry}
 use Rattle.lc_model.specs.Rule.{NamedRule}
 use Rattle.lc_model.specs.Tables.Equation.{terms_of}
 use Rattle.limit_checker.specs.Watcher.{Watcher, fresh, after_packet, after_aging, after_sample}
@@ -47,6 +49,7 @@ abbrev pub count_after : ℕ → List Request → ℕ
 count_after count [] = count
 count_after count (Sequence number ∷ requests) = count_after ((count + 1) % 16384) requests
 count_after count (Event sender id kind text ∷ requests) = count_after count requests
+count_after count (Housekeeping mode points ∷ requests) = count_after count requests
 
 -- the bytes of their sequence requests
 abbrev pub request_bytes : ℕ → List Request → List ℕ
@@ -60,7 +63,15 @@ with_requests count after = (record { watcher = after.0; count = count_after cou
 unfoldable pub handled : List ℕ → Kept → Kept × List ℕ
 handled packet kept = with_requests kept.count (after_arrival packet kept.watcher)
 
--- the same of packets in order
+-- what a record leads to: a packet's, and no other
+abbrev pub handled_if : Option (List ℕ) → Kept → Kept × List ℕ
+handled_if None kept = (kept, [])
+handled_if (Some packet) kept = handled packet kept
+
+abbrev pub record_handled : StreamEntry → Kept → Kept × List ℕ
+record_handled entry kept = handled_if (packet_in entry) kept
+
+-- what packets lead to, in order
 unfoldable pub all_handled : List (List ℕ) → Kept → Kept × List ℕ
 all_handled [] kept = (kept, [])
 all_handled (packet ∷ packets) kept =

@@ -1,7 +1,8 @@
 -- What is taken from a source, record by record. The format of streams is this project's own.
-use Rattle.std.specs.Prelude.{◌≡◌, ℕ, ◌+◌, ◌^◌, ◌<◌, ◌≤◌, Bool, true, List, [], ◌++◌, length, take, Option, Some, None}
+use Rattle.std.specs.Prelude.{◌≡◌, ℕ, ◌+◌, ◌^◌, ◌<◌, ◌≤◌, true, List, [], ◌++◌, length, take, Option, Some, None}
 use Rattle.std.specs.Io.KnownBytes.{Consumes, IsAtEnd}
 use Rattle.lc_model.specs.declared.record.Moment.{Moment}
+use Rattle.lc_model.specs.Device.{Source}
 use Rattle.lc_model.specs.Host.Stream.{Front, EndOfStream, Record, NoRecord, CutRecord, Packet, packets_alone, front}
 use Rattle.flight_run.specs.declared.intake.Stop.{Stop}
 use Rattle.flight_run.specs.declared.intake.Stop.TheVariants.{Bad, Truncated, Fault, Bound}
@@ -9,26 +10,26 @@ use Rattle.flight_run.specs.declared.intake.Stop.TheVariants.{Bad, Truncated, Fa
 -- ---- one buffer
 
 -- the buffer's first bytes, this many, are the first that were left; fewer than it has room for only at the end
-pub record Fills (left now : Option (List ℕ)) (failed fails : Bool) (count : ℕ) (buffer : List ℕ) : Type 0 where
+pub record Fills (before now : Source) (count : ℕ) (buffer : List ℕ) : Type 0 where
   pub fits : count ≤ length buffer
-  pub takes : Consumes left now (take count buffer)
-  pub at_the_end : count < length buffer → IsAtEnd now
-  pub as_before : fails ≡ failed
+  pub takes : Consumes before.rest now.rest (take count buffer)
+  pub at_the_end : count < length buffer → IsAtEnd now.rest
+  pub as_before : now.failed ≡ before.failed
 
 -- why a buffer was not filled: a read failed, or as many were made as may be
-abbrev pub BreaksOff : Stop → (failed fails : Bool) → (reads : ℕ) → Type 0
-BreaksOff Fault failed fails reads = fails ≡ true
-BreaksOff Bound failed fails reads = (fails ≡ failed) × (reads ≡ 2 ^ 32)
-BreaksOff stop failed fails reads = ⊥
+abbrev pub BreaksOff : Stop → (before now : Source) → Type 0
+BreaksOff Fault before now = now.failed ≡ true
+BreaksOff Bound before now = (now.failed ≡ before.failed) × (now.reads ≡ 2 ^ 32)
+BreaksOff stop before now = ⊥
 
 -- some bytes were taken, fewer than there is room for, before a read failed or one too many was wanted; in the latter case
 -- each read took one at least, so the source hadn't ended
-pub record Breaks (left now : Option (List ℕ)) (failed fails : Bool) (before reads room : ℕ) (stop : Stop) : Type 0 where
+pub record Breaks (before now : Source) (room : ℕ) (stop : Stop) : Type 0 where
   pub taken : List ℕ
-  pub takes : Consumes left now taken
+  pub takes : Consumes before.rest now.rest taken
   pub fewer : length taken < room
-  pub why : BreaksOff stop failed fails reads
-  pub each : stop ≡ Bound → reads ≤ before + length taken
+  pub why : BreaksOff stop before now
+  pub each : stop ≡ Bound → now.reads ≤ before.reads + length taken
 
 -- ---- one record
 
@@ -38,18 +39,18 @@ pub record IsRecord (bytes body : List ℕ) : Type 0 where
   pub stands : (rest : List ℕ) → front packets_alone 1 (bytes ++ rest) ≡ Record (record { moment = moment; contents = Packet body }) rest
 
 -- a record with this body was taken, by each read a byte at least
-pub record TakesRecord (left now : Option (List ℕ)) (failed fails : Bool) (before reads : ℕ) (body : List ℕ) : Type 0 where
+pub record TakesRecord (before now : Source) (body : List ℕ) : Type 0 where
   pub taken : List ℕ
-  pub takes : Consumes left now taken
+  pub takes : Consumes before.rest now.rest taken
   pub is : IsRecord taken body
-  pub as_before : fails ≡ failed
-  pub each : reads ≤ before + length taken
+  pub as_before : now.failed ≡ before.failed
+  pub each : now.reads ≤ before.reads + length taken
 
 -- the source ended in front of a record
-pub record EndsHere (left now : Option (List ℕ)) (failed fails : Bool) : Type 0 where
-  pub nothing : Consumes left now []
-  pub at_the_end : IsAtEnd now
-  pub as_before : fails ≡ failed
+pub record EndsHere (before now : Source) : Type 0 where
+  pub nothing : Consumes before.rest now.rest []
+  pub at_the_end : IsAtEnd now.rest
+  pub as_before : now.failed ≡ before.failed
 
 -- nothing, or less than a record
 abbrev pub IsPart : Front → Type 0
@@ -64,21 +65,21 @@ IsFrontAt Truncated taken = front packets_alone 1 taken ≡ CutRecord
 IsFrontAt other taken = IsPart (front packets_alone 1 taken)
 
 -- why no record was taken: there is none, or its bytes were not to be had
-abbrev pub Stops : Stop → (failed fails : Bool) → (reads : ℕ) → Type 0
-Stops Bad failed fails reads = fails ≡ failed
-Stops Truncated failed fails reads = fails ≡ failed
-Stops stop failed fails reads = BreaksOff stop failed fails reads
+abbrev pub Stops : Stop → (before now : Source) → Type 0
+Stops Bad before now = now.failed ≡ before.failed
+Stops Truncated before now = now.failed ≡ before.failed
+Stops stop before now = BreaksOff stop before now
 
 -- no record was taken
-pub record StopsHere (left now : Option (List ℕ)) (failed fails : Bool) (before reads : ℕ) (stop : Stop) : Type 0 where
+pub record StopsHere (before now : Source) (stop : Stop) : Type 0 where
   pub taken : List ℕ
-  pub takes : Consumes left now taken
+  pub takes : Consumes before.rest now.rest taken
   pub front : IsFrontAt stop taken
-  pub at_the_end : stop ≡ Truncated → IsAtEnd now
-  pub why : Stops stop failed fails reads
-  pub each : stop ≡ Bound → reads ≤ before + length taken
+  pub at_the_end : stop ≡ Truncated → IsAtEnd now.rest
+  pub why : Stops stop before now
+  pub each : stop ≡ Bound → now.reads ≤ before.reads + length taken
 
 -- what the next record is
-abbrev pub IsNext : (left now : Option (List ℕ)) → (failed fails : Bool) → (before reads : ℕ) → (buffer : List ℕ) → Option ℕ → Type 0
-IsNext left now failed fails before reads buffer None = EndsHere left now failed fails
-IsNext left now failed fails before reads buffer (Some count) = (count ≤ length buffer) × TakesRecord left now failed fails before reads (take count buffer)
+abbrev pub IsNext : (before now : Source) → (buffer : List ℕ) → Option ℕ → Type 0
+IsNext before now buffer None = EndsHere before now
+IsNext before now buffer (Some count) = (count ≤ length buffer) × TakesRecord before now (take count buffer)

@@ -3,9 +3,11 @@
 use Rattle.std.specs.Prelude.{◌≡◌, ◌≢◌, ℕ, ◌^◌, ◌<◌, false, List, ◌++◌, length, Some, Result, Ok, Err}
 use Rattle.lc_model.specs.Rule.{NamedRule}
 use Rattle.lc_model.specs.Text.Reading.{TextRefusal}
-use Rattle.lc_model.specs.Tables.Compiling.{Compiles, text_order_limits}
+use Rattle.lc_model.specs.Tables.Compiling.{Compiles}
+use Rattle.lc_model.specs.Tables.InForce.{limits}
 use Rattle.lc_model.specs.Tables.Compiling as compiling
 use Rattle.lc_model.specs.Host.FixedTables.{fixed_output}
+use Rattle.lc_model.specs.Host.Outcome.{Devices, IsUntouched}
 use Rattle.lc_model.specs.Host.Stream.{StreamEntry, End, Whole, Bad}
 use Rattle.lc_model.specs.Host.Stream as stream
 use Rattle.rpn_compiler.specs.declared.error.CompileError.{CompileError}
@@ -14,28 +16,20 @@ use Rattle.rpn_compiler.specs.Fault as fault
 use Rattle.flight_run.specs.declared.error.Report.{Report}
 use Rattle.flight_run.specs.declared.error.RunError.{RunError}
 use Rattle.flight_run.specs.declared.error.RunError.TheVariants.{Compile, BadRecord, Truncated, Memory}
-use Rattle.flight_run.specs.Outcome.{Devices, IsOutcome, records}
-
--- nothing was read and nothing written
-pub record IsUntouched (d : Devices) : Type 0 where
-  pub left : d.left_after ≡ d.left
-  pub reads : d.reads ≡ 0
-  pub no_read_failed : d.read_fails ≡ false
-  pub gained : d.gained_after ≡ d.gained
-  pub no_write_failed : d.write_fails ≡ false
+use Rattle.flight_run.specs.Ending.{IsOutcome, records}
 
 -- the text does not compile, and this is why; nothing was read and nothing written
 pub record IsRefused (source : List ℕ) (d : Devices) (number : ℕ) (error : CompileError) : Type 0 where
   pub first : number ≡ 0
   pub refusal : TextRefusal
   pub is : fault.refusal_of error ≡ Some refusal
-  pub why : compiling.IsRefused text_order_limits source refusal
+  pub why : compiling.IsRefused limits source refusal
   pub untouched : IsUntouched d
 
 -- the text compiles and says rules, and the run ended so over them
 pub record IsRunOf (source : List ℕ) (d : Devices) (result : Result Report RunError) : Type 0 where
   pub rules : List NamedRule
-  pub compiles : Compiles text_order_limits source rules
+  pub compiles : Compiles limits source rules
   pub outcome : IsOutcome (fixed_output (record { source = source; rules = rules })) d result
 
 -- how a run ends, whatever the text and the stream
@@ -59,16 +53,16 @@ answer (entries, stream.Truncated n) bytes = Err (Truncated n)
 
 -- nothing failed, and no memory was wanted
 pub record IsUndisturbed (d : Devices) (result : Result Report RunError) : Type 0 where
-  pub no_read_failed : d.read_fails ≡ false
-  pub no_write_failed : d.write_fails ≡ false
-  pub few_reads : d.reads < 2 ^ 32
+  pub no_read_failed : d.source_after.failed ≡ false
+  pub no_write_failed : d.sink_after.failed ≡ false
+  pub few_reads : d.source_after.reads < 2 ^ 32
   pub memory : result ≢ Err Memory
 
 -- for every text that compiles and every stream: the writer gained exactly the bytes that the rules call for over the
 -- stream's records, and the answer says how these end
 abbrev pub WritesWhatIsCalledFor : List ℕ → Devices → Result Report RunError → Type 0
 WritesWhatIsCalledFor source d result =
-    (rules : List NamedRule) (stream before : List ℕ) → Compiles text_order_limits source rules → d.left ≡ Some stream → d.gained ≡ Some before →
+    (rules : List NamedRule) (stream before : List ℕ) → Compiles limits source rules → d.source.rest ≡ Some stream → d.sink.gained ≡ Some before →
     IsUndisturbed d result →
     let output : List ℕ = fixed_output (record { source = source; rules = rules }) (records stream).0 in
-    (d.gained_after ≡ Some (before ++ output)) × (result ≡ answer (records stream) (length output))
+    (d.sink_after.gained ≡ Some (before ++ output)) × (result ≡ answer (records stream) (length output))

@@ -33,14 +33,13 @@ pub enum Stop {
 
 /// Fills the buffer from its front on, up to the end of the source, and answers the number of bytes.
 fn fill<R: ByteSource>(reader: &mut R, buffer: &mut [u8]) -> Result<usize, Stop>
-    requires { R.reads_made reader.old ≤ MOST_READS }
-    ensures filled { IfOk result (λ count. Fills (R.rest reader.old) (R.rest reader.new) (R.has_failed reader.old) (R.has_failed reader.new) count buffer.new) }
-    ensures broken { IfErr result (λ stop. Breaks (R.rest reader.old) (R.rest reader.new) (R.has_failed reader.old) (R.has_failed reader.new)
-        (R.reads_made reader.old) (R.reads_made reader.new) (length buffer.old) stop) }
-    ensures each { IfOk result (λ count. count ≡ length buffer.old → R.reads_made reader.new ≤ R.reads_made reader.old + count) }
-    ensures bounded { R.reads_made reader.new ≤ MOST_READS }
-    ensures counted { R.reads_made reader.old ≤ R.reads_made reader.new }
-    ensures reads { 0 < length buffer.old → IsOk result → R.reads_made reader.old < R.reads_made reader.new }
+    requires { (R.source reader.old).reads ≤ MOST_READS }
+    ensures filled { IfOk result (λ count. Fills (R.source reader.old) (R.source reader.new) count buffer.new) }
+    ensures broken { IfErr result (Breaks (R.source reader.old) (R.source reader.new) (length buffer.old)) }
+    ensures each { IfOk result (λ count. count ≡ length buffer.old → (R.source reader.new).reads ≤ (R.source reader.old).reads + count) }
+    ensures bounded { (R.source reader.new).reads ≤ MOST_READS }
+    ensures counted { (R.source reader.old).reads ≤ (R.source reader.new).reads }
+    ensures reads { 0 < length buffer.old → IsOk result → (R.source reader.old).reads < (R.source reader.new).reads }
 {
     let mut filled = 0;
     while filled < buffer.len() {
@@ -66,15 +65,13 @@ fn body_size(header: &[u8; HEADER]) -> u32
 /// Takes the next record, puts its packet in front of the buffer and answers the packet's length; none at the end of the
 /// source. The buffer has room for the longest body.
 pub fn next_packet<R: ByteSource>(reader: &mut R, buffer: &mut [u8]) -> Result<Option<usize>, Stop>
-    requires bounded { R.reads_made reader.old ≤ MOST_READS }
+    requires bounded { (R.source reader.old).reads ≤ MOST_READS }
     requires room { length buffer.old ≡ LONGEST_BODY }
-    ensures next { IfOk result (IsNext (R.rest reader.old) (R.rest reader.new) (R.has_failed reader.old) (R.has_failed reader.new)
-        (R.reads_made reader.old) (R.reads_made reader.new) buffer.new) }
-    ensures stopped { IfErr result (StopsHere (R.rest reader.old) (R.rest reader.new) (R.has_failed reader.old) (R.has_failed reader.new)
-        (R.reads_made reader.old) (R.reads_made reader.new)) }
-    ensures bounded { R.reads_made reader.new ≤ MOST_READS }
-    ensures counted { R.reads_made reader.old ≤ R.reads_made reader.new }
-    ensures reads { IsOk result → R.reads_made reader.old < R.reads_made reader.new }
+    ensures next { IfOk result (IsNext (R.source reader.old) (R.source reader.new) buffer.new) }
+    ensures stopped { IfErr result (StopsHere (R.source reader.old) (R.source reader.new)) }
+    ensures bounded { (R.source reader.new).reads ≤ MOST_READS }
+    ensures counted { (R.source reader.old).reads ≤ (R.source reader.new).reads }
+    ensures reads { IsOk result → (R.source reader.old).reads < (R.source reader.new).reads }
 {
     let mut header = [0; HEADER];
     let filled = fill(reader, &mut header)?;

@@ -2,21 +2,20 @@
 //! that its rules call for go out.
 #![tactic(auto)]
 
+mod arrival;
 mod error;
 mod flight;
 mod intake;
 mod low_volts;
 mod outgoing;
-mod packet;
 mod run;
 mod run_one;
-mod sending;
 mod tables;
 #[cfg(test)]
 mod tests;
 
-use crate::packet::REQUEST_SIZE;
 pub use error::{Report, RunError};
+use lc_model::packet::REQUEST_SIZE;
 use lc_model::{Limited, Pieces};
 pub use run_one::run_one;
 

@@ -2,12 +2,13 @@
 
 ghost use Rattle.std.specs.Prelude.{◌≡◌, ◌+◌, ◌≤◌, ◌++◌, [], length, IfOk};
 
-use crate::packet::REQUEST_SIZE;
+use lc_model::TABLE_ENTRIES;
+use lc_model::packet::REQUEST_SIZE;
 use std::alloc::{AllocError, Global};
 use std::marker::Model;
 
-/// The most bytes: a sequence request of each of 176 rules.
-const MOST_BYTES: usize = 176 * REQUEST_SIZE;
+/// The most bytes of one packet's requests: each rule requests one sequence.
+pub const MOST_BYTES: usize = TABLE_ENTRIES * REQUEST_SIZE;
 
 /// The bytes so far, in room that is made once. Contracts see them as a list.
 #[derive(Drop)]
@@ -17,12 +18,13 @@ pub struct Outgoing {
 
 impl Model for Outgoing {
     ghost use Rattle.std.specs.Prelude.{List, ℕ, ◌≤◌, vec_capacity};
+    ghost use Rattle.flight_run.specs.declared.outgoing.TheConstants.{MOST_BYTES};
 
     ghost Value = { List ℕ };
 
     ghost view = { λ o. o.bytes.items };
 
-    ghost invariant = { λ o. 2112 ≤ vec_capacity o.bytes };
+    ghost invariant = { λ o. MOST_BYTES ≤ vec_capacity o.bytes };
 }
 
 impl Outgoing {
@@ -41,7 +43,7 @@ impl Outgoing {
 
     /// Adds bytes at the end. There is room for them.
     pub fn append(&mut self, bytes: &[u8])
-        requires { length self.old + length bytes.now ≤ 2112 }
+        requires { length self.old + length bytes.now ≤ MOST_BYTES }
         ensures { self.new ≡ self.old ++ bytes.now }
     {
         self.bytes.extend_from_slice(bytes).unwrap();

@@ -3,14 +3,15 @@
 ghost use Rattle.std.specs.Prelude.{◌≡◌, ◌+◌, ◌*◌, ◌^◌, ◌<◌, ◌≤◌, false, length, IfOk, IfErr, IsOk};
 ghost use Rattle.flight_run.specs.Kept.{kept_of};
 ghost use Rattle.flight_run.specs.Course.{GoesOn, Halts, IsFew, ended_by, output_from};
-ghost use Rattle.flight_run.specs.Outcome.{IsOutcome, devices};
+ghost use Rattle.flight_run.specs.Ending.{IsOutcome};
+ghost use Rattle.flight_run.specs.Flight.{record_handled};
+ghost use Rattle.lc_model.specs.Host.Outcome.{devices};
 
 use crate::error::{Report, RunError};
 use crate::flight::Flight;
 use crate::intake::{self, LONGEST_BODY, MOST_READS, Stop};
-use crate::outgoing::Outgoing;
-use crate::sending;
-use lc_model::{ByteSink, ByteSource, laws};
+use crate::outgoing::{MOST_BYTES, Outgoing};
+use lc_model::{ByteSink, ByteSource, laws, write_all};
 
 /// Why a run goes no further.
 #[derive(Clone, Copy, Debug, PartialEq, Eq)]
@@ -30,25 +31,21 @@ fn advance<R: ByteSource, W: ByteSink>(
     writer: &mut W,
 ) -> Result<Option<usize>, Halt>
     requires room { length buffer.old ≡ LONGEST_BODY }
-    requires bounded { R.reads_made reader.old ≤ MOST_READS }
-    requires readable { R.has_failed reader.old ≡ false }
-    requires writable { W.has_failed writer.old ≡ false }
-    ensures goes_on { IfOk result (GoesOn (devices (R.rest reader.old) (R.rest reader.new) (R.reads_made reader.new) (R.has_failed reader.new)
-        (W.gained writer.old) (W.gained writer.new) (W.has_failed writer.new))
-        (R.reads_made reader.old) (kept_of flight.old) (kept_of flight.new)) }
-    ensures halts { IfErr result (Halts (devices (R.rest reader.old) (R.rest reader.new) (R.reads_made reader.new) (R.has_failed reader.new)
-        (W.gained writer.old) (W.gained writer.new) (W.has_failed writer.new))
-        (R.reads_made reader.old) (kept_of flight.old)) }
-    ensures bounded { R.reads_made reader.new ≤ MOST_READS }
-    ensures counted { R.reads_made reader.old ≤ R.reads_made reader.new }
-    ensures reads { IsOk result → R.reads_made reader.old < R.reads_made reader.new }
+    requires bounded { (R.source reader.old).reads ≤ MOST_READS }
+    requires readable { (R.source reader.old).failed ≡ false }
+    requires writable { (W.sink writer.old).failed ≡ false }
+    ensures goes_on { IfOk result (GoesOn record_handled MOST_BYTES (devices (R.source reader.old) (R.source reader.new) (W.sink writer.old) (W.sink writer.new)) (kept_of flight.old) (kept_of flight.new)) }
+    ensures halts { IfErr result (Halts record_handled MOST_BYTES (devices (R.source reader.old) (R.source reader.new) (W.sink writer.old) (W.sink writer.new)) (kept_of flight.old)) }
+    ensures bounded { (R.source reader.new).reads ≤ MOST_READS }
+    ensures counted { (R.source reader.old).reads ≤ (R.source reader.new).reads }
+    ensures reads { IsOk result → (R.source reader.old).reads < (R.source reader.new).reads }
 {
     match intake::next_packet(reader, buffer) {
         Ok(Some(size)) => {
             outgoing.clear();
             flight.handle(&buffer[..size], outgoing);
             let bytes = outgoing.as_slice();
-            match sending::write_all(writer, bytes) {
+            match write_all(writer, bytes) {
                 Ok(()) => Ok(Some(bytes.len())),
                 Err(sent) => Err(Halt::Unsent(sent)),
             }
@@ -61,8 +58,8 @@ fn advance<R: ByteSource, W: ByteSink>(
 /// How a run ends by this, behind the records of the report.
 fn ended(halt: Halt, report: Report) -> RunError
     requires records { report.records + 1 < 2 ^ 64 }
-    requires bytes { report.bytes + 2112 < 2 ^ 128 }
-    requires few { IsFew halt }
+    requires bytes { report.bytes + MOST_BYTES < 2 ^ 128 }
+    requires few { IsFew MOST_BYTES halt }
     ensures { result ≡ ended_by halt report.records report.bytes }
 {
     let Report { records, bytes } = report;
@@ -86,12 +83,11 @@ pub fn fly<R: ByteSource, W: ByteSink>(
     writer: &mut W,
 ) -> Result<Report, RunError>
     requires room { length buffer.old ≡ LONGEST_BODY }
-    requires unread { R.reads_made reader.old ≡ 0 }
-    requires readable { R.has_failed reader.old ≡ false }
-    requires writable { W.has_failed writer.old ≡ false }
-    ensures outcome { IsOutcome (output_from (kept_of flight.old)) (devices (R.rest reader.old) (R.rest reader.new) (R.reads_made reader.new) (R.has_failed reader.new)
-        (W.gained writer.old) (W.gained writer.new) (W.has_failed writer.new)) result }
-    ensures bounded { R.reads_made reader.new ≤ MOST_READS }
+    requires unread { (R.source reader.old).reads ≡ 0 }
+    requires readable { (R.source reader.old).failed ≡ false }
+    requires writable { (W.sink writer.old).failed ≡ false }
+    ensures outcome { IsOutcome (output_from record_handled (kept_of flight.old)) (devices (R.source reader.old) (R.source reader.new) (W.sink writer.old) (W.sink writer.new)) result }
+    ensures bounded { (R.source reader.new).reads ≤ MOST_READS }
 {
     laws::stream::front_decides();
     let mut report = Report {

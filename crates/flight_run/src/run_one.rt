@@ -1,7 +1,7 @@
 //! From a rule text and a stream of packets to the bytes of its sequence requests.
 
 ghost use Rattle.std.specs.Prelude.{◌≡◌, ◌≤◌, false};
-ghost use Rattle.flight_run.specs.Outcome.{devices};
+ghost use Rattle.lc_model.specs.Host.Outcome.{devices};
 ghost use Rattle.flight_run.specs.RunOne.{IsRun, WritesWhatIsCalledFor, refusal_of};
 
 use crate::error::{Report, RunError};
@@ -29,12 +29,11 @@ fn compile_and_fly<R: ByteSource, W: ByteSink>(
     reader: &mut R,
     writer: &mut W,
 ) -> Result<Report, RunError>
-    requires unread { R.reads_made reader.old ≡ 0 }
-    requires readable { R.has_failed reader.old ≡ false }
-    requires writable { W.has_failed writer.old ≡ false }
-    ensures run { IsRun text.now (devices (R.rest reader.old) (R.rest reader.new) (R.reads_made reader.new) (R.has_failed reader.new)
-        (W.gained writer.old) (W.gained writer.new) (W.has_failed writer.new)) result }
-    ensures bounded { R.reads_made reader.new ≤ MOST_READS }
+    requires unread { (R.source reader.old).reads ≡ 0 }
+    requires readable { (R.source reader.old).failed ≡ false }
+    requires writable { (W.sink writer.old).failed ≡ false }
+    ensures run { IsRun text.now (devices (R.source reader.old) (R.source reader.new) (W.sink writer.old) (W.sink writer.new)) result }
+    ensures bounded { (R.source reader.new).reads ≤ MOST_READS }
 {
     laws::reading::rules_are_within_ranges();
     laws::limit_checker::limit_checker_agrees_on_texts();
@@ -74,20 +73,18 @@ pub fn run_one<R: ByteSource, W: ByteSink>(
     reader: &mut R,
     writer: &mut W,
 ) -> Result<Report, RunError>
-    requires unread { R.reads_made reader.old ≡ 0 }
-    requires readable { R.has_failed reader.old ≡ false }
-    requires writable { W.has_failed writer.old ≡ false }
+    requires unread { (R.source reader.old).reads ≡ 0 }
+    requires readable { (R.source reader.old).failed ≡ false }
+    requires writable { (W.sink writer.old).failed ≡ false }
 
     // How the run ends and what it leaves, for every text and every stream.
-    ensures run { IsRun text.now (devices (R.rest reader.old) (R.rest reader.new) (R.reads_made reader.new) (R.has_failed reader.new)
-        (W.gained writer.old) (W.gained writer.new) (W.has_failed writer.new)) result }
+    ensures run { IsRun text.now (devices (R.source reader.old) (R.source reader.new) (W.sink writer.old) (W.sink writer.new)) result }
 
     // Where nothing fails: exactly the bytes that the rules call for, for every stream.
-    ensures theorem { WritesWhatIsCalledFor text.now (devices (R.rest reader.old) (R.rest reader.new) (R.reads_made reader.new) (R.has_failed reader.new)
-        (W.gained writer.old) (W.gained writer.new) (W.has_failed writer.new)) result }
+    ensures theorem { WritesWhatIsCalledFor text.now (devices (R.source reader.old) (R.source reader.new) (W.sink writer.old) (W.sink writer.new)) result }
 
     // However it ends: at most 2^32 reads were made.
-    ensures bounded { R.reads_made reader.new ≤ MOST_READS }
+    ensures bounded { (R.source reader.new).reads ≤ MOST_READS }
 {
     laws::reading::reads_in_one_way();
     laws::reading::has_at_most_one_verdict();

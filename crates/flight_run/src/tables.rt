@@ -4,7 +4,7 @@ ghost use Rattle.std.specs.Prelude.{◌≡◌, List, ℕ, length, IfOk};
 ghost use Rattle.lc_model.specs.Rule.{NamedRule};
 ghost use Rattle.lc_model.specs.Tables.File.{file_bytes, wrapped};
 ghost use Rattle.lc_model.specs.Tables.Half.{IsFileOfHalf};
-ghost use Rattle.lc_model.specs.Tables.Image.{version_1_layouts};
+ghost use Rattle.lc_model.specs.Tables.InForce.{layouts};
 ghost use Rattle.lc_model.specs.Tables.Interpretation.{compiled_size};
 ghost use Rattle.flight_run.specs.Flight.{at_start};
 ghost use Rattle.flight_run.specs.Kept.{kept_of};
@@ -19,8 +19,8 @@ use table_validator::ValidImage;
 
 /// The image in a file that the compiler wrote: the file opens, and its image is sound.
 fn image_in(kind: Kind, file: &[u8]) -> ValidImage<'_>
-    requires { (text : List ℕ) × IsFileOfHalf version_1_layouts kind file.now text }
-    ensures { (image : List ℕ) → length image ≡ compiled_size version_1_layouts kind → file.now ≡ file_bytes (wrapped kind image)
+    requires { (text : List ℕ) × IsFileOfHalf layouts kind file.now text }
+    ensures { (image : List ℕ) → length image ≡ compiled_size layouts kind → file.now ≡ file_bytes (wrapped kind image)
         → result ≡ record { kind = kind; bytes = image } }
 {
     let file = table_file::open(file).unwrap();

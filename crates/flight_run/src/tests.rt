@@ -4,7 +4,6 @@
 //! then fails with "out of memory" until N is past its last allocation, and none of them fails otherwise;
 //! `want_of_memory_touches_nothing` never fails.
 
-mod ground;
 mod long_run;
 mod rules;
 

@@ -20,7 +20,8 @@ use Rattle.lc_model.specs.Laws.Equations.{IsSpelled, RuleRuns, RulesRun}
 use Rattle.lc_model.specs.Laws.Tables.{CompiledTablesAreHalves, compiled_entries}
 use Rattle.lc_model.proofs.TermsFit.{all_fit, terms_fit}
 use Rattle.lc_model.proofs.RulesFit.{within_ranges}
-use Rattle.lc_model.proofs.SoundWords.{none_stands, sound_words_spell, or_first, or_second, IsWord, number, negated, joined, classified}
+use Rattle.lc_model.proofs.SoundWords.{none_stands, sound_words_spell, IsWord, number, negated, joined, classified}
+use Rattle.lc_model.proofs.Facts.{or_second, or_first, and_first, tested_at_most}
 use Rattle.lc_model.proofs.SpelledEquations.{condition_of_equation}
 use Rattle.lc_model.proofs.SpellsOnce.{computed}
 use Rattle.lc_model.proofs.LoweredRules.{lowered_words_run}
@@ -56,18 +57,11 @@ each_word count few (w ∷ ws) known below =
 
 -- ---- texts
 
-in_front : (a b : Bool) → (a && b) ≡ true → a ≡ true
-in_front true b e = refl
-in_front false b e = e
-
-at_most : (m n : ℕ) → nat_le m n ≡ true → m ≤ n
-at_most m n e = grind (arith, e)
-
 text_byte : (b : ℕ) → IsTrue (is_text_byte b) → (0 < b) × (b < 2 ^ 8)
 text_byte b e =
-    let range : (nat_le 0x20 b && nat_le b 0x7E) ≡ true = in_front (nat_le 0x20 b && nat_le b 0x7E) _ e in
-    let low : 0x20 ≤ b = at_most 0x20 b (in_front (nat_le 0x20 b) (nat_le b 0x7E) range) in
-    let high : b ≤ 0x7E = at_most b 0x7E (behind (nat_le 0x20 b) (nat_le b 0x7E) range) in
+    let range : (nat_le 0x20 b && nat_le b 0x7E) ≡ true = and_first (nat_le 0x20 b && nat_le b 0x7E) _ e in
+    let low : 0x20 ≤ b = tested_at_most 0x20 b (and_first (nat_le 0x20 b) (nat_le b 0x7E) range) in
+    let high : b ≤ 0x7E = tested_at_most b 0x7E (behind (nat_le 0x20 b) (nat_le b 0x7E) range) in
     (omega (arith, low), omega (arith, high))
   where
     behind : (a b : Bool) → (a && b) ≡ true → b ≡ true

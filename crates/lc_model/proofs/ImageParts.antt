@@ -10,7 +10,8 @@ use Rattle.lc_model.specs.declared.kind.Kind.TheVariants.{Wdt}
 use Rattle.lc_model.specs.Bytes.{u16, u16_at}
 use Rattle.lc_model.specs.Codes.{is_kind, kind_code, table_entries}
 use Rattle.lc_model.specs.Tables.Image.{Layout, Watchpoints, Actionpoints, WideActionpoints, kind_of, version_of, entry_length, image_length, preamble, blank_entry, filled, own_count, watchpoint_count, hash_of, entry_at, used_code, entry_code, preamble_code, numbers_below}
-use Rattle.lc_model.proofs.SoundWords.{none_stands, or_first, or_second, at_least}
+use Rattle.lc_model.proofs.SoundWords.{none_stands}
+use Rattle.lc_model.proofs.Facts.{tested_not_less, or_second, or_first, tested_equal, not_false, test_less, test_not_less}
 use Rattle.lc_model.proofs.FileLaws.{with_part}
 use Rattle.lc_model.proofs.SoundImages.{SoundParts, two_at}
 
@@ -79,13 +80,6 @@ entry_is_long WideActionpoints image n size below =
 
 -- ---- the preamble
 
-equal : (m n : ℕ) → (m == n) ≡ true → m ≡ n
-equal m n e = grind (arith, e)
-
-not_false : (b : Bool) → not b ≡ false → b ≡ true
-not_false true e = refl
-not_false false e = absurd (cc e)
-
 both_or : (a b : Bool) → (a && not b) ≡ false → a ≡ true → b ≡ true
 both_or true b e is = not_false b e
 both_or false b e is = absurd (cc is)
@@ -119,11 +113,11 @@ sound_preamble l image sound =
     let few : too_many image ≡ false = or_first (too_many image) (two_counts l image) tests.1.1.0 in
     let one : two_counts l image ≡ false = or_second (too_many image) (two_counts l image) tests.1.1.0 in
     record {
-      version = equal _ _ (not_false (u16_at image 0 == version_of l) tests.0);
-      kind = equal _ _ (not_false (u16_at image 2 == kind_code (kind_of l)) tests.1.0);
-      own = at_least _ _ (or_first (nat_lt table_entries (own_count image)) (nat_lt table_entries (watchpoint_count image)) few);
-      watchpoints = at_least _ _ (or_second (nat_lt table_entries (own_count image)) (nat_lt table_entries (watchpoint_count image)) few);
-      one_count = λ is. equal _ _ (both_or (is_kind (kind_of l) Wdt) (own_count image == watchpoint_count image) one is);
+      version = tested_equal _ _ (not_false (u16_at image 0 == version_of l) tests.0);
+      kind = tested_equal _ _ (not_false (u16_at image 2 == kind_code (kind_of l)) tests.1.0);
+      own = tested_not_less _ _ (or_first (nat_lt table_entries (own_count image)) (nat_lt table_entries (watchpoint_count image)) few);
+      watchpoints = tested_not_less _ _ (or_second (nat_lt table_entries (own_count image)) (nat_lt table_entries (watchpoint_count image)) few);
+      one_count = λ is. tested_equal _ _ (both_or (is_kind (kind_of l) Wdt) (own_count image == watchpoint_count image) one is);
     }
 
 -- the preamble is spelled by what is read of it
@@ -143,17 +137,11 @@ preamble_again l image all enough p =
 
 -- ---- the entries
 
-less : (m n : ℕ) → m < n → nat_lt m n ≡ true
-less m n h = grind (arith, h)
-
-not_less : (m n : ℕ) → n ≤ m → nat_lt m n ≡ false
-not_less m n h = grind (arith, h)
-
 -- an entry that is used has no fault
 pub used_is_sound : (l : Layout) (image : List ℕ) (n : ℕ) → entry_code l image n ≡ None → n < own_count image →
     used_code l (watchpoint_count image) (entry_at l image n) ≡ None
 used_is_sound l image n sound below =
-    rw (less n (own_count image) below) at sound
+    rw (test_less n (own_count image) below) at sound
 
 abbrev not_blank : Option ℕ
 not_blank = Some 65
@@ -161,7 +149,7 @@ not_blank = Some 65
 -- an entry that is not used is blank
 behind_is_blank : (l : Layout) (image : List ℕ) (n : ℕ) → entry_code l image n ≡ None → own_count image ≤ n → entry_at l image n ≡ blank_entry l
 behind_is_blank l image n sound more =
-    by_test (bytes_eq (entry_at l image n) (blank_entry l)) refl (rw (not_less n (own_count image) more) at sound)
+    by_test (bytes_eq (entry_at l image n) (blank_entry l)) refl (rw (test_not_less n (own_count image) more) at sound)
   where
     by_test : (b : Bool) → bytes_eq (entry_at l image n) (blank_entry l) ≡ b → (if b then None else not_blank) ≡ None → entry_at l image n ≡ blank_entry l
     by_test true e is = (bytes_eq-Decides (entry_at l image n) (blank_entry l)).0 e

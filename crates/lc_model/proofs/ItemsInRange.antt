@@ -14,17 +14,9 @@ use Rattle.lc_model.specs.Text.Class.{Class}
 use Rattle.lc_model.specs.Text.Grammar as grammar
 use Rattle.lc_model.specs.Text.Grammar.{number_of, DerivesOption, DerivesItem, DerivesFile}
 use Rattle.lc_model.specs.Text.Meaning.{fault_if, fault_outside, name_faults, packet_faults, field_faults, faults_of, field_of, packet_of}
-use Rattle.lc_model.proofs.SoundWords.{or_first, or_second, both_false}
+use Rattle.lc_model.proofs.Facts.{or_neither, or_second, or_first, append_none_first, append_none_second, tested_equal}
 
 -- ---- nothing is refused
-
-pub none_first : {A : Type 0} (xs ys : List A) → xs ++ ys ≡ [] → xs ≡ []
-none_first [] ys e = refl
-none_first (x ∷ xs) ys e = absurd (cc e)
-
-pub none_second : {A : Type 0} (xs ys : List A) → xs ++ ys ≡ [] → ys ≡ []
-none_second [] ys e = e
-none_second (x ∷ xs) ys e = absurd (cc e)
 
 pub not_refused : (b : Bool) (code at : ℕ) → fault_if b code at ≡ [] → b ≡ false
 not_refused true code at e = absurd (cc e)
@@ -70,21 +62,18 @@ between low high (negsuc n) e = absurd (cc e)
 pub number_fits : (low high code : ℕ) (n : Number) → fault_outside low high code n ≡ [] → IsBetween low high n.value
 number_fits low high code n e = between low high n.value (not_refused _ code n.at e)
 
-equal : (m n : ℕ) → (m == n) ≡ true → m ≡ n
-equal m n e = grind (arith, e)
-
 not_same : (m n : ℕ) → int_eq (pos m) (pos n) ≡ false → (m == n) ≡ false
 not_same m n e = go (m == n) refl
   where
     go : (b : Bool) → (m == n) ≡ b → (m == n) ≡ false
-    go true is = absurd (true≢false (sym ((Decides-int_eq (pos m) (pos n)).1 (ap pos (equal m n is))) ∙ e))
+    go true is = absurd (true≢false (sym ((Decides-int_eq (pos m) (pos n)).1 (ap pos (tested_equal m n is))) ∙ e))
     go false is = is
 
 none_of : (n : ℕ) (ms : List ℕ) → list_any (λ m. int_eq (pos n) (pos m)) ms ≡ false → list_any (◌==◌ n) ms ≡ false
 none_of n [] e = refl
 none_of n (m ∷ ms) e =
     let others : Bool = list_any (λ m. int_eq (pos n) (pos m)) ms in
-    both_false (n == m) (list_any (◌==◌ n) ms) (not_same n m (or_first (int_eq (pos n) (pos m)) others e)) (none_of n ms (or_second (int_eq (pos n) (pos m)) others e))
+    or_neither (n == m) (list_any (◌==◌ n) ms) (not_same n m (or_first (int_eq (pos n) (pos m)) others e)) (none_of n ms (or_second (int_eq (pos n) (pos m)) others e))
 
 not_reserved : (v : ℤ) → 1 ≤ nat_abs v → (int_lt v (pos 0x0800) || int_lt (pos 0x0FFF) v) ≡ false →
     list_any (λ mid. int_eq v (pos mid)) reserved_mids ≡ false → list_any (◌==◌ (nat_abs v)) reserved_mids ≡ false
@@ -138,9 +127,9 @@ mask_in_range k (Some m) e = let is : IsBetween 1 (full_mask k) m.value = number
 masked : (items : List Item) (item : Item) → faults_of items item ≡ [] → OfField HasMask item
 masked items (Packet p) e = tt
 masked items (Field f) e =
-    let own : field_faults items f ≡ [] = none_second (name_faults items (Field f)) (field_faults items f) e in
+    let own : field_faults items f ≡ [] = append_none_second (name_faults items (Field f)) (field_faults items f) e in
     let masks = option_map_or (fault_outside 1 (full_mask f.kind) 26) f.mask [] in
-    mask_in_range f.kind f.mask (none_second _ masks (none_first _ _ own))
+    mask_in_range f.kind f.mask (append_none_second _ masks (append_none_first _ _ own))
 masked items (Rule r) e = tt
 
 -- ---- packets
@@ -154,16 +143,16 @@ mid_in_range : (p : PacketItem) → packet_faults p ≡ [] → HasMid p
 mid_in_range p e =
     let outside = fault_outside first_telemetry_mid last_telemetry_mid 23 p.mid in
     let reserved = fault_if (list_any (λ mid. int_eq p.mid.value (pos mid)) reserved_mids) 24 p.mid.at in
-    let both : outside ++ reserved ≡ [] = none_first (outside ++ reserved) (fault_outside 12 2048 29 p.length) e in
-    let range : IsBetween 0x0800 0x0FFF p.mid.value = number_fits 0x0800 0x0FFF 23 p.mid (none_first outside reserved both) in
+    let both : outside ++ reserved ≡ [] = append_none_first (outside ++ reserved) (fault_outside 12 2048 29 p.length) e in
+    let range : IsBetween 0x0800 0x0FFF p.mid.value = number_fits 0x0800 0x0FFF 23 p.mid (append_none_first outside reserved both) in
     record {
       range = (range.least, range.most);
-      free = not_reserved p.mid.value (omega (arith, range.least)) (not_refused _ 23 p.mid.at (none_first outside reserved both))
-          (not_refused _ 24 p.mid.at (none_second outside reserved both));
+      free = not_reserved p.mid.value (omega (arith, range.least)) (not_refused _ 23 p.mid.at (append_none_first outside reserved both))
+          (not_refused _ 24 p.mid.at (append_none_second outside reserved both));
     }
 
 identified : (items : List Item) (item : Item) → faults_of items item ≡ [] → OfPacket HasMid item
-identified items (Packet p) e = mid_in_range p (none_second (name_faults items (Packet p)) (packet_faults p) e)
+identified items (Packet p) e = mid_in_range p (append_none_second (name_faults items (Packet p)) (packet_faults p) e)
 identified items (Field f) e = tt
 identified items (Rule r) e = tt
 
@@ -173,8 +162,8 @@ each_item : (P : Item → Type 0) (items others : List Item) → ((item : Item) 
     flat_map (faults_of items) others ≡ [] → AllByRecursion P others
 each_item P items [] holds e = tt
 each_item P items (item ∷ others) holds e = (
-  holds item (none_first (faults_of items item) (flat_map (faults_of items) others) e),
-  each_item P items others holds (none_second (faults_of items item) (flat_map (faults_of items) others) e),
+  holds item (append_none_first (faults_of items item) (flat_map (faults_of items) others) e),
+  each_item P items others holds (append_none_second (faults_of items item) (flat_map (faults_of items) others) e),
 )
 
 pub all_masked : (items : List Item) → flat_map (faults_of items) items ≡ [] → AllByRecursion (OfField HasMask) items

@@ -1,7 +1,6 @@
 -- The words of lowered rules can be run.
-use Rattle.std.proofs.Common.{◌≡◌, refl, sym, ◌∙◌, ℕ, zero, suc, ◌+◌, ◌<◌, ◌≤◌, ◌⊎◌, inl, inr, Bool, true, false, if◌then◌else◌, List, [], ◌∷◌, ◌++◌, length, flat_map, slice_get, filter_map, Option, Some, None, option_map, IsTrue, true≢false, nat_lt, Contains, arith, length-append}
+use Rattle.std.proofs.Common.{◌≡◌, refl, sym, ℕ, zero, suc, ◌+◌, ◌≤◌, Bool, true, false, if◌then◌else◌, List, [], ◌∷◌, ◌++◌, length, flat_map, slice_get, filter_map, Option, Some, None, option_map, IsTrue, true≢false, nat_lt, Contains, arith, length-append}
 use Rattle.std.specs.List.{list_any, enumerate_from, AllByRecursion}
-use Rattle.std.proofs.lemmas.Bool.{cases_lt}
 use Rattle.lc_model.specs.declared.field.Term.{Term}
 use Rattle.lc_model.specs.Condition.{Condition, Watch, Not, Join}
 use Rattle.lc_model.specs.Rule.{NamedRule}
@@ -16,6 +15,7 @@ use Rattle.lc_model.proofs.SensibleLaws.{all_among}
 use Rattle.lc_model.proofs.SoundWords.{sound_words_spell}
 use Rattle.lc_model.proofs.SpellsOnce.{computed}
 use Rattle.lc_model.proofs.WordsSpell.{words_spell_in}
+use Rattle.lc_model.proofs.Facts.{tested_not_less}
 
 -- ---- limits
 
@@ -23,13 +23,6 @@ use Rattle.lc_model.proofs.WordsSpell.{words_spell_in}
 passed : {A : Type 0} (b : Bool) (refusal : A) (others : Option A) → (if b then Some refusal else others) ≡ None → (b ≡ false) × (others ≡ None)
 passed true refusal others e = absurd (cc e)
 passed false refusal others e = (refl, e)
-
-at_most : (m n : ℕ) → nat_lt m n ≡ false → n ≤ m
-at_most m n h = go (cases_lt m n)
-  where
-    go : (m < n) ⊎ (n ≤ m) → n ≤ m
-    go (inl less) = let is : nat_lt m n ≡ true = grind (arith, less) in absurd (cc (sym is ∙ h))
-    go (inr more) = more
 
 -- no rule is refused
 none_refused : (n : ℕ) (rules : List NamedRule) →
@@ -55,7 +48,7 @@ fits rule e =
     let c : Condition = rule.action.condition in
     let short = passed (nat_lt 20 (size c + 1)) 42 _ e in
     let light = passed (nat_lt 8 (need c)) 43 None short.1 in
-    record { short = at_most 20 (size c + 1) short.0; light = at_most 8 (need c) light.0 }
+    record { short = tested_not_less 20 (size c + 1) short.0; light = tested_not_less 8 (need c) light.0 }
 
 -- ---- words
 
@@ -119,10 +112,10 @@ lowered_words_run rules terms equations lowers =
     let all : List Term = flat_map (λ (rule : NamedRule). mentions rule.action.condition) rules in
     let one = passed (nat_lt table_entries (length (terms_of rules))) (ForText 31) _ lowers.within in
     let two = passed (nat_lt table_entries (length rules)) (ForText 41) _ one.1 in
-    let few : length terms ≤ table_entries = rw lowers.watchpoints (at_most _ _ one.0) in
+    let few : length terms ≤ table_entries = rw lowers.watchpoints (tested_not_less _ _ one.0) in
     let over : AllByRecursion (Contains terms) all = rw lowers.watchpoints (over_own rules) in
     record {
       watchpoints = few;
-      actionpoints = at_most _ _ two.0;
+      actionpoints = tested_not_less _ _ two.0;
       each = each_runs terms few rules (none_refused 0 rules two.1) over;
     }

@@ -5,7 +5,7 @@ use Rattle.std.specs.Option.{option_map_or}
 use Rattle.std.proofs.lemmas.List.{length-take-le}
 use Rattle.lc_model.specs.declared.mode.ApMode.{ApMode}
 use Rattle.lc_model.specs.declared.mode.ApMode.TheVariants.{Active, Passive, Disabled, PermOff}
-use Rattle.lc_model.specs.declared.rule.Report.{Report}
+use Rattle.lc_model.specs.declared.rule.ReportMaxima.{ReportMaxima}
 use Rattle.lc_model.specs.Condition.{Condition}
 use Rattle.lc_model.specs.Rule.{NamedRule}
 use Rattle.lc_model.specs.Text.Token.{Token, is_text_byte, is_string, is_closed, quote, string_text}
@@ -15,17 +15,10 @@ use Rattle.lc_model.specs.Text.Grammar as grammar
 use Rattle.lc_model.specs.Text.Grammar.{rule_phrase, DerivesItem, DerivesFile}
 use Rattle.lc_model.specs.Text.Meaning.{fault_outside, name_faults, faults_of, condition_faults, rule_faults, report_faults, report_of, option_map_two, condition_in, named_rule, rules_in, Means}
 use Rattle.lc_model.specs.Laws.Reading.{IsWithinRanges, RulesAreWithinRanges}
-use Rattle.lc_model.proofs.ItemsInRange.{none_first, none_second, IsBetween, number_fits}
+use Rattle.lc_model.proofs.ItemsInRange.{IsBetween, number_fits}
+use Rattle.lc_model.proofs.Facts.{append_none_second, append_none_first, and_first, and_second}
 
 -- ---- states and texts
-
-and_first : (a b : Bool) → (a && b) ≡ true → a ≡ true
-and_first true b e = refl
-and_first false b e = absurd (cc e)
-
-and_second : (a b : Bool) → (a && b) ≡ true → b ≡ true
-and_second true b e = e
-and_second false b e = absurd (cc e)
 
 state_found : (a b c : Bool) (mode : ApMode) →
     option_map (λ (row : List ℕ × ApMode). row.1)
@@ -102,7 +95,7 @@ items_fit (grammar.DerivesFile.next item others) = (item_fits item, items_fit ot
 
 -- ---- numbers
 
-record FitsReport (report : Report) : Type 0 where
+record FitsReport (report : ReportMaxima) : Type 0 where
   passive : report.passive < 2 ^ 8
   pass_to_fail : report.pass_to_fail < 2 ^ 16
   fail_to_pass : report.fail_to_pass < 2 ^ 16
@@ -112,14 +105,14 @@ report_fits : (o : Option ReportItem) → option_map_or report_faults o [] ≡ [
 report_fits None e = record { passive = omega arith; pass_to_fail = omega arith; fail_to_pass = omega arith }
 report_fits (Some r) e =
     let first_two : fault_outside 0 255 28 r.passive ++ fault_outside 0 65_535 28 r.pass_to_fail ≡ [] =
-    none_first (fault_outside 0 255 28 r.passive ++ fault_outside 0 65_535 28 r.pass_to_fail) (fault_outside 0 65_535 28 r.fail_to_pass) e in
+    append_none_first (fault_outside 0 255 28 r.passive ++ fault_outside 0 65_535 28 r.pass_to_fail) (fault_outside 0 65_535 28 r.fail_to_pass) e in
     let a : IsBetween 0 255 r.passive.value =
-    number_fits 0 255 28 r.passive (none_first (fault_outside 0 255 28 r.passive) (fault_outside 0 65_535 28 r.pass_to_fail) first_two) in
+    number_fits 0 255 28 r.passive (append_none_first (fault_outside 0 255 28 r.passive) (fault_outside 0 65_535 28 r.pass_to_fail) first_two) in
     let b : IsBetween 0 65_535 r.pass_to_fail.value =
-    number_fits 0 65_535 28 r.pass_to_fail (none_second (fault_outside 0 255 28 r.passive) (fault_outside 0 65_535 28 r.pass_to_fail) first_two) in
+    number_fits 0 65_535 28 r.pass_to_fail (append_none_second (fault_outside 0 255 28 r.passive) (fault_outside 0 65_535 28 r.pass_to_fail) first_two) in
     let c : IsBetween 0 65_535 r.fail_to_pass.value =
     number_fits 0 65_535 28 r.fail_to_pass
-    (none_second (fault_outside 0 255 28 r.passive ++ fault_outside 0 65_535 28 r.pass_to_fail) (fault_outside 0 65_535 28 r.fail_to_pass) e) in
+    (append_none_second (fault_outside 0 255 28 r.passive ++ fault_outside 0 65_535 28 r.pass_to_fail) (fault_outside 0 65_535 28 r.fail_to_pass) e) in
     record { passive = omega (arith, a.most); pass_to_fail = omega (arith, b.most); fail_to_pass = omega (arith, c.most) }
 
 module _ (items : List Item) where
@@ -129,14 +122,14 @@ module _ (items : List Item) where
       let sequences : List _ = fault_outside 1 65_535 28 r.sequence in
       let ids : List _ = fault_outside 1_000 65_535 28 r.event_id in
       let reports : List _ = option_map_or report_faults r.report [] in
-      let four : fails ++ sequences ++ ids ++ reports ≡ [] = none_first (fails ++ sequences ++ ids ++ reports) (condition_faults items r.condition) none in
-      let three : fails ++ sequences ++ ids ≡ [] = none_first (fails ++ sequences ++ ids) reports four in
-      let two : fails ++ sequences ≡ [] = none_first (fails ++ sequences) ids three in
-      let a : IsBetween 1 65_535 r.fails.value = number_fits 1 65_535 28 r.fails (none_first fails sequences two) in
-      let b : IsBetween 1 65_535 r.sequence.value = number_fits 1 65_535 28 r.sequence (none_second fails sequences two) in
-      let d : IsBetween 1_000 65_535 r.event_id.value = number_fits 1_000 65_535 28 r.event_id (none_second (fails ++ sequences) ids three) in
+      let four : fails ++ sequences ++ ids ++ reports ≡ [] = append_none_first (fails ++ sequences ++ ids ++ reports) (condition_faults items r.condition) none in
+      let three : fails ++ sequences ++ ids ≡ [] = append_none_first (fails ++ sequences ++ ids) reports four in
+      let two : fails ++ sequences ≡ [] = append_none_first (fails ++ sequences) ids three in
+      let a : IsBetween 1 65_535 r.fails.value = number_fits 1 65_535 28 r.fails (append_none_first fails sequences two) in
+      let b : IsBetween 1 65_535 r.sequence.value = number_fits 1 65_535 28 r.sequence (append_none_second fails sequences two) in
+      let d : IsBetween 1_000 65_535 r.event_id.value = number_fits 1_000 65_535 28 r.event_id (append_none_second (fails ++ sequences) ids three) in
       let report : FitsReport (option_map_or report_of r.report (record { passive = 0; pass_to_fail = 0; fail_to_pass = 0 })) =
-      report_fits r.report (none_second (fails ++ sequences ++ ids) reports four) in
+      report_fits r.report (append_none_second (fails ++ sequences ++ ids) reports four) in
       record {
         state = fits.on;
         fails = (a.least, omega (arith, a.most));
@@ -156,15 +149,15 @@ module _ (items : List Item) where
       rules_in items others ≡ Some rules → AllFit rules
   rules_fit [] rules fit none is = let same : [] ≡ rules = cc is in subst AllFit same tt
   rules_fit (Packet p ∷ others) rules fit none is =
-      rules_fit others rules fit.1 (none_second (faults_of items (Packet p)) (flat_map (faults_of items) others) none) is
+      rules_fit others rules fit.1 (append_none_second (faults_of items (Packet p)) (flat_map (faults_of items) others) none) is
   rules_fit (Field f ∷ others) rules fit none is =
-      rules_fit others rules fit.1 (none_second (faults_of items (Field f)) (flat_map (faults_of items) others) none) is
+      rules_fit others rules fit.1 (append_none_second (faults_of items (Field f)) (flat_map (faults_of items) others) none) is
   rules_fit (Rule r ∷ others) rules fit none is = by_parts (condition_in items r.condition) (rules_in items others)
-      (λ rs same. rules_fit others rs fit.1 (none_second (faults_of items (Rule r)) (flat_map (faults_of items) others) none) same) is
+      (λ rs same. rules_fit others rs fit.1 (append_none_second (faults_of items (Rule r)) (flat_map (faults_of items) others) none) same) is
     where
       here : rule_faults items r ≡ []
-      here = none_second (name_faults items (Rule r)) (rule_faults items r)
-          (none_first (faults_of items (Rule r)) (flat_map (faults_of items) others) none)
+      here = append_none_second (name_faults items (Rule r)) (rule_faults items r)
+          (append_none_first (faults_of items (Rule r)) (flat_map (faults_of items) others) none)
 
       by_parts : (p : Option Condition) (q : Option (List NamedRule)) → ((rs : List NamedRule) → q ≡ Some rs → AllFit rs) →
           option_map_two (λ c rs. named_rule r c ∷ rs) p q ≡ Some rules → AllFit rules

@@ -10,13 +10,13 @@ use Rattle.lc_model.specs.Codes.{table_entries, is_kind}
 use Rattle.lc_model.specs.Tables.Equation.{SpellsInOrder}
 use Rattle.lc_model.specs.Tables.Image.{Layout, Watchpoints, Actionpoints, WideActionpoints, kind_of, words_in, entry_length, image_length, preamble, filled, term_bytes, TableEntry, entry_bytes, FitsWatchpoint, ComparesInType, FitsEntry, EndsOnce, wdt_image, adt_image, own_count, watchpoint_count, hash_of, entry_at, all_words, words_before_equal, actionpoint_code, used_code, numbers_below}
 use Rattle.lc_model.specs.Tables.Half.{IsEntryOf, HasActionpoints}
-use Rattle.lc_model.specs.Tables.Spelled.{spelled_term, spelled_terms, spelled_condition, spelled_rule, spelled_rule_if, spelled_by_layout}
+use Rattle.lc_model.specs.Tables.Spelled.{spelled_term, spelled_terms, spelled_condition, spelled_rule, spelled_rule_if, spelled_by_layout, read_entry}
 use Rattle.lc_model.specs.Laws.Tables.{IsWhatIsSaid}
 use Rattle.lc_model.proofs.SpellsOnce.{computed}
 use Rattle.lc_model.proofs.FileLaws.{bytes_behind}
 use Rattle.lc_model.proofs.SoundImages.{SoundParts, sound_parts}
 use Rattle.lc_model.proofs.SoundWatchpoints.{IsWatchpoint, watchpoint_again}
-use Rattle.lc_model.proofs.SoundActionpoints.{read_entry, IsActionpoint, actionpoint_again}
+use Rattle.lc_model.proofs.SoundActionpoints.{IsActionpoint, actionpoint_again}
 use Rattle.lc_model.proofs.ImageParts.{length_listed, same_below, entry_is_long, SoundPreamble, sound_preamble, used_is_sound, image_again}
 
 abbrev AreBytes : List ℕ → Type 0

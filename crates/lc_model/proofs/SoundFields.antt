@@ -1,5 +1,5 @@
 -- The text and the words of a sound actionpoint entry are spelled by what is read of them.
-use Rattle.std.proofs.Common.{◌≡◌, ◌≢◌, refl, sym, ◌∙◌, ap, subst, ℕ, zero, suc, ◌+◌, ◌-◌, ◌*◌, ◌<◌, ◌≤◌, ◌^◌, Bool, true, false, not, cond, ◌&&◌, ◌||◌, true≢false, nat_le, ◌==◌, List, [], ◌∷◌, ◌++◌, length, flat_map, take, drop, take_while, replicate, arith}
+use Rattle.std.proofs.Common.{◌≡◌, ◌≢◌, refl, sym, ◌∙◌, ap, subst, ℕ, zero, suc, ◌+◌, ◌-◌, ◌*◌, ◌<◌, ◌≤◌, ◌^◌, Bool, true, false, not, cond, ◌&&◌, nat_le, ◌==◌, List, [], ◌∷◌, ◌++◌, length, flat_map, take, drop, take_while, replicate, arith}
 use Rattle.std.specs.List.{AllByRecursion, list_any, list_all, position_or_len, before_first, after_first}
 use Rattle.std.proofs.lemmas.List.Sums.{take_while-cons}
 use Rattle.lc_model.specs.Bytes.{u16, u16_at}
@@ -8,38 +8,15 @@ use Rattle.lc_model.specs.Text.Token.{is_text_byte, quote}
 use Rattle.lc_model.specs.Tables.Equation.{equal_word}
 use Rattle.lc_model.specs.Tables.Image.{words_from, words_before_equal, words_after_equal}
 use Rattle.lc_model.proofs.SoundImages.{below_2_16, two_at}
+use Rattle.lc_model.proofs.Facts.{tested_equal, test_equal, tested_unequal, tested_at_most, and_first, and_second, or_other}
 
 -- ---- tests
-
-equal : (m n : ℕ) → (m == n) ≡ true → m ≡ n
-equal m n e = grind (arith, e)
-
-same_number : (m n : ℕ) → m ≡ n → (m == n) ≡ true
-same_number m n e = grind (arith, e)
 
 turned : (m n : ℕ) → (m == n) ≡ false → (n == m) ≡ false
 turned m n e = grind (arith, e)
 
-differs : (m n : ℕ) → (m == n) ≡ false → m ≢ n
-differs m n e same = true≢false (sym (same_number m n same) ∙ e)
-
-at_most : (m n : ℕ) → nat_le m n ≡ true → m ≤ n
-at_most m n e = grind (arith, e)
-
 above_zero : (n : ℕ) → 0 < n → (n == 0) ≡ false
 above_zero n h = grind (arith, h)
-
-left : (a b : Bool) → (a && b) ≡ true → a ≡ true
-left true b e = refl
-left false b e = e
-
-right : (a b : Bool) → (a && b) ≡ true → b ≡ true
-right true b e = e
-right false b e = absurd (cc e)
-
-or_false : (a b : Bool) → (a || b) ≡ true → a ≡ false → b ≡ true
-or_false true b e is = absurd (cc is)
-or_false false b e is = e
 
 -- ---- what stands before and after the first that passes
 
@@ -65,17 +42,17 @@ zeros : (bytes : List ℕ) → list_all (◌==◌ 0) bytes ≡ true → replicat
 zeros [] e = refl
 zeros (b ∷ bytes) e =
     let one : length (b ∷ bytes) ≡ suc (length bytes) = omega arith in
-    let first : 0 ≡ b = equal 0 b (left (0 == b) (list_all (◌==◌ 0) bytes) e) in
-    ap (λ n. replicate n 0) one ∙ (λ i. first i ∷ zeros bytes (right (0 == b) (list_all (◌==◌ 0) bytes) e) i)
+    let first : 0 ≡ b = tested_equal 0 b (and_first (0 == b) (list_all (◌==◌ 0) bytes) e) in
+    ap (λ n. replicate n 0) one ∙ (λ i. first i ∷ zeros bytes (and_second (0 == b) (list_all (◌==◌ 0) bytes) e) i)
 
 -- ---- texts
 
 -- a byte of a text is neither zero nor above a byte
 text_byte : (b : ℕ) → is_text_byte b ≡ true → (0 < b) × (b < 2 ^ 8)
 text_byte b e =
-    let range : (nat_le 0x20 b && nat_le b 0x7E) ≡ true = left (nat_le 0x20 b && nat_le b 0x7E) (not (b == quote)) e in
-    let low : 0x20 ≤ b = at_most 0x20 b (left (nat_le 0x20 b) (nat_le b 0x7E) range) in
-    let high : b ≤ 0x7E = at_most b 0x7E (right (nat_le 0x20 b) (nat_le b 0x7E) range) in
+    let range : (nat_le 0x20 b && nat_le b 0x7E) ≡ true = and_first (nat_le 0x20 b && nat_le b 0x7E) (not (b == quote)) e in
+    let low : 0x20 ≤ b = tested_at_most 0x20 b (and_first (nat_le 0x20 b) (nat_le b 0x7E) range) in
+    let high : b ≤ 0x7E = tested_at_most b 0x7E (and_second (nat_le 0x20 b) (nat_le b 0x7E) range) in
     (omega (arith, low), omega (arith, high))
 
 -- a field of text, with zeros behind the text
@@ -112,8 +89,8 @@ text_again (b ∷ bytes) behind = by_test (is_text_byte b) refl (text_again byte
         let front : take_while is_text_byte (b ∷ bytes) ≡ [] =
         take_while-cons is_text_byte b bytes ∙ ap (λ t. cond t (b ∷ take_while is_text_byte bytes) []) is in
         let all : list_all (◌==◌ 0) (b ∷ bytes) ≡ true = sym (ap (λ (text : List ℕ). list_all (◌==◌ 0) (drop (length text) (b ∷ bytes))) front) ∙ behind in
-        let first : 0 ≡ b = equal 0 b (left (0 == b) (list_all (◌==◌ 0) bytes) all) in
-        let name : name_in (b ∷ bytes) ≡ [] = before_here (λ c. c == 0) b bytes (same_number b 0 (sym first)) in
+        let first : 0 ≡ b = tested_equal 0 b (and_first (0 == b) (list_all (◌==◌ 0) bytes) all) in
+        let name : name_in (b ∷ bytes) ≡ [] = before_here (λ c. c == 0) b bytes (test_equal b 0 (sym first)) in
         let whole : length (b ∷ bytes) - 0 ≡ length (b ∷ bytes) = omega arith in
         record {
           again = ap (λ n. n ++ replicate (length (b ∷ bytes) - length n) 0) name ∙ ap (λ n. replicate n 0) whole ∙ zeros (b ∷ bytes) all;
@@ -164,7 +141,7 @@ equation_again (w ∷ ws) all ends behind = by_test (w == equal_word) refl (equa
         let after : words_after_equal (w ∷ ws) ≡ ws = after_here (λ v. v == equal_word) w ws is in
         let few : length (w ∷ ws) - length (equal_word ∷ []) ≡ length ws = omega arith in
         let all_zeros : replicate (length ws) 0 ≡ ws = zeros ws (ap (list_all (◌==◌ 0)) (sym after) ∙ behind) in
-        let first : w ≡ equal_word = equal w equal_word is in
+        let first : w ≡ equal_word = tested_equal w equal_word is in
         record {
           again = ap (λ (front : List ℕ). front ++ equal_word ∷ [] ++ replicate (length (w ∷ ws) - length (front ++ equal_word ∷ [])) 0) before
               ∙ ap (λ n. equal_word ∷ replicate n 0) few ∙ (λ i. sym first i ∷ all_zeros i);
@@ -176,13 +153,13 @@ equation_again (w ∷ ws) all ends behind = by_test (w == equal_word) refl (equa
         let before : words_before_equal (w ∷ ws) ≡ w ∷ words_before_equal ws = before_later (λ v. v == equal_word) w ws is in
         let after : words_after_equal (w ∷ ws) ≡ words_after_equal ws = after_later (λ v. v == equal_word) w ws is in
         let rest : IsWordField ws =
-        others (or_false (equal_word == w) (list_any (◌==◌ equal_word) ws) ends (turned w equal_word is)) (ap (list_all (◌==◌ 0)) (sym after) ∙ behind) in
+        others (or_other (equal_word == w) (list_any (◌==◌ equal_word) ws) ends (turned w equal_word is)) (ap (list_all (◌==◌ 0)) (sym after) ∙ behind) in
         let front : List ℕ = words_before_equal ws ++ equal_word ∷ [] in
         let fewer : length (w ∷ ws) - length (w ∷ front) ≡ length ws - length front = omega arith in
         record {
           again = ap (λ (f : List ℕ). f ++ equal_word ∷ [] ++ replicate (length (w ∷ ws) - length (f ++ equal_word ∷ [])) 0) before
               ∙ ap (λ n. w ∷ front ++ replicate n 0) fewer ∙ ap (λ r. w ∷ r) rest.again;
           each = subst (AllByRecursion (λ v. v < 2 ^ 16)) (sym before) (all.0, rest.each);
-          once = subst (AllByRecursion (λ v. v ≢ equal_word)) (sym before) (differs w equal_word is, rest.once);
+          once = subst (AllByRecursion (λ v. v ≢ equal_word)) (sym before) (tested_unequal w equal_word is, rest.once);
           short = omega (arith, ap (λ (f : List ℕ). length f) before, rest.short);
         }

@@ -1,5 +1,5 @@
 -- The bytes of a sound pair that belongs together say rules in range over their own watchpoints.
-use Rattle.std.proofs.Common.{◌≡◌, refl, ap, subst, sym, ℕ, zero, suc, ◌<◌, ◌^◌, Bool, true, false, ◌&&◌, ◌==◌, List, [], ◌∷◌, slice_get, Some, IsTrue, bytes_eq}
+use Rattle.std.proofs.Common.{◌≡◌, ap, subst, sym, ℕ, zero, suc, ◌<◌, ◌^◌, ◌&&◌, ◌==◌, List, [], ◌∷◌, slice_get, Some, IsTrue, bytes_eq}
 use Rattle.std.specs.List.{AllByRecursion, AllZip, list_any}
 use Rattle.std.proofs.lemmas.Slice.Eq.{bytes_eq-Decides}
 use Rattle.std.proofs.lemmas.Bool.Decides.{Decides-eqb}
@@ -15,6 +15,7 @@ use Rattle.lc_model.specs.Laws.Past.{IsInRange}
 use Rattle.lc_model.specs.Laws.LimitChecker.{SoundBytesAreSensible}
 use Rattle.lc_model.proofs.SensibleLaws.{or_one, or_other, same_as}
 use Rattle.lc_model.proofs.SaidLaws.{all_append, what_is_said}
+use Rattle.lc_model.proofs.Facts.{and_both}
 
 -- ---- a rule of an entry
 
@@ -52,13 +53,9 @@ module _ (l : Layout) (terms : List Term) where
 
 -- ---- the pair
 
-both : (a b : Bool) → (a && b) ≡ true → (a ≡ true) × (b ≡ true)
-both true b e = (refl, e)
-both false b e = absurd (cc e)
-
 matching : (wdt adt : List ℕ) → IsTrue (bytes_eq (hash_of wdt) (hash_of adt) && watchpoint_count wdt == watchpoint_count adt) → IsMatch wdt adt
 matching wdt adt is =
-    let tests = both (bytes_eq (hash_of wdt) (hash_of adt)) (watchpoint_count wdt == watchpoint_count adt) is in
+    let tests = and_both (bytes_eq (hash_of wdt) (hash_of adt)) (watchpoint_count wdt == watchpoint_count adt) is in
     record {
       hash = (bytes_eq-Decides (hash_of wdt) (hash_of adt)).0 tests.0;
       watchpoints = (Decides-eqb (watchpoint_count wdt) (watchpoint_count adt)).0 tests.1;

@@ -4,7 +4,7 @@ use Rattle.lc_model.specs.Host.Stream.{StreamEntry, End, Contents, Front, EndOfS
 use Rattle.lc_model.specs.Laws.Stream.{FrontDecides}
 
 -- the rest behind a record is shorter
-shorter : (kinds : List ℕ) (texts : ℕ) (bytes : List ℕ) (entry : StreamEntry) (rest : List ℕ) →
+pub shorter : (kinds : List ℕ) (texts : ℕ) (bytes : List ℕ) (entry : StreamEntry) (rest : List ℕ) →
     front kinds texts bytes ≡ Record entry rest → length rest < length bytes
 shorter kinds texts [] entry rest e = absurd (cc e)
 shorter kinds texts (kind ∷ bytes) entry rest e =

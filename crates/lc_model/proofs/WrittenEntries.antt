@@ -1,13 +1,11 @@
 -- The entries that are written for watchpoints and actionpoints within the ranges have no fault.
-use Rattle.std.proofs.Common.{◌≡◌, ◌≢◌, refl, ◌∙◌, ap, ℕ, zero, suc, ◌-◌, ◌<◌, ◌≤◌, ◌^◌, Bool, true, false, not, cond, ◌&&◌, ◌||◌, nat_lt, nat_le, ◌==◌, List, [], ◌∷◌, ◌++◌, length, flat_map, take, drop, take_while, replicate, slice_index, slice_range, Some, None, is_none, IsTrue, arith, append_assoc}
+use Rattle.std.proofs.Common.{◌≡◌, ◌≢◌, refl, ◌∙◌, ap, ℕ, zero, suc, ◌-◌, ◌<◌, ◌≤◌, ◌^◌, Bool, true, false, not, cond, ◌&&◌, ◌||◌, nat_lt, ◌==◌, List, [], ◌∷◌, ◌++◌, length, flat_map, take, drop, take_while, replicate, Some, None, is_none, IsTrue, arith, append_assoc}
 use Rattle.std.specs.List.{AllByRecursion, list_any, list_all, before_first, after_first}
 use Rattle.std.specs.Option.{option_map_or}
 use Rattle.std.specs.Int.{is_in_range, w16, from_be_bytes}
 use Rattle.std.proofs.lemmas.Nat.{from_be_bytes-to_be_bytes_2, from_be_bytes-to_be_bytes_4}
 use Rattle.std.proofs.lemmas.List.{take_at, drop_at}
 use Rattle.std.proofs.lemmas.List.Sums.{take_while-cons}
-use Rattle.lc_model.specs.declared.field.FieldType.{FieldType}
-use Rattle.lc_model.specs.declared.field.FieldType.TheVariants.{U8, I8, U16Be, U16Le, I16Be, I16Le, U32Be, U32Le, I32Be, I32Le}
 use Rattle.lc_model.specs.declared.field.CmpOp.{CmpOp}
 use Rattle.lc_model.specs.declared.field.CmpOp.TheVariants.{Less, LessOrEqual, NotEqual, Equal, GreaterOrEqual, Greater}
 use Rattle.lc_model.specs.declared.field.Term.{Term}
@@ -15,37 +13,23 @@ use Rattle.lc_model.specs.declared.mode.ApMode.{ApMode}
 use Rattle.lc_model.specs.declared.mode.ApMode.TheVariants.{Active, Passive, Disabled, PermOff}
 use Rattle.lc_model.specs.declared.rule.EventKind.{EventKind}
 use Rattle.lc_model.specs.declared.rule.EventKind.TheVariants.{Debug, Information, Error, Critical}
-use Rattle.lc_model.specs.Bytes.{u16, u16_at, u32_at, zero_filled}
+use Rattle.lc_model.specs.Bytes.{u16, zero_filled}
 use Rattle.lc_model.specs.Packet.{reserved_mids, is_telemetry_mid}
 use Rattle.lc_model.specs.Field.{full_mask, is_in_type}
-use Rattle.lc_model.specs.Codes.{type_code, operator_code, state_code, event_code}
+use Rattle.lc_model.specs.Codes.{operator_code, state_code, event_code}
+use Rattle.lc_model.specs.Tables.Entry.{mask_field, mid_field, type_field, value_field, event_id_field, event_type_field, fails_field, sequence_field, text_field}
 use Rattle.lc_model.specs.Text.Token.{is_text_byte}
 use Rattle.lc_model.specs.Tables.Equation.{equal_word}
-use Rattle.lc_model.specs.Tables.Image.{Actionpoints, bits_32, twos_complement_32, term_bytes, type_of_code, watchpoint_code, TableEntry, entry_bytes, FitsEntry, EndsOnce, all_words, words_from, words_before_equal, words_after_equal, is_text_field, first_code, equation_tests, actionpoint_code}
-use Rattle.lc_model.proofs.SoundWords.{none_stands, stands_none, both_false, list_any-append}
+use Rattle.lc_model.specs.Tables.Image.{Actionpoints, bits_32, twos_complement_32, term_bytes, type_of_code, watchpoint_code, TableEntry, entry_bytes, FitsEntry, EndsOnce, all_words, words_from, words_before_equal, words_after_equal, is_text_field, first_code, equation_tests, actionpoint_code, watchpoint_tests, actionpoint_tests}
+use Rattle.lc_model.proofs.SoundWords.{none_stands, stands_none, list_any-append}
+use Rattle.lc_model.proofs.Facts.{or_neither, test_at_most, test_not_less, test_less, or_true}
 use Rattle.lc_model.proofs.NumbersIn32Bits.{bits_small, value_again}
 use Rattle.lc_model.proofs.TermsFit.{IsSoundTerm}
 use Rattle.lc_model.proofs.EntryLengths.{length-zero_filled}
 use Rattle.lc_model.proofs.SoundFields.{before_here, before_later, after_here, after_later}
-use Rattle.lc_model.proofs.SoundWatchpoints.{watchpoint_tests}
-use Rattle.lc_model.proofs.SoundActionpoints.{actionpoint_tests}
+use Rattle.lc_model.proofs.CodesAgain.{type_again}
 
 -- ---- tests
-
-above : (m n : ℕ) → m ≤ n → nat_le m n ≡ true
-above m n h = grind (arith, h)
-
-not_above : (m n : ℕ) → n < m → nat_le m n ≡ false
-not_above m n h = grind (arith, h)
-
-not_less : (m n : ℕ) → n ≤ m → nat_lt m n ≡ false
-not_less m n h = grind (arith, h)
-
-less : (m n : ℕ) → m < n → nat_lt m n ≡ true
-less m n h = grind (arith, h)
-
-at_most : (m n : ℕ) → nat_le m n ≡ true → m ≤ n
-at_most m n e = grind (arith, e)
 
 not_zero : (n : ℕ) → 1 ≤ n → (n == 0) ≡ false
 not_zero n h = grind (arith, h)
@@ -53,21 +37,10 @@ not_zero n h = grind (arith, h)
 differs : (m n : ℕ) → m ≢ n → (m == n) ≡ false
 differs m n h = grind (arith, h)
 
-right : (a b : Bool) → (a && b) ≡ true → b ≡ true
-right true b e = e
-right false b e = absurd (cc e)
-
-left : (a b : Bool) → (a && b) ≡ true → a ≡ true
-left true b e = refl
-left false b e = e
-
 in_range : (low high n : ℕ) → low ≤ n → n ≤ high → not (is_in_range low high n) ≡ false
-in_range low high n a b = λ i. not (above low n a i && above n high b i)
+in_range low high n a b = λ i. not (test_at_most low n a i && test_at_most n high b i)
 
 -- ---- watchpoints
-
-type_again : (k : FieldType) → type_of_code (type_code k) ≡ Some k
-type_again = elim [ U8 ↦ refl | I8 ↦ refl | U16Be ↦ refl | U16Le ↦ refl | I16Be ↦ refl | I16Le ↦ refl | U32Be ↦ refl | U32Le ↦ refl | I32Be ↦ refl | I32Le ↦ refl ]
 
 operator_known : (o : CmpOp) → not (is_in_range 1 6 (operator_code o)) ≡ false
 operator_known = elim [ Less ↦ refl | LessOrEqual ↦ refl | NotEqual ↦ refl | Equal ↦ refl | GreaterOrEqual ↦ refl | Greater ↦ refl ]
@@ -75,17 +48,17 @@ operator_known = elim [ Less ↦ refl | LessOrEqual ↦ refl | NotEqual ↦ refl
 pub sound_watchpoint : (t : Term) → IsSoundTerm t → watchpoint_code (term_bytes t) ≡ None
 sound_watchpoint t is =
     let e : List ℕ = term_bytes t in
-    let mid_is : u16_at e 2 ≡ t.mid = from_be_bytes-to_be_bytes_2 t.mid is.fits.mid in
-    let mask_is : u32_at e 8 ≡ t.mask = from_be_bytes-to_be_bytes_4 t.mask is.fits.mask in
-    let bits_are : u32_at e 20 ≡ bits_32 t.value = from_be_bytes-to_be_bytes_4 (bits_32 t.value) (bits_small t.kind t.value is.fits.value) in
-    let kind_is : type_of_code (slice_index e 0) ≡ Some t.kind = type_again t.kind in
-    let known : is_none (type_of_code (slice_index e 0)) ≡ false = ap is_none kind_is in
-    let mid_known : (not (is_telemetry_mid (u16_at e 2)) || list_any (◌==◌ (u16_at e 2)) reserved_mids) ≡ false =
+    let mid_is : mid_field e ≡ t.mid = from_be_bytes-to_be_bytes_2 t.mid is.fits.mid in
+    let mask_is : mask_field e ≡ t.mask = from_be_bytes-to_be_bytes_4 t.mask is.fits.mask in
+    let bits_are : value_field e ≡ bits_32 t.value = from_be_bytes-to_be_bytes_4 (bits_32 t.value) (bits_small t.kind t.value is.fits.value) in
+    let kind_is : type_of_code (type_field e) ≡ Some t.kind = type_again t.kind in
+    let known : is_none (type_of_code (type_field e)) ≡ false = ap is_none kind_is in
+    let mid_known : (not (is_telemetry_mid (mid_field e)) || list_any (◌==◌ (mid_field e)) reserved_mids) ≡ false =
     ap (λ m. not (is_telemetry_mid m) || list_any (◌==◌ m) reserved_mids) mid_is
-    ∙ both_false (not (is_telemetry_mid t.mid)) (list_any (◌==◌ t.mid) reserved_mids) (in_range 0x0800 0x0FFF t.mid is.mid.0 is.mid.1) is.free in
-    let masked : option_map_or (λ k. not (is_in_range 1 (full_mask k) (u32_at e 8))) (type_of_code (slice_index e 0)) false ≡ false =
+    ∙ or_neither (not (is_telemetry_mid t.mid)) (list_any (◌==◌ t.mid) reserved_mids) (in_range 0x0800 0x0FFF t.mid is.mid.0 is.mid.1) is.free in
+    let masked : option_map_or (λ k. not (is_in_range 1 (full_mask k) (mask_field e))) (type_of_code (type_field e)) false ≡ false =
     (λ i. option_map_or (λ k. not (is_in_range 1 (full_mask k) (mask_is i))) (kind_is i) false) ∙ in_range 1 (full_mask t.kind) t.mask is.mask.0 is.mask.1 in
-    let valued : option_map_or (λ k. not (is_in_type k (twos_complement_32 k (u32_at e 20)))) (type_of_code (slice_index e 0)) false ≡ false =
+    let valued : option_map_or (λ k. not (is_in_type k (twos_complement_32 k (value_field e)))) (type_of_code (type_field e)) false ≡ false =
     (λ i. option_map_or (λ k. not (is_in_type k (twos_complement_32 k (bits_are i)))) (kind_is i) false)
     ∙ ap (λ v. not (is_in_type t.kind v)) (value_again t.kind t.value is.fits.value) ∙ ap not is.in_type in
     stands_none (watchpoint_tests e) (refl, (known, (operator_known t.op, (mid_known, (masked, (valued, tt))))))
@@ -121,7 +94,7 @@ text_known text short all =
     let behind : list_all (◌==◌ 0) (drop (length text) (text ++ rest)) ≡ true =
     ap (list_all (◌==◌ 0)) (drop_at text rest (length text) refl) ∙ zeros (32 - length text) in
     ap (λ (front : List ℕ). nat_lt (length front) 32 && list_all (◌==◌ 0) (drop (length front) (text ++ rest))) (text_in_front text (32 - length text) all)
-    ∙ (λ i. less (length text) 32 short i && behind i)
+    ∙ (λ i. test_less (length text) 32 short i && behind i)
 
 -- ---- actionpoints: words
 
@@ -155,10 +128,6 @@ pub record HoldsEquation (ws all : List ℕ) : Type 0 where
   pub ends : list_any (◌==◌ equal_word) all ≡ true
   pub behind : list_all (◌==◌ 0) (words_after_equal all) ≡ true
   pub before : words_before_equal all ≡ ws
-
-or_true : (b : Bool) → (b || true) ≡ true
-or_true true = refl
-or_true false = refl
 
 pub holds_equation : (size : ℕ) (ws : List ℕ) → AllByRecursion (λ w. w < 2 ^ 16) ws → AllByRecursion (λ w. w ≢ equal_word) ws →
     HoldsEquation ws (words_from (flat_map u16 (zero_filled size (ws ++ equal_word ∷ []))))
@@ -199,12 +168,12 @@ sound_actionpoint count e is =
     let field : take 32 (text ++ words) ≡ text = take_at text words 32 long in
     let words_are : words_from (drop 32 (text ++ words)) ≡ words_from words = ap words_from (drop_at text words 32 long) in
     let held : HoldsEquation e.words (words_from words) = holds_equation 20 e.words is.fits.words is.once in
-    let id_is : u16_at bytes 12 ≡ e.event_id = from_be_bytes-to_be_bytes_2 e.event_id is.fits.event_id in
-    let sequence_is : u16_at bytes 6 ≡ e.sequence = from_be_bytes-to_be_bytes_2 e.sequence is.fits.sequence in
-    let fails_is : u16_at bytes 8 ≡ e.fails = from_be_bytes-to_be_bytes_2 e.fails is.fits.fails in
-    let event : (not (is_in_range 1 4 (u16_at bytes 10)) || nat_lt (u16_at bytes 12) 1_000) ≡ false =
-    both_false _ _ (event_known e.event_kind) (ap (λ n. nat_lt n 1_000) id_is ∙ not_less e.event_id 1_000 is.event_id) in
-    let texts : not (is_text_field (slice_range bytes 14 46)) ≡ false =
+    let id_is : event_id_field bytes ≡ e.event_id = from_be_bytes-to_be_bytes_2 e.event_id is.fits.event_id in
+    let sequence_is : sequence_field bytes ≡ e.sequence = from_be_bytes-to_be_bytes_2 e.sequence is.fits.sequence in
+    let fails_is : fails_field bytes ≡ e.fails = from_be_bytes-to_be_bytes_2 e.fails is.fits.fails in
+    let event : (not (is_in_range 1 4 (event_type_field bytes)) || nat_lt (event_id_field bytes) 1_000) ≡ false =
+    or_neither _ _ (event_known e.event_kind) (ap (λ n. nat_lt n 1_000) id_is ∙ test_not_less e.event_id 1_000 is.event_id) in
+    let texts : not (is_text_field (text_field bytes)) ≡ false =
     ap (λ (f : List ℕ). not (is_text_field f)) field ∙ ap not (text_known e.text is.fits.text_length is.text) in
     let ends : not (list_any (◌==◌ equal_word) (all_words bytes)) ≡ false =
     ap (λ (ws : List ℕ). not (list_any (◌==◌ equal_word) ws)) words_are ∙ ap not held.ends in
@@ -215,7 +184,7 @@ sound_actionpoint count e is =
     ∙ ap (λ (ws : List ℕ). first_code (equation_tests count ws)) held.before ∙ is.equation in
     let tests : AllByRecursion (λ t. t.0 ≡ false) (equation_tests count (words_before_equal (all_words bytes))) =
     none_stands (equation_tests count (words_before_equal (all_words bytes))) equation in
-    let counted : (u16_at bytes 6 == 0 || u16_at bytes 8 == 0) ≡ false =
-    both_false _ _ (ap (λ n. n == 0) sequence_is ∙ not_zero e.sequence is.sequence) (ap (λ n. n == 0) fails_is ∙ not_zero e.fails is.fails) in
+    let counted : (sequence_field bytes == 0 || fails_field bytes == 0) ≡ false =
+    or_neither _ _ (ap (λ n. n == 0) sequence_is ∙ not_zero e.sequence is.sequence) (ap (λ n. n == 0) fails_is ∙ not_zero e.fails is.fails) in
     stands_none (actionpoint_tests count bytes)
     (state_known e.mode is.begins, (event, (texts, (ends, (behind, (tests.0, (tests.1.0, (tests.1.1.0, (tests.1.1.1.0, (tests.1.1.1.1.0, (counted, tt)))))))))))

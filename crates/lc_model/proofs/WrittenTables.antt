@@ -12,22 +12,14 @@ use Rattle.lc_model.specs.declared.field.Term.{Term}
 use Rattle.lc_model.specs.Bytes.{u16_at}
 use Rattle.lc_model.specs.Codes.{is_kind, kind_code, table_entries}
 use Rattle.lc_model.specs.Tables.Image.{Layout, Watchpoints, Actionpoints, kind_of, version_of, entry_length, image_length, preamble, blank_entry, filled, term_bytes, wdt_image, TableEntry, entry_bytes, FitsEntry, EndsOnce, adt_image, HasPreamble, own_count, watchpoint_count, entry_at, used_code, entry_code, numbers_below, image_fault, preamble_code, layout_of, wrong_size, IsSound, version_1_layouts}
-use Rattle.lc_model.proofs.SoundWords.{stands_none, both_false}
+use Rattle.lc_model.proofs.SoundWords.{stands_none}
+use Rattle.lc_model.proofs.Facts.{or_neither, test_less, test_not_less, equal_itself}
 use Rattle.lc_model.proofs.EntryLengths.{AreLong, all_entries, all_long, length-all_entries, terms_long, wdt_long, entries_long_of, adt_long}
 use Rattle.lc_model.proofs.EntriesAgain.{entry_taken, entry_again, at_place, preamble_again}
 use Rattle.lc_model.proofs.TermsFit.{IsSoundTerm}
 use Rattle.lc_model.proofs.WrittenEntries.{sound_watchpoint, IsSoundEntry, sound_actionpoint}
 
 -- ---- tests
-
-less : (m n : ℕ) → m < n → nat_lt m n ≡ true
-less m n h = grind (arith, h)
-
-not_less : (m n : ℕ) → n ≤ m → nat_lt m n ≡ false
-not_less m n h = grind (arith, h)
-
-same_number : (n : ℕ) → (n == n) ≡ true
-same_number n = grind arith
 
 -- ---- the first fault
 
@@ -106,15 +98,15 @@ no_entry {A = A} l f n h xs hash all few small sound i within = go (cases_lt i (
         (λ j. used_code l (front.watchpoints_are j) (entry_again l f (length xs) n h xs i d hash all many few less_than j))
         ∙ at_place (λ x. used_code l n (f x) ≡ None) xs i d sound less_than in
         ap (λ b. if b then used_code l (watchpoint_count image) (entry_at l image i) else if bytes_eq (entry_at l image i) (blank_entry l) then None else Some 65)
-        (own true (less i (length xs) less_than)) ∙ code
+        (own true (test_less i (length xs) less_than)) ∙ code
     go (inr more) =
         let blank : entry_at l image i ≡ blank_entry l =
         blank_again l (length xs) n h (map f xs) i hash all (omega (arith, many, few)) (omega (arith, many, more)) within in
         let same : bytes_eq (entry_at l image i) (blank_entry l) ≡ true = (bytes_eq-Decides (entry_at l image i) (blank_entry l)).1 blank in
-        (λ j. if own false (not_less i (length xs) more) j then used_code l (watchpoint_count image) (entry_at l image i) else if same j then None else not_blank)
+        (λ j. if own false (test_not_less i (length xs) more) j then used_code l (watchpoint_count image) (entry_at l image i) else if same j then None else not_blank)
 
 few_counts : (own n : ℕ) → own ≤ table_entries → n ≤ table_entries → (nat_lt table_entries own || nat_lt table_entries n) ≡ false
-few_counts own n a b = both_false (nat_lt table_entries own) (nat_lt table_entries n) (not_less table_entries own a) (not_less table_entries n b)
+few_counts own n a b = or_neither (nat_lt table_entries own) (nat_lt table_entries n) (test_not_less table_entries own a) (test_not_less table_entries n b)
 
 -- the tests of a preamble
 abbrev preamble_tests : Layout → List ℕ → List (Bool × ℕ)
@@ -145,7 +137,7 @@ sound_wdt h terms hash few are =
     let counts : (nat_lt table_entries (own_count image) || nat_lt table_entries (watchpoint_count image)
     || (is_kind (kind_of Watchpoints) Wdt && not (own_count image == watchpoint_count image))) ≡ false =
     (λ i. nat_lt table_entries (front.own_is i) || nat_lt table_entries (front.watchpoints_are i) || (true && not (front.own_is i == front.watchpoints_are i)))
-    ∙ both_false (nat_lt table_entries n || nat_lt table_entries n) (not (n == n)) (few_counts n n few few) (ap not (same_number n)) in
+    ∙ or_neither (nat_lt table_entries n || nat_lt table_entries n) (not (n == n)) (few_counts n n few few) (ap not (equal_itself n)) in
     all_sound Wdt Watchpoints image found (stands_none (preamble_tests Watchpoints image) (refl, (refl, (counts, tt))))
     (no_entry Watchpoints term_bytes n h terms hash (terms_long terms) few (omega (arith, few)) (each_watchpoint n terms are))
 
@@ -178,7 +170,7 @@ sound_adt h n entries hash watchpoints few are =
     let counts : (nat_lt table_entries (own_count image) || nat_lt table_entries (watchpoint_count image)
     || (is_kind (kind_of Actionpoints) Wdt && not (own_count image == watchpoint_count image))) ≡ false =
     (λ i. nat_lt table_entries (front.own_is i) || nat_lt table_entries (front.watchpoints_are i) || false)
-    ∙ both_false (nat_lt table_entries own || nat_lt table_entries n) false (few_counts own n few watchpoints) refl in
+    ∙ or_neither (nat_lt table_entries own || nat_lt table_entries n) false (few_counts own n few watchpoints) refl in
     all_sound Adt Actionpoints image found (stands_none (preamble_tests Actionpoints image) (refl, (refl, (counts, tt))))
     (no_entry Actionpoints (entry_bytes Actionpoints) n h entries hash (entries_long_of Actionpoints refl entries fits) few (omega (arith, watchpoints))
     (each_actionpoint n entries are))

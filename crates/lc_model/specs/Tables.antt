@@ -2,10 +2,13 @@
 pub mod Equation
 pub mod Compiling
 pub mod Lowering
+pub mod Entry
 pub mod Image
+pub mod InForce
 pub mod File
 pub mod Half
 pub mod Spelled
 pub mod Slot
 pub mod Interpretation
 pub mod HalvesAndBytes
+pub mod Edition

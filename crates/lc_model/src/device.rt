@@ -5,8 +5,9 @@ pub mod pieces;
 pub mod reading;
 pub mod writing;
 
-ghost use Rattle.std.specs.Prelude.{◌≡◌, ◌<◌, ℕ, Bool, List, Option, length, IfOk, OnErr};
-ghost use Rattle.lc_model.specs.Device.{one_call_more, ReadsSome, WritesSome, Faults};
+ghost use Rattle.std.specs.Prelude.{◌≡◌, ◌<◌, length, IfErr, IfOk, OnErr, OnOk};
+ghost use Rattle.lc_model.specs.Device.{Source, Sink, one_call_more, ReadsSome, ReadFails, WritesSome, WriteFails, IsCutShort};
+ghost use Rattle.std.specs.Io.KnownBytes.{Appends};
 
 use thiserror::Error;
 
@@ -17,48 +18,55 @@ pub struct DeviceFault;
 
 /// What gives bytes, in pieces of its own choice.
 pub trait ByteSource {
-    // The bytes that are left, or unknown.
-    ghost rest: { Self → Option (List ℕ) };
-
-    // All reads so far, those that failed among them, up to 2 ^ 64 - 1.
-    ghost reads_made: { Self → ℕ };
-
-    // Whether a read has answered a fault.
-    ghost has_failed: { Self → Bool };
+    // The bytes that are left, where they are known; the reads so far; and whether one failed.
+    ghost source: { Self → Source };
 
     /// Reads at least one byte into the front of the buffer and answers how many; 0 is the end of the source. A fault
     /// moves no byte.
     fn read(&mut self, buffer: &mut [u8]) -> Result<usize, DeviceFault>
         requires { 0 < length buffer.old }
-        ensures read { IfOk result (λ count. ReadsSome (rest self.old) (rest self.new) (has_failed self.old) (has_failed self.new) count buffer.new) }
-        ensures fault { OnErr result (Faults (rest self.old) (rest self.new) (has_failed self.new)) }
-        ensures counted { reads_made self.new ≡ one_call_more (reads_made self.old) };
+        ensures read { IfOk result (λ count. ReadsSome (source self.old) (source self.new) count buffer.new) }
+        ensures fault { OnErr result (ReadFails (source self.old) (source self.new)) }
+        ensures counted { (source self.new).reads ≡ one_call_more (source self.old).reads };
 
     /// The number of reads so far, those that failed among them, up to 2^64 - 1.
     fn reads(&self) -> u64
-        ensures { result ≡ reads_made self.now };
+        ensures { result ≡ (source self.now).reads };
 
     /// Whether a read has answered a fault.
     fn failed(&self) -> bool
-        ensures { result ≡ has_failed self.now };
+        ensures { result ≡ (source self.now).failed };
 }
 
 /// What takes bytes, as many at a time as it likes.
 pub trait ByteSink {
-    // The bytes that were taken, or unknown.
-    ghost gained: { Self → Option (List ℕ) };
-
-    // Whether a write has answered a fault.
-    ghost has_failed: { Self → Bool };
+    // The bytes that were taken, where they are known; and whether a write failed.
+    ghost sink: { Self → Sink };
 
     /// Takes at least one of the bytes, the first ones, and answers how many. A sink that can take none answers a fault,
     /// which moves no byte.
     fn write(&mut self, bytes: &[u8]) -> Result<usize, DeviceFault>
         requires { 0 < length bytes.now }
-        ensures written { IfOk result (λ count. WritesSome (gained self.old) (gained self.new) (has_failed self.old) (has_failed self.new) count bytes.now) }
-        ensures fault { OnErr result (Faults (gained self.old) (gained self.new) (has_failed self.new)) };
+        ensures written { IfOk result (λ count. WritesSome (sink self.old) (sink self.new) count bytes.now) }
+        ensures fault { OnErr result (WriteFails (sink self.old) (sink self.new)) };
 
     /// Whether a write has answered a fault.
     fn failed(&self) -> bool
-        ensures { result ≡ has_failed self.now };
+        ensures { result ≡ (sink self.now).failed };
+}
+
+/// Writes all of the bytes. The error is the number of those that the sink took before a write failed.
+pub fn write_all<W: ByteSink>(writer: &mut W, bytes: &[u8]) -> Result<(), usize>
+    ensures sent { OnOk result (Appends (W.sink writer.old).gained (W.sink writer.new).gained bytes.now) }
+    ensures fine { OnOk result ((W.sink writer.new).failed ≡ (W.sink writer.old).failed) }
+    ensures cut { IfErr result (IsCutShort (W.sink writer.old) (W.sink writer.new) bytes.now) }
+{
+    let mut sent = 0;
+    while sent < bytes.len() {
+        match writer.write(&bytes[sent..]) {
+            Ok(count) => sent += count,
+            Err(DeviceFault) => return Err(sent),
+        }
+    }
+    Ok(())
 }

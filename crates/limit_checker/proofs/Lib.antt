@@ -1,5 +1,5 @@
 pub mod Results
-pub mod Fronts
+pub mod OperandsWaiting
 pub mod Running
 pub mod Tables
 pub mod Laying

@@ -11,7 +11,8 @@ use Rattle.lc_model.specs.declared.mode.LcMode.TheVariants.{Active}
 use Rattle.lc_model.specs.Condition.{Condition}
 use Rattle.lc_model.specs.Rule.{Actionpoint}
 use Rattle.lc_model.specs.Tables.Half.{IsMatch}
-use Rattle.lc_model.specs.Tables.Image.{Layout, Actionpoints, image_length, layout_of, version_1_layouts, own_count, watchpoint_count, entry_at, numbers_below}
+use Rattle.lc_model.specs.Tables.Image.{Layout, Actionpoints, image_length, layout_of, own_count, watchpoint_count, entry_at, numbers_below}
+use Rattle.lc_model.specs.Tables.InForce.{layouts}
 use Rattle.lc_model.specs.Tables.Spelled.{spelled_terms, spelled_condition, spelled_rule_if, spelled_by_layout, spelled_rules}
 use Rattle.lc_model.specs.Laws.Equations.{IsSpelled}
 use Rattle.lc_model.specs.LimitChecker.Steps.{Point}
@@ -118,6 +119,11 @@ module _ (terms : List Term) (adt : List ℕ) where
       ∙ ap (λ n. n + 1) (as_many k)
       ∙ sym (length-append (entries_below adt k) (entry k ∷ []))
 
+  many_entries : (k : ℕ) → length (entries_below adt k) ≡ k
+  unfolding entry
+  many_entries zero = refl
+  many_entries (suc k) = omega (arith, many_entries k, length-append (entries_below adt k) (entry k ∷ []))
+
   -- the rules that are spelled are those
   rules_spelled : length terms ≤ 176 → (k : ℕ) → ((n : ℕ) → n < k → IsSoundEquation (length terms) (words_for (entry_at Actionpoints adt n))) →
       flat_map (λ n. spelled_rule_if (entry_at Actionpoints adt n) (spelled_condition terms (words_for (entry_at Actionpoints adt n)))) (numbers_below k)
@@ -132,7 +138,7 @@ module _ (terms : List Term) (adt : List ℕ) where
 -- ---- the tables
 
 -- the layout of a sound image
-only_actionpoints : (adt : List ℕ) → length adt ≡ image_length Actionpoints → layout_of version_1_layouts Adt adt ≡ Some Actionpoints
+only_actionpoints : (adt : List ℕ) → length adt ≡ image_length Actionpoints → layout_of layouts Adt adt ≡ Some Actionpoints
 only_actionpoints adt size = rw size refl
 
 module _ (wdt adt : List ℕ) (watches : HasSoundWatchpoints wdt) (actions : HasSoundActionpoints adt) (match : IsMatch wdt adt) where
@@ -148,6 +154,7 @@ module _ (wdt adt : List ℕ) (watches : HasSoundWatchpoints wdt) (actions : Has
   pub tables_set : AreTables (spelled_terms wdt) (by_counts.unseen (spelled_terms wdt)) (entries_below adt (own_count adt)) (points_below adt (own_count adt)) (words_below adt (own_count adt))
   tables_set = record {
     few = few;
+    few_rules = omega (arith, many_entries (spelled_terms wdt) adt (own_count adt), actions.own);
     found = length-map (spelled_terms wdt) (λ (t : Term). unseen_result);
     counted = as_many (spelled_terms wdt) adt (own_count adt);
     shared = λ j k t at_j at_k.
@@ -156,14 +163,14 @@ module _ (wdt adt : List ℕ) (watches : HasSoundWatchpoints wdt) (actions : Has
     runnable = each _ _ (rw (append-nil (words_below adt (own_count adt))) at (entries_run (spelled_terms wdt) adt (own_count adt) [] equations));
   }
 
-  rules_set : map (rule_in (spelled_terms wdt) (words_below adt (own_count adt))) (entries_below adt (own_count adt)) ≡ spelled_rules version_1_layouts wdt adt
+  rules_set : map (rule_in (spelled_terms wdt) (words_below adt (own_count adt))) (entries_below adt (own_count adt)) ≡ spelled_rules layouts wdt adt
   rules_set =
       ap (λ words. map (rule_in (spelled_terms wdt) words) (entries_below adt (own_count adt))) (sym (append-nil (words_below adt (own_count adt))))
       ∙ rules_laid (spelled_terms wdt) adt (own_count adt) []
       ∙ sym (rules_spelled (spelled_terms wdt) adt few (own_count adt) equations)
       ∙ ap (λ (l : Option Layout). spelled_by_layout l (spelled_terms wdt) adt) (sym (only_actionpoints adt actions.size))
 
-  points_set : points_below adt (own_count adt) ≡ map fresh_point (spelled_rules version_1_layouts wdt adt)
+  points_set : points_below adt (own_count adt) ≡ map fresh_point (spelled_rules layouts wdt adt)
   points_set =
       points_laid (spelled_terms wdt) adt (own_count adt)
       ∙ ap (map fresh_point)
@@ -171,7 +178,7 @@ module _ (wdt adt : List ℕ) (watches : HasSoundWatchpoints wdt) (actions : Has
       ∙ ap (λ (l : Option Layout). spelled_by_layout l (spelled_terms wdt) adt) (sym (only_actionpoints adt actions.size)))
 
   pub watcher_set : watcher Active (spelled_terms wdt) (by_counts.unseen (spelled_terms wdt)) (entries_below adt (own_count adt)) (points_below adt (own_count adt)) (words_below adt (own_count adt))
-      ≡ fresh (spelled_terms wdt) (spelled_rules version_1_layouts wdt adt)
+      ≡ fresh (spelled_terms wdt) (spelled_rules layouts wdt adt)
   watcher_set =
       ap₂ (λ (said : List Actionpoint) (points : List (Point Tally)).
       let w : Watcher = record { mode = Active; terms = spelled_terms wdt; rules = said; watch = by_counts.unseen (spelled_terms wdt); points = points } in w)

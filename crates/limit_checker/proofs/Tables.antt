@@ -27,6 +27,7 @@ module _ (f : Term → WatchResult → WatchResult) where
       AreTables terms watch entries points words → AreTables terms (results_by f terms watch) entries points words
   results_kept terms watch entries points words tables = record {
     few = tables.few;
+    few_rules = tables.few_rules;
     found = length-results_by terms watch tables.found;
     counted = tables.counted;
     shared = λ j k t at_j at_k.

@@ -1,9 +1,11 @@
 -- What a Limit Checker's tables always are.
-use Rattle.std.specs.Prelude.{◌≡◌, ℕ, ◌≤◌, List, length, map, All}
+use Rattle.std.specs.Prelude.{◌≡◌, ℕ, ◌*◌, ◌≤◌, List, length, map, All}
 use Rattle.lc_model.specs.declared.field.Term.{Term}
 use Rattle.lc_model.specs.declared.mode.LcMode.{LcMode}
+use Rattle.lc_model.specs.Codes.{table_entries}
 use Rattle.lc_model.specs.LimitChecker.Steps.{Point}
 use Rattle.lc_model.specs.Kept.Summary.{WatchResult, Tally}
+use Rattle.lc_model.specs.Tables.Image.{Actionpoints, words_in}
 use Rattle.limit_checker.specs.declared.actionpoint.Entry.{Entry}
 use Rattle.limit_checker.specs.Entry.{rule_in, IsRunnable}
 use Rattle.limit_checker.specs.Shared.{AreShared}
@@ -17,16 +19,17 @@ watcher mode terms watch entries points words =
 -- each watchpoint has its result, each entry its point; equal watchpoints have equal results, and each entry's words can
 -- be run
 pub record AreTables (terms : List Term) (watch : List WatchResult) (entries : List Entry) (points : List (Point Tally)) (words : List ℕ) : Type 0 where
-  pub few : length terms ≤ 176
+  pub few : length terms ≤ table_entries
+  pub few_rules : length entries ≤ table_entries
   pub found : length watch ≡ length terms
   pub counted : length points ≡ length entries
   pub shared : AreShared terms watch
   pub runnable : All (IsRunnable terms words) entries
 
--- there is room for the largest tables: 176 watchpoints, 176 actionpoints, and 20 words of each
+-- there is room for the largest tables: watchpoints, actionpoints, and the words of each
 pub record HasRoom (terms watch entries points words : ℕ) : Type 0 where
-  pub for_terms : 176 ≤ terms
-  pub for_watch : 176 ≤ watch
-  pub for_entries : 176 ≤ entries
-  pub for_points : 176 ≤ points
-  pub for_words : 3520 ≤ words
+  pub for_terms : table_entries ≤ terms
+  pub for_watch : table_entries ≤ watch
+  pub for_entries : table_entries ≤ entries
+  pub for_points : table_entries ≤ points
+  pub for_words : words_in Actionpoints * table_entries ≤ words

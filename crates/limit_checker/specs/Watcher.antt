@@ -5,7 +5,7 @@ use Rattle.lc_model.specs.declared.field.Term.{Term}
 use Rattle.lc_model.specs.declared.mode.LcMode.{LcMode}
 use Rattle.lc_model.specs.declared.mode.LcMode.TheVariants.{Active}
 use Rattle.lc_model.specs.Rule.{Actionpoint}
-use Rattle.lc_model.specs.Events.Request.{Request, Event, Sequence}
+use Rattle.lc_model.specs.Events.Request.{Request, Event, Sequence, Housekeeping}
 use Rattle.lc_model.specs.LimitChecker.Steps.{Point, is_disabled, is_sampled, sampled_point}
 use Rattle.lc_model.specs.Kept.Summary.{WatchResult, Tally}
 use Rattle.lc_model.specs.Kept.Next.{by_counts}
@@ -60,3 +60,4 @@ abbrev pub sequence_in : List Request → Option ℕ
 sequence_in [] = None
 sequence_in (Sequence number ∷ requests) = Some number
 sequence_in (Event sender id kind text ∷ requests) = sequence_in requests
+sequence_in (Housekeeping mode points ∷ requests) = sequence_in requests

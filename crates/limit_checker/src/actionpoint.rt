@@ -12,7 +12,7 @@ ghost use Rattle.limit_checker.specs.Sampling.{point_with};
 ghost use Rattle.limit_checker.specs.Entry.{rule_with};
 
 use arrayvec::ArrayVec;
-use lc_model::{ApMode, ApResult, EventKind, LcMode, Report, Truth};
+use lc_model::{ApMode, ApResult, EventKind, LcMode, ReportMaxima, Truth};
 use std::marker::Model;
 
 /// The most bytes of an event's text.
@@ -30,7 +30,7 @@ pub(crate) struct Entry {
     pub(crate) event_kind: EventKind,
     pub(crate) event_id: u16,
     pub(crate) text: ArrayVec<u8, TEXT_LENGTH>,
-    pub(crate) report: Report,
+    pub(crate) report: ReportMaxima,
     /// Where its words begin among the words of all rules.
     pub(crate) start: usize,
     /// Where they end, without EQUAL.

@@ -6,7 +6,8 @@ use Rattle.std.proofs.lemmas.Bool.{le-ltb, lt-ltb}
 use Rattle.lc_model.specs.Rule.{NamedRule}
 use Rattle.lc_model.specs.Text.Reading.{TextRefusal, ForRule}
 use Rattle.lc_model.specs.Tables.Equation.{size, need}
-use Rattle.lc_model.specs.Tables.Compiling.{equation_fault, text_order_limits}
+use Rattle.lc_model.specs.Tables.Compiling.{equation_fault}
+use Rattle.lc_model.specs.Tables.InForce.{limits}
 use Rattle.rpn_compiler.specs.Limits.{refusal_of_rule}
 
 -- ---- one rule
@@ -28,7 +29,7 @@ fits n rule short shallow =
 -- the refusal of the first rule that has one, the first rule having this number
 abbrev pub first_from : ℕ → List NamedRule → Option TextRefusal
 first_from n rules =
-    slice_get (filter_map (λ (m : ℕ × NamedRule). option_map (λ code. ForRule code m.0) (equation_fault text_order_limits m.1)) (enumerate_from n rules)) 0
+    slice_get (filter_map (λ (m : ℕ × NamedRule). option_map (λ code. ForRule code m.0) (equation_fault limits m.1)) (enumerate_from n rules)) 0
 
 pub passes : (n : ℕ) (rule : NamedRule) (rules : List NamedRule) → refusal_of_rule n rule ≡ None → first_from n (rule ∷ rules) ≡ first_from (n + 1) rules
 passes n rule rules e = rw e refl

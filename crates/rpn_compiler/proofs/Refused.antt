@@ -11,7 +11,8 @@ use Rattle.lc_model.specs.Text.Meaning.{faults, first_fault}
 use Rattle.lc_model.specs.Text.Reading as model
 use Rattle.lc_model.specs.Text.Reading.{Parses, HasParseFault, TextRefusal, ForText, AtPlace, Unparsed, Reads, IsUnreadable}
 use Rattle.lc_model.specs.Tables.Equation.{terms_of}
-use Rattle.lc_model.specs.Tables.Compiling.{Compiles, IsRefused, limit_refusal, text_order_limits}
+use Rattle.lc_model.specs.Tables.Compiling.{Compiles, IsRefused, limit_refusal}
+use Rattle.lc_model.specs.Tables.InForce.{limits}
 use Rattle.lc_model.specs.Laws.Reading.{AtMostOneVerdict, IsWithinRanges}
 use Rattle.rule_lexer.specs.declared.error.LexError.{LexError}
 use Rattle.rule_lexer.specs.declared.error.LexError.TheVariants as lexer
@@ -86,7 +87,7 @@ module _ (text : List ℕ) where
 -- ---- limits
 
 pub of_sharing : (rules : List NamedRule) (error : ShareError) → IsTooManyUnlessMemory (terms_of rules) error →
-    Refuses (λ refusal. limit_refusal text_order_limits rules ≡ Some refusal) (error_of_sharing error)
+    Refuses (λ refusal. limit_refusal limits rules ≡ Some refusal) (error_of_sharing error)
 of_sharing rules error (inl memory) = inl (ap error_of_sharing memory)
 of_sharing rules error (inr many) =
     inr (ForText 31, ap (λ e. refusal_of (error_of_sharing e)) many.0, rw (lt-ltb table_entries (length (terms_of rules)) many.1) refl)
@@ -99,17 +100,17 @@ short_texts (rule ∷ rules) all = (all.0.text_length, short_texts rules all.1)
 
 -- ---- both directions
 
-module _ (text : List ℕ) (one : AtMostOneVerdict text_order_limits text) where
-  pub accepts : (r : Result Lowered CompileError) → IfOk r (λ lowered. Compiles text_order_limits text lowered.rules.rules) →
-      IfErr r (Refuses (IsRefused text_order_limits text)) → ((rules others : List NamedRule) → Reads text rules → Reads text others → rules ≡ others) →
-      (rules : List NamedRule) → Compiles text_order_limits text rules → MatchResult r (λ lowered. lowered.rules.rules ≡ rules) (λ error. error ≡ Memory)
+module _ (text : List ℕ) (one : AtMostOneVerdict limits text) where
+  pub accepts : (r : Result Lowered CompileError) → IfOk r (λ lowered. Compiles limits text lowered.rules.rules) →
+      IfErr r (Refuses (IsRefused limits text)) → ((rules others : List NamedRule) → Reads text rules → Reads text others → rules ≡ others) →
+      (rules : List NamedRule) → Compiles limits text rules → MatchResult r (λ lowered. lowered.rules.rules ≡ rules) (λ error. error ≡ Memory)
   accepts (Ok lowered) compiled refused once rules compiles = once lowered.rules.rules rules compiled.0 compiles.0
   accepts (Err error) compiled (inl memory) once rules compiles = memory
   accepts (Err error) compiled (inr known) once rules compiles = absurd (one.not_both rules known.0 compiles known.2)
 
-  pub refuses : (r : Result Lowered CompileError) → IfOk r (λ lowered. Compiles text_order_limits text lowered.rules.rules) →
-      IfErr r (Refuses (IsRefused text_order_limits text)) →
-      (refusal : TextRefusal) → IsRefused text_order_limits text refusal → MatchResult r (λ _. ⊥) (Refuses (λ found. found ≡ refusal))
+  pub refuses : (r : Result Lowered CompileError) → IfOk r (λ lowered. Compiles limits text lowered.rules.rules) →
+      IfErr r (Refuses (IsRefused limits text)) →
+      (refusal : TextRefusal) → IsRefused limits text refusal → MatchResult r (λ _. ⊥) (Refuses (λ found. found ≡ refusal))
   refuses (Ok lowered) compiled refused refusal is = one.not_both lowered.rules.rules refusal compiled is
   refuses (Err error) compiled (inl memory) refusal is = inl memory
   refuses (Err error) compiled (inr known) refusal is = inr (known.0, known.1, one.one_refusal known.0 refusal known.2 is)

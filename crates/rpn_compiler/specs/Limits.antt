@@ -2,7 +2,8 @@
 use Rattle.std.specs.Prelude.{◌≡◌, ℕ, Option, Some, option_map}
 use Rattle.lc_model.specs.Text.Reading.{TextRefusal, ForRule}
 use Rattle.lc_model.specs.Rule.{NamedRule}
-use Rattle.lc_model.specs.Tables.Compiling.{equation_fault, text_order_limits}
+use Rattle.lc_model.specs.Tables.Compiling.{equation_fault}
+use Rattle.lc_model.specs.Tables.InForce.{limits}
 use Rattle.rpn_compiler.specs.declared.error.CompileError.{CompileError}
 use Rattle.rpn_compiler.specs.Fault.{refusal_of}
 
@@ -12,4 +13,4 @@ IsRefusal refusal error = (r : TextRefusal) × (refusal_of error ≡ Some r) × 
 
 -- the refusal of the rule with this number
 abbrev pub refusal_of_rule : ℕ → NamedRule → Option TextRefusal
-refusal_of_rule number rule = option_map (λ code. ForRule code number) (equation_fault text_order_limits rule)
+refusal_of_rule number rule = option_map (λ code. ForRule code number) (equation_fault limits rule)

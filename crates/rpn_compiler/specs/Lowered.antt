@@ -1,14 +1,17 @@
 -- What the compiled form of a rule text says. This project's own.
-use Rattle.std.specs.Prelude.{ℕ, List, map, Vec}
-use Rattle.std.specs.declared.alloc.Global.{Global}
-use Rattle.lc_model.specs.Tables.Compiling.{text_order_limits}
-use Rattle.lc_model.specs.Tables.Lowering.{Lowers}
+use Rattle.std.specs.Prelude.{◌≡◌, ◌<◌, length, map, None}
+use Rattle.std.specs.List.{AllByRecursion}
+use Rattle.lc_model.specs.Rule.{NamedRule}
+use Rattle.lc_model.specs.Tables.Compiling.{limit_refusal}
+use Rattle.lc_model.specs.Tables.Equation.{terms_of}
+use Rattle.lc_model.specs.Tables.InForce.{limits}
+use Rattle.lc_model.specs.Tables.Lowering.{words_in}
+use Rattle.rpn_compiler.specs.Numbered.{words_of}
 use Rattle.rpn_compiler.specs.declared.lowered.Lowered.{Lowered}
 
--- the words of each rule's equation
-abbrev pub equations : Lowered → List (List ℕ)
-equations l = map (λ (words : Vec ℕ Global). words.items) l.words.items
-
--- these are the watchpoints and equations of rules that compile, in the order of their text
-abbrev pub IsLowered : Lowered → Type 0
-IsLowered l = Lowers text_order_limits l.rules.rules l.terms.items (equations l)
+-- these are the watchpoints, and the words of the conditions, of rules that compile, in the order of their text
+pub record IsLowered (l : Lowered) : Type 0 where
+  pub within : limit_refusal limits l.rules.rules ≡ None
+  pub watchpoints : l.terms.items ≡ terms_of l.rules.rules
+  pub words : words_of l.words.items ≡ map (words_in l.terms.items) l.rules.rules
+  pub texts : AllByRecursion (λ (rule : NamedRule). length rule.action.text < 32) l.rules.rules

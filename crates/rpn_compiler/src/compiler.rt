@@ -4,12 +4,13 @@ ghost use Rattle.std.specs.Prelude.{◌≡◌, ◌<◌, List, Some, length, IfEr
 ghost use Rattle.std.specs.List.{AllByRecursion};
 ghost use Rattle.lc_model.specs.Rule.{NamedRule};
 ghost use Rattle.lc_model.specs.Text.Reading.{IsUnreadable, Reads, TextRefusal};
-ghost use Rattle.lc_model.specs.Tables.Compiling.{Compiles, IsRefused, limit_refusal, text_order_limits};
+ghost use Rattle.lc_model.specs.Tables.Compiling.{Compiles, IsRefused, limit_refusal};
+ghost use Rattle.lc_model.specs.Tables.InForce.{limits};
 ghost use Rattle.rpn_compiler.specs.declared.error.CompileError.TheVariants.{Memory};
 ghost use Rattle.rpn_compiler.specs.Fault.{Refuses};
 ghost use Rattle.rpn_compiler.specs.Lowered.{IsLowered};
 
-use crate::equation::equations;
+use crate::equation::words_of_rules;
 use crate::error::CompileError;
 use crate::limits;
 use crate::lowered::Lowered;
@@ -31,16 +32,16 @@ fn read(alloc: Global, text: &[u8]) -> Result<RuleSet, CompileError>
     Ok(check(alloc, &file)?)
 }
 
-/// The watchpoints and equations of rules, within the limits of the tables.
+/// The watchpoints and the words of rules, within the limits of the tables.
 fn lower_rules(alloc: Global, rules: RuleSet) -> Result<Lowered, CompileError>
     requires { AllByRecursion (λ (rule : NamedRule). length rule.action.text < 32) rules.rules }
     ensures rules { IfOk result (λ lowered. lowered.rules.rules ≡ rules.rules) }
     ensures lowered { IfOk result IsLowered }
-    ensures refused { IfErr result (Refuses (λ refusal. limit_refusal text_order_limits rules.rules ≡ Some refusal)) }
+    ensures refused { IfErr result (Refuses (λ refusal. limit_refusal limits rules.rules ≡ Some refusal)) }
 {
     let shared = share(alloc, &rules)?;
     limits::judge(rules.rules.as_slice())?;
-    let words = equations(alloc, rules.rules.as_slice(), shared.mentions.as_slice())?;
+    let words = words_of_rules(alloc, rules.rules.as_slice(), shared.mentions.as_slice())?;
     Ok(Lowered {
         rules,
         terms: shared.terms,
@@ -50,9 +51,9 @@ fn lower_rules(alloc: Global, rules: RuleSet) -> Result<Lowered, CompileError>
 
 /// The compiled form of a text, or the first refusal.
 fn lower_text(alloc: Global, text: &[u8]) -> Result<Lowered, CompileError>
-    ensures compiles { IfOk result (λ lowered. Compiles text_order_limits text.now lowered.rules.rules) }
+    ensures compiles { IfOk result (λ lowered. Compiles limits text.now lowered.rules.rules) }
     ensures lowered { IfOk result IsLowered }
-    ensures refused { IfErr result (Refuses (IsRefused text_order_limits text.now)) }
+    ensures refused { IfErr result (Refuses (IsRefused limits text.now)) }
 {
     reading::rules_are_within_ranges();
     let rules = read(alloc, text)?;
@@ -60,17 +61,17 @@ fn lower_text(alloc: Global, text: &[u8]) -> Result<Lowered, CompileError>
 }
 
 /// Lowers a rule text: its rules as the text says them, their watchpoints in order of first mention, and for each rule
-/// the words of its equation, operands first in the text's order, with EQUAL (0xFF05) at the end.
+/// the words of its condition, operands first in the text's order.
 ///
 /// Errors: the first refusal, where the whole text is lexed, then parsed, then checked, and its watchpoints are counted,
 /// its rules, and last the words and waiting operands of each rule. `Memory` comes only where what is compiled finds no
 /// room.
 pub fn lower(alloc: Global, text: &[u8]) -> Result<Lowered, CompileError>
-    ensures compiles { IfOk result (λ lowered. Compiles text_order_limits text.now lowered.rules.rules) }
+    ensures compiles { IfOk result (λ lowered. Compiles limits text.now lowered.rules.rules) }
     ensures lowered { IfOk result IsLowered }
-    ensures refused { IfErr result (Refuses (IsRefused text_order_limits text.now)) }
-    ensures accepts { (rules : List NamedRule) → Compiles text_order_limits text.now rules → MatchResult result (λ lowered. lowered.rules.rules ≡ rules) (λ error. error ≡ Memory) }
-    ensures refuses { (refusal : TextRefusal) → IsRefused text_order_limits text.now refusal → MatchResult result (λ _. ⊥) (Refuses (λ found. found ≡ refusal)) }
+    ensures refused { IfErr result (Refuses (IsRefused limits text.now)) }
+    ensures accepts { (rules : List NamedRule) → Compiles limits text.now rules → MatchResult result (λ lowered. lowered.rules.rules ≡ rules) (λ error. error ≡ Memory) }
+    ensures refuses { (refusal : TextRefusal) → IsRefused limits text.now refusal → MatchResult result (λ _. ⊥) (Refuses (λ found. found ≡ refusal)) }
 {
     reading::reads_in_one_way();
     reading::has_at_most_one_verdict();

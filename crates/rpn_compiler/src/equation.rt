@@ -1,29 +1,16 @@
-//! Equations: the words of rules, operands first (cFS Limit Checker user's guide, actionpoint definitions; the words are
+//! The words of rules' conditions, operands first (cFS Limit Checker user's guide, actionpoint definitions; the words are
 //! this project's own).
 
-ghost use Rattle.std.specs.Prelude.{◌≡◌, ◌≤◌, ◌++◌, ◌∷◌, [], length, map, IfOk, OnOk};
+ghost use Rattle.std.specs.Prelude.{◌≡◌, ◌≤◌, ◌++◌, length, map, IfOk, OnOk};
 ghost use Rattle.lc_model.specs.Condition.{condition_of};
 ghost use Rattle.lc_model.specs.Rule.{rules_of};
-ghost use Rattle.lc_model.specs.Tables.Equation.{equal_word, mentions, mention_numbers, terms_of};
-ghost use Rattle.lc_model.specs.Tables.Lowering.{equation_in};
+ghost use Rattle.lc_model.specs.Tables.Equation.{mentions, mention_numbers, terms_of};
+ghost use Rattle.lc_model.specs.Tables.Lowering.{words_in};
 ghost use Rattle.rpn_compiler.specs.Numbered.{by_numbers, words_of};
 
-use lc_model::{Cond, Rule};
+use lc_model::words::{AND, NOT, OR, XOR};
+use lc_model::{Cond, EQUATION_WORDS, Rule};
 use std::alloc::{AllocError, Global};
-
-const AND: u16 = 0xFF01;
-
-const OR: u16 = 0xFF02;
-
-const XOR: u16 = 0xFF03;
-
-const NOT: u16 = 0xFF04;
-
-/// Ends an equation.
-const EQUAL: u16 = 0xFF05;
-
-/// The most words of an equation.
-const MOST_WORDS: usize = 20;
 
 /// Adds the words of a condition. Its mentions have the first of these numbers; the answer is those that are left.
 #[tactic(auto, using(crate::proofs::Numbered::left_over), unfolding(crate::specs::Numbered::by_numbers))]
@@ -59,29 +46,28 @@ fn push_words<'n>(
     Ok(numbers)
 }
 
-/// The equation of a rule whose mentions have these numbers.
-fn equation(alloc: Global, rule: &Rule, numbers: &[u16]) -> Result<Vec<u16>, AllocError>
+/// The words of a rule's condition, whose mentions have these numbers.
+fn words_of_rule(alloc: Global, rule: &Rule, numbers: &[u16]) -> Result<Vec<u16>, AllocError>
     requires { length (mentions (condition_of rule.now.cond)) ≤ length numbers.now }
-    ensures { IfOk result (λ words. words.items ≡ (by_numbers (condition_of rule.now.cond) numbers.now).0 ++ equal_word ∷ []) }
+    ensures { IfOk result (λ words. words.items ≡ (by_numbers (condition_of rule.now.cond) numbers.now).0) }
 {
-    let mut words = Vec::with_capacity(alloc, MOST_WORDS)?;
+    let mut words = Vec::with_capacity(alloc, EQUATION_WORDS)?;
     push_words(&rule.cond, numbers, &mut words)?;
-    words.push(EQUAL)?;
     Ok(words)
 }
 
-/// The equation of each rule, where each one's mentions have the numbers that they have among the rules' watchpoints.
-pub fn equations(
+/// The words of each rule's condition, where its mentions have the numbers that they have among the rules' watchpoints.
+pub fn words_of_rules(
     alloc: Global,
     rules: &[Rule],
     numbers: &[Vec<u16>],
 ) -> Result<Vec<Vec<u16>>, AllocError>
     requires { words_of numbers.now ≡ map (mention_numbers (terms_of (rules_of rules.now))) (rules_of rules.now) }
-    ensures { IfOk result (λ found. words_of found.items ≡ map (equation_in (terms_of (rules_of rules.now))) (rules_of rules.now)) }
+    ensures { IfOk result (λ found. words_of found.items ≡ map (words_in (terms_of (rules_of rules.now))) (rules_of rules.now)) }
 {
-    let mut equations = Vec::with_capacity(alloc, rules.len())?;
+    let mut found = Vec::with_capacity(alloc, rules.len())?;
     for (number, rule) in rules.iter().enumerate() {
-        equations.push(equation(alloc, rule, numbers[number].as_slice())?)?;
+        found.push(words_of_rule(alloc, rule, numbers[number].as_slice())?)?;
     }
-    Ok(equations)
+    Ok(found)
 }

@@ -6,7 +6,8 @@ ghost use Rattle.lc_model.specs.Rule.{NamedRule};
 ghost use Rattle.lc_model.specs.Codes.{table_entries};
 ghost use Rattle.lc_model.specs.declared.kind.Kind.TheVariants as kinds;
 ghost use Rattle.lc_model.specs.Text.Reading.{TextRefusal};
-ghost use Rattle.lc_model.specs.Tables.Compiling.{Compiles, IsRefused, text_order_limits};
+ghost use Rattle.lc_model.specs.Tables.Compiling.{Compiles, IsRefused};
+ghost use Rattle.lc_model.specs.Tables.InForce.{limits};
 ghost use Rattle.lc_model.specs.Tables.File.{file_bytes, wrapped};
 ghost use Rattle.lc_model.specs.Tables.Image.{Actionpoints, FitsEntry, FitsWatchpoint, adt_image, wdt_image};
 ghost use Rattle.rpn_compiler.specs.declared.error.CompileError.TheVariants.{Memory};
@@ -63,7 +64,7 @@ fn adt_file(alloc: Global, image: &AdtImage) -> Result<Vec<u8>, CompileError>
 
 /// The files of the tables of what a text is lowered to.
 fn files(alloc: Global, text: &[u8], lowered: Lowered) -> Result<TablePair, CompileError>
-    requires compiles { Compiles text_order_limits text.now lowered.rules.rules }
+    requires compiles { Compiles limits text.now lowered.rules.rules }
     requires lowered { IsLowered lowered }
     ensures tables { IfOk result (AreTables text.now lowered.rules.rules) }
     ensures refused { IfErr result (λ error. error ≡ Memory) }
@@ -97,10 +98,10 @@ fn files(alloc: Global, text: &[u8], lowered: Lowered) -> Result<TablePair, Comp
 /// its rules, and last the words and waiting operands of each rule. `Memory` comes only where the files, or what is made on
 /// the way to them, find no room.
 pub fn compile(alloc: Global, text: &[u8]) -> Result<TablePair, CompileError>
-    ensures compiles { IfOk result (λ pair. (rules : List NamedRule) × Compiles text_order_limits text.now rules × AreTables text.now rules pair) }
-    ensures refused { IfErr result (Refuses (IsRefused text_order_limits text.now)) }
-    ensures accepts { (rules : List NamedRule) → Compiles text_order_limits text.now rules → MatchResult result (AreTables text.now rules) (λ error. error ≡ Memory) }
-    ensures refuses { (refusal : TextRefusal) → IsRefused text_order_limits text.now refusal → MatchResult result (λ _. ⊥) (Refuses (λ found. found ≡ refusal)) }
+    ensures compiles { IfOk result (λ pair. (rules : List NamedRule) × Compiles limits text.now rules × AreTables text.now rules pair) }
+    ensures refused { IfErr result (Refuses (IsRefused limits text.now)) }
+    ensures accepts { (rules : List NamedRule) → Compiles limits text.now rules → MatchResult result (AreTables text.now rules) (λ error. error ≡ Memory) }
+    ensures refuses { (refusal : TextRefusal) → IsRefused limits text.now refusal → MatchResult result (λ _. ⊥) (Refuses (λ found. found ≡ refusal)) }
 {
     let lowered = lower(alloc, text)?;
     files(alloc, text, lowered)

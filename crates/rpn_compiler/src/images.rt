@@ -1,6 +1,6 @@
 //! The entries of the table of actionpoints (this project's own layout).
 
-ghost use Rattle.std.specs.Prelude.{◌≡◌, ◌-◌, ◌≤◌, length, map, take, IfOk};
+ghost use Rattle.std.specs.Prelude.{◌≡◌, map, IfOk};
 ghost use Rattle.lc_model.specs.Rule.{rule_of};
 ghost use Rattle.lc_model.specs.Tables.Half.{entry_of, entry_over};
 ghost use Rattle.rpn_compiler.specs.Lowered.{IsLowered};
@@ -10,13 +10,12 @@ use lc_model::{Bytes, Rule};
 use std::alloc::{AllocError, Global};
 use table_file::TableEntry;
 
-/// The entry of a rule with this equation, whose last word, EQUAL, the table's writer adds.
-fn entry(alloc: Global, rule: &Rule, equation: &[u16]) -> Result<TableEntry, AllocError>
-    requires { 1 ≤ length equation.now }
-    ensures { IfOk result (λ entry. entry ≡ entry_of (rule_of rule.now).action (take (length equation.now - 1) equation.now)) }
+/// The entry of a rule whose condition has these words.
+fn entry(alloc: Global, rule: &Rule, words: &[u16]) -> Result<TableEntry, AllocError>
+    ensures { IfOk result (λ entry. entry ≡ entry_of (rule_of rule.now).action words.now) }
 {
     let text = Vec::from_slice(alloc, rule.text.as_slice())?;
-    let words = Vec::from_slice(alloc, &equation[..equation.len() - 1])?;
+    let words = Vec::from_slice(alloc, words)?;
     Ok(TableEntry {
         mode: rule.mode,
         report: rule.report,
@@ -35,10 +34,10 @@ pub fn entries(alloc: Global, lowered: &Lowered) -> Result<Vec<TableEntry>, Allo
     ensures { IfOk result (λ entries. entries.items ≡ map (entry_over lowered.now.terms.items) lowered.now.rules.rules) }
 {
     let rules = lowered.rules.rules.as_slice();
-    let equations = lowered.words.as_slice();
+    let words = lowered.words.as_slice();
     let mut entries = Vec::with_capacity(alloc, rules.len())?;
     for (number, rule) in rules.iter().enumerate() {
-        entries.push(entry(alloc, rule, equations[number].as_slice())?)?;
+        entries.push(entry(alloc, rule, words[number].as_slice())?)?;
     }
     Ok(entries)
 }

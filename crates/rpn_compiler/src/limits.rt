@@ -6,20 +6,12 @@ ghost use Rattle.lc_model.specs.Condition.{condition_of};
 ghost use Rattle.lc_model.specs.Codes.{table_entries};
 ghost use Rattle.lc_model.specs.Rule.{rule_of, rules_of};
 ghost use Rattle.lc_model.specs.Tables.Equation.{size as size_of, need as need_of, terms_of};
-ghost use Rattle.lc_model.specs.Tables.Compiling.{limit_refusal, text_order_limits};
+ghost use Rattle.lc_model.specs.Tables.Compiling.{limit_refusal};
+ghost use Rattle.lc_model.specs.Tables.InForce.{limits};
 ghost use Rattle.rpn_compiler.specs.Limits.{IsRefusal, refusal_of_rule};
 
 use crate::error::CompileError;
-use lc_model::{Cond, Rule};
-
-/// The most rules.
-const TABLE_ENTRIES: usize = 176;
-
-/// The most words of an equation, EQUAL included.
-const MOST_WORDS: usize = 20;
-
-/// The most operands that may wait at once.
-const MOST_WAITING: usize = 8;
+use lc_model::{Cond, EQUATION_WORDS, MOST_WAITING, Rule, TABLE_ENTRIES};
 
 /// How many words spell the condition without EQUAL, or the largest number where there are more.
 fn size(cond: &Cond) -> usize
@@ -51,7 +43,7 @@ fn need(cond: &Cond) -> usize
 fn judge_rule(number: usize, rule: &Rule) -> Result<(), CompileError>
     ensures { MatchResult result (λ _. refusal_of_rule number (rule_of rule.now) ≡ None) (IsRefusal (refusal_of_rule number (rule_of rule.now))) }
 {
-    if size(&rule.cond) >= MOST_WORDS {
+    if size(&rule.cond) >= EQUATION_WORDS {
         return Err(CompileError::EquationTooLong { rule: number });
     }
     if need(&rule.cond) > MOST_WAITING {
@@ -63,7 +55,7 @@ fn judge_rule(number: usize, rule: &Rule) -> Result<(), CompileError>
 /// Whether rules over at most 176 watchpoints are few enough, and then whether each equation is short and shallow enough.
 pub fn judge(rules: &[Rule]) -> Result<(), CompileError>
     requires { length (terms_of (rules_of rules.now)) ≤ table_entries }
-    ensures { MatchResult result (λ _. limit_refusal text_order_limits (rules_of rules.now) ≡ None) (IsRefusal (limit_refusal text_order_limits (rules_of rules.now))) }
+    ensures { MatchResult result (λ _. limit_refusal limits (rules_of rules.now) ≡ None) (IsRefusal (limit_refusal limits (rules_of rules.now))) }
 {
     if rules.len() > TABLE_ENTRIES {
         return Err(CompileError::TooManyRules);

@@ -1,21 +1,6 @@
 -- Tests joined by `&&` and `||`.
 use Rattle.std.proofs.Common.{◌≡◌, refl, Bool, true, false, ◌&&◌, ◌||◌}
-
-pub first_true : (a b : Bool) → (a && b) ≡ true → a ≡ true
-first_true true b e = refl
-first_true false b e = absurd (cc e)
-
-pub second_true : (a b : Bool) → (a && b) ≡ true → b ≡ true
-second_true true b e = e
-second_true false b e = absurd (cc e)
-
-pub both_true : (a b : Bool) → a ≡ true → b ≡ true → (a && b) ≡ true
-both_true true b p q = q
-both_true false b p q = absurd (cc p)
-
-pub first_false : (a b : Bool) → a ≡ false → (a && b) ≡ false
-first_false true b e = absurd (cc e)
-first_false false b e = refl
+use Rattle.lc_model.proofs.Facts.{and_first, and_second, and_true, and_first_false, or_none_of_four, and_second_false}
 
 pub only_first : (a b c d : Bool) → b ≡ false → c ≡ false → d ≡ false → (a || b || c || d) ≡ a
 only_first true b c d p q r = refl
@@ -38,16 +23,6 @@ only_third false false true d p q r = refl
 only_third false false false true p q r = absurd (cc r)
 only_third false false false false p q r = refl
 
-pub none_true : (a b c d : Bool) → a ≡ false → b ≡ false → c ≡ false → d ≡ false → (a || b || c || d) ≡ false
-none_true true b c d p q r s = absurd (cc p)
-none_true false true c d p q r s = absurd (cc q)
-none_true false false true d p q r s = absurd (cc r)
-none_true false false false d p q r s = s
-
 pub not_true : (b : Bool) → (b ≡ true → ⊥) → b ≡ false
 not_true true never = absurd (never refl)
 not_true false never = refl
-
-pub second_false : (a b : Bool) → b ≡ false → (a && b) ≡ false
-second_false true b e = e
-second_false false b e = refl

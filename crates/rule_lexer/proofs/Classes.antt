@@ -15,7 +15,8 @@ use Rattle.rule_lexer.specs.declared.token.TokenKind.TheVariants.{FieldKind, Sta
 use Rattle.rule_lexer.specs.Token.{IsKind}
 use Rattle.rule_lexer.specs.Fitting.{IsOfGrammar, kind_fits}
 use Rattle.rule_lexer.specs.Front.{begins, begins_numeral, is_quote}
-use Rattle.rule_lexer.proofs.Booleans.{first_false, first_true, none_true, not_true, second_false}
+use Rattle.rule_lexer.proofs.Booleans.{not_true}
+use Rattle.lc_model.proofs.Facts.{and_second_false, or_none_of_four, and_first_false, and_first}
 use Rattle.rule_lexer.proofs.Lexemes.{letter_begins_no_numeral, letter_begins_no_string, no_string, no_word, none_of, numeral_begins_no_string, numeral_begins_no_word, quote_begins_no_numeral, quote_begins_no_word}
 use Rattle.rule_lexer.proofs.Tables.{no_value, text_of_value}
 use Rattle.rule_lexer.proofs.Spelled.{comparisons, event_kinds, field_types, same_text, spelled_fits, states, text_of}
@@ -24,7 +25,7 @@ use Rattle.rule_lexer.proofs.Spelled.{comparisons, event_kinds, field_types, sam
 
 word_begins : (text : List ℕ) → is_word text ≡ true → begins is_letter text ≡ true
 word_begins [] is = absurd (cc is)
-word_begins (c ∷ cs) is = first_true (is_letter c) _ is
+word_begins (c ∷ cs) is = and_first (is_letter c) _ is
 
 no_magnitude : (text : List ℕ) → begins is_ascii_digit text ≡ false → magnitude text ≡ None
 no_magnitude [] none = refl
@@ -33,7 +34,7 @@ no_magnitude (c ∷ cs) none =
     let hexadecimal : (bytes_eq (take 2 (c ∷ cs)) (codes "0x") && nat_lt 2 (length (c ∷ cs)) && list_all is_ascii_hexdigit (drop 2 (c ∷ cs))) ≡ false =
     rw zero refl in
     let decimal : (nat_lt 0 (length (c ∷ cs)) && list_all is_ascii_digit (c ∷ cs)) ≡ false =
-    second_false (nat_lt 0 (length (c ∷ cs))) _ (first_false (is_ascii_digit c) _ none) in
+    and_second_false (nat_lt 0 (length (c ∷ cs))) _ (and_first_false (is_ascii_digit c) _ none) in
     rw (hexadecimal, decimal) refl
 
 no_number : (text : List ℕ) → begins_numeral text ≡ false → is_some (number text) ≡ false
@@ -48,7 +49,7 @@ number_begins text value is = go (begins_numeral text) refl
 
 string_begins : (text : List ℕ) → is_string text ≡ true → begins is_quote text ≡ true
 string_begins [] is = absurd (cc is)
-string_begins (c ∷ cs) is = first_true (is_quote c) _ (first_true (is_quote c && _) _ is)
+string_begins (c ∷ cs) is = and_first (is_quote c) _ (and_first (is_quote c && _) _ is)
 
 -- the words and signs that the first two of these classes list
 abbrev items : List (List ℕ)
@@ -74,12 +75,12 @@ module _ (test : List ℕ → Bool) (no_item : list_any test items ≡ false) (n
     (no_level : list_any (λ row. test row.0) event_kinds ≡ false) (no_comparison : list_any (λ row. test row.0) comparisons ≡ false)
     (text : List ℕ) (passes : test text ≡ true) where
   unreserved : is_reserved text ≡ false
-  unreserved = none_true (list_any (bytes_eq text) other_words) (is_some (field_type text)) (is_some (state text)) (is_some (event_kind text))
+  unreserved = or_none_of_four (list_any (bytes_eq text) other_words) (is_some (field_type text)) (is_some (state text)) (is_some (event_kind text))
       (none_of test other_words no_word text passes) (no_value test field_types no_type text passes) (no_value test states no_state text passes)
       (no_value test event_kinds no_level text passes)
 
   no_reserved : (letters : List ℕ) → is_reserved letters ≡ true → (is_word text && bytes_eq letters text) ≡ false
-  no_reserved letters reserved = second_false (is_word text) _ (not_true (bytes_eq letters text) apart)
+  no_reserved letters reserved = and_second_false (is_word text) _ (not_true (bytes_eq letters text) apart)
     where
       apart : bytes_eq letters text ≡ true → ⊥
       apart e = cc (sym reserved ∙ ap is_reserved ((bytes_eq-Decides letters text).0 e) ∙ unreserved)
@@ -97,13 +98,13 @@ module _ (test : List ℕ → Bool) (no_item : list_any test items ≡ false) (n
   none_but class.Operand ok a b c p q r = ap (λ b. b || is_name text) (none_of test operands no_operand text passes) ∙ p
   none_but class.Compare ok a b c p q r = no_value test comparisons no_comparison text passes
   none_but (class.Word letters) ok a b c p q r = no_reserved letters ok
-  none_but (class.Sign letters) ok a b c p q r = first_false (is_sign text) _ (none_of test signs no_sign text passes)
+  none_but (class.Sign letters) ok a b c p q r = and_first_false (is_sign text) _ (none_of test signs no_sign text passes)
 
 name_fits : (text : List ℕ) → is_name text ≡ true → (wanted : Class) → IsOfGrammar wanted → fits wanted text ≡ kind_fits wanted Name
 name_fits text is wanted ok = others ∙ same wanted
   where
     letter : begins is_letter text ≡ true
-    letter = word_begins text (first_true (is_word text) _ is)
+    letter = word_begins text (and_first (is_word text) _ is)
 
     others : fits wanted text ≡ expected true false false wanted
     others = none_but is_name refl refl refl refl refl refl refl refl text is wanted ok true false false is
@@ -122,7 +123,7 @@ number_fits text value is wanted ok = others ∙ same wanted
 
     others : fits wanted text ≡ expected false true false wanted
     others = none_but begins_numeral refl refl refl refl refl refl refl refl text numeral wanted ok false true false
-        (first_false (is_word text) _ (no_word text (numeral_begins_no_word text numeral))) (ap is_some is)
+        (and_first_false (is_word text) _ (no_word text (numeral_begins_no_word text numeral))) (ap is_some is)
         (no_string text (numeral_begins_no_string text numeral))
 
     same : (wanted : Class) → expected false true false wanted ≡ kind_fits wanted (Number value)
@@ -137,7 +138,7 @@ string_fits text is wanted ok = others ∙ same wanted
 
     others : fits wanted text ≡ expected false false true wanted
     others = none_but (begins is_quote) refl refl refl refl refl refl refl refl text quoted wanted ok false false true
-        (first_false (is_word text) _ (no_word text (quote_begins_no_word text quoted)))
+        (and_first_false (is_word text) _ (no_word text (quote_begins_no_word text quoted)))
         (no_number text (quote_begins_no_numeral text quoted)) is
 
     same : (wanted : Class) → expected false false true wanted ≡ kind_fits wanted Text

@@ -6,7 +6,7 @@ use Rattle.std.proofs.Math.Nat.{mul-le-mul_left}
 use Rattle.std.proofs.lemmas.List.Sums.{fold-append, fold_more}
 use Rattle.lc_model.specs.Text.Token.{number_of_digits, at_most_32_bits}
 use Rattle.rule_lexer.specs.Digits.{is_digit_in, value_in_base}
-use Rattle.rule_lexer.proofs.Booleans.{both_true}
+use Rattle.lc_model.proofs.Facts.{and_true}
 
 -- one digit more
 abbrev more : ℕ → ℕ → ℕ → ℕ
@@ -52,6 +52,6 @@ pub has_value : (base : ℕ) (digits : List ℕ) (value : ℕ) → 0 < length di
     value ≡ number_of_digits base digits → value < 2 ^ 32 → Some value ≡ value_in_base base digits
 has_value base digits value some all is fits =
     let test : (nat_lt 0 (length digits) && list_all (is_digit_in base) digits) ≡ true =
-    both_true (nat_lt 0 (length digits)) _ (grind (arith, some)) all in
+    and_true (nat_lt 0 (length digits)) _ (grind (arith, some)) all in
     let under : nat_lt (number_of_digits base digits) (2 ^ 32) ≡ true = grind (arith, is, fits) in
     rw test (rw under (ap Some is))

@@ -3,7 +3,7 @@ use Rattle.std.proofs.Common.{◌≡◌, refl, sym, ap, subst, ℕ, suc, ◌+◌
 use Rattle.std.specs.List.{list_all, list_any, prefix_len}
 use Rattle.lc_model.specs.Text.Token.{Cuts, here, blank, comment, IsComment, is_blank, line_feed}
 use Rattle.rule_lexer.specs.Front.{begins, is_line_byte, is_number_sign}
-use Rattle.rule_lexer.proofs.Booleans.{first_true, second_true}
+use Rattle.lc_model.proofs.Facts.{and_second, and_first}
 use Rattle.rule_lexer.proofs.Runs.{run_passes, run_stops, run_begins, take_run, drop_run}
 use Rattle.rule_lexer.proofs.Cutting.{join}
 
@@ -11,7 +11,7 @@ use Rattle.rule_lexer.proofs.Cutting.{join}
 
 no_feed : (front : List ℕ) → list_all is_line_byte front ≡ true → list_any (◌==◌ line_feed) front ≡ false
 no_feed [] all = refl
-no_feed (c ∷ cs) all = go (is_line_byte c) refl (first_true (is_line_byte c) _ all) (no_feed cs (second_true (is_line_byte c) _ all))
+no_feed (c ∷ cs) all = go (is_line_byte c) refl (and_first (is_line_byte c) _ all) (no_feed cs (and_second (is_line_byte c) _ all))
   where
     go : (b : Bool) → is_line_byte c ≡ b → b ≡ true → list_any (◌==◌ line_feed) cs ≡ false → (line_feed == c || list_any (◌==◌ line_feed) cs) ≡ false
     go b e is others = let other : (line_feed == c) ≡ false = grind (arith, e, is) in rw other others

@@ -2,10 +2,10 @@
 use Rattle.std.proofs.Common.{◌≡◌, refl, ◌∙◌, ap, subst, ℕ, ◌<◌, Bool, true, false, ◌&&◌, ◌||◌, ◌==◌, nat_le, List, [], ◌∷◌, ◌++◌, length, take, drop, Option, Some, None, is_some, MatchOption, MatchResult, take-append-drop, length-take-le, arith}
 use Rattle.std.specs.Option.{ok_or}
 use Rattle.lc_model.specs.Text.Token.{BeginsNoLexeme, IsBad, bad_byte, bad_number, bad_string, name_too_long, is_blank, is_letter, is_numeral, is_sign, is_string, is_token, is_word, longest_name, number, number_sign, quote}
+use Rattle.lc_model.proofs.Facts.{or_first, or_second, or_none_of_four}
 use Rattle.rule_lexer.specs.declared.error.LexError.TheVariants.{BadByte}
 use Rattle.rule_lexer.specs.declared.lexeme.Lexeme.{Lexeme}
 use Rattle.rule_lexer.specs.Front.{IsBadFront, IsFront, IsFrontSign, IsFrontToken, LacksSign, begins, begins_numeral, is_gap_byte, is_quote}
-use Rattle.rule_lexer.proofs.Booleans.{none_true}
 use Rattle.rule_lexer.proofs.Lexemes.{no_word, no_numeral, no_string}
 
 pub long_word : (text : List ℕ) (count : ℕ) → IsFront is_word text count → longest_name < count → IsBad 3 text
@@ -46,17 +46,9 @@ numeral_kept (c ∷ d ∷ ds) rest text e none = go (c == 45) refl (ap begins_nu
 nothing_begins : (text : List ℕ) → begins is_letter text ≡ false → begins_numeral text ≡ false → begins is_quote text ≡ false → LacksSign text →
     BeginsNoLexeme text
 nothing_begins text letter numeral quoted no_sign front rest e =
-    none_true (is_word front) (is_numeral front) (is_string front) (is_sign front)
+    or_none_of_four (is_word front) (is_numeral front) (is_string front) (is_sign front)
     (no_word front (kept is_letter front rest text e letter)) (no_numeral front (numeral_kept front rest text e numeral))
     (no_string front (kept is_quote front rest text e quoted)) (no_sign front rest e)
-
-first_of_none : (a b : Bool) → (a || b) ≡ false → a ≡ false
-first_of_none true b e = absurd (cc e)
-first_of_none false b e = refl
-
-second_of_none : (a b : Bool) → (a || b) ≡ false → b ≡ false
-second_of_none true b e = absurd (cc e)
-second_of_none false b e = e
 
 differs : (m n : ℕ) → (m == n) ≡ false → m ≡ n → ⊥
 differs m n other same = absurd (grind (arith, other, same))
@@ -65,7 +57,7 @@ pub wrong_byte : (text : List ℕ) → 0 < length text → begins is_gap_byte te
     begins_numeral text ≡ false → begins is_quote text ≡ false → LacksSign text → IsBad 1 text
 wrong_byte [] some no_gap letter numeral quoted no_sign = absurd (omega arith)
 wrong_byte (c ∷ cs) some no_gap letter numeral quoted no_sign =
-    bad_byte (first_of_none (is_blank c) _ no_gap) (differs c number_sign (second_of_none (is_blank c) _ no_gap)) (differs c quote quoted)
+    bad_byte (or_first (is_blank c) _ no_gap) (differs c number_sign (or_second (is_blank c) _ no_gap)) (differs c quote quoted)
     (nothing_begins (c ∷ cs) letter numeral quoted no_sign)
 
 -- ---- a sign, or such a byte

@@ -5,7 +5,8 @@ use Rattle.std.specs.Char.{is_ascii_digit}
 use Rattle.std.proofs.lemmas.Slice.Eq.{bytes_eq-Decides}
 use Rattle.lc_model.specs.Text.Token.{is_letter, is_word, is_numeral, is_string, is_sign, is_lexeme, signs}
 use Rattle.rule_lexer.specs.Front.{begins, begins_numeral, is_quote}
-use Rattle.rule_lexer.proofs.Booleans.{first_false, only_first, only_second, only_third}
+use Rattle.rule_lexer.proofs.Booleans.{only_first, only_second, only_third}
+use Rattle.lc_model.proofs.Facts.{and_first_false}
 
 -- what passes a test that none of these texts passes is none of them
 pub none_of : (f : List ℕ → Bool) (texts : List (List ℕ)) → list_any f texts ≡ false →
@@ -23,7 +24,7 @@ none_of f (w ∷ ws) none text fit = step (bytes_eq text w) (f w) refl refl none
 
 pub no_word : (text : List ℕ) → begins is_letter text ≡ false → is_word text ≡ false
 no_word [] none = refl
-no_word (c ∷ cs) none = first_false (is_letter c) _ none
+no_word (c ∷ cs) none = and_first_false (is_letter c) _ none
 
 pub no_numeral : (text : List ℕ) → begins_numeral text ≡ false → is_numeral text ≡ false
 no_numeral [] none = refl
@@ -40,7 +41,7 @@ no_numeral (c ∷ d ∷ cs) none = go (c == 45) refl
 
 pub no_string : (text : List ℕ) → begins is_quote text ≡ false → is_string text ≡ false
 no_string [] none = refl
-no_string (c ∷ cs) none = first_false _ _ (first_false (is_quote c) _ none)
+no_string (c ∷ cs) none = and_first_false _ _ (and_first_false (is_quote c) _ none)
 
 -- ---- one kind alone
 

@@ -1,6 +1,6 @@
 mod Booleans
 mod Runs
-mod Fronts
+mod TextFronts
 mod Lexemes
 mod Words
 mod Numerals

@@ -4,6 +4,7 @@ use Rattle.std.specs.List.{list_all, prefix_len}
 use Rattle.std.specs.Char.{is_ascii_digit}
 use Rattle.std.proofs.lemmas.List.Sums.{prefix_len-le-length}
 use Rattle.lc_model.specs.Text.Token.{IsLongest, is_numeral, is_word_byte, magnitude_text}
+use Rattle.lc_model.proofs.Facts.{tested_equal}
 use Rattle.rule_lexer.specs.Front.{IsFront, begins, begins_numeral}
 use Rattle.rule_lexer.proofs.Runs.{take_more, drop_more, run_passes, run_stops, take_run, drop_run, nothing_more}
 use Rattle.rule_lexer.proofs.Lexemes.{numeral_alone}
@@ -74,9 +75,6 @@ minus_front (c ∷ cs) digit = record {
     back : drop (1 + prefix_len is_word_byte (c ∷ cs)) (45 ∷ c ∷ cs) ≡ drop (prefix_len is_word_byte cs) cs
     back = drop_more (prefix_len is_word_byte (c ∷ cs)) 45 (c ∷ cs) ∙ drop_run is_word_byte c cs first
 
-equal : (m n : ℕ) → (m == n) ≡ true → m ≡ n
-equal m n e = grind (arith, e)
-
 -- the sign and the digits, with the letters that follow
 pub numeral_front : (text : List ℕ) → begins_numeral text ≡ true →
     IsFront is_numeral text (length text - length (magnitude_text text) + prefix_len is_word_byte (magnitude_text text))
@@ -90,7 +88,7 @@ numeral_front (c ∷ cs) begun = go (c == 45) refl begun
         IsFront is_numeral (c ∷ cs) (length (c ∷ cs) - length (cond (c == 45) cs (c ∷ cs)) + prefix_len is_word_byte (cond (c == 45) cs (c ∷ cs)))
     go true e digit =
         let one : length (c ∷ cs) - length cs ≡ 1 = omega (arith, size) in
-        rw e (rw one (subst (λ x. IsFront is_numeral (x ∷ cs) (1 + prefix_len is_word_byte cs)) (sym (equal c 45 e)) (minus_front cs digit)))
+        rw e (rw one (subst (λ x. IsFront is_numeral (x ∷ cs) (1 + prefix_len is_word_byte cs)) (sym (tested_equal c 45 e)) (minus_front cs digit)))
     go false e digit =
         let none : length (c ∷ cs) - length (c ∷ cs) + prefix_len is_word_byte (c ∷ cs) ≡ prefix_len is_word_byte (c ∷ cs) = omega arith in
         rw e (subst (IsFront is_numeral (c ∷ cs)) (sym none) (digits_front (c ∷ cs) digit))

@@ -3,7 +3,7 @@ use Rattle.std.proofs.Common.{◌≡◌, refl, sym, ◌∙◌, ap, ℕ, suc, ◌
 use Rattle.std.specs.List.{list_all, prefix_len}
 use Rattle.std.proofs.lemmas.List.Folds.{list_all-append}
 use Rattle.rule_lexer.specs.Front.{begins}
-use Rattle.rule_lexer.proofs.Booleans.{first_true, second_true}
+use Rattle.lc_model.proofs.Facts.{and_second, and_first}
 
 pub take_more : (n x : ℕ) (xs : List ℕ) → take (1 + n) (x ∷ xs) ≡ x ∷ take n xs
 take_more n x xs = let e : 1 + n ≡ suc n = omega arith in rw e refl
@@ -46,5 +46,5 @@ pub nothing_more : (p : ℕ → Bool) (front more others rest : List ℕ) → be
 nothing_more p front [] others rest stops e all = refl
 nothing_more p front (d ∷ more) others rest stops e all =
     let fails : p d ≡ false = ap (begins p) e ∙ stops in
-    let passes : (p d && list_all p more) ≡ true = second_true (list_all p front) _ (sym (list_all-append p front (d ∷ more)) ∙ all) in
-    absurd (cc (fails, first_true (p d) _ passes))
+    let passes : (p d && list_all p more) ≡ true = and_second (list_all p front) _ (sym (list_all-append p front (d ∷ more)) ∙ all) in
+    absurd (cc (fails, and_first (p d) _ passes))

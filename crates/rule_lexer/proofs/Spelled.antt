@@ -17,7 +17,7 @@ use Rattle.rule_lexer.specs.declared.token.TokenKind.{TokenKind}
 use Rattle.rule_lexer.specs.declared.token.TokenKind.TheVariants.{FieldKind, State, Level, Name, Number, Text, Compare}
 use Rattle.rule_lexer.specs.Token.{IsKind}
 use Rattle.rule_lexer.specs.Fitting.{kind_fits, spelling}
-use Rattle.rule_lexer.proofs.Booleans.{first_true, second_true}
+use Rattle.lc_model.proofs.Facts.{and_second, and_first}
 use Rattle.rule_lexer.proofs.Tables.{text_of_value}
 
 -- ---- kinds with one text
@@ -83,8 +83,8 @@ same_text kind text spelled is = is
 at_place : (test : Class → Bool) (classes : List Class) → list_all test classes ≡ true → (k : ℕ) (wanted : Class) → slice_get classes k ≡ Some wanted →
     test wanted ≡ true
 at_place test [] all k wanted here = absurd (cc here)
-at_place test (x ∷ xs) all zero wanted here = let same : x ≡ wanted = cc here in ap test (sym same) ∙ first_true (test x) _ all
-at_place test (x ∷ xs) all (suc k) wanted here = at_place test xs (second_true (test x) _ all) k wanted here
+at_place test (x ∷ xs) all zero wanted here = let same : x ≡ wanted = cc here in ap test (sym same) ∙ and_first (test x) _ all
+at_place test (x ∷ xs) all (suc k) wanted here = at_place test xs (and_second (test x) _ all) k wanted here
 
 pub spelled_fits : (kind : TokenKind) (text : List ℕ) → is_some (spelling kind) ≡ true → text ≡ text_of kind → (wanted : Class) →
     fits wanted text ≡ kind_fits wanted kind

@@ -3,24 +3,25 @@ use Rattle.std.proofs.Common.{◌≡◌, refl, sym, ◌∙◌, ap, subst, ℕ, �
 use Rattle.std.specs.List.{list_all, prefix_len}
 use Rattle.std.proofs.lemmas.List.Folds.{length-prefix_len}
 use Rattle.lc_model.specs.Text.Token.{BeginsNoLexeme, IsLongest, is_closed, is_lexeme, is_string, is_text_byte, quote}
+use Rattle.lc_model.proofs.Facts.{tested_equal, and_first, and_second, and_true}
 use Rattle.rule_lexer.specs.Front.{IsFront, begins, is_quote}
-use Rattle.rule_lexer.proofs.Booleans.{both_true, first_true, not_true, second_true}
+use Rattle.rule_lexer.proofs.Booleans.{not_true}
 use Rattle.rule_lexer.proofs.Runs.{drop_more, run_passes, run_begins}
-use Rattle.rule_lexer.proofs.Fronts.{front_of}
+use Rattle.rule_lexer.proofs.TextFronts.{front_of}
 use Rattle.rule_lexer.proofs.Lexemes.{string_alone}
 
 -- text bytes and a quote are closed, and nothing can stand behind them
 closed : (front : List ℕ) → list_all is_text_byte front ≡ true → is_closed (front ++ quote ∷ []) ≡ true
 closed [] all = refl
-closed (c ∷ []) all = both_true (is_text_byte c) _ (first_true (is_text_byte c) _ all) refl
+closed (c ∷ []) all = and_true (is_text_byte c) _ (and_first (is_text_byte c) _ all) refl
 closed (c ∷ d ∷ ds) all =
-    both_true (is_text_byte c) _ (first_true (is_text_byte c) _ all) (closed (d ∷ ds) (second_true (is_text_byte c) _ all))
+    and_true (is_text_byte c) _ (and_first (is_text_byte c) _ all) (closed (d ∷ ds) (and_second (is_text_byte c) _ all))
 
 nothing_behind : (front more : List ℕ) → is_closed (front ++ quote ∷ more) ≡ true → more ≡ []
 nothing_behind [] [] is = refl
 nothing_behind [] (d ∷ more) is = absurd (cc is)
-nothing_behind (c ∷ []) more is = nothing_behind [] more (second_true (is_text_byte c) _ is)
-nothing_behind (c ∷ d ∷ ds) more is = nothing_behind (d ∷ ds) more (second_true (is_text_byte c) _ is)
+nothing_behind (c ∷ []) more is = nothing_behind [] more (and_second (is_text_byte c) _ is)
+nothing_behind (c ∷ d ∷ ds) more is = nothing_behind (d ∷ ds) more (and_second (is_text_byte c) _ is)
 
 quote_is_no_text_byte : (c : ℕ) → is_quote c ≡ true → is_text_byte c ≡ false
 quote_is_no_text_byte c e = grind (arith, e)
@@ -33,8 +34,8 @@ run_of_closed (c ∷ []) others is =
     let none : prefix_len is_text_byte (c ∷ others) ≡ 0 = ap (λ (b : Bool). cond b (1 + prefix_len is_text_byte others) 0) (quote_is_no_text_byte c is) in
     (rw none refl, rw none is)
 run_of_closed (c ∷ d ∷ ds) others is =
-    let run : prefix_len is_text_byte (c ∷ d ∷ ds ++ others) ≡ 1 + prefix_len is_text_byte (d ∷ ds ++ others) = run_begins is_text_byte c (d ∷ ds ++ others) (first_true (is_text_byte c) _ is) in
-    let tail = run_of_closed (d ∷ ds) others (second_true (is_text_byte c) _ is) in
+    let run : prefix_len is_text_byte (c ∷ d ∷ ds ++ others) ≡ 1 + prefix_len is_text_byte (d ∷ ds ++ others) = run_begins is_text_byte c (d ∷ ds ++ others) (and_first (is_text_byte c) _ is) in
+    let tail = run_of_closed (d ∷ ds) others (and_second (is_text_byte c) _ is) in
     let size : length (c ∷ d ∷ ds) ≡ 1 + length (d ∷ ds) = length-append (c ∷ []) (d ∷ ds) in (
       rw run (omega (arith, tail.0, size)),
       rw run (rw (drop_more (prefix_len is_text_byte (d ∷ ds ++ others)) c (d ∷ ds ++ others)) tail.1),
@@ -59,16 +60,13 @@ string_of c inner behind begun all short =
     is : is_string (c ∷ inner ++ quote ∷ []) ≡ true
     is =
         let fits : nat_le (length (inner ++ quote ∷ [])) 32 ≡ true = grind (arith, more, short) in
-        both_true _ _ (both_true (is_quote c) _ begun (closed inner all)) fits
+        and_true _ _ (and_true (is_quote c) _ begun (closed inner all)) fits
 
     longest : IsLongest (c ∷ inner ++ quote ∷ []) behind
     longest more others e lexeme =
         let string : is_string (c ∷ (inner ++ quote ∷ []) ++ more) ≡ true = sym (string_alone (c ∷ (inner ++ quote ∷ []) ++ more) begun) ∙ lexeme in
-        let closed_whole : is_closed ((inner ++ quote ∷ []) ++ more) ≡ true = second_true (is_quote c) _ (first_true (is_quote c && is_closed ((inner ++ quote ∷ []) ++ more)) _ string) in
+        let closed_whole : is_closed ((inner ++ quote ∷ []) ++ more) ≡ true = and_second (is_quote c) _ (and_first (is_quote c && is_closed ((inner ++ quote ∷ []) ++ more)) _ string) in
         nothing_behind inner more (sym (ap is_closed (append_assoc inner (quote ∷ []) more)) ∙ closed_whole)
-
-equal : (m n : ℕ) → (m == n) ≡ true → m ≡ n
-equal m n e = grind (arith, e)
 
 -- a string in front, where a quote stands behind few text bytes
 pub string_front : (text : List ℕ) → begins is_quote text ≡ true → prefix_len is_text_byte (drop 1 text) ≤ 31 →
@@ -85,7 +83,7 @@ string_front (c ∷ cs) begun short ends = go (drop (prefix_len is_text_byte cs)
     go [] e none = absurd (cc none)
     go (d ∷ behind) e quoted =
         let parts : take (prefix_len is_text_byte cs) cs ++ quote ∷ behind ≡ cs =
-        ap (λ x. take (prefix_len is_text_byte cs) cs ++ x ∷ behind) (sym (equal d quote quoted))
+        ap (λ x. take (prefix_len is_text_byte cs) cs ++ x ∷ behind) (sym (tested_equal d quote quoted))
         ∙ ap (λ xs. take (prefix_len is_text_byte cs) cs ++ xs) (sym e) ∙ take-append-drop (prefix_len is_text_byte cs) cs in
         subst (λ xs. IsFront is_string (c ∷ xs) (prefix_len is_text_byte cs + 2)) parts
         (subst (λ n. IsFront is_string (c ∷ take (prefix_len is_text_byte cs) cs ++ quote ∷ behind) (n + 2)) size
@@ -108,8 +106,8 @@ no_string_front (c ∷ cs) begun none (d ∷ ds) rest e = not_true (is_lexeme (d
     impossible : is_lexeme (d ∷ ds) ≡ true → ⊥
     impossible lexeme =
         let string : is_string (d ∷ ds) ≡ true = sym (string_alone (d ∷ ds) first) ∙ lexeme in
-        let is : is_closed ds ≡ true = second_true (is_quote d) _ (first_true (is_quote d && is_closed ds) _ string) in
-        let few : nat_le (length ds) 32 ≡ true = second_true (is_quote d && is_closed ds) _ string in
+        let is : is_closed ds ≡ true = and_second (is_quote d) _ (and_first (is_quote d && is_closed ds) _ string) in
+        let few : nat_le (length ds) 32 ≡ true = and_second (is_quote d && is_closed ds) _ string in
         let run = run_of_closed ds rest is in
         let short : prefix_len is_text_byte cs ≤ 31 = rw (sym behind) (grind (arith, run.0, few)) in
         none short (rw (sym behind) run.1)

@@ -3,7 +3,7 @@ use Rattle.std.proofs.Common.{◌≡◌, refl, sym, ◌∙◌, ap, ℕ, Bool, tr
 use Rattle.std.specs.Prelude.{find}
 use Rattle.std.specs.List.{list_all, list_any}
 use Rattle.std.proofs.lemmas.Slice.Eq.{bytes_eq-Decides}
-use Rattle.rule_lexer.proofs.Booleans.{first_true, second_true}
+use Rattle.lc_model.proofs.Facts.{and_second, and_first}
 
 module _ {A : Type 0} where
   -- where each value is beside its own text, a text with this value is that text
@@ -11,8 +11,8 @@ module _ {A : Type 0} where
       (text : List ℕ) (value : A) → option_map (λ row. row.1) (find (λ row. bytes_eq row.0 text) table) ≡ Some value → text ≡ text_of value
   text_of_value text_of [] all text value found = absurd (cc found)
   text_of_value text_of (row ∷ rows) all text value found =
-      go (bytes_eq row.0 text) refl found (first_true (bytes_eq row.0 (text_of row.1)) _ all)
-      (text_of_value text_of rows (second_true (bytes_eq row.0 (text_of row.1)) _ all) text value)
+      go (bytes_eq row.0 text) refl found (and_first (bytes_eq row.0 (text_of row.1)) _ all)
+      (text_of_value text_of rows (and_second (bytes_eq row.0 (text_of row.1)) _ all) text value)
     where
       go : (b : Bool) → bytes_eq row.0 text ≡ b →
           option_map (λ row. row.1) (cond b (Some row) (find (λ row. bytes_eq row.0 text) rows)) ≡ Some value →

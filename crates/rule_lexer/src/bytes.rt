@@ -1,7 +1,7 @@
 //! Classes of bytes.
 
 ghost use Rattle.std.specs.Prelude.{◌≡◌};
-ghost use Rattle.lc_model.specs.Text.Token.{is_blank, is_letter, is_text_byte, is_word_byte};
+ghost use Rattle.lc_model.specs.Text.Token.{is_blank, is_letter, is_word_byte};
 
 pub const LINE_FEED: u8 = b'\n';
 
@@ -30,11 +30,4 @@ pub fn is_word_byte(byte: u8) -> bool
     ensures { result ≡ is_word_byte byte }
 {
     is_letter(byte) || byte.is_ascii_digit()
-}
-
-/// What may stand between quotes: 0x20 to 0x7E, but no quote.
-pub fn is_text_byte(byte: u8) -> bool
-    ensures { result ≡ is_text_byte byte }
-{
-    (0x20..=0x7E).contains(&byte) && byte != QUOTE
 }

@@ -5,7 +5,8 @@ ghost use Rattle.std.specs.List.{prefix_len};
 ghost use Rattle.lc_model.specs.Text.Token.{BeginsNoLexeme, is_string, is_text_byte};
 ghost use Rattle.rule_lexer.specs.Front.{IsFront, begins, is_quote};
 
-use crate::bytes::{QUOTE, is_text_byte};
+use crate::bytes::QUOTE;
+use lc_model::is_text_byte;
 
 /// The most bytes between the quotes.
 const LONGEST_STRING: usize = 31;

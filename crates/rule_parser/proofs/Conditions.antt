@@ -9,6 +9,7 @@ use Rattle.lc_model.specs.Text.Class.{Class, Name, Number, word, sign, fits, Fit
 use Rattle.lc_model.specs.Text.Grammar as grammar
 use Rattle.lc_model.specs.Text.Grammar.{Part, Derives, number_of}
 use Rattle.lc_model.specs.Text.Reading.{ParseFault, Expected, TooNested}
+use Rattle.lc_model.proofs.Facts.{or_neither, or_first, or_second}
 use Rattle.rule_lexer.specs.declared.token.TokenKind.{TokenKind}
 use Rattle.rule_parser.specs.declared.error.ParseError.{ParseError}
 use Rattle.rule_parser.specs.declared.error.ParseError.TheVariants as error
@@ -83,14 +84,10 @@ two_parts Or ts us t a b d fit f = grammar.cond_or t d fit f
 two_parts Xor ts us t a b d fit f = grammar.xors_xor t d fit f
 two_parts And ts us t a b d fit f = grammar.ands_and t d fit f
 
-or_false : (p q : Bool) → p ≡ false → q ≡ false → (p || q) ≡ false
-or_false true q a b = absurd (cc a)
-or_false false q a b = b
-
 not_continued : (o : Operator) (ts : List Token) → is_continued (operands_of o) ts ≡ false → begins (class_of (kind_of_operator o)) ts ≡ false →
     is_continued (part_of o) ts ≡ false
-not_continued Or ts more none = or_false (begins (word "or") ts) _ none more
-not_continued Xor ts more none = or_false (begins (word "xor") ts) _ none more
+not_continued Or ts more none = or_neither (begins (word "or") ts) _ none more
+not_continued Xor ts more none = or_neither (begins (word "xor") ts) _ none more
 not_continued And ts more none = none
 
 -- the first part
@@ -199,22 +196,14 @@ open_stops before l1 room r1 e (t, first, fit, same, room_is) r =
     behind_nest before l1 room r1 (operand close ∷ s) (operand (sign ")") ∷ after close ∷ s) t first same room_is (open_nests t fit) (on_open t close s fit)
     ∙ f (sign ")") (after close ∷ s)) e r
 
-first_false : (p q : Bool) → (p || q) ≡ false → p ≡ false
-first_false true q e = absurd (cc e)
-first_false false q e = refl
-
-second_false : (p q : Bool) → (p || q) ≡ false → q ≡ false
-second_false true q e = absurd (cc e)
-second_false false q e = e
-
 -- behind a whole condition the token that closes it is wanted
 pub at_close : (before left : Left) (room rest : ℕ) (e : Expression) → Took grammar.cond grammar.cond before left room rest e → (close : Class) (s : List Symbol) →
     fault_at before.end (inside room) (operand close ∷ s) before.tokens ≡ fault_at left.end (inside rest) (one close ∷ s) left.tokens
 at_close before left room rest e k close s =
-    let others = second_false (begins (word "or") left.tokens) _ k.ends in
+    let others = or_second (begins (word "or") left.tokens) _ k.ends in
     k.goes_on close s
-    ∙ past_condition left.end (inside rest) close s left.tokens (second_false (begins (word "xor") left.tokens) _ others)
-    (first_false (begins (word "xor") left.tokens) _ others) (first_false (begins (word "or") left.tokens) _ k.ends)
+    ∙ past_condition left.end (inside rest) close s left.tokens (or_second (begins (word "xor") left.tokens) _ others)
+    (or_first (begins (word "xor") left.tokens) _ others) (or_first (begins (word "or") left.tokens) _ k.ends)
 
 -- a step that reads one token, taken apart
 pub wanting_ok : {A : Type 0} (wanted what : Class) (R : Token → A → Type 0) (left : Left) (o : Option (A × List Token)) → One wanted R left.tokens o →

@@ -1,4 +1,4 @@
--- One token more or less before the first fault.
+-- One token more or less before the and_first fault.
 use Rattle.std.proofs.Common.{◌≡◌, refl, sym, ◌∙◌, ap, ℕ, ◌+◌, Bool, true, false, cond, ◌&&◌, ◌||◌, List, [], ◌∷◌, Some, None, add-one, codes, bytes_eq}
 use Rattle.std.specs.List.{list_any}
 use Rattle.lc_model.specs.Text.Token.{Token}
@@ -6,6 +6,7 @@ use Rattle.lc_model.specs.Text.Class as class
 use Rattle.lc_model.specs.Text.Class.{Class, Name, Number, word, sign, fits, Fits}
 use Rattle.lc_model.specs.Text.Reading.{Expected, TooNested, nests, ends_item}
 use Rattle.lc_model.proofs.OneClass.{none_of}
+use Rattle.lc_model.proofs.Facts.{or_neither, and_first}
 use Rattle.rule_parser.specs.Stack.{Symbol, Room, one, option, operand, after, outside, inside, joins, less, narrowed, step, wanted, is_finished, fault_at}
 use Rattle.rule_parser.specs.Front.{place_in, begins}
 use Rattle.rule_parser.proofs.Runs.{word_text, sign_text}
@@ -53,10 +54,6 @@ fault_of_operand end room c s (t ∷ ts) no_name no_not no_open =
 
 -- ---- what may be left out
 
-or_false : (p q : Bool) → p ≡ false → q ≡ false → (p || q) ≡ false
-or_false true q a b = absurd (cc a)
-or_false false q a b = b
-
 -- a condition that no operator continues
 pub past_condition : (end : ℕ) (room : Room) (c : Class) (s : List Symbol) (ts : List Token) →
     begins (word "and") ts ≡ false → begins (word "xor") ts ≡ false → begins (word "or") ts ≡ false →
@@ -64,7 +61,7 @@ pub past_condition : (end : ℕ) (room : Room) (c : Class) (s : List Symbol) (ts
 unfolding begins fault_at
 past_condition end room c s [] a x o = refl
 past_condition end room c s (t ∷ ts) a x o =
-    let none : joins t ≡ false = or_false (fits (word "and") t.text) _ a (or_false (fits (word "xor") t.text) (fits (word "or") t.text) x o) in
+    let none : joins t ≡ false = or_neither (fits (word "and") t.text) _ a (or_neither (fits (word "xor") t.text) (fits (word "or") t.text) x o) in
     rw none refl
 
 -- an option that isn't there
@@ -75,10 +72,6 @@ past_option end room letters following s [] none = refl
 past_option end room letters following s (t ∷ ts) none = rw none refl
 
 -- ---- the room
-
-first : (x y : Bool) → (x && y) ≡ true → x ≡ true
-first true y e = refl
-first false y e = absurd (cc e)
 
 -- a token of a class without `;` ends no item
 ends_not : (c : Class) (t : Token) → fits c (codes ";") ≡ false → Fits c t → ends_item t ≡ false

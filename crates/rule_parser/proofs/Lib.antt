@@ -13,4 +13,4 @@ pub mod Conditions
 pub mod Heads
 pub mod Files
 pub mod Parsed
-pub mod Fronts
+pub mod TokenFronts

@@ -6,6 +6,7 @@ use Rattle.std.proofs.lemmas.List.Folds.{list_any-append}
 use Rattle.lc_model.specs.Text.Token.{Token}
 use Rattle.lc_model.specs.Text.Class.{word, fits, Fits}
 use Rattle.lc_model.specs.Text.Reading.{IsShallow, nests, ends_item}
+use Rattle.lc_model.proofs.Facts.{or_first, or_second, or_neither}
 use Rattle.rule_parser.specs.Stack.{Room, outside, inside, less, narrowed}
 use Rattle.rule_parser.proofs.Runs.{word_text}
 
@@ -66,18 +67,6 @@ count_last ts t b e =
     let all : sum_by weight (ts ++ t ∷ []) ≡ sum_by weight ts + unit b = omega (arith, both, one, is) in
     all
 
-or_first : (p q : Bool) → (p || q) ≡ false → p ≡ false
-or_first true q e = absurd (cc e)
-or_first false q e = refl
-
-or_second : (p q : Bool) → (p || q) ≡ false → q ≡ false
-or_second true q e = absurd (cc e)
-or_second false q e = e
-
-or_false : (p q : Bool) → p ≡ false → q ≡ false → (p || q) ≡ false
-or_false true q a b = absurd (cc a)
-or_false false q a b = b
-
 -- without the last token, and whether that ends an item
 unended_last : (ts : List Token) (t : Token) → list_any ends_item (ts ++ t ∷ []) ≡ false → (list_any ends_item ts ≡ false) × (ends_item t ≡ false)
 unended_last ts t e =
@@ -86,7 +75,7 @@ unended_last ts t e =
 
 unended_with : (ts : List Token) (t : Token) → list_any ends_item ts ≡ false → ends_item t ≡ false → list_any ends_item (ts ++ t ∷ []) ≡ false
 unended_with ts t e is =
-    list_any-append ends_item ts (t ∷ []) ∙ or_false (list_any ends_item ts) _ e (or_false (ends_item t) false is refl)
+    list_any-append ends_item ts (t ∷ []) ∙ or_neither (list_any ends_item ts) _ e (or_neither (ends_item t) false is refl)
 
 -- what stands inside before the last token
 before_last : (front f before within : List Token) (t w : Token) → within ≡ before ++ t ∷ [] → front ≡ f ++ w ∷ before → Inside (front ++ t ∷ []) f w within →

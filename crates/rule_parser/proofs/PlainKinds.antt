@@ -6,6 +6,7 @@ use Rattle.lc_model.specs.declared.field.FieldType.TheVariants.{U8, I8, U16Be, U
 use Rattle.lc_model.specs.declared.field.CmpOp.TheVariants.{Less, LessOrEqual, NotEqual, Equal, GreaterOrEqual, Greater}
 use Rattle.lc_model.specs.declared.mode.ApMode.TheVariants.{Active, Passive, Disabled, PermOff}
 use Rattle.lc_model.specs.declared.rule.EventKind.TheVariants.{Debug, Information, Error, Critical}
+use Rattle.lc_model.proofs.Facts.{and_first, and_second}
 use Rattle.rule_lexer.specs.declared.token.TokenKind.{TokenKind}
 use Rattle.rule_lexer.specs.declared.token.TokenKind.TheVariants.{Packet, Field, Rule, Mid, Length, At, Mask, Stale, Fails, Sequence, Event, Report, When, Or, Xor, And, Not, FieldKind, State, Level, Name, Number, Text, Equals, Semicolon, Open, Close, Compare}
 use Rattle.rule_lexer.specs.contracts.token.TokenKindPartialEq.TheImpl as impl
@@ -46,19 +47,11 @@ place Open = 21
 place Close = 22
 place kind = 0
 
-first_true : (a b : Bool) → (a && b) ≡ true → a ≡ true
-first_true true b e = refl
-first_true false b e = absurd (cc e)
-
-second_true : (a b : Bool) → (a && b) ≡ true → b ≡ true
-second_true true b e = e
-second_true false b e = absurd (cc e)
-
 at_place : (test : TokenKind → Bool) (kinds : List TokenKind) (n : ℕ) (kind : TokenKind) → list_all test kinds ≡ true →
     slice_get kinds n ≡ Some kind → test kind ≡ true
 at_place test [] n kind all is = absurd (cc is)
-at_place test (k ∷ ks) zero kind all is = let same : k ≡ kind = cc is in ap test (sym same) ∙ first_true (test k) _ all
-at_place test (k ∷ ks) (suc n) kind all is = at_place test ks n kind (second_true (test k) _ all) is
+at_place test (k ∷ ks) zero kind all is = let same : k ≡ kind = cc is in ap test (sym same) ∙ and_first (test k) _ all
+at_place test (k ∷ ks) (suc n) kind all is = at_place test ks n kind (and_second (test k) _ all) is
 
 plain_passes : (test : TokenKind → Bool) → list_all test plain_kinds ≡ true → (kind : TokenKind) → IsTrue (is_plain kind) → test kind ≡ true
 plain_passes test all (FieldKind kind) plain = absurd (cc plain)

@@ -7,6 +7,7 @@ use Rattle.lc_model.specs.Text.Syntax.{Expression, Item}
 use Rattle.lc_model.specs.Text.Class.{Class, Name, Number, Word, word, sign, fits, Fits, Phrase, done, next}
 use Rattle.lc_model.specs.Text.Grammar as grammar
 use Rattle.lc_model.specs.Text.Grammar.{Part, Derives, DerivesOption, DerivesReport, DerivesItem, DerivesFile}
+use Rattle.lc_model.proofs.Facts.{and_second}
 use Rattle.rule_parser.specs.Stack.{Symbol, one, option, operand, after, ones, packet_left, field_left, rule_left, joins, step}
 
 -- from one stack to another
@@ -30,15 +31,11 @@ one_run (t ∷ ts) s u v r q = one_run ts q.0 u v (subst (λ m. Runs m ts u) (cc
 
 -- ---- single tokens
 
-second : (x y : Bool) → (x && y) ≡ true → y ≡ true
-second true y e = e
-second false y e = absurd (cc e)
-
 pub word_text : (letters : List ℕ) (t : Token) → Fits (Word letters) t → letters ≡ t.text
-word_text letters t fit = (bytes_eq-Decides letters t.text).0 (second (is_word t.text) _ fit)
+word_text letters t fit = (bytes_eq-Decides letters t.text).0 (and_second (is_word t.text) _ fit)
 
 pub sign_text : (letters : List ℕ) (t : Token) → Fits (Class.Sign letters) t → letters ≡ t.text
-sign_text letters t fit = (bytes_eq-Decides letters t.text).0 (second (is_sign t.text) _ fit)
+sign_text letters t fit = (bytes_eq-Decides letters t.text).0 (and_second (is_sign t.text) _ fit)
 
 pub on_packet : (t : Token) → Fits (word "packet") t → step [] t ≡ Some packet_left
 on_packet t fit = rw (sym (word_text (codes "packet") t fit)) refl

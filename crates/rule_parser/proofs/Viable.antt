@@ -11,6 +11,7 @@ use Rattle.lc_model.specs.Text.Grammar as grammar
 use Rattle.lc_model.specs.Text.Grammar.{DerivesFile, number_of}
 use Rattle.lc_model.specs.Text.Reading.{IsViable, Wants, optional_words, is_optional}
 use Rattle.lc_model.proofs.OneClass.{none_of}
+use Rattle.lc_model.proofs.Facts.{and_first, and_second, and_true}
 use Rattle.rule_parser.specs.Stack.{Symbol, one, option, operand, after, ones, packet_left, field_left, rule_left, joins, step, wanted}
 use Rattle.rule_parser.proofs.Levels.{Operands, no_tail, operand_then}
 use Rattle.rule_parser.proofs.Runs.{Runs, Runs-append, Runs-split, one_run, runs_file, word_text, sign_text}
@@ -43,25 +44,13 @@ good (option letters following ∷ s) = list_any (bytes_eq letters) optional_wor
 good (operand close ∷ s) = sound close && good s
 good (after close ∷ s) = sound close && good s
 
-first : (x y : Bool) → (x && y) ≡ true → x ≡ true
-first true y e = refl
-first false y e = absurd (cc e)
-
-second : (x y : Bool) → (x && y) ≡ true → y ≡ true
-second true y e = e
-second false y e = absurd (cc e)
-
-both : (x y : Bool) → x ≡ true → y ≡ true → (x && y) ≡ true
-both true y e f = f
-both false y e f = e
-
 is_not : (x : Bool) → not x ≡ true → x ≡ false
 is_not false e = refl
 is_not true e = absurd (cc e)
 
 good_ones : (classes : List Class) (s : List Symbol) → list_all sound classes ≡ true → good s ≡ true → good (ones classes ++ s) ≡ true
 good_ones [] s e f = f
-good_ones (class ∷ classes) s e f = both (sound class) _ (first (sound class) _ e) (good_ones classes s (second (sound class) _ e) f)
+good_ones (class ∷ classes) s e f = and_true (sound class) _ (and_first (sound class) _ e) (good_ones classes s (and_second (sound class) _ e) f)
 
 good_of : (u m : List Symbol) → Some u ≡ Some m → good u ≡ true → good m ≡ true
 good_of u m e g = let same : u ≡ m = cc e in ap good (sym same) ∙ g
@@ -77,15 +66,15 @@ kept [] m t g e = go (fits (word "packet") t.text) (fits (word "field") t.text) 
 kept (one class ∷ s) m t g e = go (fits class t.text) e
   where
     go : (b : Bool) → cond b (Some s) None ≡ Some m → good m ≡ true
-    go true e = good_of s m e (second (sound class) _ g)
+    go true e = good_of s m e (and_second (sound class) _ g)
     go false e = absurd (cc e)
-kept (option letters following ∷ s) m t g e = go (fits (Word letters) t.text) e (λ e. kept s m t (second (list_all sound following) _ rest) e)
+kept (option letters following ∷ s) m t g e = go (fits (Word letters) t.text) e (λ e. kept s m t (and_second (list_all sound following) _ rest) e)
   where
     rest : (list_all sound following && good s) ≡ true
-    rest = second (list_any (bytes_eq letters) optional_words) _ g
+    rest = and_second (list_any (bytes_eq letters) optional_words) _ g
 
     go : (b : Bool) → cond b (Some (ones following ++ s)) (step s t) ≡ Some m → (step s t ≡ Some m → good m ≡ true) → good m ≡ true
-    go true e others = good_of (ones following ++ s) m e (good_ones following s (first (list_all sound following) _ rest) (second (list_all sound following) _ rest))
+    go true e others = good_of (ones following ++ s) m e (good_ones following s (and_first (list_all sound following) _ rest) (and_second (list_all sound following) _ rest))
     go false e others = others e
 kept (operand close ∷ s) m t g e = go (fits Name t.text) (fits (word "not") t.text) (fits (sign "(") t.text) e
   where
@@ -99,7 +88,7 @@ kept (after close ∷ s) m t g e = go (joins t) (fits close t.text) e
   where
     go : (j f : Bool) → cond j (Some (operand close ∷ s)) (cond f (Some s) None) ≡ Some m → good m ≡ true
     go true f e = good_of (operand close ∷ s) m e g
-    go false true e = good_of s m e (second (sound close) _ g)
+    go false true e = good_of s m e (and_second (sound close) _ g)
     go false false e = absurd (cc e)
 
 -- ---- viable fronts
@@ -116,13 +105,13 @@ one_operand =
 completion : (s : List Symbol) → good s ≡ true → (ts : List Token) × Completes s ts
 completion [] g = ([], finished [] refl)
 completion (one class ∷ s) g =
-    let rest = completion s (second (sound class) _ g) in
-    (token (sample class) ∷ rest.0, (token (sample class), rest.0, refl, first _ _ (first (sound class) _ g), rest.1))
+    let rest = completion s (and_second (sound class) _ g) in
+    (token (sample class) ∷ rest.0, (token (sample class), rest.0, refl, and_first _ _ (and_first (sound class) _ g), rest.1))
 completion (option letters following ∷ s) g =
-    let rest = completion s (second (list_all sound following) _ (second (list_any (bytes_eq letters) optional_words) _ g)) in
+    let rest = completion s (and_second (list_all sound following) _ (and_second (list_any (bytes_eq letters) optional_words) _ g)) in
     (rest.0, ([], rest.0, refl, inl refl, rest.1))
 completion (operand close ∷ s) g =
-    let rest = completion s (second (sound close) _ g) in (
+    let rest = completion s (and_second (sound close) _ g) in (
       token (codes "a") ∷ token (codes "<") ∷ token (codes "1") ∷ token (sample close) ∷ rest.0,
       (
         token (codes "a") ∷ token (codes "<") ∷ token (codes "1") ∷ [],
@@ -130,13 +119,13 @@ completion (operand close ∷ s) g =
         token (sample close),
         refl,
         one_operand,
-        first _ _ (first (sound close) _ g),
+        and_first _ _ (and_first (sound close) _ g),
         rest.1,
       ),
     )
 completion (after close ∷ s) g =
-    let rest = completion s (second (sound close) _ g) in
-    (token (sample close) ∷ rest.0, ([], rest.0, token (sample close), refl, no_tail, first _ _ (first (sound close) _ g), rest.1))
+    let rest = completion s (and_second (sound close) _ g) in
+    (token (sample close) ∷ rest.0, ([], rest.0, token (sample close), refl, no_tail, and_first _ _ (and_first (sound close) _ g), rest.1))
 
 pub prepend_all : (ts : List Token) (s u : List Symbol) (more : List Token) → Runs s ts u → Completes u more → Completes s (ts ++ more)
 prepend_all [] s u more r c = subst (λ s. Completes s more) (sym r) c
@@ -172,7 +161,7 @@ optional_word : (letters : List ℕ) (t : Token) → list_any (bytes_eq letters)
 optional_word letters t is fit = ap (λ text. list_any (bytes_eq text) optional_words) (sym (word_text letters t fit)) ∙ is
 
 firm : (class : Class) (t : Token) → sound class ≡ true → Fits class t → is_optional t ≡ false
-firm class t is fit = none_of (fits class) optional_words (is_not _ (second (fits class (sample class)) _ is)) t.text fit
+firm class t is fit = none_of (fits class) optional_words (is_not _ (and_second (fits class (sample class)) _ is)) t.text fit
 
 item_steps : (t : Token) → Fits class.Item t → IsStep [] t
 item_steps t fit = go (bytes_eq t.text (codes "packet")) (bytes_eq t.text (codes "field")) (bytes_eq t.text (codes "rule")) refl refl refl fit
@@ -240,9 +229,9 @@ joins_optional t e = go (fits (word "and") t.text) (fits (word "xor") t.text) (f
 -- what is wanted fits, and is nothing that may be left out
 wanted_steps : (s : List Symbol) (t : Token) → good s ≡ true → Fits (wanted s) t → IsStep s t × (is_optional t ≡ false)
 wanted_steps [] t g fit = (item_steps t fit, firm class.Item t refl fit)
-wanted_steps (one class ∷ s) t g fit = ((s, rw fit refl), firm class t (first (sound class) _ g) fit)
+wanted_steps (one class ∷ s) t g fit = ((s, rw fit refl), firm class t (and_first (sound class) _ g) fit)
 wanted_steps (option letters following ∷ s) t g fit =
-    go (wanted_steps s t (second (list_all sound following) _ (second (list_any (bytes_eq letters) optional_words) _ g)) fit)
+    go (wanted_steps s t (and_second (list_all sound following) _ (and_second (list_any (bytes_eq letters) optional_words) _ g)) fit)
   where
     past : (b : Bool) (m : List Symbol) → step s t ≡ Some m → (n : List Symbol) × (cond b (Some (ones following ++ s)) (step s t) ≡ Some n)
     past true m e = (ones following ++ s, refl)
@@ -251,7 +240,7 @@ wanted_steps (option letters following ∷ s) t g fit =
     go : IsStep s t × (is_optional t ≡ false) → IsStep (option letters following ∷ s) t × (is_optional t ≡ false)
     go (is, plain) = (past (fits (Word letters) t.text) is.0 is.1, plain)
 wanted_steps (operand close ∷ s) t g fit = (operand_steps close s t fit, firm Operand t refl fit)
-wanted_steps (after close ∷ s) t g fit = (past (joins t), firm close t (first (sound close) _ g) fit)
+wanted_steps (after close ∷ s) t g fit = (past (joins t), firm close t (and_first (sound close) _ g) fit)
   where
     past : (b : Bool) → (n : List Symbol) × (cond b (Some (operand close ∷ s)) (cond (fits close t.text) (Some s) None) ≡ Some n)
     past true = (operand close ∷ s, refl)
@@ -266,13 +255,13 @@ steps_wanted (one class ∷ s) t g (m, e) plain = go (fits class t.text) e
     go true e = refl
     go false e = absurd (cc e)
 steps_wanted (option letters following ∷ s) t g (m, e) plain =
-    go (fits (Word letters) t.text) refl e (λ is. steps_wanted s t (second (list_all sound following) _ rest) is plain)
+    go (fits (Word letters) t.text) refl e (λ is. steps_wanted s t (and_second (list_all sound following) _ rest) is plain)
   where
     rest : (list_all sound following && good s) ≡ true
-    rest = second (list_any (bytes_eq letters) optional_words) _ g
+    rest = and_second (list_any (bytes_eq letters) optional_words) _ g
 
     go : (b : Bool) → fits (Word letters) t.text ≡ b → cond b (Some (ones following ++ s)) (step s t) ≡ Some m → (IsStep s t → Fits (wanted s) t) → Fits (wanted s) t
-    go true is e others = absurd (cc (optional_word letters t (first (list_any (bytes_eq letters) optional_words) _ g) is, plain))
+    go true is e others = absurd (cc (optional_word letters t (and_first (list_any (bytes_eq letters) optional_words) _ g) is, plain))
     go false is e others = others (m, e)
 steps_wanted (operand close ∷ s) t g is plain = step_operand close s t is
 steps_wanted (after close ∷ s) t g (m, e) plain = go (joins t) (fits close t.text) refl e

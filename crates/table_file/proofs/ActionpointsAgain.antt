@@ -14,8 +14,8 @@ use Rattle.lc_model.specs.Codes.{state_code, event_code}
 use Rattle.lc_model.specs.Name.{name_in}
 use Rattle.lc_model.specs.Tables.Equation.{equal_word}
 use Rattle.lc_model.specs.Tables.Image.{Layout, Watchpoints, Actionpoints, WideActionpoints, kind_of, entry_length, words_in, TableEntry, entry_bytes, FitsEntry, adt_image, entry_at, numbers_below, filled, words_from, words_before_equal}
-use Rattle.lc_model.specs.Tables.Spelled.{state_of_code, event_of_code}
-use Rattle.table_file.specs.Laws.{entry_in, FitsTable, ActionpointsAreReadAgain}
+use Rattle.lc_model.specs.Tables.Spelled.{state_of_code, event_of_code, read_entry}
+use Rattle.table_file.specs.Laws.{FitsTable, ActionpointsAreReadAgain}
 use Rattle.lc_model.proofs.EntryLengths.{AreLong, entries_long_of, length-zero_filled}
 use Rattle.lc_model.proofs.WrittenEntries.{before_at, holds_equation}
 use Rattle.lc_model.proofs.EntriesAgain.{entry_again, listed, at_place, preamble_again}
@@ -45,7 +45,7 @@ text_again text short all = ap name_in (zeros_behind 32 text short) ∙ before_a
 
 -- ---- one entry
 
-entry_read : (l : Layout) (e : TableEntry) → FitsTable l e → entry_in (entry_bytes l e) ≡ e
+entry_read : (l : Layout) (e : TableEntry) → FitsTable l e → read_entry (entry_bytes l e) ≡ e
 entry_read l e is =
     let text : List ℕ = zero_filled 32 e.text in
     let words : List ℕ = flat_map u16 (zero_filled (words_in l) (e.words ++ equal_word ∷ [])) in
@@ -84,7 +84,7 @@ actionpoints_again l hash watchpoints entries kind long small few fits =
     let image : List ℕ = adt_image l hash watchpoints entries in
     let all : AreLong (entry_length l) (map (entry_bytes l) entries) = entries_long_of l (long_entry l kind) entries (fits_all l entries fits) in
     let preamble_is = preamble_again l (length entries) watchpoints hash (filled l (map (entry_bytes l) entries)) long few small in
-    let each : (i : ℕ) (d : TableEntry) → i < length entries → entry_in (entry_at l image i) ≡ get_or entries i d =
-    λ i d within. ap entry_in (entry_again l (entry_bytes l) (length entries) watchpoints hash entries i d long all (length-map entries (entry_bytes l)) few within)
+    let each : (i : ℕ) (d : TableEntry) → i < length entries → read_entry (entry_at l image i) ≡ get_or entries i d =
+    λ i d within. ap read_entry (entry_again l (entry_bytes l) (length entries) watchpoints hash entries i d long all (length-map entries (entry_bytes l)) few within)
     ∙ entry_read l (get_or entries i d) (at_place (FitsTable l) entries i d fits within) in
-    (preamble_is, ap (λ n. map (λ i. entry_in (entry_at l image i)) (numbers_below n)) preamble_is.own_is ∙ listed _ entries each)
+    (preamble_is, ap (λ n. map (λ i. read_entry (entry_at l image i)) (numbers_below n)) preamble_is.own_is ∙ listed _ entries each)

@@ -6,19 +6,14 @@ use Rattle.std.specs.List.{AllByRecursion, slice_range}
 use Rattle.lc_model.specs.Bytes.{u32_at}
 use Rattle.lc_model.specs.Tables.File.{TableFile, content_type, subtype, file_header_length, headers_length, file_bytes, fields_of, opened}
 use Rattle.lc_model.specs.Laws.Tables.{IsTableFile, OneSpelling}
+use Rattle.lc_model.proofs.Facts.{test_less, test_not_less, tested_equal, tested_not_less}
 use Rattle.table_file.specs.declared.error.FileError.{FileError}
 use Rattle.table_file.specs.declared.error.FileError.TheVariants.{ShortFile, NotCfe, WrongSubtype, HeaderLength, PartialLoad, SizeMismatch, Memory}
 use Rattle.table_file.specs.Error.{Answers}
 
-pub is_less : (m n : ℕ) → m < n → nat_lt m n ≡ true
-is_less m n h = grind (arith, h)
-
-pub not_less : (m n : ℕ) → n ≤ m → nat_lt m n ≡ false
-not_less m n h = grind (arith, h)
-
 -- the number that was read is the one that is asked for, or it isn't
 pub is_read : (number there asked : ℕ) → number ≡ there → number ≡ asked → (there == asked) ≡ true
-is_read number there asked read same = grind (arith, read, same)
+is_read number there asked read tested_equal = grind (arith, read, tested_equal)
 
 pub is_not_read : (number there asked : ℕ) → number ≡ there → number ≢ asked → (there == asked) ≡ false
 is_not_read number there asked read other = grind (arith, read, other)
@@ -56,12 +51,6 @@ passes false true true true false size found f e = absurd (cc e)
 passes false true true true true false found f e = absurd (cc e)
 passes false true true true true true found f e = record { is_long = refl; has_size = refl; is_found = cc e }
 
-same : (m n : ℕ) → (m == n) ≡ true → m ≡ n
-same m n e = grind (arith, e)
-
-at_least : (m n : ℕ) → nat_lt m n ≡ false → n ≤ m
-at_least m n e = grind (arith, e)
-
 four_fit : (bytes : List ℕ) (n : ℕ) → IsBytes bytes → u32_at bytes n < 2 ^ 32
 four_fit bytes n fits =
     let byte : (i : ℕ) → get_or (drop n bytes) i 0 < 256 = λ i. rw get_or-drop (fits (n + i)) in
@@ -85,7 +74,7 @@ opened_fits bytes f fits e =
     let p : Passes _ _ _ _ _ _ (fields_of bytes) f =
     passes (nat_lt (length bytes) headers_length) (u32_at bytes 0 == content_type) (u32_at bytes 4 == subtype) (u32_at bytes 8 == file_header_length)
     (u32_at bytes 68 == 0) (u32_at bytes 72 == length bytes - headers_length) (fields_of bytes) f e in
-    subst IsTableFile p.is_found (fields_fit bytes fits (at_least _ _ p.is_long) (same _ _ p.has_size))
+    subst IsTableFile p.is_found (fields_fit bytes fits (tested_not_less _ _ p.is_long) (tested_equal _ _ p.has_size))
 
 each_byte : (bytes : List ℕ) → IsBytes bytes → AllByRecursion (λ b. b < 256) bytes
 each_byte [] fits = tt

@@ -14,12 +14,10 @@ use Rattle.lc_model.proofs.NumbersIn32Bits.{bits_small, value_again}
 use Rattle.table_file.specs.Laws.{WatchpointsAreReadAgain}
 use Rattle.lc_model.proofs.EntryLengths.{terms_long}
 use Rattle.lc_model.proofs.EntriesAgain.{entry_again, listed, at_place, preamble_again}
+use Rattle.lc_model.proofs.CodesAgain.{operator_again}
 
 type_again : (k : FieldType) → unwrap_or (type_of_code (type_code k)) U8 ≡ k
 type_again = elim [ U8 ↦ refl | I8 ↦ refl | U16Be ↦ refl | U16Le ↦ refl | I16Be ↦ refl | I16Le ↦ refl | U32Be ↦ refl | U32Le ↦ refl | I32Be ↦ refl | I32Le ↦ refl ]
-
-operator_again : (o : CmpOp) → operator_of_code (operator_code o) ≡ o
-operator_again = elim [ Less ↦ refl | LessOrEqual ↦ refl | NotEqual ↦ refl | Equal ↦ refl | GreaterOrEqual ↦ refl | Greater ↦ refl ]
 
 term_again : (t : Term) → FitsWatchpoint t → spelled_term (term_bytes t) ≡ t
 term_again t fits =

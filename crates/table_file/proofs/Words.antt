@@ -5,6 +5,7 @@ use Rattle.std.specs.Int.{w16, from_be_bytes}
 use Rattle.std.proofs.lemmas.List.{length-take, drop-drop}
 use Rattle.std.proofs.lemmas.List.Sums.{position_or_len_is}
 use Rattle.lc_model.specs.Bytes.{u16_at}
+use Rattle.lc_model.specs.Tables.Entry.{words_field}
 use Rattle.lc_model.specs.Tables.Equation.{equal_word}
 use Rattle.lc_model.specs.Tables.Image.{words_from, all_words, words_before_equal}
 
@@ -29,17 +30,17 @@ word_from (a ∷ b ∷ bytes) (suc i) within =
 
 pub word_count_is : (entry : List ℕ) → (length entry - 46) / 2 ≡ length (all_words entry)
 word_count_is entry =
-    let h : IsHalved (length (drop 46 entry)) (length (all_words entry)) = halved (drop 46 entry) in
+    let h : IsHalved (length (words_field entry)) (length (all_words entry)) = halved (words_field entry) in
     omega (arith, h.low, h.high, length-drop 46 entry)
 
 pub word_within : (entry : List ℕ) (i : ℕ) → i < length (all_words entry) → 46 + 2 * i + 2 ≤ length entry
 word_within entry i within =
-    let h : IsHalved (length (drop 46 entry)) (length (all_words entry)) = halved (drop 46 entry) in
+    let h : IsHalved (length (words_field entry)) (length (all_words entry)) = halved (words_field entry) in
     omega (arith, h.low, within, length-drop 46 entry)
 
 pub word_is : (entry : List ℕ) (i : ℕ) → i < length (all_words entry) → u16_at entry (46 + 2 * i) ≡ slice_index (all_words entry) i
 word_is entry i within =
-    ap (from_be_bytes w16) (sym (drop-drop (2 * i) 46 entry)) ∙ sym (word_from (drop 46 entry) i within)
+    ap (from_be_bytes w16) (sym (drop-drop (2 * i) 46 entry)) ∙ sym (word_from (words_field entry) i within)
 
 -- none of the words before a place is EQUAL
 abbrev pub HasNoEqual : List ℕ → ℕ → Type 0

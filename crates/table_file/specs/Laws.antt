@@ -1,31 +1,16 @@
 -- The laws of images: what is written is read again.
-use Rattle.std.specs.Prelude.{◌≡◌, ◌≢◌, ℕ, ◌<◌, ◌≤◌, ◌^◌, List, length, map, slice_index, slice_range}
+use Rattle.std.specs.Prelude.{◌≡◌, ◌≢◌, ℕ, ◌<◌, ◌≤◌, ◌^◌, List, length, map}
 use Rattle.std.specs.List.{AllByRecursion}
 use Rattle.lc_model.specs.declared.field.Term.{Term}
 use Rattle.lc_model.specs.declared.kind.Kind.TheVariants.{Adt}
 use Rattle.lc_model.specs.declared.mode.ApMode.TheVariants.{PermOff}
-use Rattle.lc_model.specs.Bytes.{u16_at}
 use Rattle.lc_model.specs.Codes.{table_entries}
-use Rattle.lc_model.specs.Name.{name_in}
-use Rattle.lc_model.specs.Tables.Image.{Layout, kind_of, TableEntry, FitsWatchpoint, FitsEntry, EndsOnce, wdt_image, adt_image, own_count, HasPreamble, entry_at, all_words, words_before_equal, numbers_below}
-use Rattle.lc_model.specs.Tables.Spelled.{state_of_code, event_of_code, spelled_terms}
+use Rattle.lc_model.specs.Tables.Image.{Layout, kind_of, TableEntry, FitsWatchpoint, FitsEntry, EndsOnce, wdt_image, adt_image, own_count, HasPreamble, entry_at, numbers_below}
+use Rattle.lc_model.specs.Tables.Spelled.{read_entry, spelled_terms}
 
--- what the readers find in the entry of an actionpoint
-abbrev pub entry_in : List ℕ → TableEntry
-entry_in e = record {
-  mode = state_of_code (slice_index e 0);
-  report = record { passive = slice_index e 1; pass_to_fail = u16_at e 2; fail_to_pass = u16_at e 4 };
-  sequence = u16_at e 6;
-  fails = u16_at e 8;
-  event_kind = event_of_code (u16_at e 10);
-  event_id = u16_at e 12;
-  text = name_in (slice_range e 14 46);
-  words = words_before_equal (all_words e);
-}
-
--- and in all entries that are used
+-- what the readers find in all entries that are used
 abbrev pub entries_in : Layout → List ℕ → List TableEntry
-entries_in l image = map (λ n. entry_in (entry_at l image n)) (numbers_below (own_count image))
+entries_in l image = map (λ n. read_entry (entry_at l image n)) (numbers_below (own_count image))
 
 -- a table of watchpoints that was written is read again
 abbrev pub WatchpointsAreReadAgain : Type 0

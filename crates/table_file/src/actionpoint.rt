@@ -1,11 +1,12 @@
 //! The fields of an actionpoint's entry.
 
-ghost use Rattle.std.specs.Prelude.{◌≡◌, ◌<◌, length, slice_index, slice_range};
+ghost use Rattle.std.specs.Prelude.{◌≡◌, ◌<◌, length, slice_index};
 ghost use Rattle.lc_model.specs.declared.kind.Kind.TheVariants.{Adt};
-ghost use Rattle.lc_model.specs.declared.rule.Report.{Report};
+ghost use Rattle.lc_model.specs.declared.rule.ReportMaxima.{ReportMaxima};
 ghost use Rattle.lc_model.specs.Bytes.{u16_at};
 ghost use Rattle.lc_model.specs.Codes.{table_entries};
 ghost use Rattle.lc_model.specs.Name.{name_in};
+ghost use Rattle.lc_model.specs.Tables.Entry.{event_id_field, event_type_field, fail_to_pass_field, fails_field, pass_to_fail_field, passive_field, sequence_field, state_field, text_field};
 ghost use Rattle.lc_model.specs.Tables.Image.{kind_of, image_length, entry_at, all_words, words_before_equal};
 ghost use Rattle.lc_model.specs.Tables.Spelled.{state_of_code, event_of_code};
 ghost use Rattle.table_file.specs.Layout.{layout_of};
@@ -14,12 +15,9 @@ use crate::codes::{event_kind_of, state_of};
 use crate::entry::entry_bytes;
 use crate::layout::Layout;
 use crate::name::front_name;
-use crate::numbers::read_u16;
-use lc_model::{ApMode, EventKind, Report};
+use lc_model::words::EQUAL;
+use lc_model::{ApMode, EventKind, ReportMaxima, u16_at};
 use std::marker::Model;
-
-/// Ends an equation.
-pub const EQUAL_WORD: u16 = 0xFF05;
 
 /// The bytes before the equation.
 const EQUATION_AT: usize = 46;
@@ -55,77 +53,77 @@ impl<'a> ActionpointEntry<'a> {
 
     /// The number of the state that the actionpoint begins in.
     pub fn state_code(&self) -> u8
-        ensures { result ≡ slice_index self.now 0 }
+        ensures { result ≡ state_field self.now }
     {
         self.bytes[0]
     }
 
     /// The state that the actionpoint begins in; active where its number is none's.
     pub fn mode(&self) -> ApMode
-        ensures { result ≡ state_of_code (slice_index self.now 0) }
+        ensures { result ≡ state_of_code (state_field self.now) }
     {
         state_of(self.bytes[0])
     }
 
     /// The most events for a failure while passive, and for turns from pass to fail and from fail to pass.
-    pub fn report(&self) -> Report
+    pub fn report(&self) -> ReportMaxima
         ensures { result ≡ record {
-          passive = slice_index self.now 1;
-          pass_to_fail = u16_at self.now 2;
-          fail_to_pass = u16_at self.now 4;
+          passive = passive_field self.now;
+          pass_to_fail = pass_to_fail_field self.now;
+          fail_to_pass = fail_to_pass_field self.now;
         } }
     {
-        Report {
+        ReportMaxima {
             passive: self.bytes[1],
-            pass_to_fail: read_u16(self.bytes, 2),
-            fail_to_pass: read_u16(self.bytes, 4),
+            pass_to_fail: u16_at(self.bytes, 2),
+            fail_to_pass: u16_at(self.bytes, 4),
         }
     }
 
     /// The number of the requested command sequence.
     pub fn sequence(&self) -> u16
-        ensures { result ≡ u16_at self.now 6 }
+        ensures { result ≡ sequence_field self.now }
     {
-        read_u16(self.bytes, 6)
+        u16_at(self.bytes, 6)
     }
 
     /// Failures in a row that lead to the sequence request.
     pub fn fails(&self) -> u16
-        ensures { result ≡ u16_at self.now 8 }
+        ensures { result ≡ fails_field self.now }
     {
-        read_u16(self.bytes, 8)
+        u16_at(self.bytes, 8)
     }
 
     /// The number of the event type.
     pub fn event_code(&self) -> u16
-        ensures { result ≡ u16_at self.now 10 }
+        ensures { result ≡ event_type_field self.now }
     {
-        read_u16(self.bytes, 10)
+        u16_at(self.bytes, 10)
     }
 
     /// The event type; debug where its number is none's.
     pub fn event_kind(&self) -> EventKind
-        ensures { result ≡ event_of_code (u16_at self.now 10) }
+        ensures { result ≡ event_of_code (event_type_field self.now) }
     {
-        event_kind_of(read_u16(self.bytes, 10))
+        event_kind_of(u16_at(self.bytes, 10))
     }
 
     pub fn event_id(&self) -> u16
-        ensures { result ≡ u16_at self.now 12 }
+        ensures { result ≡ event_id_field self.now }
     {
-        read_u16(self.bytes, 12)
+        u16_at(self.bytes, 12)
     }
 
     /// The field with the event's text, 32 bytes.
     pub fn text_field(&self) -> &'a [u8]
-        ensures { result.now ≡ slice_range self.now 14 46 }
+        ensures { result.now ≡ text_field self.now }
     {
         &self.bytes[14..EQUATION_AT]
     }
 
     /// The event's text: the bytes before the field's first zero byte, or all of them.
     pub fn text(&self) -> &'a [u8]
-        ensures { result.now ≡ name_in (slice_range self.now 14 46) }
+        ensures { result.now ≡ name_in (text_field self.now) }
     {
         front_name(self.text_field())
     }
@@ -142,7 +140,7 @@ impl<'a> ActionpointEntry<'a> {
         requires { number < length (all_words self.now) }
         ensures { result ≡ slice_index (all_words self.now) number }
     {
-        read_u16(self.bytes, EQUATION_AT + 2 * number)
+        u16_at(self.bytes, EQUATION_AT + 2 * number)
     }
 
     /// How many words stand before the first EQUAL, or in all where there is none.
@@ -151,7 +149,7 @@ impl<'a> ActionpointEntry<'a> {
     {
         let count = self.word_count();
         for number in 0..count {
-            if self.word(number) == EQUAL_WORD {
+            if self.word(number) == EQUAL {
                 return number;
             }
         }

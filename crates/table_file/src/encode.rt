@@ -10,13 +10,13 @@ ghost use Rattle.table_file.specs.Layout.{layout_of};
 ghost use Rattle.table_file.specs.Parts.{entry_numbers};
 ghost use Rattle.table_file.specs.declared.error.FileError.TheVariants.{Memory};
 
-use crate::actionpoint::EQUAL_WORD;
 use crate::codes::{event_code, kind_code, operator_code, state_code, type_code};
 use crate::error::FileError;
 use crate::image::{AdtImage, TableEntry, WdtImage};
-use crate::layout::{ENTRIES, Layout};
+use crate::layout::Layout;
 use crate::output::{push_u16, push_u32, push_words, push_zeros};
-use lc_model::Term;
+use lc_model::words::EQUAL;
+use lc_model::{TABLE_ENTRIES, Term};
 use std::alloc::{AllocError, Global};
 
 /// A comparison's number in 32 bits, in two's complement.
@@ -97,7 +97,7 @@ fn push_equation(out: &mut Vec<u8>, layout: Layout, words: &[u16]) -> Result<(),
         ++ flat_map u16 (zero_filled (words_in (layout_of layout)) (words.now ++ equal_word ∷ []))) }
 {
     push_words(out, words)?;
-    push_u16(out, EQUAL_WORD)?;
+    push_u16(out, EQUAL)?;
     push_zeros(out, 2 * (layout.words() - words.len() - 1))?;
     Ok(())
 }
@@ -167,7 +167,7 @@ pub fn encode_wdt(alloc: Global, image: &WdtImage) -> Result<Vec<u8>, FileError>
     let mut out = Vec::with_capacity(alloc, layout.image_length())?;
     push_preamble(&mut out, layout, count, count, &image.hash)?;
     push_watchpoints(&mut out, terms)?;
-    push_blank_entries(&mut out, layout, ENTRIES - terms.len())?;
+    push_blank_entries(&mut out, layout, TABLE_ENTRIES - terms.len())?;
     Ok(out)
 }
 
@@ -189,6 +189,6 @@ pub fn encode_adt(alloc: Global, image: &AdtImage) -> Result<Vec<u8>, FileError>
     let mut out = Vec::with_capacity(alloc, layout.image_length())?;
     push_preamble(&mut out, layout, count, image.watchpoint_count, &image.hash)?;
     push_actionpoints(&mut out, layout, entries)?;
-    push_blank_entries(&mut out, layout, ENTRIES - entries.len())?;
+    push_blank_entries(&mut out, layout, TABLE_ENTRIES - entries.len())?;
     Ok(out)
 }

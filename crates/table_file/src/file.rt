@@ -10,8 +10,8 @@ ghost use Rattle.table_file.specs.Error.{Answers};
 
 use crate::error::FileError;
 use crate::name::front_name;
-use crate::numbers::read_u32;
 use lc_model::laws::tables::files_have_one_spelling;
+use lc_model::u32_at;
 use std::marker::Model;
 
 /// `cFE1`, by which a cFE file is known.
@@ -137,29 +137,29 @@ fn read_headers(bytes: &[u8]) -> Result<TableFile<'_>, FileError>
     if bytes.len() < HEADERS_LENGTH {
         return Err(FileError::ShortFile);
     }
-    if read_u32(bytes, 0) != CONTENT_TYPE {
+    if u32_at(bytes, 0) != CONTENT_TYPE {
         return Err(FileError::NotCfe);
     }
-    if read_u32(bytes, 4) != SUBTYPE {
+    if u32_at(bytes, 4) != SUBTYPE {
         return Err(FileError::WrongSubtype);
     }
-    if read_u32(bytes, 8) != FILE_HEADER_LENGTH {
+    if u32_at(bytes, 8) != FILE_HEADER_LENGTH {
         return Err(FileError::HeaderLength);
     }
-    if read_u32(bytes, 68) != 0 {
+    if u32_at(bytes, 68) != 0 {
         return Err(FileError::PartialLoad);
     }
-    if read_u32(bytes, 72) as usize != bytes.len() - HEADERS_LENGTH {
+    if u32_at(bytes, 72) as usize != bytes.len() - HEADERS_LENGTH {
         return Err(FileError::SizeMismatch);
     }
     Ok(TableFile {
-        spacecraft: read_u32(bytes, 12),
-        processor: read_u32(bytes, 16),
-        application: read_u32(bytes, 20),
-        seconds: read_u32(bytes, 24),
-        subseconds: read_u32(bytes, 28),
+        spacecraft: u32_at(bytes, 12),
+        processor: u32_at(bytes, 16),
+        application: u32_at(bytes, 20),
+        seconds: u32_at(bytes, 24),
+        subseconds: u32_at(bytes, 28),
         description: &bytes[32..64],
-        reserved: read_u32(bytes, 64),
+        reserved: u32_at(bytes, 64),
         name_field: &bytes[76..116],
         image: &bytes[HEADERS_LENGTH..],
     })

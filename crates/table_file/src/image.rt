@@ -1,6 +1,6 @@
 //! What the images of the two tables hold.
 
-use lc_model::{ApMode, Bytes, EventKind, Report, Term};
+use lc_model::{ApMode, Bytes, EventKind, ReportMaxima, Term};
 use std::marker::Model;
 
 /// A table of watchpoints.
@@ -28,7 +28,7 @@ pub struct AdtImage {
 pub struct TableEntry {
     /// The state that the actionpoint begins in.
     pub mode: ApMode,
-    pub report: Report,
+    pub report: ReportMaxima,
     /// The number of the requested command sequence.
     pub sequence: u16,
     /// Failures in a row that lead to the sequence request.

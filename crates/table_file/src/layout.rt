@@ -2,15 +2,13 @@
 
 ghost use Rattle.std.specs.Prelude.{◌≡◌, option_map};
 ghost use Rattle.lc_model.specs.Tables.Image as model;
+ghost use Rattle.lc_model.specs.Tables.InForce.{layouts};
 ghost use Rattle.table_file.specs.Layout.{layout_of};
 
-use lc_model::Kind;
+use lc_model::{EQUATION_WORDS, Kind};
 
 /// The bytes before an image's entries.
 pub const PREAMBLE_LENGTH: usize = 40;
-
-/// The entries of every image, used or not.
-pub const ENTRIES: usize = 176;
 
 /// The form of an image: all that differs between the tables is said here.
 #[derive(Clone, Copy, Debug, PartialEq, Eq)]
@@ -47,7 +45,7 @@ impl Layout {
     {
         match self {
             Layout::Watchpoints => 0,
-            Layout::Actionpoints => 20,
+            Layout::Actionpoints => EQUATION_WORDS,
         }
     }
 
@@ -73,7 +71,7 @@ impl Layout {
 
     /// The layout of the images of a table that have this image's length, if there is one.
     pub fn of_image(kind: Kind, image: &[u8]) -> Option<Layout>
-        ensures { option_map layout_of result ≡ model.layout_of model.version_1_layouts kind image.now }
+        ensures { option_map layout_of result ≡ model.layout_of layouts kind image.now }
     {
         let layout = match kind {
             Kind::Wdt => Layout::Watchpoints,

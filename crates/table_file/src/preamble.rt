@@ -6,14 +6,14 @@ ghost use Rattle.lc_model.specs.Tables.Image as model;
 ghost use Rattle.lc_model.specs.Tables.Image.{preamble_length};
 
 use crate::layout::PREAMBLE_LENGTH;
-use crate::numbers::read_u16;
+use lc_model::u16_at;
 
 /// The layout's version.
 pub fn version(image: &[u8]) -> u16
     requires { preamble_length ≤ length image.now }
     ensures { result ≡ u16_at image.now 0 }
 {
-    read_u16(image, 0)
+    u16_at(image, 0)
 }
 
 /// The number of the table's kind.
@@ -21,7 +21,7 @@ pub fn kind_code(image: &[u8]) -> u16
     requires { preamble_length ≤ length image.now }
     ensures { result ≡ u16_at image.now 2 }
 {
-    read_u16(image, 2)
+    u16_at(image, 2)
 }
 
 /// How many entries are used.
@@ -29,7 +29,7 @@ pub fn own_count(image: &[u8]) -> u16
     requires { preamble_length ≤ length image.now }
     ensures { result ≡ model.own_count image.now }
 {
-    read_u16(image, 4)
+    u16_at(image, 4)
 }
 
 /// How many watchpoints the rule text has.
@@ -37,7 +37,7 @@ pub fn watchpoint_count(image: &[u8]) -> u16
     requires { preamble_length ≤ length image.now }
     ensures { result ≡ model.watchpoint_count image.now }
 {
-    read_u16(image, 6)
+    u16_at(image, 6)
 }
 
 /// The SHA-256 of the rule text, 32 bytes.

@@ -1,17 +1,17 @@
 //! The fields of a watchpoint's entry.
 
-ghost use Rattle.std.specs.Prelude.{◌≡◌, ◌<◌, length, slice_index};
+ghost use Rattle.std.specs.Prelude.{◌≡◌, ◌<◌, length};
 ghost use Rattle.lc_model.specs.Bytes.{u16_at, u32_at};
 ghost use Rattle.lc_model.specs.Codes.{table_entries};
 ghost use Rattle.lc_model.specs.Field as model;
+ghost use Rattle.lc_model.specs.Tables.Entry.{mask_field, mid_field, offset_field, operator_field, stale_field, type_field, value_field, zero_field};
 ghost use Rattle.lc_model.specs.Tables.Image.{Watchpoints, image_length, entry_at, type_of_code, twos_complement_32};
 ghost use Rattle.lc_model.specs.Tables.Spelled.{operator_of_code, spelled_term};
 
 use crate::codes::{field_type_of, operator_of};
 use crate::entry::entry_bytes;
 use crate::layout::Layout;
-use crate::numbers::{read_u16, read_u32};
-use lc_model::{CmpOp, FieldType, Term};
+use lc_model::{CmpOp, FieldType, Term, u16_at, u32_at};
 use std::marker::Model;
 
 /// The entry of a watchpoint, 24 bytes of an image. Contracts see the bytes.
@@ -67,77 +67,77 @@ impl<'a> WatchpointEntry<'a> {
 
     /// The number of the field's type.
     pub fn type_code(&self) -> u8
-        ensures { result ≡ slice_index self.now 0 }
+        ensures { result ≡ type_field self.now }
     {
         self.bytes[0]
     }
 
     /// The field's type, where its number is one's.
     pub fn field_type(&self) -> Option<FieldType>
-        ensures { result ≡ type_of_code (slice_index self.now 0) }
+        ensures { result ≡ type_of_code (type_field self.now) }
     {
         field_type_of(self.bytes[0])
     }
 
     /// The number of the comparison.
     pub fn operator_code(&self) -> u8
-        ensures { result ≡ slice_index self.now 1 }
+        ensures { result ≡ operator_field self.now }
     {
         self.bytes[1]
     }
 
     /// The comparison; `<` where its number is none's.
     pub fn operator(&self) -> CmpOp
-        ensures { result ≡ operator_of_code (slice_index self.now 1) }
+        ensures { result ≡ operator_of_code (operator_field self.now) }
     {
         operator_of(self.bytes[1])
     }
 
     /// The message id of the packets that have the field.
     pub fn message_id(&self) -> u16
-        ensures { result ≡ u16_at self.now 2 }
+        ensures { result ≡ mid_field self.now }
     {
-        read_u16(self.bytes, 2)
+        u16_at(self.bytes, 2)
     }
 
     /// Bytes before the field, from the packet's first byte.
     pub fn offset(&self) -> u32
-        ensures { result ≡ u32_at self.now 4 }
+        ensures { result ≡ offset_field self.now }
     {
-        read_u32(self.bytes, 4)
+        u32_at(self.bytes, 4)
     }
 
     /// The field's bits that count.
     pub fn mask(&self) -> u32
-        ensures { result ≡ u32_at self.now 8 }
+        ensures { result ≡ mask_field self.now }
     {
-        read_u32(self.bytes, 8)
+        u32_at(self.bytes, 8)
     }
 
     /// What is to be 0.
     pub fn zero_field(&self) -> u32
-        ensures { result ≡ u32_at self.now 12 }
+        ensures { result ≡ zero_field self.now }
     {
-        read_u32(self.bytes, 12)
+        u32_at(self.bytes, 12)
     }
 
     /// Agings after which the result is stale; 0 means never.
     pub fn stale(&self) -> u32
-        ensures { result ≡ u32_at self.now 16 }
+        ensures { result ≡ stale_field self.now }
     {
-        read_u32(self.bytes, 16)
+        u32_at(self.bytes, 16)
     }
 
     /// The number that the field is compared with, in 32 bits.
     pub fn value_bits(&self) -> u32
-        ensures { result ≡ u32_at self.now 20 }
+        ensures { result ≡ value_field self.now }
     {
-        read_u32(self.bytes, 20)
+        u32_at(self.bytes, 20)
     }
 
     /// The number that the field is compared with, if its type is this one.
     pub fn value(&self, kind: FieldType) -> i64
-        ensures { result ≡ twos_complement_32 kind (u32_at self.now 20) }
+        ensures { result ≡ twos_complement_32 kind (value_field self.now) }
     {
         value_of(kind, self.value_bits())
     }

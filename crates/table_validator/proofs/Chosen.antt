@@ -1,7 +1,7 @@
 -- The least code among tests in the order of their codes.
 use Rattle.std.proofs.Common.{◌≡◌, refl, sym, ◌∙◌, ap, ℕ, Bool, true, false, not, ◌||◌, nat_lt, ◌==◌, List, [], ◌∷◌, ◌++◌, slice_index, slice_range, Some, None}
 use Rattle.std.specs.Int.{is_in_range}
-use Rattle.lc_model.specs.Bytes.{u16_at}
+use Rattle.lc_model.specs.Tables.Entry.{event_id_field, event_type_field, fails_field, sequence_field, state_field, text_field}
 use Rattle.lc_model.specs.Tables.Image.{first_code, is_text_field, all_words, actionpoint_code}
 use Rattle.table_validator.specs.Scan.{word_tests}
 
@@ -26,15 +26,15 @@ first_of_second (t ∷ tests) others e = go t.0 refl (first_of_second tests othe
 -- the tests of an actionpoint's entry
 abbrev pub in_front : List ℕ → List (Bool × ℕ)
 in_front e =
-    (not (is_in_range 1 3 (slice_index e 0)), 71)
-    ∷ (not (is_in_range 1 4 (u16_at e 10)) || nat_lt (u16_at e 12) 1_000, 72)
-    ∷ (not (is_text_field (slice_range e 14 46)), 73) ∷ []
+    (not (is_in_range 1 3 (state_field e)), 71)
+    ∷ (not (is_in_range 1 4 (event_type_field e)) || nat_lt (event_id_field e) 1_000, 72)
+    ∷ (not (is_text_field (text_field e)), 73) ∷ []
 
 abbrev pub at_end : List ℕ → List (Bool × ℕ)
-at_end e = (u16_at e 6 == 0 || u16_at e 8 == 0, 81) ∷ []
+at_end e = (sequence_field e == 0 || fails_field e == 0, 81) ∷ []
 
-pub none_in_front : (e : List ℕ) (state event text : Bool) → state ≡ is_in_range 1 3 (slice_index e 0) → state ≡ true →
-    event ≡ (not (is_in_range 1 4 (u16_at e 10)) || nat_lt (u16_at e 12) 1_000) → event ≡ false → text ≡ is_text_field (slice_range e 14 46) → text ≡ true →
+pub none_in_front : (e : List ℕ) (state event text : Bool) → state ≡ is_in_range 1 3 (state_field e) → state ≡ true →
+    event ≡ (not (is_in_range 1 4 (event_type_field e)) || nat_lt (event_id_field e) 1_000) → event ≡ false → text ≡ is_text_field (text_field e) → text ≡ true →
     first_code (in_front e) ≡ None
 none_in_front e state event text state_is state_so event_is event_not text_is text_so =
     ap first_code (λ i. (not ((sym state_is ∙ state_so) i), 71) ∷ ((sym event_is ∙ event_not) i, 72) ∷ (not ((sym text_is ∙ text_so) i), 73) ∷ [])

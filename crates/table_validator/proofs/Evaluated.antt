@@ -5,7 +5,8 @@ use Rattle.lc_model.specs.Codes.{table_entries}
 use Rattle.lc_model.specs.Condition.{Operator, And, Or, Xor}
 use Rattle.lc_model.specs.Tables.Equation.{operator_word, equal_word, waiting, IsEquation}
 use Rattle.lc_model.specs.Tables.Image.{first_code, equation_tests, with_words_before, most_waiting}
-use Rattle.lc_model.proofs.SoundWords.{IsWord, number, negated, joined, none_stands, classified, each_front, at_least, or_first, or_second, unknown, missing, too_few, sound_words_spell}
+use Rattle.lc_model.proofs.SoundWords.{IsWord, number, negated, joined, none_stands, classified, each_front, unknown, missing, too_few, sound_words_spell}
+use Rattle.lc_model.proofs.Facts.{tested_not_less, or_second, or_first}
 use Rattle.table_validator.specs.Sound.{IsSoundEquation}
 
 -- what no word shows, this one does not
@@ -48,8 +49,8 @@ pub sound_equation : (count : ℕ) (ws : List ℕ) → count ≤ table_entries �
 sound_equation count ws few passes =
     let tests : AllByRecursion (λ t. t.0 ≡ false) (equation_tests count ws) = none_stands (equation_tests count ws) passes in
     let spelled : (k : ℕ) × (k ≤ most_waiting) × IsEquation count ws k = (sound_words_spell count ws few).0 passes in
-    let one : 1 ≤ waiting ws = at_least _ _ (of_last too_few equal_word ws [] tests.1.1.0) in
-    let at_most_one : waiting ws ≤ 1 = at_least 1 (waiting ws) tests.1.1.1.1.0 in
+    let one : 1 ≤ waiting ws = tested_not_less _ _ (of_last too_few equal_word ws [] tests.1.1.0) in
+    let at_most_one : waiting ws ≤ 1 = tested_not_less 1 (waiting ws) tests.1.1.1.1.0 in
     record {
       passes = passes;
       need = spelled.0;
@@ -58,8 +59,8 @@ sound_equation count ws few passes =
       met = λ n inside. record {
         known = known_word count (slice_index ws n)
             (classified count (slice_index ws n) (of_each unknown ws n tests.0 inside) (of_each (missing count) ws n tests.1.0 inside));
-        enough = at_least _ _ (of_step too_few equal_word ws [] n tests.1.1.0 inside);
-        few = at_least _ _ (each_front (λ us. nat_lt most_waiting (waiting us)) equal_word ws [] n tests.1.1.1.0 (omega (arith, inside)));
+        enough = tested_not_less _ _ (of_step too_few equal_word ws [] n tests.1.1.0 inside);
+        few = tested_not_less _ _ (each_front (λ us. nat_lt most_waiting (waiting us)) equal_word ws [] n tests.1.1.1.0 (omega (arith, inside)));
       };
       one_left = same (waiting ws) at_most_one one;
     }

@@ -7,9 +7,10 @@ use Rattle.std.specs.Option.{option_map_or}
 use Rattle.lc_model.specs.declared.kind.Kind.{Kind}
 use Rattle.lc_model.specs.declared.kind.Kind.TheVariants.{Wdt, Adt}
 use Rattle.lc_model.specs.Codes.{is_kind, table_entries}
-use Rattle.lc_model.specs.Tables.Image.{Layout, kind_of, image_length, ImageFault, numbers_below, entry_code, first_entry_fault, preamble_code, image_fault, layout_of, fault_of, wrong_size, IsSound, version_1_layouts}
+use Rattle.lc_model.specs.Tables.Image.{Layout, kind_of, image_length, ImageFault, numbers_below, entry_code, first_entry_fault, preamble_code, image_fault, layout_of, fault_of, wrong_size, IsSound}
+use Rattle.lc_model.specs.Tables.InForce.{layouts}
 use Rattle.lc_model.proofs.SoundImages.{found_passes}
-use Rattle.table_validator.proofs.Decided.{left, right, equal}
+use Rattle.lc_model.proofs.Facts.{tested_equal, and_second, and_first}
 
 module _ {X : Type 0} (f : ℕ → Option X) where
   none_listed : (n : ℕ) → ((k : ℕ) → k < n → f k ≡ None) → filter_map f (numbers_below n) ≡ []
@@ -71,14 +72,14 @@ one_more l image n none is k below = go (cases_lt k n)
 -- ---- images
 
 -- behind a preamble without a fault the entries count
-pub entries_count : (kind : Kind) (image : List ℕ) (l : Layout) → layout_of version_1_layouts kind image ≡ Some l → preamble_code l image ≡ None →
-    fault_of version_1_layouts kind image ≡ first_entry_fault l image
+pub entries_count : (kind : Kind) (image : List ℕ) (l : Layout) → layout_of layouts kind image ≡ Some l → preamble_code l image ≡ None →
+    fault_of layouts kind image ≡ first_entry_fault l image
 entries_count kind image l found none =
     ap (λ o. option_map_or (λ m. image_fault m image (preamble_code m image)) o (Some wrong_size)) found ∙ ap (image_fault l image) none
 
 -- without a fault of an entry the image is sound
-pub all_sound : (kind : Kind) (image : List ℕ) (l : Layout) → layout_of version_1_layouts kind image ≡ Some l → preamble_code l image ≡ None →
-    (n : ℕ) → table_entries ≤ n → ((k : ℕ) → k < n → entry_code l image k ≡ None) → IsSound version_1_layouts kind image
+pub all_sound : (kind : Kind) (image : List ℕ) (l : Layout) → layout_of layouts kind image ≡ Some l → preamble_code l image ≡ None →
+    (n : ℕ) → table_entries ≤ n → ((k : ℕ) → k < n → entry_code l image k ≡ None) → IsSound layouts kind image
 all_sound kind image l found none n all entries =
     entries_count kind image l found none ∙ none_found l image (λ k below. entries k (omega (arith, below, all)))
 
@@ -93,11 +94,11 @@ pub record IsOf (kind : Kind) (image : List ℕ) (l : Layout) : Type 0 where
   pub of_kind : kind_of l ≡ kind
   pub size : length image ≡ image_length l
 
-pub layout_found : (kind : Kind) (image : List ℕ) (l : Layout) → layout_of version_1_layouts kind image ≡ Some l → IsOf kind image l
+pub layout_found : (kind : Kind) (image : List ℕ) (l : Layout) → layout_of layouts kind image ≡ Some l → IsOf kind image l
 layout_found kind image l found =
     let passes : (is_kind kind (kind_of l) && (image_length l == length image)) ≡ true =
-    found_passes (λ m. is_kind kind (kind_of m) && (image_length m == length image)) version_1_layouts l found in
+    found_passes (λ m. is_kind kind (kind_of m) && (image_length m == length image)) layouts l found in
     record {
-      of_kind = same_kind kind (kind_of l) (left (is_kind kind (kind_of l)) (image_length l == length image) passes);
-      size = sym (equal (image_length l) (length image) (right (is_kind kind (kind_of l)) (image_length l == length image) passes));
+      of_kind = same_kind kind (kind_of l) (and_first (is_kind kind (kind_of l)) (image_length l == length image) passes);
+      size = sym (tested_equal (image_length l) (length image) (and_second (is_kind kind (kind_of l)) (image_length l == length image) passes));
     }

@@ -5,16 +5,13 @@ use Rattle.std.proofs.lemmas.List.Sums.{sum_by-append}
 use Rattle.lc_model.specs.Tables.Equation.{equal_word, is_mention, is_binary, waiting}
 use Rattle.lc_model.specs.Tables.Image.{first_code, most_waiting, operands_of, with_words_before, words_before_equal, words_after_equal}
 use Rattle.lc_model.proofs.SoundWords.{unknown, missing, too_few, too_many}
+use Rattle.lc_model.proofs.Facts.{or_false, tested_equal}
 use Rattle.table_validator.specs.declared.operands.OperandCount.{OperandCount}
 use Rattle.table_validator.specs.declared.words.WordScan.{WordScan}
 use Rattle.table_validator.specs.Scan.{operands_waiting, word_counted, unread, word_read, scan_tests, word_tests}
-use Rattle.table_validator.proofs.Decided.{equal, turned}
+use Rattle.table_validator.proofs.Decided.{turned}
 
 -- ---- truth values
-
-or_false : (a : Bool) → (a || false) ≡ a
-or_false true = refl
-or_false false = refl
 
 or_assoc : (a b c : Bool) → ((a || b) || c) ≡ (a || (b || c))
 or_assoc true b c = refl
@@ -112,7 +109,7 @@ never_ended count (w ∷ ws) u v c d m j e =
   where
     go : (b : Bool) → (w == equal_word) ≡ b → (list_any (◌==◌ equal_word) ws ≡ false → (fold (word_read count) (scan_after count w u v c d m j) ws).ended ≡ false) →
         (fold (word_read count) (scan_before u v c d m j) (w ∷ ws)).ended ≡ false
-    go true is others = let same : w ≡ equal_word = equal w equal_word is in absurd (cc (rw same at e))
+    go true is others = let same : w ≡ equal_word = tested_equal w equal_word is in absurd (cc (rw same at e))
     go false is others =
         let rest : list_any (◌==◌ equal_word) ws ≡ false = rw (turned w equal_word is) at e in
         ap (λ (s : WordScan). (fold (word_read count) s ws).ended) (one_word count w u v c d m j is) ∙ others rest
@@ -179,7 +176,7 @@ leaves count (w ∷ ws) before u v c d m j counts e =
     go : (b : Bool) → (w == equal_word) ≡ b → (list_any (◌==◌ equal_word) ws ≡ true → LeavesBehind count w before ws u v c d m j (fold (word_read count) (scan_after count w u v c d m j) ws)) →
         Leaves count before (words_before_equal (w ∷ ws)) (words_after_equal (w ∷ ws)) u v c d (fold (word_read count) (scan_before u v c d m j) (w ∷ ws))
     go true is others = subst (λ x. Leaves count before (words_before_equal (x ∷ ws)) (words_after_equal (x ∷ ws)) u v c d (fold (word_read count) (scan_before u v c d m j) (x ∷ ws)))
-        (sym (equal w equal_word is)) (at_equal count before ws u v c d m j counts)
+        (sym (tested_equal w equal_word is)) (at_equal count before ws u v c d m j counts)
     go false is others =
         let rest : list_any (◌==◌ equal_word) ws ≡ true = rw (turned w equal_word is) at e in
         let here : LeavesBehind count w before ws u v c d m j (fold (word_read count) (scan_before u v c d m j) (w ∷ ws)) =

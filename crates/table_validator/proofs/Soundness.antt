@@ -6,21 +6,24 @@ use Rattle.std.specs.Int.{is_in_range}
 use Rattle.lc_model.specs.declared.kind.Kind.TheVariants.{Wdt, Adt}
 use Rattle.lc_model.specs.declared.field.FieldType.{FieldType}
 use Rattle.lc_model.specs.declared.field.FieldType.TheVariants.{U8}
-use Rattle.lc_model.specs.Bytes.{u16_at, u32_at}
+use Rattle.lc_model.specs.Bytes.{u16_at}
 use Rattle.lc_model.specs.Codes.{state_code, event_code, kind_code, is_kind, table_entries}
 use Rattle.lc_model.specs.Field.{full_mask, is_in_type}
 use Rattle.lc_model.specs.Packet.{is_telemetry_mid, event_mid, lc_housekeeping_mid, reserved_mids}
+use Rattle.lc_model.specs.Tables.Entry.{mask_field, mid_field, operator_field, type_field, value_field, zero_field, event_id_field, event_type_field, fails_field, sequence_field, state_field, text_field}
 use Rattle.lc_model.specs.Tables.Equation.{equal_word}
 use Rattle.lc_model.specs.Tables.Image as model
-use Rattle.lc_model.specs.Tables.Image.{Watchpoints, Actionpoints, WideActionpoints, image_length, own_count, watchpoint_count, entry_at, entry_code, used_code, preamble_code, IsSound, version_1_layouts, all_words, words_before_equal, words_after_equal, type_of_code, twos_complement_32, is_text_field, first_code, equation_tests, most_waiting, actionpoint_code, watchpoint_code}
+use Rattle.lc_model.specs.Tables.Image.{Watchpoints, Actionpoints, WideActionpoints, image_length, own_count, watchpoint_count, entry_at, entry_code, used_code, preamble_code, IsSound, all_words, words_before_equal, words_after_equal, type_of_code, twos_complement_32, is_text_field, first_code, equation_tests, most_waiting, actionpoint_code, watchpoint_code, watchpoint_tests, actionpoint_tests}
+use Rattle.lc_model.specs.Tables.InForce.{layouts}
 use Rattle.lc_model.specs.Tables.Spelled.{spelled_term, state_of_code, event_of_code}
-use Rattle.lc_model.proofs.SoundWords.{none_stands, stands_none, or_first, or_second, at_least}
+use Rattle.lc_model.proofs.SoundWords.{none_stands, stands_none}
+use Rattle.lc_model.proofs.Facts.{tested_not_less, or_second, or_first, not_false, and_first, and_second, tested_at_most, test_less, tested_equal, tested_unequal}
 use Rattle.lc_model.proofs.SoundImages.{SoundParts, sound_parts, operator_again}
+use Rattle.lc_model.proofs.CodesAgain.{state_again, event_again}
 use Rattle.table_file.specs.declared.layout.Layout.{Layout}
 use Rattle.table_file.specs.declared.layout.Layout.TheVariants as layouts
 use Rattle.table_file.specs.Layout.{layout_of}
 use Rattle.table_validator.specs.Sound.{IsSoundWatchpoint, IsSoundActionpoint, HasSoundWatchpoints, HasSoundActionpoints}
-use Rattle.table_validator.proofs.Decided.{not_false, left, right, at_most, less, equal, differs}
 use Rattle.table_validator.proofs.Reading.{ends_before}
 use Rattle.table_validator.proofs.Evaluated.{sound_equation}
 
@@ -35,8 +38,8 @@ within : (low high n : ℕ) → not (is_in_range low high n) ≡ false → Withi
 within low high n e =
     let range : (nat_le low n && nat_le n high) ≡ true = not_false (nat_le low n && nat_le n high) e in
     record {
-      from = at_most low n (left (nat_le low n) (nat_le n high) range);
-      to = at_most n high (right (nat_le low n) (nat_le n high) range);
+      from = tested_at_most low n (and_first (nat_le low n) (nat_le n high) range);
+      to = tested_at_most n high (and_second (nat_le low n) (nat_le n high) range);
     }
 
 -- ---- watchpoints
@@ -51,89 +54,52 @@ of_type : (o : Option FieldType) (test : FieldType → Bool) → is_none o ≡ f
 of_type None test e passes = absurd (cc e)
 of_type (Some k) test e passes = passes
 
--- the tests of an entry
-abbrev watchpoint_tests : List ℕ → List (Bool × ℕ)
-watchpoint_tests e =
-    (not (u32_at e 12 == 0), 65)
-    ∷ (is_none (type_of_code (slice_index e 0)), 66)
-    ∷ (not (is_in_range 1 6 (slice_index e 1)), 67)
-    ∷ (not (is_telemetry_mid (u16_at e 2)) || list_any (◌==◌ (u16_at e 2)) reserved_mids, 68)
-    ∷ (option_map_or (λ k. not (is_in_range 1 (full_mask k) (u32_at e 8))) (type_of_code (slice_index e 0)) false, 69)
-    ∷ (option_map_or (λ k. not (is_in_type k (twos_complement_32 k (u32_at e 20)))) (type_of_code (slice_index e 0)) false, 70) ∷ []
-
 sound_watchpoint : (e : List ℕ) → watchpoint_code e ≡ None → IsSoundWatchpoint e
 sound_watchpoint e sound =
     let tests : AllByRecursion (λ t. t.0 ≡ false) (watchpoint_tests e) = none_stands (watchpoint_tests e) sound in
-    let some : is_none (type_of_code (slice_index e 0)) ≡ false = tests.1.0 in
-    let operator : Within 1 6 (slice_index e 1) = within 1 6 (slice_index e 1) tests.1.1.0 in
-    let mid : ℕ = u16_at e 2 in
+    let some : is_none (type_of_code (type_field e)) ≡ false = tests.1.0 in
+    let operator : Within 1 6 (operator_field e) = within 1 6 (operator_field e) tests.1.1.0 in
+    let mid : ℕ = mid_field e in
     let telemetry : not (is_telemetry_mid mid) ≡ false = or_first (not (is_telemetry_mid mid)) (list_any (◌==◌ mid) reserved_mids) tests.1.1.1.0 in
     let others : (mid == event_mid || (mid == lc_housekeeping_mid || false)) ≡ false =
     or_second (not (is_telemetry_mid mid)) (list_any (◌==◌ mid) reserved_mids) tests.1.1.1.0 in
-    let mask : Within 1 (full_mask (spelled_term e).kind) (u32_at e 8) =
-    within 1 (full_mask (spelled_term e).kind) (u32_at e 8)
-    (of_type (type_of_code (slice_index e 0)) (λ k. is_in_range 1 (full_mask k) (u32_at e 8)) some tests.1.1.1.1.0) in
+    let mask : Within 1 (full_mask (spelled_term e).kind) (mask_field e) =
+    within 1 (full_mask (spelled_term e).kind) (mask_field e)
+    (of_type (type_of_code (type_field e)) (λ k. is_in_range 1 (full_mask k) (mask_field e)) some tests.1.1.1.1.0) in
     record {
-      has_type = typed (type_of_code (slice_index e 0)) some;
-      has_operator = operator_again (slice_index e 1) operator.from operator.to;
+      has_type = typed (type_of_code (type_field e)) some;
+      has_operator = operator_again (operator_field e) operator.from operator.to;
       telemetry = not_false (is_telemetry_mid mid) telemetry;
-      no_event = differs mid event_mid (or_first (mid == event_mid) (mid == lc_housekeeping_mid || false) others);
-      no_housekeeping = differs mid lc_housekeeping_mid
+      no_event = tested_unequal mid event_mid (or_first (mid == event_mid) (mid == lc_housekeeping_mid || false) others);
+      no_housekeeping = tested_unequal mid lc_housekeeping_mid
           (or_first (mid == lc_housekeeping_mid) false (or_second (mid == event_mid) (mid == lc_housekeeping_mid || false) others));
       mask_from = mask.from;
       mask_to = mask.to;
       value = not_false (is_in_type (spelled_term e).kind (spelled_term e).value)
-          (of_type (type_of_code (slice_index e 0)) (λ k. is_in_type k (twos_complement_32 k (u32_at e 20))) some tests.1.1.1.1.1.0);
+          (of_type (type_of_code (type_field e)) (λ k. is_in_type k (twos_complement_32 k (value_field e))) some tests.1.1.1.1.1.0);
     }
 
 -- ---- actionpoints
-
--- a state's code, and an event type's
-state_again : (n : ℕ) → 1 ≤ n → n ≤ 3 → state_code (state_of_code n) ≡ n
-state_again zero low high = absurd (omega (arith, low))
-state_again (suc zero) low high = refl
-state_again (suc (suc zero)) low high = refl
-state_again (suc (suc (suc zero))) low high = refl
-state_again (suc (suc (suc (suc n)))) low high = absurd (omega (arith, high))
-
-event_again : (n : ℕ) → 1 ≤ n → n ≤ 4 → event_code (event_of_code n) ≡ n
-event_again zero low high = absurd (omega (arith, low))
-event_again (suc zero) low high = refl
-event_again (suc (suc zero)) low high = refl
-event_again (suc (suc (suc zero))) low high = refl
-event_again (suc (suc (suc (suc zero)))) low high = refl
-event_again (suc (suc (suc (suc (suc n))))) low high = absurd (omega (arith, high))
-
--- the tests of an entry
-abbrev actionpoint_tests : ℕ → List ℕ → List (Bool × ℕ)
-actionpoint_tests count e =
-    (not (is_in_range 1 3 (slice_index e 0)), 71)
-    ∷ (not (is_in_range 1 4 (u16_at e 10)) || nat_lt (u16_at e 12) 1_000, 72)
-    ∷ (not (is_text_field (slice_range e 14 46)), 73)
-    ∷ (not (list_any (◌==◌ equal_word) (all_words e)), 74)
-    ∷ (not (list_all (◌==◌ 0) (words_after_equal (all_words e))), 75)
-    ∷ equation_tests count (words_before_equal (all_words e))
-    ++ (u16_at e 6 == 0 || u16_at e 8 == 0, 81) ∷ []
 
 sound_actionpoint : (count : ℕ) (e : List ℕ) → count ≤ table_entries → actionpoint_code count e ≡ None → IsSoundActionpoint count e
 sound_actionpoint count e few sound =
     let ws : List ℕ = words_before_equal (all_words e) in
     let tests : AllByRecursion (λ t. t.0 ≡ false) (actionpoint_tests count e) = none_stands (actionpoint_tests count e) sound in
     let behind = tests.1.1.1.1.1 in
-    let last : (u16_at e 6 == 0 || u16_at e 8 == 0) ≡ false = behind.1.1.1.1.1.0 in
-    let state : Within 1 3 (slice_index e 0) = within 1 3 (slice_index e 0) tests.0 in
-    let event : Within 1 4 (u16_at e 10) = within 1 4 (u16_at e 10) (or_first (not (is_in_range 1 4 (u16_at e 10))) (nat_lt (u16_at e 12) 1_000) tests.1.0) in
+    let last : (sequence_field e == 0 || fails_field e == 0) ≡ false = behind.1.1.1.1.1.0 in
+    let state : Within 1 3 (state_field e) = within 1 3 (state_field e) tests.0 in
+    let event : Within 1 4 (event_type_field e) = within 1 4 (event_type_field e) (or_first (not (is_in_range 1 4 (event_type_field e))) (nat_lt (event_id_field e) 1_000) tests.1.0) in
     record {
-      has_state = state_again (slice_index e 0) state.from state.to;
-      has_event = event_again (u16_at e 10) event.from event.to;
-      event_id = at_least (u16_at e 12) 1_000 (or_second (not (is_in_range 1 4 (u16_at e 10))) (nat_lt (u16_at e 12) 1_000) tests.1.0);
-      text = not_false (is_text_field (slice_range e 14 46)) tests.1.1.0;
+      has_state = state_again (state_field e) state.from state.to;
+      has_event = event_again (event_type_field e) event.from event.to;
+      event_id = tested_not_less (event_id_field e) 1_000 (or_second (not (is_in_range 1 4 (event_type_field e))) (nat_lt (event_id_field e) 1_000) tests.1.0);
+      text = not_false (is_text_field (text_field e)) tests.1.1.0;
       nothing_behind = not_false (list_all (◌==◌ 0) (words_after_equal (all_words e))) tests.1.1.1.1.0;
       equation = sound_equation count ws few (stands_none (equation_tests count ws)
           (behind.0, (behind.1.0, (behind.1.1.0, (behind.1.1.1.0, (behind.1.1.1.1.0, tt))))));
       ends = ends_before (all_words e) (not_false (list_any (◌==◌ equal_word) (all_words e)) tests.1.1.1.0);
-      sequence = differs (u16_at e 6) 0 (or_first (u16_at e 6 == 0) (u16_at e 8 == 0) last);
-      fails = differs (u16_at e 8) 0 (or_second (u16_at e 6 == 0) (u16_at e 8 == 0) last);
+      sequence = tested_unequal (sequence_field e) 0 (or_first (sequence_field e == 0) (fails_field e == 0) last);
+      fails = tested_unequal (fails_field e) 0 (or_second (sequence_field e == 0) (fails_field e == 0) last);
     }
 
 -- ---- images
@@ -141,7 +107,7 @@ sound_actionpoint count e few sound =
 -- an entry that is used
 used : (l : model.Layout) (image : List ℕ) (n : ℕ) → n < own_count image → entry_code l image n ≡ None →
     used_code l (watchpoint_count image) (entry_at l image n) ≡ None
-used l image n below e = rw (less n (own_count image) below) at e
+used l image n below e = rw (test_less n (own_count image) below) at e
 
 -- the tests of a preamble's counts
 abbrev counts_test : model.Layout → List ℕ → Bool
@@ -155,17 +121,17 @@ counts l image e =
 
 few_own : (l : model.Layout) (image : List ℕ) → counts_test l image ≡ false → own_count image ≤ table_entries
 few_own l image e =
-    at_least table_entries (own_count image) (or_first (nat_lt table_entries (own_count image)) (nat_lt table_entries (watchpoint_count image))
+    tested_not_less table_entries (own_count image) (or_first (nat_lt table_entries (own_count image)) (nat_lt table_entries (watchpoint_count image))
     (or_first (nat_lt table_entries (own_count image) || nat_lt table_entries (watchpoint_count image)) _ e))
 
 few_watchpoints : (l : model.Layout) (image : List ℕ) → counts_test l image ≡ false → watchpoint_count image ≤ table_entries
 few_watchpoints l image e =
-    at_least table_entries (watchpoint_count image) (or_second (nat_lt table_entries (own_count image)) (nat_lt table_entries (watchpoint_count image))
+    tested_not_less table_entries (watchpoint_count image) (or_second (nat_lt table_entries (own_count image)) (nat_lt table_entries (watchpoint_count image))
     (or_first (nat_lt table_entries (own_count image) || nat_lt table_entries (watchpoint_count image)) _ e))
 
 same_counts : (image : List ℕ) → counts_test Watchpoints image ≡ false → watchpoint_count image ≡ own_count image
 same_counts image e =
-    sym (equal (own_count image) (watchpoint_count image) (not_false (own_count image == watchpoint_count image)
+    sym (tested_equal (own_count image) (watchpoint_count image) (not_false (own_count image == watchpoint_count image)
     (or_second (nat_lt table_entries (own_count image) || nat_lt table_entries (watchpoint_count image)) (not (own_count image == watchpoint_count image)) e)))
 
 watchpoint_parts : (image : List ℕ) (l : model.Layout) → is_kind Wdt (model.kind_of l) ≡ true → image_length l ≡ length image →
@@ -199,15 +165,15 @@ actionpoint_parts image Actionpoints long kind size preamble entries =
 actionpoint_parts image WideActionpoints long kind size preamble entries = absurd (omega (arith, long, size))
 
 -- of an image in this layout
-pub watchpoints_of : (l : Layout) (image : List ℕ) → IsSound version_1_layouts (model.kind_of (layout_of l)) image → model.kind_of (layout_of l) ≡ Wdt → HasSoundWatchpoints image
+pub watchpoints_of : (l : Layout) (image : List ℕ) → IsSound layouts (model.kind_of (layout_of l)) image → model.kind_of (layout_of l) ≡ Wdt → HasSoundWatchpoints image
 watchpoints_of layouts.Watchpoints image sound kind =
-    let parts : SoundParts version_1_layouts Wdt image = sound_parts version_1_layouts Wdt image sound in
+    let parts : SoundParts layouts Wdt image = sound_parts layouts Wdt image sound in
     watchpoint_parts image parts.layout parts.of_kind parts.size parts.preamble parts.entries
 watchpoints_of layouts.Actionpoints image sound kind = absurd (cc kind)
 
-pub actionpoints_of : (l : Layout) (image : List ℕ) → IsSound version_1_layouts (model.kind_of (layout_of l)) image → length image ≡ image_length (layout_of l) →
+pub actionpoints_of : (l : Layout) (image : List ℕ) → IsSound layouts (model.kind_of (layout_of l)) image → length image ≡ image_length (layout_of l) →
     model.kind_of (layout_of l) ≡ Adt → HasSoundActionpoints image
 actionpoints_of layouts.Watchpoints image sound long kind = absurd (cc kind)
 actionpoints_of layouts.Actionpoints image sound long kind =
-    let parts : SoundParts version_1_layouts Adt image = sound_parts version_1_layouts Adt image sound in
+    let parts : SoundParts layouts Adt image = sound_parts layouts Adt image sound in
     actionpoint_parts image parts.layout long parts.of_kind parts.size parts.preamble parts.entries

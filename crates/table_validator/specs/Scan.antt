@@ -3,7 +3,8 @@ use Rattle.std.specs.Prelude.{ℕ, ◌+◌, ◌-◌, Bool, true, false, not, ◌
 use Rattle.std.specs.List.{list_any, list_all}
 use Rattle.std.specs.Int.{is_in_range}
 use Rattle.lc_model.specs.Codes.{table_entries}
-use Rattle.lc_model.specs.Tables.Equation.{equal_word, is_mention, is_binary}
+use Rattle.lc_model.specs.Condition.{And}
+use Rattle.lc_model.specs.Tables.Equation.{operator_word, not_word, equal_word, is_mention, is_binary}
 use Rattle.lc_model.specs.Tables.Image.{operands_of, most_waiting, words_before_equal, words_after_equal, equation_tests}
 use Rattle.table_validator.specs.declared.operands.OperandCount.{OperandCount}
 use Rattle.table_validator.specs.declared.words.WordScan.{WordScan}
@@ -37,7 +38,7 @@ word_read count scan w =
     if scan.ended then record scan { word_behind = scan.word_behind || not (0 == w) }
     else if w == equal_word then record scan { ended = true; operands = word_counted scan.operands w }
     else record scan {
-      unknown_word = scan.unknown_word || not (nat_lt w table_entries || is_in_range 0xFF01 0xFF04 w);
+      unknown_word = scan.unknown_word || not (nat_lt w table_entries || is_in_range (operator_word And) not_word w);
       unknown_watchpoint = scan.unknown_watchpoint || (nat_lt w table_entries && nat_le count w);
       operands = word_counted scan.operands w;
     }

@@ -1,12 +1,13 @@
 -- What a sound image gives its readers. This project's own.
-use Rattle.std.specs.Prelude.{◌≡◌, ◌≢◌, ℕ, ◌<◌, ◌≤◌, ◌⊎◌, ◌==◌, List, length, take, Some, None, slice_index, slice_range, IsTrue}
+use Rattle.std.specs.Prelude.{◌≡◌, ◌≢◌, ℕ, ◌<◌, ◌≤◌, ◌⊎◌, ◌==◌, List, length, take, Some, None, slice_index, IsTrue}
 use Rattle.std.specs.List.{list_all}
 use Rattle.lc_model.specs.declared.kind.Kind.{Kind}
-use Rattle.lc_model.specs.Bytes.{u16_at}
 use Rattle.lc_model.specs.Codes.{operator_code, state_code, event_code, table_entries}
 use Rattle.lc_model.specs.Field.{full_mask, is_in_type}
 use Rattle.lc_model.specs.Packet.{is_telemetry_mid, event_mid, lc_housekeeping_mid}
-use Rattle.lc_model.specs.Tables.Equation.{IsEquation, waiting}
+use Rattle.lc_model.specs.Tables.Entry.{operator_field, type_field, event_id_field, event_type_field, fails_field, sequence_field, state_field, text_field}
+use Rattle.lc_model.specs.Condition.{And}
+use Rattle.lc_model.specs.Tables.Equation.{operator_word, not_word, IsEquation, waiting}
 use Rattle.lc_model.specs.Tables.Image.{Watchpoints, Actionpoints, image_length, own_count, watchpoint_count, entry_at, all_words, words_before_equal, words_after_equal, operands_of, type_of_code, is_text_field, first_code, equation_tests, most_waiting}
 use Rattle.lc_model.specs.Tables.Spelled.{spelled_term, state_of_code, event_of_code}
 
@@ -19,8 +20,8 @@ pub record TableImage : Type 0 where
 
 -- the entry of a watchpoint has a type, a comparison and a message id that may be watched, and what the type allows
 pub record IsSoundWatchpoint (e : List ℕ) : Type 0 where
-  pub has_type : type_of_code (slice_index e 0) ≡ Some (spelled_term e).kind
-  pub has_operator : operator_code (spelled_term e).op ≡ slice_index e 1
+  pub has_type : type_of_code (type_field e) ≡ Some (spelled_term e).kind
+  pub has_operator : operator_code (spelled_term e).op ≡ operator_field e
   pub telemetry : IsTrue (is_telemetry_mid (spelled_term e).mid)
   pub no_event : (spelled_term e).mid ≢ event_mid
   pub no_housekeeping : (spelled_term e).mid ≢ lc_housekeeping_mid
@@ -40,7 +41,7 @@ pub record HasSoundWatchpoints (image : List ℕ) : Type 0 where
 -- what an evaluation meets at a word: a watchpoint below the count or an operator, the operands that it takes, and at most
 -- eight that wait
 pub record IsMet (count : ℕ) (ws : List ℕ) (n : ℕ) : Type 0 where
-  pub known : (slice_index ws n < count) ⊎ ((0xFF01 ≤ slice_index ws n) × (slice_index ws n ≤ 0xFF04))
+  pub known : (slice_index ws n < count) ⊎ ((operator_word And ≤ slice_index ws n) × (slice_index ws n ≤ not_word))
   pub enough : operands_of (slice_index ws n) ≤ waiting (take n ws)
   pub few : waiting (take n ws) ≤ most_waiting
 
@@ -59,15 +60,15 @@ pub record IsSoundEquation (count : ℕ) (ws : List ℕ) : Type 0 where
 -- the entry of an actionpoint has a state, an event and a text, words that end and can be evaluated, and a sequence and a
 -- number of fails
 pub record IsSoundActionpoint (count : ℕ) (e : List ℕ) : Type 0 where
-  pub has_state : state_code (state_of_code (slice_index e 0)) ≡ slice_index e 0
-  pub has_event : event_code (event_of_code (u16_at e 10)) ≡ u16_at e 10
-  pub event_id : 1_000 ≤ u16_at e 12
-  pub text : IsTrue (is_text_field (slice_range e 14 46))
+  pub has_state : state_code (state_of_code (state_field e)) ≡ state_field e
+  pub has_event : event_code (event_of_code (event_type_field e)) ≡ event_type_field e
+  pub event_id : 1_000 ≤ event_id_field e
+  pub text : IsTrue (is_text_field (text_field e))
   pub ends : length (words_before_equal (all_words e)) < length (all_words e)
   pub nothing_behind : IsTrue (list_all (◌==◌ 0) (words_after_equal (all_words e)))
   pub equation : IsSoundEquation count (words_before_equal (all_words e))
-  pub sequence : u16_at e 6 ≢ 0
-  pub fails : u16_at e 8 ≢ 0
+  pub sequence : sequence_field e ≢ 0
+  pub fails : fails_field e ≢ 0
 
 -- an image of actionpoints
 pub record HasSoundActionpoints (image : List ℕ) : Type 0 where

@@ -1,9 +1,9 @@
 //! The faults of an actionpoint's entry.
 
-ghost use Rattle.std.specs.Prelude.{◌≡◌, not, ◌||◌, ◌&&◌, ◌==◌, nat_lt, length, option_map, slice_index, take_while};
+ghost use Rattle.std.specs.Prelude.{◌≡◌, not, ◌||◌, ◌&&◌, ◌==◌, nat_lt, length, option_map, take_while};
 ghost use Rattle.std.specs.List.{list_all};
 ghost use Rattle.std.specs.Int.{is_in_range};
-ghost use Rattle.lc_model.specs.Bytes.{u16_at};
+ghost use Rattle.lc_model.specs.Tables.Entry.{event_id_field, event_type_field, fails_field, sequence_field};
 ghost use Rattle.lc_model.specs.Text.Token as token;
 ghost use Rattle.lc_model.specs.Tables.Image as model;
 ghost use Rattle.lc_model.specs.Tables.Image.{actionpoint_code};
@@ -11,6 +11,7 @@ ghost use Rattle.table_validator.specs.Fault.{code_number};
 
 use crate::fault::FaultCode;
 use crate::words::words_fault;
+use lc_model::is_text_byte;
 use table_file::ActionpointEntry;
 
 /// The bytes of the text's field; at least one zero byte follows the text there.
@@ -18,13 +19,6 @@ const TEXT_FIELD: usize = 32;
 
 /// The least event id: those below are the Limit Checker's own.
 const FIRST_EVENT_ID: u16 = 1_000;
-
-/// Whether a byte may stand in an event's text.
-fn is_text_byte(byte: u8) -> bool
-    ensures { result ≡ token.is_text_byte byte }
-{
-    (0x20..=0x7E).contains(&byte) && byte != b'"'
-}
 
 /// How many bytes of a text the field begins with.
 fn text_length(field: &[u8]) -> usize
@@ -57,14 +51,14 @@ fn is_state(code: u8) -> bool
 
 /// Whether the entry's event has no type, or an id below 1,000.
 fn has_wrong_event(entry: &ActionpointEntry<'_>) -> bool
-    ensures { result ≡ (not (is_in_range 1 4 (u16_at entry.now 10)) || nat_lt (u16_at entry.now 12) 1_000) }
+    ensures { result ≡ (not (is_in_range 1 4 (event_type_field entry.now)) || nat_lt (event_id_field entry.now) 1_000) }
 {
     !(1..=4).contains(&entry.event_code()) || entry.event_id() < FIRST_EVENT_ID
 }
 
 /// Whether the sequence or the number of fails is 0.
 fn has_zero(entry: &ActionpointEntry<'_>) -> bool
-    ensures { result ≡ (u16_at entry.now 6 == 0 || u16_at entry.now 8 == 0) }
+    ensures { result ≡ (sequence_field entry.now == 0 || fails_field entry.now == 0) }
 {
     entry.sequence() == 0 || entry.fails() == 0
 }

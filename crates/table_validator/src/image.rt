@@ -2,16 +2,17 @@
 
 ghost use Rattle.std.specs.Prelude.{◌≡◌, ◌<◌, IfOk};
 ghost use Rattle.lc_model.specs.declared.kind.Kind.TheVariants.{Wdt, Adt};
-ghost use Rattle.lc_model.specs.Tables.Image.{Watchpoints, Actionpoints, IsSound, entry_at, fault_of, own_count, version_1_layouts, watchpoint_count};
+ghost use Rattle.lc_model.specs.Tables.Image.{Watchpoints, Actionpoints, IsSound, entry_at, fault_of, own_count, watchpoint_count};
+ghost use Rattle.lc_model.specs.Tables.InForce.{layouts};
 ghost use Rattle.table_validator.specs.Fault.{refusal};
 ghost use Rattle.table_validator.specs.Sound.{HasSoundActionpoints, HasSoundWatchpoints, IsSoundActionpoint, IsSoundWatchpoint};
 
 use crate::entry::entry_fault;
 use crate::fault::{FaultCode, TableFault};
 use crate::preamble::preamble_fault;
-use lc_model::Kind;
+use lc_model::{Kind, TABLE_ENTRIES};
 use std::marker::Model;
-use table_file::{ActionpointEntry, ENTRIES, Layout, WatchpointEntry};
+use table_file::{ActionpointEntry, Layout, WatchpointEntry};
 
 /// A sound image, lent from the bytes that it stands in. Contracts see its kind and its bytes.
 #[derive(Debug, Drop)]
@@ -22,7 +23,8 @@ pub struct ValidImage<'a> {
 
 impl<'a> Model for ValidImage<'a> {
     ghost use Rattle.std.specs.Prelude.{◌≡◌, length};
-    ghost use Rattle.lc_model.specs.Tables.Image.{IsSound, image_length, kind_of, version_1_layouts};
+    ghost use Rattle.lc_model.specs.Tables.Image.{IsSound, image_length, kind_of};
+    ghost use Rattle.lc_model.specs.Tables.InForce.{layouts};
     ghost use Rattle.table_file.specs.Layout.{layout_of};
     ghost use Rattle.table_validator.specs.Sound.{TableImage};
 
@@ -30,7 +32,7 @@ impl<'a> Model for ValidImage<'a> {
 
     ghost view = { λ v. record { kind = kind_of (layout_of v.layout); bytes = v.bytes.now } };
 
-    ghost invariant = { λ v. IsSound version_1_layouts (kind_of (layout_of v.layout)) v.bytes.now
+    ghost invariant = { λ v. IsSound layouts (kind_of (layout_of v.layout)) v.bytes.now
         × (length v.bytes.now ≡ image_length (layout_of v.layout)) };
 }
 
@@ -49,7 +51,7 @@ impl<'a> ValidImage<'a> {
     /// spell a condition over watchpoints below the count: none is unknown, no operand is missing, and at most eight wait.
     pub fn image(&self) -> &'a [u8]
         ensures bytes { result.now ≡ self.now.bytes }
-        ensures sound { IsSound version_1_layouts self.now.kind self.now.bytes }
+        ensures sound { IsSound layouts self.now.kind self.now.bytes }
         ensures watchpoints { self.now.kind ≡ Wdt → HasSoundWatchpoints self.now.bytes }
         ensures actionpoints { self.now.kind ≡ Adt → HasSoundActionpoints self.now.bytes }
     {
@@ -84,7 +86,7 @@ impl<'a> ValidImage<'a> {
 /// fault, used or not, and of its faults the one with the least number.
 pub fn validate(kind: Kind, image: &[u8]) -> Result<ValidImage<'_>, TableFault>
     // Each image has the answer that the definitions give it.
-    ensures exact { refusal result ≡ fault_of version_1_layouts kind image.now }
+    ensures exact { refusal result ≡ fault_of layouts kind image.now }
     // What is taken is that image, unchanged.
     ensures lends { IfOk result (λ valid. valid ≡ record { kind = kind; bytes = image.now }) }
 {
@@ -94,7 +96,7 @@ pub fn validate(kind: Kind, image: &[u8]) -> Result<ValidImage<'_>, TableFault>
     if let Some(code) = preamble_fault(layout, image) {
         return Err(TableFault::of_image(code));
     }
-    for number in 0..ENTRIES {
+    for number in 0..TABLE_ENTRIES {
         if let Some(code) = entry_fault(layout, image, number) {
             return Err(TableFault {
                 code,

@@ -5,7 +5,6 @@
 mod actionpoint;
 mod entry;
 mod fault;
-mod field;
 mod image;
 mod operands;
 mod preamble;

@@ -6,27 +6,17 @@ ghost use Rattle.lc_model.specs.Tables.Equation as equation;
 ghost use Rattle.lc_model.specs.Tables.Image as model;
 ghost use Rattle.table_validator.specs.Scan.{operands_waiting, word_counted};
 
-use table_file::{ENTRIES, EQUAL_WORD};
-
-/// The binary operators, from AND to XOR.
-const AND: u16 = 0xFF01;
-
-const XOR: u16 = 0xFF03;
-
-/// The negation, the last of the operators.
-const NOT: u16 = 0xFF04;
-
-/// The most operands that may wait.
-const MOST_WAITING: usize = 8;
+use lc_model::words::{AND, EQUAL, NOT, XOR};
+use lc_model::{MOST_WAITING, TABLE_ENTRIES};
 
 /// Whether the word is a number of a watchpoint.
 pub fn is_mention(word: u16) -> bool
     ensures { result ≡ equation.is_mention word }
 {
-    (word as usize) < ENTRIES
+    (word as usize) < TABLE_ENTRIES
 }
 
-/// Whether the word is an operator with two operands.
+/// Whether the word is an operator with two operands: AND, OR or XOR, whose words follow one another.
 fn is_binary(word: u16) -> bool
     ensures { result ≡ equation.is_binary word }
 {
@@ -35,7 +25,7 @@ fn is_binary(word: u16) -> bool
 
 /// Whether the word is an operator.
 pub fn is_operator(word: u16) -> bool
-    ensures { result ≡ is_in_range 0xFF01 0xFF04 word }
+    ensures { result ≡ is_in_range AND NOT word }
 {
     (AND..=NOT).contains(&word)
 }
@@ -46,7 +36,7 @@ fn operands_of(word: u16) -> usize
 {
     match word {
         AND..=XOR => 2,
-        NOT | EQUAL_WORD => 1,
+        NOT | EQUAL => 1,
         _ => 0,
     }
 }

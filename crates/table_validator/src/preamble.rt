@@ -9,7 +9,8 @@ ghost use Rattle.table_file.specs.Layout.{layout_of};
 ghost use Rattle.table_validator.specs.Fault.{code_number};
 
 use crate::fault::FaultCode;
-use table_file::{ENTRIES, Layout, preamble};
+use lc_model::TABLE_ENTRIES;
+use table_file::{Layout, preamble};
 
 /// Whether the counts can't be those of an image in this layout.
 fn has_wrong_counts(layout: Layout, image: &[u8]) -> bool
@@ -25,7 +26,7 @@ fn has_wrong_counts(layout: Layout, image: &[u8]) -> bool
         Layout::Watchpoints => own != watchpoints,
         Layout::Actionpoints => false,
     };
-    own as usize > ENTRIES || watchpoints as usize > ENTRIES || differ
+    own as usize > TABLE_ENTRIES || watchpoints as usize > TABLE_ENTRIES || differ
 }
 
 /// The preamble's first fault: version, kind, counts.

@@ -3,32 +3,24 @@
 ghost use Rattle.std.specs.Prelude.{◌≡◌, not, ◌||◌, ◌==◌, option_map, slice_index};
 ghost use Rattle.std.specs.List.{list_any};
 ghost use Rattle.std.specs.Int.{is_in_range};
+ghost use Rattle.lc_model.specs.Field.{full_mask};
 ghost use Rattle.lc_model.specs.Packet.{is_telemetry_mid, reserved_mids};
 ghost use Rattle.lc_model.specs.Tables.Image.{watchpoint_code};
 ghost use Rattle.table_validator.specs.Fault.{code_number};
 
 use crate::fault::FaultCode;
-use crate::field::{is_in_type, is_mask_of};
+use lc_model::FieldType;
+use lc_model::mids::{EVENT, FIRST_TELEMETRY, LAST_TELEMETRY, LC_HOUSEKEEPING};
 use table_file::WatchpointEntry;
 
-/// The message ids of telemetry, the first and the last.
-const FIRST_TELEMETRY: u16 = 0x0800;
-
-const LAST_TELEMETRY: u16 = 0x0FFF;
-
-/// The host's own telemetry, which nothing may watch: event packets, and the Limit Checker's housekeeping.
-const EVENT: u16 = 0x0808;
-
-const HOUSEKEEPING: u16 = 0x08A7;
-
-/// Whether packets with this message id can't be watched.
+/// Whether packets with this message id can't be watched: they are no telemetry, or the host's own.
 fn is_unwatchable(message_id: u16) -> bool
     ensures { result ≡ (not (is_telemetry_mid message_id)
         || list_any (◌==◌ message_id) reserved_mids) }
 {
     !(FIRST_TELEMETRY..=LAST_TELEMETRY).contains(&message_id)
         || message_id == EVENT
-        || message_id == HOUSEKEEPING
+        || message_id == LC_HOUSEKEEPING
 }
 
 /// Whether a comparison has this number.
@@ -36,6 +28,13 @@ fn is_operator(code: u8) -> bool
     ensures { result ≡ is_in_range 1 6 code }
 {
     (1..=6).contains(&code)
+}
+
+/// Whether a mask has a bit, and none outside the type.
+fn is_mask_of(kind: FieldType, mask: u32) -> bool
+    ensures { result ≡ is_in_range 1 (full_mask kind) mask }
+{
+    (1..=kind.full_mask()).contains(&mask)
 }
 
 /// The least code of a watchpoint's entry. Mask and comparison value are judged by the type, so not without one.
@@ -57,7 +56,7 @@ pub fn watchpoint_fault(entry: &WatchpointEntry<'_>) -> Option<FaultCode>
     if !is_mask_of(kind, entry.mask()) {
         return Some(FaultCode::WrongMask);
     }
-    if !is_in_type(kind, entry.value(kind)) {
+    if !kind.has(entry.value(kind)) {
         return Some(FaultCode::WrongValue);
     }
     None

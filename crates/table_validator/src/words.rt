@@ -7,7 +7,8 @@ ghost use Rattle.table_validator.specs.Scan.{unread, word_read, scan_tests, word
 
 use crate::fault::FaultCode;
 use crate::operands::{OperandCount, is_mention, is_operator};
-use table_file::{ActionpointEntry, EQUAL_WORD};
+use lc_model::words::EQUAL;
+use table_file::ActionpointEntry;
 
 /// What a pass over an entry's words has met.
 #[derive(Clone, Copy, Debug)]
@@ -46,7 +47,7 @@ impl WordScan {
             return;
         }
         self.operands.count(word);
-        if word == EQUAL_WORD {
+        if word == EQUAL {
             self.ended = true;
         } else {
             self.unknown_word = self.unknown_word || !(is_mention(word) || is_operator(word));

@@ -9,13 +9,11 @@ use Rattle.lc_model.specs.Rule.{NamedRule}
 use Rattle.lc_model.specs.Tables.Equation.{same_term, mentions, distinct, number_in, mention_numbers, terms_of}
 use Rattle.lc_model.proofs.ResultLaws.{one_term}
 use Rattle.lc_model.proofs.SensibleLaws.{same_as}
+use Rattle.lc_model.proofs.Facts.{or_other}
 use Rattle.watch_sharing.specs.Numbering.{added, added_all, all_mentions, number_among, numbers_among, numbers_by_rule}
 use Rattle.watch_sharing.proofs.Numbers.{added_all_append}
 
 -- ---- tests
-
-or_false : (a b : Bool) → (a || b) ≡ true → a ≡ false → b ≡ true
-or_false a b e f = sym (ap (λ x. x || b) f) ∙ e
 
 -- a test in the other direction
 turned : (t u : Term) → same_term t u ≡ same_term u t
@@ -37,7 +35,7 @@ in_front test (x ∷ xs) ys e = go (test x) refl (in_front test xs ys)
     go : (b : Bool) → test x ≡ b → (list_any test xs ≡ true → position_or_len test (xs ++ ys) ≡ position_or_len test xs) →
         position_or_len test (x ∷ xs ++ ys) ≡ position_or_len test (x ∷ xs)
     go true is rest = rw is refl
-    go false is rest = rw is (ap (λ n. 1 + n) (rest (or_false (test x) (list_any test xs) e is)))
+    go false is rest = rw is (ap (λ n. 1 + n) (rest (or_other (test x) (list_any test xs) e is)))
 
 -- what passes at the end has the place that none has
 at_end : (test : Term → Bool) (xs : List Term) (y : Term) → test y ≡ true → position_or_len test (xs ++ y ∷ []) ≡ position_or_len test xs
@@ -56,7 +54,7 @@ within test (x ∷ xs) e = go (test x) refl (within test xs)
     go : (b : Bool) → test x ≡ b → (list_any test xs ≡ true → position_or_len test xs < length xs) →
         position_or_len test (x ∷ xs) < length (x ∷ xs)
     go true is rest = rw is (omega arith)
-    go false is rest = rw is (omega (arith, rest (or_false (test x) (list_any test xs) e is)))
+    go false is rest = rw is (omega (arith, rest (or_other (test x) (list_any test xs) e is)))
 
 -- the number of a term that is there
 numbered : (t : Term) (xs : List Term) → list_any (same_term t) xs ≡ true → number_in xs t ≡ position_or_len (same_term t) xs

@@ -12,11 +12,8 @@ ghost use Rattle.watch_sharing.specs.Numbering.{added, added_all, all_mentions, 
 use crate::error::ShareError;
 use crate::shared::Shared;
 use indexmap::IndexSet;
-use lc_model::{Cond, Rule, RuleSet, Term};
+use lc_model::{Cond, Rule, RuleSet, TABLE_ENTRIES, Term};
 use std::alloc::Global;
-
-/// The most watchpoints.
-const TABLE_ENTRIES: usize = 176;
 
 /// The number of the watchpoint among those so far, to which it is added where it's new.
 fn number(terms: &mut IndexSet<Term>, term: Term) -> Result<u16, ShareError>

@@ -7,11 +7,11 @@ use super::{adt_file, changed, opened, wdt_file};
 use crate::images::put;
 use crate::shared::same;
 use crate::values::{HASH, low, low_volts_adt, low_volts_wdt};
-use lc_model::{ApMode, CmpOp, EventKind, FieldType, Kind, Report};
+use lc_model::words::EQUAL;
+use lc_model::{ApMode, CmpOp, EventKind, FieldType, Kind, ReportMaxima};
 use std::process::Abort;
 use table_file::{
-    ActionpointEntry, EQUAL_WORD, Layout, TableFile, WatchpointEntry, entry_bytes, is_blank,
-    preamble,
+    ActionpointEntry, Layout, TableFile, WatchpointEntry, entry_bytes, is_blank, preamble,
 };
 
 /// Spacecraft, processor and application, seconds and subseconds, and what is reserved.
@@ -137,7 +137,7 @@ fn the_watchpoints_image(rt: HostRuntime) {
 fn has_low<R: Abort>(rt: &R, entry: &ActionpointEntry) {
     let state = (entry.state_code(), entry.mode());
     same(rt, "state", state, (1, ApMode::Active));
-    let report = Report {
+    let report = ReportMaxima {
         passive: 0,
         pass_to_fail: 0,
         fail_to_pass: 0,
@@ -157,7 +157,7 @@ fn has_one_mention<R: Abort>(rt: &R, entry: &ActionpointEntry) {
     same(rt, "words", entry.word_count(), 20);
     if entry.word_count() == 20 {
         let words = [entry.word(0), entry.word(1), entry.word(19)];
-        same(rt, "words 0, 1, 19", words, [0, EQUAL_WORD, 0]);
+        same(rt, "words 0, 1, 19", words, [0, EQUAL, 0]);
     }
 }
 

@@ -5,9 +5,10 @@ ghost use Rattle.lc_model.specs.Tables.Image.{Actionpoints, fits_32_bits, image_
 
 use crate::shared::same;
 use crate::values::{actionpoint, encoded_adt, encoded_wdt};
+use lc_model::words::EQUAL;
 use lc_model::{ApMode, CmpOp, FieldType, Term};
 use std::process::Abort;
-use table_file::{ActionpointEntry, EQUAL_WORD, Layout, WatchpointEntry};
+use table_file::{ActionpointEntry, Layout, WatchpointEntry};
 
 /// A table of one watchpoint with this number is read as it was written.
 fn is_read_again<R: Abort + AllocGlobal>(rt: &R, kind: FieldType, value: i64)
@@ -44,13 +45,13 @@ fn has_a_word_behind_equal<R: Abort>(rt: &R, image: &[u8])
     same(rt, "words", read.word_count(), 20);
     if read.word_count() == 20 {
         same(rt, "behind EQUAL", read.word(2), 0xFFFF);
-        same(rt, "at the end", read.word(3), EQUAL_WORD);
+        same(rt, "at the end", read.word(3), EQUAL);
     }
 }
 
 #[test]
 fn words_up_to_the_first_equal(rt: HostRuntime) {
-    let words = [0, EQUAL_WORD, 0xFFFF];
+    let words = [0, EQUAL, 0xFFFF];
     let entry = actionpoint(rt.alloc(), ApMode::Active, 2, 7, &words).expect(&rt, "out of memory");
     let entries = vec![in rt.alloc(); entry].expect(&rt, "out of memory");
     let image = encoded_adt(rt.alloc(), 1, entries).expect(&rt, "out of memory");

@@ -7,9 +7,13 @@ use Rattle.lc_model.specs.Rule.{NamedRule}
 use Rattle.lc_model.specs.Tables.Equation.{terms_of, words, equal_word}
 use Rattle.lc_model.specs.Tables.Compiling.{Limits, limit_refusal}
 
--- the equation of a rule over these watchpoints, in the order of the text
+-- the words of a rule's condition over these watchpoints, in the order of the text
+abbrev pub words_in : List Term → NamedRule → List ℕ
+words_in terms rule = words terms rule.action.condition
+
+-- its equation, which EQUAL ends
 abbrev pub equation_in : List Term → NamedRule → List ℕ
-equation_in terms rule = words terms rule.action.condition ++ equal_word ∷ []
+equation_in terms rule = words_in terms rule ++ equal_word ∷ []
 
 -- the rules are within the limits, with texts that fit; these are their watchpoints, each once in order of first mention, and
 -- their equations

@@ -1,7 +1,7 @@
 //! A slice as a sink, with a limit.
 
 ghost use Rattle.std.specs.Prelude.{◌≡◌, ◌-◌, ◌<◌, ◌≤◌, ◌⊎◌, ◌↔◌, ℕ, min, length, take, Some, None, false, IfOk, OnErr, IsErr};
-ghost use Rattle.lc_model.specs.Device.{one_call_more, WritesSome, Faults};
+ghost use Rattle.lc_model.specs.Device.{one_call_more, WritesSome, WriteFails};
 
 use crate::device::{ByteSink, DeviceFault};
 
@@ -73,15 +73,13 @@ impl<'a> Limited<'a> {
     }
 }
 
-impl ByteSink for Limited<'_> {
-    ghost gained = { λ sink. Some (take sink.taken sink.room.now) };
-
-    ghost has_failed = { λ sink. sink.failed };
+impl<'a> ByteSink for Limited<'a> {
+    ghost sink = { λ limited. record { gained = Some (take limited.taken limited.room.now); failed = limited.failed } };
 
     fn write(&mut self, bytes: &[u8]) -> Result<usize, DeviceFault>
         requires { 0 < length bytes.now }
-        ensures written { IfOk result (λ count. WritesSome (Some (take self.old.taken self.old.room.now)) (Some (take self.new.taken self.new.room.now)) self.old.failed self.new.failed count bytes.now) }
-        ensures fault { OnErr result (Faults (Some (take self.old.taken self.old.room.now)) (Some (take self.new.taken self.new.room.now)) self.new.failed) }
+        ensures written { IfOk result (λ count. WritesSome (⟦<Limited<'a> as ByteSink>⟧.sink self.old) (⟦<Limited<'a> as ByteSink>⟧.sink self.new) count bytes.now) }
+        ensures fault { OnErr result (WriteFails (⟦<Limited<'a> as ByteSink>⟧.sink self.old) (⟦<Limited<'a> as ByteSink>⟧.sink self.new)) }
 
         // It fails at the write that it is told to fail at and behind its limit, and takes all that the limit allows.
         ensures told { IsErr result ↔ ((self.old.fault_at ≡ Some self.new.writes) ⊎ (self.old.taken ≡ self.old.limit)) }

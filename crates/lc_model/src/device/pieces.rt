@@ -1,7 +1,7 @@
 //! A slice as a source, in pieces.
 
 ghost use Rattle.std.specs.Prelude.{◌≡◌, ◌<◌, ◌↔◌, ℕ, min, length, Some, None, false, IfOk, OnErr, IsErr};
-ghost use Rattle.lc_model.specs.Device.{one_call_more, ReadsSome, Faults};
+ghost use Rattle.lc_model.specs.Device.{one_call_more, ReadsSome, ReadFails};
 
 use crate::device::{ByteSource, DeviceFault};
 
@@ -59,17 +59,13 @@ impl<'a> Pieces<'a> {
     }
 }
 
-impl ByteSource for Pieces<'_> {
-    ghost rest = { λ source. Some source.left.now };
-
-    ghost reads_made = { λ source. source.reads };
-
-    ghost has_failed = { λ source. source.failed };
+impl<'a> ByteSource for Pieces<'a> {
+    ghost source = { λ pieces. record { rest = Some pieces.left.now; reads = pieces.reads; failed = pieces.failed } };
 
     fn read(&mut self, buffer: &mut [u8]) -> Result<usize, DeviceFault>
         requires { 0 < length buffer.old }
-        ensures read { IfOk result (λ count. ReadsSome (Some self.old.left.now) (Some self.new.left.now) self.old.failed self.new.failed count buffer.new) }
-        ensures fault { OnErr result (Faults (Some self.old.left.now) (Some self.new.left.now) self.new.failed) }
+        ensures read { IfOk result (λ count. ReadsSome (⟦<Pieces<'a> as ByteSource>⟧.source self.old) (⟦<Pieces<'a> as ByteSource>⟧.source self.new) count buffer.new) }
+        ensures fault { OnErr result (ReadFails (⟦<Pieces<'a> as ByteSource>⟧.source self.old) (⟦<Pieces<'a> as ByteSource>⟧.source self.new)) }
         ensures counted { self.new.reads ≡ one_call_more self.old.reads }
 
         // It fails at the read that it is told to fail at, and gives all that a piece, the buffer and the rest allow.

@@ -17,9 +17,7 @@ pub struct Reading<R: Drop> {
 impl<R: Read + Drop> Reading<R> {
     /// Nothing was read or failed yet.
     pub fn new(reader: R) -> Reading<R>
-        ensures rest { ⟦<Reading<R> as ByteSource>⟧.rest result ≡ R.remaining reader }
-        ensures reads { ⟦<Reading<R> as ByteSource>⟧.reads_made result ≡ 0 }
-        ensures failed { ⟦<Reading<R> as ByteSource>⟧.has_failed result ≡ false }
+        ensures { ⟦<Reading<R> as ByteSource>⟧.source result ≡ record { rest = R.remaining reader; reads = 0; failed = false } }
     {
         Reading {
             reader,
@@ -30,11 +28,7 @@ impl<R: Read + Drop> Reading<R> {
 }
 
 impl<R: Read + Drop> ByteSource for Reading<R> {
-    ghost rest = { λ source. R.remaining source.reader };
-
-    ghost reads_made = { λ source. source.reads };
-
-    ghost has_failed = { λ source. source.failed };
+    ghost source = { λ reading. record { rest = R.remaining reading.reader; reads = reading.reads; failed = reading.failed } };
 
     fn read(&mut self, buffer: &mut [u8]) -> Result<usize, DeviceFault> {
         self.reads = self.reads.saturating_add(1);

@@ -16,8 +16,7 @@ pub struct Writing<W: Drop> {
 impl<W: Write + Drop> Writing<W> {
     /// Nothing failed yet.
     pub fn new(writer: W) -> Writing<W>
-        ensures gained { ⟦<Writing<W> as ByteSink>⟧.gained result ≡ W.contents writer }
-        ensures failed { ⟦<Writing<W> as ByteSink>⟧.has_failed result ≡ false }
+        ensures { ⟦<Writing<W> as ByteSink>⟧.sink result ≡ record { gained = W.contents writer; failed = false } }
     {
         Writing {
             writer,
@@ -27,9 +26,7 @@ impl<W: Write + Drop> Writing<W> {
 }
 
 impl<W: Write + Drop> ByteSink for Writing<W> {
-    ghost gained = { λ sink. W.contents sink.writer };
-
-    ghost has_failed = { λ sink. sink.failed };
+    ghost sink = { λ writing. record { gained = W.contents writing.writer; failed = writing.failed } };
 
     fn write(&mut self, bytes: &[u8]) -> Result<usize, DeviceFault> {
         match self.writer.write(bytes) {

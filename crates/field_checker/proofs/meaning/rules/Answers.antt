@@ -6,7 +6,8 @@ use Rattle.lc_model.specs.Rule.{rules_of}
 use Rattle.lc_model.specs.Text.Syntax as model
 use Rattle.lc_model.specs.Text.Meaning.{faults_of, name_faults, rule_faults, rules_in}
 use Rattle.rule_parser.specs.Syntax.{item_of, items_of, rule_of}
-use Rattle.field_checker.proofs.Accepted.{clean_at, rest_is_empty}
+use Rattle.field_checker.proofs.Accepted.{clean_at}
+use Rattle.lc_model.proofs.Facts.{append_none_second}
 use Rattle.field_checker.proofs.Meant.{one_meant, none_meant, from_index, grown}
 use Rattle.field_checker.proofs.meaning.rules.Goals as goal
 use Rattle.field_checker.proofs.meaning.rules.Goals.{in-Rule+in_ok-rule+in_ok-push, in_default}
@@ -20,7 +21,7 @@ rule-requires-clause-clean c =
     sym (ap (λ x. faults_of items (item_of x)) (sym c.item-item.is ∙ c.in-Rule.is))
     ∙ clean_at (λ x. faults_of items (item_of x)) xs c.loop-item.item-index c.item-item.result c.loop-item-test.true
     (sym (flat_map-map (faults_of items) item_of xs) ∙ c.requires) in
-    rest_is_empty (name_faults items (model.Rule r)) (rule_faults items r) clean
+    append_none_second (name_faults items (model.Rule r)) (rule_faults items r) clean
 
 pub loop-item-preserved : goal.loop-item-preserved
 loop-item-preserved c =

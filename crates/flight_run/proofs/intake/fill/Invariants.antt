@@ -4,12 +4,12 @@ use Rattle.flight_run.proofs.intake.fill.Given as goal
 
 abbrev pub invariant-loop-filled : goal.invariant-loop-filled
 invariant-loop-filled g l =
-    (l.filled ≤ length l.buffer) × Consumes (g.R.ByteSource.rest l.initial.reader) (g.R.ByteSource.rest l.reader) (take l.filled l.buffer)
-    × (g.R.ByteSource.has_failed l.reader ≡ g.R.ByteSource.has_failed l.initial.reader)
-    × (g.R.ByteSource.reads_made l.reader ≤ 4294967296)
-    × (g.R.ByteSource.reads_made l.initial.reader ≤ g.R.ByteSource.reads_made l.reader)
-    × (0 < l.filled → g.R.ByteSource.reads_made l.initial.reader < g.R.ByteSource.reads_made l.reader)
-    × (g.R.ByteSource.reads_made l.reader ≤ g.R.ByteSource.reads_made l.initial.reader + l.filled)
+    (l.filled ≤ length l.buffer) × Consumes (g.R.ByteSource.source l.initial.reader).rest (g.R.ByteSource.source l.reader).rest (take l.filled l.buffer)
+    × ((g.R.ByteSource.source l.reader).failed ≡ (g.R.ByteSource.source l.initial.reader).failed)
+    × ((g.R.ByteSource.source l.reader).reads ≤ 4294967296)
+    × ((g.R.ByteSource.source l.initial.reader).reads ≤ (g.R.ByteSource.source l.reader).reads)
+    × (0 < l.filled → (g.R.ByteSource.source l.initial.reader).reads < (g.R.ByteSource.source l.reader).reads)
+    × ((g.R.ByteSource.source l.reader).reads ≤ (g.R.ByteSource.source l.initial.reader).reads + l.filled)
 
 abbrev pub decreases-loop-filled : goal.decreases-loop-filled
 decreases-loop-filled g l = length l.buffer - l.filled

@@ -43,7 +43,7 @@ returns-clause-next g c =
     let body : take c.body_size-size.result (c.fill-2.new.buffer ++ behind) ≡ c.fill-2.new.buffer =
     subst (λ n. take n (c.fill-2.new.buffer ++ behind) ≡ c.fill-2.new.buffer) room (take-append_seam c.fill-2.new.buffer behind) in (
       omega (arith, room, length-append c.fill-2.new.buffer behind),
-      subst (TakesRecord _ _ _ _ _ _) (sym body)
+      subst (TakesRecord _ _) (sym body)
           (body_is_taken c.fill.new.buffer h c.in_ok-filled-2.filled c.fill-2.new.buffer c.in_ok-filled-2.ensures.filled (room ∙ c.body_size-size.ensures)
           (omega (arith, room)) (λ full. c.in_ok-filled-2.ensures.each (full ∙ c.fill-2.auto.buffer))),
     )

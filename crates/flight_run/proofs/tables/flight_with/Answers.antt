@@ -1,19 +1,19 @@
 use Rattle.std.proofs.Common.{sym, ◌∙◌, ℕ, List, subst, arith}
 use Rattle.lc_model.specs.declared.kind.Kind.TheVariants.{Wdt, Adt}
 use Rattle.lc_model.specs.Tables.Half.{IsFileOfHalf}
-use Rattle.lc_model.specs.Tables.Image.{version_1_layouts}
-use Rattle.flight_run.proofs.Loaded.{belong, said, at_rest, few}
+use Rattle.lc_model.specs.Tables.InForce.{layouts}
+use Rattle.flight_run.proofs.Loaded.{belong, said, at_rest}
 use Rattle.flight_run.proofs.tables.flight_with.Goals as goal
 
 pub image_in-wdt-requires : goal.image_in-wdt-requires
 image_in-wdt-requires c =
     let are = c.requires.1 in
-    (are.text, subst (λ (file : List ℕ). IsFileOfHalf version_1_layouts Wdt file are.text) (sym c.as_slice.ensures.value) are.tables.wdt)
+    (are.text, subst (λ (file : List ℕ). IsFileOfHalf layouts Wdt file are.text) (sym c.as_slice.ensures.value) are.tables.wdt)
 
 pub image_in-adt-requires : goal.image_in-adt-requires
 image_in-adt-requires c =
     let are = c.requires.1 in
-    (are.text, subst (λ (file : List ℕ). IsFileOfHalf version_1_layouts Adt file are.text) (sym c.as_slice-2.ensures.value) are.tables.adt)
+    (are.text, subst (λ (file : List ℕ). IsFileOfHalf layouts Adt file are.text) (sym c.as_slice-2.ensures.value) are.tables.adt)
 
 pub set-requires-clause-matching : goal.set-requires-clause-matching
 set-requires-clause-matching c =
@@ -22,18 +22,6 @@ set-requires-clause-matching c =
     (c.image_in-wdt.ensures are.tables.wdt.0 are.tables.wdt.2 (c.as_slice.ensures.value ∙ are.tables.wdt.1))
     (c.image_in-adt.ensures are.tables.adt.0 are.tables.adt.2 (c.as_slice-2.ensures.value ∙ are.tables.adt.1))
     c.halves_say_their_text.ensures
-
-pub invariant_of-result : goal.invariant_of-result
-invariant_of-result c =
-    let are = c.requires.1 in
-    record {
-      below = omega arith;
-      few = few c.requires.0 _ are.compiles.1
-          (c.set.ensures ∙ said c.requires.0 _ are _ _
-          (c.image_in-wdt.ensures are.tables.wdt.0 are.tables.wdt.2 (c.as_slice.ensures.value ∙ are.tables.wdt.1))
-          (c.image_in-adt.ensures are.tables.adt.0 are.tables.adt.2 (c.as_slice-2.ensures.value ∙ are.tables.adt.1))
-          c.halves_in_order_spell_the_text.ensures);
-    }
 
 pub returns : goal.returns
 returns c = λ rules are.

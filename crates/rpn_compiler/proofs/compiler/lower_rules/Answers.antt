@@ -1,5 +1,6 @@
 use Rattle.std.proofs.Common.{◌≡◌, Some}
-use Rattle.lc_model.specs.Tables.Compiling.{limit_refusal, text_order_limits}
+use Rattle.lc_model.specs.Tables.Compiling.{limit_refusal}
+use Rattle.lc_model.specs.Tables.InForce.{limits}
 use Rattle.lc_model.proofs.Exits.{passed_on}
 use Rattle.rpn_compiler.specs.Fault.{Refuses}
 use Rattle.rpn_compiler.proofs.Refused.{of_sharing}
@@ -7,5 +8,5 @@ use Rattle.rpn_compiler.proofs.compiler.lower_rules.Goals as goal
 
 pub returns-in_err-shared-clause-refused : goal.returns-in_err-shared-clause-refused
 returns-in_err-shared-clause-refused c =
-    passed_on (Refuses (λ refusal. limit_refusal text_order_limits c.args.rules.rules ≡ Some refusal)) _ _ c.from_residual.ensures.1
+    passed_on (Refuses (λ refusal. limit_refusal limits c.args.rules.rules ≡ Some refusal)) _ _ c.from_residual.ensures.1
     (of_sharing c.args.rules.rules c.in_err-shared.field-0.0 c.in_err-shared.ensures.refused)

@@ -1,18 +1,7 @@
 use Rattle.std.proofs.Common.{sym, ◌∙◌, ap, subst, ◌≤◌, length, ◌++◌, List, append-nil}
-use Rattle.lc_model.specs.Rule.{Actionpoint}
 use Rattle.limit_checker.specs.Watcher.{Watcher, after_sample}
 use Rattle.flight_run.proofs.OneRequest.{SendAs, send_as, sample_requests, sample_keeps_rules}
 use Rattle.flight_run.proofs.flight.Flight.sample_rule.Goals as goal
-
-pub invariant_of-self-clause-few : goal.invariant_of-self-clause-few
-invariant_of-self-clause-few c =
-    subst (λ (rules : List Actionpoint). length rules ≤ 176)
-    (sym (ap (λ (w : Watcher). w.rules) c.sample_one.ensures.after ∙ sample_keeps_rules c.args.rule c.args.self.now.checker)) c.args.self.now.few
-
-pub invariant_of-self-in_default-clause-few : goal.invariant_of-self-in_default-clause-few
-invariant_of-self-in_default-clause-few c =
-    subst (λ (rules : List Actionpoint). length rules ≤ 176)
-    (sym (ap (λ (w : Watcher). w.rules) c.sample_one.ensures.after ∙ sample_keeps_rules c.args.rule c.args.self.now.checker)) c.args.self.now.few
 
 pub returns-in-Some-clause-rules : goal.returns-in-Some-clause-rules
 returns-in-Some-clause-rules c = ap (λ (w : Watcher). w.rules) c.sample_one.ensures.after ∙ sample_keeps_rules c.args.rule c.args.self.now.checker
@@ -25,7 +14,7 @@ returns-in-Some-clause-kept c =
     let requests = (after_sample c.args.rule c.args.self.now.checker).1 in
     let sends = subst (SendAs c.args.self.now.count requests) (sym c.in-Some.ensures.request)
     (send_as c.args.self.now.count requests c.args.self.now.below (sample_requests c.args.rule c.args.self.now.checker)) in
-    λ i. record { watcher = c.sample_one.ensures.after i; count = sym sends.0 i }
+    λ i. record { watcher = c.sample_one.ensures.after i; count = (c.next_count-self.ensures.next ∙ sym sends.0) i }
 
 pub returns-in-Some-clause-bytes : goal.returns-in-Some-clause-bytes
 returns-in-Some-clause-bytes c =

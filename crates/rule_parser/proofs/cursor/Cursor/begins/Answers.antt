@@ -1,7 +1,7 @@
 use Rattle.std.proofs.Common.{◌≡◌, sym, ◌∙◌, ap}
 use Rattle.rule_parser.specs.Front.{begins, class_of}
 use Rattle.rule_parser.proofs.PlainKinds.{is_same, same_decides, of_grammar}
-use Rattle.rule_parser.proofs.Fronts.{begins_at_end, begins_first, is_next, none_left}
+use Rattle.rule_parser.proofs.TokenFronts.{begins_at_end, begins_first, is_next, none_left}
 use Rattle.rule_parser.proofs.cursor.Cursor.begins.Goals as goal
 
 pub returns-in-Some : goal.returns-in-Some

@@ -1,6 +1,6 @@
 use Rattle.std.proofs.Common.{◌∙◌, ap}
 use Rattle.rule_parser.specs.Front.{is_empty}
-use Rattle.rule_parser.proofs.Fronts.{all_read}
+use Rattle.rule_parser.proofs.TokenFronts.{all_read}
 use Rattle.rule_parser.proofs.cursor.Cursor.is_at_end.Goals as goal
 
 pub returns : goal.returns

@@ -2,7 +2,7 @@ use Rattle.lc_model.specs.Text.Class as class
 use Rattle.lc_model.specs.Text.Class.{event_kind}
 use Rattle.std.proofs.Common.{refl}
 use Rattle.rule_lexer.specs.declared.token.TokenKind.TheVariants.{Level}
-use Rattle.rule_parser.proofs.Fronts.{no_value_at_end, no_value, value_taken, is_no_level}
+use Rattle.rule_parser.proofs.TokenFronts.{no_value_at_end, no_value, value_taken, is_no_level}
 use Rattle.rule_parser.proofs.cursor.Cursor.level.Goals as goal
 
 pub returns-in_err-token : goal.returns-in_err-token

@@ -1,5 +1,5 @@
 use Rattle.std.proofs.Common.{sym}
-use Rattle.rule_parser.proofs.Fronts.{is_next}
+use Rattle.rule_parser.proofs.TokenFronts.{is_next}
 use Rattle.rule_parser.proofs.cursor.Cursor.next.Goals as goal
 
 pub returns : goal.returns

@@ -4,7 +4,7 @@ use Rattle.lc_model.specs.Text.Token.{number}
 use Rattle.rule_lexer.specs.Token.{IsKind}
 use mir.Val.{to_z, of_z}
 use mir.Syntax.{w64}
-use Rattle.rule_parser.proofs.Fronts.{no_number_at_end, no_number, number_taken, is_no_number, number_below}
+use Rattle.rule_parser.proofs.TokenFronts.{no_number_at_end, no_number, number_taken, is_no_number, number_below}
 use Rattle.rule_parser.proofs.cursor.Cursor.number.Goals as goal
 
 pub returns-in_err-token : goal.returns-in_err-token

@@ -1,5 +1,5 @@
 use Rattle.lc_model.specs.Text.Class as class
-use Rattle.rule_parser.proofs.Fronts.{has_quotes, token_takes}
+use Rattle.rule_parser.proofs.TokenFronts.{has_quotes, token_takes}
 use Rattle.rule_parser.proofs.cursor.Cursor.string.Goals as goal
 
 pub inner-requires : goal.inner-requires

@@ -1,7 +1,7 @@
 use Rattle.std.proofs.Common.{◌≡◌, sym, ◌∙◌, true, false}
 use Rattle.rule_parser.specs.Front.{class_of}
 use Rattle.rule_parser.proofs.PlainKinds.{is_same, same_decides, of_grammar}
-use Rattle.rule_parser.proofs.Fronts.{nothing_at, taken_at}
+use Rattle.rule_parser.proofs.TokenFronts.{nothing_at, taken_at}
 use Rattle.rule_parser.proofs.cursor.Cursor.take.Goals as goal
 
 pub returns-in_err-token : goal.returns-in_err-token

@@ -12,8 +12,8 @@ overflow_add-number c =
     let within : 46 + 2 * c.args.number + 2 ≤ length c.self.inside.bytes.now = rw c.self.view_is (word_within c.args.self.now c.args.number c.requires) in
     omega (arith, c.self.told.0)
 
-pub read_u16-requires : goal.read_u16-requires
-read_u16-requires c = rw c.self.view_is (word_within c.args.self.now c.args.number c.requires)
+pub u16_at-requires : goal.u16_at-requires
+u16_at-requires c = rw c.self.view_is (word_within c.args.self.now c.args.number c.requires)
 
 pub returns : goal.returns
-returns c = c.read_u16.ensures ∙ rw c.self.view_is (word_is c.args.self.now c.args.number c.requires)
+returns c = c.u16_at.ensures ∙ rw c.self.view_is (word_is c.args.self.now c.args.number c.requires)

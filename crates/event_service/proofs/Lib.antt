@@ -1,0 +1,4 @@
+pub mod FilterLists
+pub mod Joined
+pub mod RuleTexts
+pub mod Stays

@@ -1,0 +1,24 @@
+-- The numbers of the refusals, and what an answer by them says. This project's own.
+use Rattle.std.specs.Prelude.{ℕ, [], ◌∷◌, Option, Some, None, Result, Ok, Err}
+use Rattle.lc_model.specs.Refusal.{Refusal}
+use Rattle.event_service.specs.declared.error.EventError.{EventError}
+use Rattle.event_service.specs.declared.error.EventError.TheVariants.{NotRegistered, FilterFull, AppsFull, Memory}
+
+-- the number of the refusal; want of memory has none
+abbrev pub error_code : EventError → Option ℕ
+error_code NotRegistered = Some 101
+error_code FilterFull = Some 102
+error_code AppsFull = Some 103
+error_code Memory = None
+
+-- the numbers that an event names
+abbrev pub refusal_of : EventError → Refusal
+refusal_of NotRegistered = 101 ∷ []
+refusal_of FilterFull = 102 ∷ []
+refusal_of AppsFull = 103 ∷ []
+refusal_of Memory = []
+
+-- what a call answers: what there is now, or a refusal
+abbrev pub answered : {A B : Type 0} → Result B EventError → A → Result A Refusal
+answered (Ok done) now = Ok now
+answered (Err error) now = Err (refusal_of error)

@@ -1,0 +1,7 @@
+pub mod Error
+pub mod Types
+pub mod Filters
+pub mod Change
+pub mod Service
+pub mod Texts
+pub mod Packet

@@ -1,0 +1,167 @@
+//! Filters of event ids (cFE user's guide, event services, binary filters; that a count stops at 65,535, and begins again
+//! where its filter is set again, is this project's own).
+
+ghost use Rattle.std.specs.Prelude.{◌≡◌, ◌==◌, ◌<◌, not, [], length, map, Some, IfSome, if◌then◌else◌};
+ghost use Rattle.std.specs.List.{position_from, list_any};
+ghost use Rattle.lc_model.specs.Events.Log.{is_full_for};
+ghost use Rattle.lc_model.specs.Kept.Summary.{Filter as Kept};
+ghost use Rattle.lc_model.specs.Kept.Next.{filter_of, is_unfiltered, filters_with, filter_put};
+ghost use Rattle.event_service.specs.Filters.{HaveOwnIds, ids_of, asked_once, renewed};
+
+use arrayvec::ArrayVec;
+use std::marker::Model;
+
+/// The most filters of a sender.
+pub(crate) const MAX_FILTERS: usize = 16;
+
+/// The filter of an id: its mask, and how often it was asked.
+#[derive(Clone, Copy, Debug, Default)]
+pub(crate) struct Filter {
+    id: u16,
+    mask: u16,
+    count: u16,
+}
+
+impl Model for Filter {
+    ghost use Rattle.lc_model.specs.Kept.Summary.{Filter as Kept};
+
+    ghost Value = { Kept };
+
+    ghost view = { λ f. record { id = f.id; mask = f.mask; count = f.count } };
+
+    ghost inverse = { λ f. record { id = f.id; mask = f.mask; count = f.count } };
+}
+
+impl Filter {
+    fn new(id: u16, mask: u16) -> Filter
+        ensures { result ≡ record { id = id; mask = mask; count = 0 } }
+    {
+        Filter { id, mask, count: 0 }
+    }
+
+    fn is_of(&self, id: u16) -> bool
+        ensures { result ≡ (id == self.now.id) }
+    {
+        id == self.id
+    }
+
+    /// Whether it lets an event through, which is asked once more.
+    fn ask(&mut self) -> bool
+        ensures open { result ≡ is_unfiltered (Some self.old) }
+        ensures after { self.new ≡ asked_once self.old }
+    {
+        let open = self.count & self.mask == 0;
+        self.count = self.count.saturating_add(1);
+        open
+    }
+
+    /// Its count begins again.
+    fn reset(&mut self)
+        ensures { self.new ≡ record { id = self.old.id; mask = self.old.mask; count = 0 } }
+    {
+        self.count = 0;
+    }
+}
+
+/// The filters of a sender, at most 16, in the order in which they were set.
+#[derive(Debug, Drop)]
+pub(crate) struct Filters {
+    list: ArrayVec<Filter, MAX_FILTERS>,
+}
+
+impl Model for Filters {
+    ghost use Rattle.std.specs.Prelude.{List};
+    ghost use Rattle.lc_model.specs.Kept.Summary.{Filter as Kept};
+    ghost use Rattle.event_service.specs.Filters.{HaveOwnIds};
+
+    ghost Value = { List Kept };
+
+    ghost view = { λ f. f.list.items };
+
+    ghost invariant = { λ f. HaveOwnIds f.list.items };
+}
+
+impl Filters {
+    /// None.
+    pub(crate) fn new() -> Filters
+        ensures { result ≡ [] }
+    {
+        Filters {
+            list: ArrayVec::new(),
+        }
+    }
+
+    /// Asks the filter of an id, where there is one, and answers whether the event is sent.
+    pub(crate) fn ask(&mut self, id: u16) -> bool
+        ensures open { result ≡ is_unfiltered (filter_of id self.old) }
+        ensures after { self.new ≡ filters_with asked_once id self.old }
+    {
+        ask_of(self.list.as_mut_slice(), id)
+    }
+
+    /// Sets the mask of an id, whose count begins again. It answers whether there was room: there is, where the id has a
+    /// filter or there are under 16.
+    pub(crate) fn set(&mut self, id: u16, mask: u16) -> bool
+        ensures room { result ≡ not (is_full_for id (ids_of self.old)) }
+        ensures after { self.new ≡ (if result then filter_put id mask self.old else self.old) }
+    {
+        if renew(self.list.as_mut_slice(), id, mask) {
+            return true;
+        }
+        if self.list.is_full() {
+            return false;
+        }
+        self.list.push(Filter::new(id, mask));
+        true
+    }
+
+    /// All counts begin again.
+    pub(crate) fn reset(&mut self)
+        ensures { self.new ≡ map (λ (filter : Kept). record filter { count = 0 }) self.old }
+    {
+        reset_all(self.list.as_mut_slice());
+    }
+}
+
+/// Asks the filter of the id, where there is one, and answers whether the event is sent.
+fn ask_of(filters: &mut [Filter], id: u16) -> bool
+    requires own_ids { HaveOwnIds filters.old }
+    ensures open { result ≡ is_unfiltered (filter_of id filters.old) }
+    ensures after { filters.new ≡ filters_with asked_once id filters.old }
+{
+    match place_of(filters, id) {
+        None => true,
+        Some(place) => filters[place].ask(),
+    }
+}
+
+/// The filter of the id, where there is one, has this mask, and its count begins again. It answers whether there is one.
+fn renew(filters: &mut [Filter], id: u16, mask: u16) -> bool
+    requires own_ids { HaveOwnIds filters.old }
+    ensures found { result ≡ list_any (λ (filter : Kept). id == filter.id) filters.old }
+    ensures after { filters.new ≡ filters_with (renewed mask) id filters.old }
+{
+    match place_of(filters, id) {
+        None => false,
+        Some(place) => {
+            filters[place] = Filter::new(id, mask);
+            true
+        }
+    }
+}
+
+fn reset_all(filters: &mut [Filter])
+    ensures { filters.new ≡ map (λ (filter : Kept). record filter { count = 0 }) filters.old }
+{
+    for filter in filters.iter_mut() {
+        filter.reset();
+    }
+}
+
+/// Where the filter of the id stands.
+fn place_of(filters: &[Filter], id: u16) -> Option<usize>
+    ensures place { result ≡ position_from (λ (filter : Kept). id == filter.id) 0 filters.now }
+    ensures inside { IfSome result (λ place. place < length filters.now) }
+{
+    filters.iter().position(|filter| filter.is_of(id))
+}

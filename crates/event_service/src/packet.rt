@@ -1,0 +1,123 @@
+//! The packets of events (CCSDS 133.0-B, primary header; cFE user's guide, event services; the layout is this project's
+//! own).
+
+ghost use Rattle.std.specs.Prelude.{◌≡◌, ◌+◌, ◌<◌, ◌≤◌, length};
+ghost use Rattle.lc_model.specs.Bytes as model;
+ghost use Rattle.lc_model.specs.Codes.{event_code as code_of_kind};
+ghost use Rattle.lc_model.specs.Events.Outgoing.{event_packet};
+ghost use Rattle.event_service.specs.Packet.{laid};
+
+use byteorder::{BigEndian, ByteOrder};
+use lc_model::{EventKind, Moment};
+use std::marker::Model;
+
+/// The bytes of an event packet.
+pub const PACKET_SIZE: usize = 168;
+
+/// The message id of event packets.
+const EVENT_MESSAGE: u16 = 0x0808;
+
+/// The sequence flags of a packet that is no segment.
+const WHOLE_PACKET: u16 = 0xC000;
+
+/// The length field: the bytes behind the primary header, less 1.
+const PACKET_LENGTH: u16 = 161;
+
+const SPACECRAFT: u32 = 66;
+
+const PROCESSOR: u32 = 1;
+
+/// An event packet, 168 bytes with big-endian numbers: the primary header (6), seconds (4) and subseconds (2), the sender's
+/// name (20, zero filled), the event's id (2) and type (2), spacecraft 66 (4), processor 1 (4), and the text (124, zero
+/// filled). Contracts see the bytes.
+#[derive(Clone, Debug, Drop)]
+pub struct EventPacket {
+    bytes: [u8; PACKET_SIZE],
+}
+
+impl Model for EventPacket {
+    ghost use Rattle.std.specs.Prelude.{ℕ, List, ◌≡◌, length};
+
+    ghost Value = { List ℕ };
+
+    ghost view = { λ packet. packet.bytes };
+
+    ghost invariant = { λ packet. length packet.bytes ≡ 168 };
+}
+
+impl EventPacket {
+    pub fn as_bytes(&self) -> &[u8]
+        ensures bytes { result.now ≡ self.now }
+        ensures size { length self.now ≡ 168 }
+    {
+        &self.bytes
+    }
+
+    /// The packet of an event, with this sequence count.
+    pub(crate) fn new(
+        count: u16,
+        moment: Moment,
+        sender: &[u8],
+        id: u16,
+        kind: EventKind,
+        text: &[u8],
+    ) -> EventPacket
+        requires count { count < 16384 }
+        requires sender { length sender.now ≤ 20 }
+        requires text { length text.now ≤ 121 }
+        ensures { result ≡ event_packet count moment sender.now id kind text.now }
+    {
+        let mut bytes = [0; PACKET_SIZE];
+        put_u16(&mut bytes, 0, EVENT_MESSAGE);
+        put_u16(&mut bytes, 2, WHOLE_PACKET + count);
+        put_u16(&mut bytes, 4, PACKET_LENGTH);
+        put_u32(&mut bytes, 6, moment.seconds);
+        put_u16(&mut bytes, 10, moment.subseconds);
+        put(&mut bytes, 12, sender);
+        put_u16(&mut bytes, 32, id);
+        put_u16(&mut bytes, 34, event_code(kind));
+        put_u32(&mut bytes, 36, SPACECRAFT);
+        put_u32(&mut bytes, 40, PROCESSOR);
+        put(&mut bytes, 44, text);
+        EventPacket { bytes }
+    }
+}
+
+/// Bytes at a place.
+fn put(bytes: &mut [u8], at: usize, field: &[u8])
+    requires { at + length field.now ≤ length bytes.old }
+    ensures field { bytes.new ≡ laid at field.now bytes.old }
+    ensures size { length bytes.new ≡ length bytes.old }
+{
+    bytes[at..at + field.len()].copy_from_slice(field);
+}
+
+/// Two bytes at a place, the high one first.
+fn put_u16(bytes: &mut [u8], at: usize, number: u16)
+    requires { at + 2 ≤ length bytes.old }
+    ensures field { bytes.new ≡ laid at (model.u16 number) bytes.old }
+    ensures size { length bytes.new ≡ length bytes.old }
+{
+    BigEndian::write_u16(&mut bytes[at..at + 2], number);
+}
+
+/// Four bytes at a place, the high one first.
+fn put_u32(bytes: &mut [u8], at: usize, number: u32)
+    requires { at + 4 ≤ length bytes.old }
+    ensures field { bytes.new ≡ laid at (model.u32 number) bytes.old }
+    ensures size { length bytes.new ≡ length bytes.old }
+{
+    BigEndian::write_u32(&mut bytes[at..at + 4], number);
+}
+
+/// The number of an event type in a packet.
+fn event_code(kind: EventKind) -> u16
+    ensures { result ≡ code_of_kind kind }
+{
+    match kind {
+        EventKind::Debug => 1,
+        EventKind::Information => 2,
+        EventKind::Error => 3,
+        EventKind::Critical => 4,
+    }
+}

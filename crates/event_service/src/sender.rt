@@ -1,0 +1,112 @@
+//! A sender of events: its name, its types and its filters (cFE user's guide, event services).
+
+ghost use Rattle.std.specs.Prelude.{◌≡◌, ◌<◌, ◌≤◌, [], length, OnErr};
+ghost use Rattle.lc_model.specs.Name.{is_named};
+ghost use Rattle.lc_model.specs.Kept.Call.{new_sender};
+ghost use Rattle.lc_model.specs.Kept.Executive.{joined_now};
+ghost use Rattle.lc_model.specs.Services.Events.{Sender as Kept, asked_by};
+ghost use Rattle.event_service.specs.Error.{answered};
+ghost use Rattle.event_service.specs.Change.{item_of};
+
+use crate::error::EventError;
+use crate::filter::Filters;
+use crate::packet::EventPacket;
+use crate::types::EventTypes;
+use arrayvec::ArrayVec;
+use lc_model::{EventKind, Moment};
+use std::marker::Model;
+
+/// The most bytes of a sender's name.
+pub(crate) const MAX_NAME: usize = 20;
+
+/// What changes the types or filters of a sender.
+#[derive(Clone, Copy, Debug)]
+pub(crate) enum Change {
+    /// The mask of an id's filter is set, and its count begins again.
+    Filter { id: u16, mask: u16 },
+    /// All counts begin again.
+    Reset,
+    /// Types are turned on or off.
+    Types { types: EventTypes, on: bool },
+}
+
+/// A registered sender.
+#[derive(Debug, Drop)]
+pub(crate) struct Sender {
+    name: ArrayVec<u8, MAX_NAME>,
+    types: EventTypes,
+    filters: Filters,
+}
+
+impl Model for Sender {
+    ghost use Rattle.lc_model.specs.Services.Events.{Sender as Kept};
+    ghost use Rattle.event_service.specs.Types.{bits_of};
+
+    ghost Value = { Kept };
+
+    ghost view = { λ s. record { name = s.name.items; events = record { on = bits_of s.types; filters = s.filters } } };
+}
+
+impl Sender {
+    /// Without filters, all types but debug on.
+    pub(crate) fn new(name: &[u8]) -> Sender
+        requires { length name.now ≤ 20 }
+        ensures { result ≡ record { name = name.now; events = new_sender } }
+    {
+        let mut own_name = ArrayVec::new();
+        own_name.try_extend_from_slice(name).unwrap();
+        Sender {
+            name: own_name,
+            types: EventTypes::at_first(),
+            filters: Filters::new(),
+        }
+    }
+
+    pub(crate) fn is_named(&self, name: &[u8]) -> bool
+        ensures { result ≡ is_named name.now self.now.name }
+    {
+        name == self.name.as_slice()
+    }
+
+    /// Asks for an event to be sent, where `sent` event packets were sent before.
+    pub(crate) fn ask(
+        &mut self,
+        sent: &mut u16,
+        moment: Moment,
+        id: u16,
+        kind: EventKind,
+        text: &[u8],
+    ) -> Option<EventPacket>
+        requires count { sent.old < 16384 }
+        requires text { length text.now ≤ 121 }
+        ensures packet { result ≡ (asked_by self.old moment id kind text.now sent.old).packet }
+        ensures events { self.new ≡ record { name = self.old.name; events = (asked_by self.old moment id kind text.now sent.old).events } }
+        ensures sent { sent.new ≡ (asked_by self.old moment id kind text.now sent.old).sent }
+        ensures count { sent.new < 16384 }
+    {
+        if !self.types.has(kind) || !self.filters.ask(id) {
+            return None;
+        }
+        let count = *sent;
+        *sent = (count + 1) % 16384;
+        Some(EventPacket::new(count, moment, self.name.as_slice(), id, kind, text))
+    }
+
+    /// Changes its types or filters.
+    pub(crate) fn change(&mut self, change: Change) -> Result<(), EventError>
+        ensures answer { answered result self.new.events ≡ joined_now (item_of change) self.old.events }
+        ensures name { self.new.name ≡ self.old.name }
+        ensures refused { OnErr result (self.new ≡ self.old) }
+    {
+        match change {
+            Change::Filter { id, mask } => {
+                if !self.filters.set(id, mask) {
+                    return Err(EventError::FilterFull);
+                }
+            }
+            Change::Reset => self.filters.reset(),
+            Change::Types { types, on } => self.types.turn(types, on),
+        }
+        Ok(())
+    }
+}

@@ -1,0 +1,191 @@
+//! The event services: who sends events, at which seat, and the events that are sent (cFE user's guide, event services).
+
+ghost use Rattle.std.specs.Prelude.{◌≡◌, ◌<◌, ◌≤◌, length, IfOk, IfSome, OnErr};
+ghost use Rattle.std.specs.List.{position_from};
+ghost use Rattle.lc_model.specs.Events.Log.{FilterSet, FiltersReset, TypesSet};
+ghost use Rattle.lc_model.specs.Services.Events.{IsEventService, first_events, is_sender, registered_at, unregistered_at, commanded, event_asked};
+ghost use Rattle.event_service.specs.Error.{answered};
+ghost use Rattle.event_service.specs.Change.{item_of};
+ghost use Rattle.event_service.specs.Types.{bits_of};
+
+use crate::error::EventError;
+use crate::packet::EventPacket;
+use crate::sender::{Change, Sender};
+use crate::types::EventTypes;
+use lc_model::laws::senders::event_services_stay_sound;
+use lc_model::{EventKind, Moment, Seat};
+use std::alloc::Global;
+use std::marker::Model;
+
+/// The name under which the host itself sends events.
+const HOST: &[u8] = b"HOST";
+
+/// Who sends events: `HOST` from the start, and at most one sender for each of the eight seats. Contracts see HOST's types
+/// and filters, the senders by seat, and how many event packets were sent, modulo 16,384.
+#[derive(Debug, Drop)]
+pub struct Events {
+    host: Sender,
+    places: Vec<Option<Sender>>,
+    sent: u16,
+}
+
+impl Model for Events {
+    ghost use Rattle.std.specs.Prelude.{◌≡◌};
+    ghost use Rattle.lc_model.specs.Name.{host_name};
+    ghost use Rattle.lc_model.specs.Services.Events.{EventService, IsEventService};
+    ghost use Rattle.event_service.specs.Service.{service_of, AreServices};
+
+    ghost Value = { EventService };
+
+    ghost view = { λ e. service_of e.host e.places.items e.sent };
+
+    ghost invariant = { λ e. AreServices e.host e.places.items e.sent };
+}
+
+impl Events {
+    /// `HOST` alone, and nothing sent. It takes all the memory there will ever be; out of memory is the only error.
+    pub fn new(alloc: Global) -> Result<Events, EventError>
+        ensures { IfOk result (λ events. events ≡ first_events) }
+    {
+        let mut places = Vec::with_capacity(alloc, Seat::COUNT)?;
+        for _ in 0..Seat::COUNT {
+            places.push(None)?;
+        }
+        Ok(Events {
+            host: Sender::new(HOST),
+            places,
+            sent: 0,
+        })
+    }
+
+    /// There are eight seats, the senders and `HOST` have names of their own, and the count is below 16,384. It does nothing.
+    pub fn is_service(&self)
+        ensures { IsEventService self.now }
+    {
+        let _sent = self.sent;
+    }
+
+    /// The seat sends events from now on under a name of at most 20 bytes, without filters, all types but debug on. Error:
+    /// `AppsFull`, where the seat or the name is taken, as `HOST` is.
+    pub fn register(&mut self, seat: Seat, name: &[u8]) -> Result<(), EventError>
+        requires { length name.now ≤ 20 }
+        ensures answer { answered result self.new ≡ registered_at seat name.now self.old }
+        ensures refused { OnErr result (self.new ≡ self.old) }
+    {
+        event_services_stay_sound();
+        if name == HOST || place_of(self.places.as_slice(), name).is_some() {
+            return Err(EventError::AppsFull);
+        }
+        let place = &mut self.places[seat.index()];
+        if place.is_some() {
+            return Err(EventError::AppsFull);
+        }
+        *place = Some(Sender::new(name));
+        Ok(())
+    }
+
+    /// The seat sends events no more, and its filters are gone. Error: `NotRegistered`, where it sent none.
+    pub fn unregister(&mut self, seat: Seat) -> Result<(), EventError>
+        ensures answer { answered result self.new ≡ unregistered_at seat self.old }
+        ensures refused { OnErr result (self.new ≡ self.old) }
+    {
+        event_services_stay_sound();
+        let place = &mut self.places[seat.index()];
+        if place.is_none() {
+            return Err(EventError::NotRegistered);
+        }
+        *place = None;
+        Ok(())
+    }
+
+    /// An event of the seat's sender, or of `HOST` where `from` is none, with a text of at most 121 bytes: the packet, where
+    /// it is sent. It is not where nobody is registered at the seat, where its type is off, and where its filter holds it
+    /// back: an id's filter lets a request through where the requests before it, those with their type off left out and
+    /// counted up to 65,535 since the filter was set or reset, have no bit in common with the mask. The packet's sequence
+    /// count is the number of event packets sent before, modulo 16,384.
+    ///
+    /// Over every list of calls that is what the log of each sender since it was registered chooses:
+    /// `lc_model::laws::senders::event_services_go_by_logs`.
+    pub fn send(
+        &mut self,
+        from: Option<Seat>,
+        moment: Moment,
+        id: u16,
+        kind: EventKind,
+        text: &[u8],
+    ) -> Option<EventPacket>
+        requires { length text.now ≤ 121 }
+        ensures after { self.new ≡ (event_asked from moment id kind text.now self.old).0 }
+        ensures packet { result ≡ (event_asked from moment id kind text.now self.old).1 }
+    {
+        event_services_stay_sound();
+        match from {
+            None => self.host.ask(&mut self.sent, moment, id, kind, text),
+            Some(seat) => match &mut self.places[seat.index()] {
+                None => None,
+                Some(sender) => sender.ask(&mut self.sent, moment, id, kind, text),
+            },
+        }
+    }
+
+    /// Events of the id are sent from now on where their count, which begins again, and the mask have no bit in common.
+    /// Errors: `NotRegistered` for the name, `FilterFull` for a filter of a 17th id.
+    pub fn set_filter(&mut self, name: &[u8], id: u16, mask: u16) -> Result<(), EventError>
+        ensures answer { answered result self.new ≡ commanded name.now (FilterSet id mask) self.old }
+        ensures refused { OnErr result (self.new ≡ self.old) }
+    {
+        self.change(name, Change::Filter { id, mask })
+    }
+
+    /// All counts of the name's filters begin again. Error: `NotRegistered`.
+    pub fn reset_filters(&mut self, name: &[u8]) -> Result<(), EventError>
+        ensures answer { answered result self.new ≡ commanded name.now FiltersReset self.old }
+        ensures refused { OnErr result (self.new ≡ self.old) }
+    {
+        self.change(name, Change::Reset)
+    }
+
+    /// Events of these types are sent, or not, from now on; the other types stay as they are. Error: `NotRegistered`.
+    pub fn set_types(&mut self, name: &[u8], types: EventTypes, on: bool) -> Result<(), EventError>
+        ensures answer { answered result self.new ≡ commanded name.now (TypesSet (bits_of types) on) self.old }
+        ensures refused { OnErr result (self.new ≡ self.old) }
+    {
+        self.change(name, Change::Types { types, on })
+    }
+
+    /// Changes what the sender of a name has.
+    fn change(&mut self, name: &[u8], change: Change) -> Result<(), EventError>
+        ensures answer { answered result self.new ≡ commanded name.now (item_of change) self.old }
+        ensures refused { OnErr result (self.new ≡ self.old) }
+    {
+        event_services_stay_sound();
+        if name == HOST {
+            return self.host.change(change);
+        }
+        let Some(place) = place_of(self.places.as_slice(), name) else {
+            return Err(EventError::NotRegistered);
+        };
+        let Some(sender) = &mut self.places[place] else {
+            return Err(EventError::NotRegistered);
+        };
+        sender.change(change)
+    }
+}
+
+/// The place of the first sender of a name.
+fn place_of(places: &[Option<Sender>], name: &[u8]) -> Option<usize>
+    ensures place { result ≡ position_from (is_sender name.now) 0 places.now }
+    ensures inside { IfSome result (λ place. place < length places.now) }
+{
+    places.iter().position(|place| is_sender(place, name))
+}
+
+/// Whether the place's sender has the name.
+fn is_sender(place: &Option<Sender>, name: &[u8]) -> bool
+    ensures { result ≡ is_sender name.now place.now }
+{
+    match place {
+        None => false,
+        Some(sender) => sender.is_named(name),
+    }
+}

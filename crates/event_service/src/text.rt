@@ -1,0 +1,102 @@
+//! The texts of events, written without memory.
+
+ghost use Rattle.std.specs.Prelude.{◌≡◌, ◌+◌, ◌<◌, ◌≤◌, ◌*◌, ◌%◌, false, List, [], ◌∷◌, ◌++◌, length, codes, decimal};
+ghost use Rattle.std.specs.Fmt.{digit_glyph};
+ghost use Rattle.lc_model.specs.Events.Request.{numbered, hex_word as four_digits};
+
+use arrayvec::ArrayVec;
+use itoa::Buffer;
+use std::marker::Model;
+
+/// The most bytes of an event's text.
+pub const MAX_TEXT: usize = 121;
+
+/// The text of an event, at most 121 bytes. Contracts see the bytes.
+#[derive(Debug, Drop)]
+pub struct EventText {
+    bytes: ArrayVec<u8, MAX_TEXT>,
+}
+
+impl Model for EventText {
+    ghost use Rattle.std.specs.Prelude.{ℕ, List};
+
+    ghost Value = { List ℕ };
+
+    ghost view = { λ t. t.bytes.items };
+}
+
+impl EventText {
+    pub fn as_bytes(&self) -> &[u8]
+        ensures bytes { result.now ≡ self.now }
+        ensures fits { length result.now ≤ 121 }
+    {
+        self.bytes.as_slice()
+    }
+
+    /// These bytes alone.
+    pub(crate) fn of(bytes: &[u8]) -> EventText
+        requires { length bytes.now ≤ 121 }
+        ensures { result ≡ bytes.now }
+    {
+        let mut text = EventText {
+            bytes: ArrayVec::new(),
+        };
+        text.push(bytes);
+        text
+    }
+
+    /// More bytes.
+    pub(crate) fn push(&mut self, bytes: &[u8])
+        requires { length self.old + length bytes.now ≤ 121 }
+        ensures text { self.new ≡ self.old ++ bytes.now }
+        ensures size { length self.new ≡ length self.old + length bytes.now }
+    {
+        self.bytes.try_extend_from_slice(bytes).unwrap();
+    }
+
+    /// A space and a number in decimal digits.
+    pub(crate) fn push_number(&mut self, number: u32)
+        requires { length self.old + 11 ≤ 121 }
+        ensures text { self.new ≡ numbered self.old (number ∷ []) }
+        ensures size { length self.new ≤ length self.old + 11 }
+    {
+        let mut digits = Buffer::new();
+        self.push(b" ");
+        self.push(digits.format(number).as_bytes());
+    }
+
+    /// Several numbers, each after a space.
+    pub(crate) fn push_numbers(&mut self, numbers: &[u16])
+        requires { length self.old + 11 * length numbers.now ≤ 121 }
+        ensures { self.new ≡ numbered self.old numbers.now }
+    {
+        for number in numbers {
+            self.push_number(u32::from(*number));
+        }
+    }
+
+    /// Four lower case hexadecimal digits.
+    pub(crate) fn push_hex(&mut self, number: u16)
+        requires { length self.old + 4 ≤ 121 }
+        ensures { self.new ≡ self.old ++ four_digits number }
+    {
+        self.push(&[
+            hex_digit(number / 4096),
+            hex_digit(number / 256),
+            hex_digit(number / 16),
+            hex_digit(number),
+        ]);
+    }
+}
+
+/// The last hexadecimal digit of a number.
+fn hex_digit(number: u16) -> u8
+    ensures { result ≡ digit_glyph false (number % 16) }
+{
+    let digit = (number % 16) as u8;
+    if digit < 10 {
+        b'0' + digit
+    } else {
+        b'a' + (digit - 10)
+    }
+}

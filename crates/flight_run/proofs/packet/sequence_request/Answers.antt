@@ -1,5 +1,0 @@
-use Rattle.flight_run.proofs.Requests.{request_bytes}
-use Rattle.flight_run.proofs.packet.sequence_request.Goals as goal
-
-pub returns : goal.returns
-returns c = request_bytes c.args.count c.args.number _ _ _ c.to_be_bytes.ensures c.to_be_bytes-2.ensures c.parity.ensures

@@ -1,0 +1,88 @@
+//! How a ground team makes table files from a rule text, and judges files before they go up.
+
+use lc_model::Kind;
+use rpn_compiler::compile;
+use std::process::Abort;
+use std::test::Fail;
+use table_file::FileError;
+use table_validator::{FaultCode, TableFault, WHOLE_IMAGE};
+
+/// One rule: two samples in a row with a voltage below 2,400 request command sequence 7.
+const TEXT: &str = "packet P = mid 0x0883 length 16; \
+    field V = P u16be at 12 stale 2; \
+    rule LOW active fails 2 sequence 7 event error 1001 \"low volts\" when V < 2400;";
+
+/// Where the low byte of the first word of the first actionpoint stands: behind both headers, the preamble and 46 bytes.
+const FIRST_WORD: usize = 116 + 40 + 46 + 1;
+
+/// Why a file doesn't go up.
+#[derive(Clone, Copy, Debug, PartialEq, Eq)]
+enum Unfit {
+    File(FileError),
+    Table(TableFault),
+}
+
+/// Whether a file may go up as the table of this kind.
+fn judge(kind: Kind, file: &[u8]) -> Result<(), Unfit> {
+    let file = table_file::open(file).map_err(Unfit::File)?;
+    table_validator::validate(kind, file.image()).map_err(Unfit::Table)?;
+    Ok(())
+}
+
+/// The table may go up.
+fn may_go_up<R: Abort>(rt: &R, kind: Kind, file: &[u8]) {
+    assert_eq!(rt; judge(kind, file), Ok(()));
+}
+
+/// The table is refused, with this fault.
+fn is_refused<R: Abort>(rt: &R, kind: Kind, file: &[u8], code: FaultCode, entry: u16) {
+    assert_eq!(rt;
+        judge(kind, file),
+        Err(Unfit::Table(TableFault { code, entry }))
+    );
+}
+
+#[test]
+fn both_files_of_a_text_may_go_up(rt: HostRuntime) -> Result<(), Fail> {
+    let pair = compile(rt.alloc(), TEXT.as_bytes())?;
+    may_go_up(&rt, Kind::Wdt, pair.wdt.as_slice());
+    may_go_up(&rt, Kind::Adt, pair.adt.as_slice());
+    // Each as the other's table: the image has another size.
+    is_refused(
+        &rt,
+        Kind::Adt,
+        pair.wdt.as_slice(),
+        FaultCode::WrongSize,
+        WHOLE_IMAGE,
+    );
+    Ok(())
+}
+
+#[test]
+fn so_may_the_files_of_the_empty_text(rt: HostRuntime) -> Result<(), Fail> {
+    let pair = compile(rt.alloc(), b"")?;
+    may_go_up(&rt, Kind::Wdt, pair.wdt.as_slice());
+    may_go_up(&rt, Kind::Adt, pair.adt.as_slice());
+    Ok(())
+}
+
+#[test]
+fn files_that_are_damaged(rt: HostRuntime) -> Result<(), Fail> {
+    let mut adt = compile(rt.alloc(), TEXT.as_bytes())?.adt;
+    if adt.len() > FIRST_WORD {
+        adt[FIRST_WORD] = 1;
+    }
+    is_refused(
+        &rt,
+        Kind::Adt,
+        adt.as_slice(),
+        FaultCode::UnknownWatchpoint,
+        0,
+    );
+    adt.truncate(15_000);
+    assert_eq!(rt;
+        judge(Kind::Adt, adt.as_slice()),
+        Err(Unfit::File(FileError::SizeMismatch))
+    );
+    Ok(())
+}

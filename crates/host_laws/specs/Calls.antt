@@ -1,0 +1,75 @@
+-- What calls of applications, commands and HOST's own steps keep of what goes with the services, and what a call may leave.
+use Rattle.std.specs.Prelude.{◌≡◌, ◌≢◌, ℕ, ◌≤◌, List, [], length, IsFalse, IfSome, IfOk}
+use Rattle.std.specs.List.{AllByRecursion, concat}
+use Rattle.lc_model.specs.declared.record.Moment.{Moment}
+use Rattle.lc_model.specs.Name.{Name, is_named}
+use Rattle.lc_model.specs.Packet.{tick_mid, message_id}
+use Rattle.lc_model.specs.Tables.Interpretation.{FileMeaning, Interpretation}
+use Rattle.lc_model.specs.Events.Request.{Request}
+use Rattle.lc_model.specs.LimitChecker.Steps.{lc_packet}
+use Rattle.lc_model.specs.Kept.Summary.{LcOwn, AppState}
+use Rattle.lc_model.specs.Kept.Next.{by_counts}
+use Rattle.lc_model.specs.Kept.Call.{ServicesNow, Called, lc_with, next_lc_packet, next_start, next_on_packet, next_retire, sent_by}
+use Rattle.lc_model.specs.Kept.Executive.{event_service_now, table_service_now}
+use Rattle.lc_model.specs.Kept.GoesWith.{own_name, MayStart, LcGoesWith, GoesWith}
+
+-- two applications
+abbrev pub AreTwo : AppState → AppState → Type 0
+AreTwo state other = IsFalse (is_named (own_name other) (own_name state))
+
+-- at most eight packets are published, for a tick alone, and none of them is a tick
+pub record IsPublication (packet : List ℕ) (published : List (List ℕ)) : Type 0 where
+  pub few : length published ≤ 8
+  pub for_ticks : published ≢ [] → message_id packet ≡ tick_mid
+  pub no_ticks : AllByRecursion (λ (other : List ℕ). message_id other ≢ tick_mid) published
+
+module _ {Image : Type 0} (images : Interpretation Image) where
+  -- an object that has started goes with the services that it leaves
+  abbrev pub StartsGoWith : Type 0
+  StartsGoWith = (moment : Moment) (state : AppState) (services : ServicesNow Image) → MayStart state →
+      IfSome (next_start images moment state services) (λ (called : Called Image). GoesWith images called.state called.services)
+
+  -- and so does one that had a packet
+  abbrev pub PacketsKeep : Type 0
+  PacketsKeep = (moment : Moment) (state : AppState) (packet : List ℕ) (services : ServicesNow Image) → GoesWith images state services →
+      IfSome (next_on_packet images moment state packet services) (λ (called : Called Image). GoesWith images called.state called.services)
+
+  -- a call of one application keeps what goes with another's object
+  pub record KeepsOthers (state other : AppState) (services : ServicesNow Image) : Type 0 where
+    pub start : (moment : Moment) → IfSome (next_start images moment state services) (λ (called : Called Image). GoesWith images other called.services)
+    pub packet : (moment : Moment) (packet : List ℕ) →
+        IfSome (next_on_packet images moment state packet services) (λ (called : Called Image). GoesWith images other called.services)
+    pub retire : IfSome (next_retire state services) (λ (after : ServicesNow Image). GoesWith images other after)
+
+  abbrev pub CallsKeepOthers : Type 0
+  CallsKeepOthers = (state other : AppState) (services : ServicesNow Image) → AreTwo state other → GoesWith images other services →
+      KeepsOthers state other services
+
+  -- commands to the host's services, stored files and what a sender sends keep it for each object
+  pub record HostKeeps (state : AppState) (services : ServicesNow Image) : Type 0 where
+    pub events : (packet : List ℕ) → IfOk (event_service_now packet services) (λ (after : ServicesNow Image). GoesWith images state after)
+    pub tables : (packet : List ℕ) → IfOk (table_service_now images packet services) (λ (after : ServicesNow Image). GoesWith images state after)
+    pub files : (files : List (Name × FileMeaning Image)) → GoesWith images state (record services { files = files })
+    pub sending : (moment : Moment) (sender : Name) (requests : List Request) → GoesWith images state (sent_by moment sender requests services).0
+
+  abbrev pub TheHostKeeps : Type 0
+  TheHostKeeps = (state : AppState) (services : ServicesNow Image) → GoesWith images state services → HostKeeps state services
+
+  -- what the object does by its own copy is what the Limit Checker does by the tables in force
+  abbrev pub CopiesServe : Type 0
+  CopiesServe = (packet : List ℕ) (own : LcOwn) (services : ServicesNow Image) → LcGoesWith images own services →
+      next_lc_packet images packet own (lc_with own services) ≡ lc_packet by_counts images packet (lc_with own services)
+
+  -- so it is of every call
+  abbrev pub PublishesFew : Type 0
+  PublishesFew = (moment : Moment) (state : AppState) (packet : List ℕ) (services : ServicesNow Image) → GoesWith images state services →
+      IfSome (next_on_packet images moment state packet services) (λ (called : Called Image). IsPublication packet called.published)
+
+  -- what a call asks to be written fits into what the host holds for writing
+  abbrev pub WritesLittle : Type 0
+  WritesLittle = (moment : Moment) (state : AppState) (packet : List ℕ) (services : ServicesNow Image) → GoesWith images state services →
+      IfSome (next_on_packet images moment state packet services) (λ (called : Called Image). length (concat called.outgoing) ≤ 65536)
+
+  abbrev pub StartsWriteLittle : Type 0
+  StartsWriteLittle = (moment : Moment) (state : AppState) (services : ServicesNow Image) →
+      IfSome (next_start images moment state services) (λ (called : Called Image). length (concat called.outgoing) ≤ 65536)

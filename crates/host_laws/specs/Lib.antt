@@ -1,0 +1,5 @@
+pub mod Keeping
+pub mod Statements
+pub mod Calls
+pub mod Writes
+pub mod Invariants

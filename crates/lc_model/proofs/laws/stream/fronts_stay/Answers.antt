@@ -1,0 +1,5 @@
+use Rattle.lc_model.proofs.StreamsGoOn.{all_fronts_stay}
+use Rattle.lc_model.proofs.laws.stream.fronts_stay.Goals as goal
+
+pub returns : goal.returns
+returns c = all_fronts_stay

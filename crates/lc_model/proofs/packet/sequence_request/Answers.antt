@@ -1,0 +1,5 @@
+use Rattle.lc_model.proofs.RequestBytes.{request_bytes}
+use Rattle.lc_model.proofs.packet.sequence_request.Goals as goal
+
+pub returns : goal.returns
+returns c = request_bytes c.args.count c.args.number _ _ _ c.to_be_bytes.ensures c.to_be_bytes-2.ensures c.parity.ensures

@@ -1,0 +1,321 @@
+-- The host in numbers: objects in stock and on seats, their pipes, and what the services hold. The services and the
+-- executive's commands are those of the cFE user's guide (executive services, software bus); the order of calls and the
+-- refusals are this project's own.
+--
+-- Of an object that is `Other` nothing is said: where one would be called, all but its packet stays as it was.
+use Rattle.std.specs.Prelude.{ℕ, zero, suc, ◌==◌, Bool, true, false, not, List, [], ◌∷◌, ◌++◌, map, remove, replicate, slice_index_or, slice_set, if◌then◌else◌, Option, Some, None, is_none, option_map, unwrap_or, Result, Ok, Err}
+use Rattle.std.specs.Option.{option_map_or}
+use Rattle.std.specs.List.{list_any, position_from}
+use Rattle.lc_model.specs.declared.record.Moment.{Moment}
+use Rattle.lc_model.specs.Name.{Name, is_named, host_name, held}
+use Rattle.lc_model.specs.Packet.{stream_fault, function_code, payload, message_id, tick_mid, event_services_mid, table_services_mid, executive_services_mid, command}
+use Rattle.lc_model.specs.Refusal.{Refusal, ◌>>=◌, refused, found, provided}
+use Rattle.lc_model.specs.Tables.Slot.{loaded, moved}
+use Rattle.lc_model.specs.Tables.Interpretation.{FileMeaning, Interpretation, FileMeanings, kind_named}
+use Rattle.lc_model.specs.Events.Request.{Request, Service, event_services, table_services, executive_services, command_done, command_refused, bad_packet, file_stored, file_refused}
+use Rattle.lc_model.specs.Events.Log.{LogItem, FilterSet}
+use Rattle.lc_model.specs.Command.{event_command, TableCommand, Load, Manage, table_command, Order, Start, Stop, Restart, Reload, app_command}
+use Rattle.lc_model.specs.Host.Stream.{StreamEntry}
+use Rattle.lc_model.specs.Host.React.{Input, Packet, Tick, File, stored, opened_file}
+use Rattle.lc_model.specs.Host.Run.{input_of}
+use Rattle.lc_model.specs.Kept.Summary.{EventState, AppState, Other}
+use Rattle.lc_model.specs.Kept.Next.{events_after, next_is_full}
+use Rattle.lc_model.specs.Kept.Call.{with_at, ServicesNow, Called, new_sender, sent_by, next_start, next_on_packet, next_retire}
+
+-- ---- what there is
+
+-- an object: its name, and what it is by now
+pub record Member : Type 0 where
+  pub called : Name
+  pub state : AppState
+
+-- a pipe: the message ids that it is subscribed to, and the packets that wait in it, the first first
+pub record Pipe : Type 0 where
+  pub subscriptions : List ℕ
+  pub waiting : List (List ℕ)
+
+-- the host: spares in order, eight seats and their pipes, and the services
+pub record Executive (Image : Type 0) : Type 0 where
+  pub stock : List Member
+  pub seats : List (Option Member)
+  pub pipes : List (Option Pipe)
+  pub services : ServicesNow Image
+
+-- so many seats
+abbrev pub seat_count : ℕ
+seat_count = 8
+
+-- the executive after a step, and the packets that were written, in order
+abbrev pub Written : Type 0 → Type 0
+Written Image = Executive Image × List (List ℕ)
+
+-- no object, and no pipe
+abbrev pub no_member : Member
+no_member = record { called = []; state = Other }
+
+-- ---- the pipes
+
+-- whether a pipe is subscribed to the packet's message id
+abbrev pub hears : List ℕ → Pipe → Bool
+hears packet pipe = list_any (λ mid. message_id packet == mid) pipe.subscriptions
+
+-- a pipe after a packet was published
+abbrev pub offered : List ℕ → Pipe → Pipe
+offered packet pipe = if hears packet pipe then record pipe { waiting = pipe.waiting ++ packet ∷ [] } else pipe
+
+-- all pipes after it: each subscriber has the packet once
+abbrev pub published_to : List (Option Pipe) → List ℕ → List (Option Pipe)
+published_to pipes packet = map (option_map (offered packet)) pipes
+
+-- the same of several packets, one after the other
+unfoldable pub all_published_to : List (Option Pipe) → List (List ℕ) → List (Option Pipe)
+all_published_to pipes [] = pipes
+all_published_to pipes (packet ∷ packets) = all_published_to (published_to pipes packet) packets
+
+-- whether a list has something
+abbrev pub has_some : List (List ℕ) → Bool
+has_some [] = false
+has_some (packet ∷ packets) = true
+
+-- whether a packet waits
+abbrev pub is_ready : Option Pipe → Bool
+is_ready None = false
+is_ready (Some pipe) = has_some pipe.waiting
+
+-- the least seat with a packet
+abbrev pub ready_seat : List (Option Pipe) → Option ℕ
+ready_seat pipes = position_from is_ready 0 pipes
+
+-- ---- who is where
+
+-- an object goes by this name
+abbrev pub is_called : Name → Member → Bool
+is_called name member = is_named name member.called
+
+-- a seat has an object of this name
+abbrev pub is_seated : Name → Option Member → Bool
+is_seated name None = false
+is_seated name (Some member) = is_called name member
+
+-- the seat of a name, the first spare of a name, and the least free seat
+abbrev pub seat_of : Name → List (Option Member) → Option ℕ
+seat_of name seats = position_from (is_seated name) 0 seats
+
+abbrev pub spare_of : Name → List Member → Option ℕ
+spare_of name stock = position_from (is_called name) 0 stock
+
+abbrev pub free_seat : List (Option Member) → Option ℕ
+free_seat seats = position_from is_none 0 seats
+
+-- the object of a seat, and a spare
+abbrev pub seated : List (Option Member) → ℕ → Member
+seated seats k = unwrap_or (slice_index_or seats k None) no_member
+
+abbrev pub spare_at : List Member → ℕ → Member
+spare_at stock i = slice_index_or stock i no_member
+
+-- ---- one call
+
+-- a sender after an item of its log, unless a filter finds no place
+abbrev pub joined_now : LogItem → EventState → Result EventState Refusal
+joined_now (FilterSet id mask) events =
+    if next_is_full id events then refused 102 else Ok (events_after (FilterSet id mask) events)
+joined_now item events = Ok (events_after item events)
+
+-- the packet that a tick publishes
+abbrev pub tick_packet : List ℕ
+tick_packet = command tick_mid 0 0 []
+
+-- one record leads to at most so many deliveries: a tick in each pipe, and of each tick eight packets in each pipe
+abbrev pub most_deliveries : ℕ
+most_deliveries = 520
+
+module _ {Image : Type 0} where
+  -- first one step, then another
+  abbrev pub followed : Written Image → (Executive Image → Written Image) → Written Image
+  followed first next = let others : Written Image = next first.0 in (others.0, first.1 ++ others.1)
+
+  -- the services change, and packets are written
+  abbrev pub serviced : Executive Image → ServicesNow Image × List (List ℕ) → Written Image
+  serviced e sent = (record e { services = sent.0 }, sent.1)
+
+  -- the services changed
+  abbrev pub with_services : Executive Image → Result (ServicesNow Image) Refusal → Result (Written Image) Refusal
+  with_services e (Ok services) = Ok (record e { services = services }, [])
+  with_services e (Err refusal) = Err refusal
+
+  -- HOST's own events
+  abbrev pub told_by_host : Moment → List Request → Executive Image → Written Image
+  told_by_host moment requests e = serviced e (sent_by moment host_name requests e.services)
+
+  -- an object was called on a seat, with these packets still in its pipe
+  abbrev pub after_call : ℕ → Name → List (List ℕ) → Executive Image → Called Image → Written Image
+  after_call k name waiting e call = (
+    record {
+      stock = e.stock;
+      seats = slice_set e.seats k (Some (record { called = name; state = call.state }));
+      pipes = all_published_to (slice_set e.pipes k (Some (record { subscriptions = call.mids; waiting = waiting }))) call.published;
+      services = call.services;
+    },
+    call.outgoing,
+  )
+
+  -- the seat's packet is taken, and nothing else is said
+  abbrev pub after_taking : ℕ → Pipe → List (List ℕ) → Executive Image → Written Image
+  after_taking k pipe waiting e = (record e { pipes = slice_set e.pipes k (Some (record pipe { waiting = waiting })) }, [])
+
+  -- an object leaves its seat, and all that is its own goes with it
+  abbrev pub left_from : ℕ → Executive Image → Executive Image
+  left_from k e = record {
+    stock = e.stock;
+    seats = slice_set e.seats k None;
+    pipes = slice_set e.pipes k None;
+    services = unwrap_or (next_retire (seated e.seats k).state e.services) e.services;
+  }
+
+  -- a spare leaves the stock
+  abbrev pub without_spare : ℕ → Executive Image → Executive Image
+  without_spare i e = record e { stock = remove e.stock i }
+
+  module _ (images : Interpretation Image) (moment : Moment) where
+    -- an object starts on a seat
+    abbrev pub begun_on : ℕ → Member → Executive Image → Written Image
+    begun_on k member e = option_map_or (after_call k member.called [] e) (next_start images moment member.state e.services) (e, [])
+
+    -- the object of a seat has a packet, and these wait behind it
+    abbrev pub handed : ℕ → Member → Pipe → List (List ℕ) → Executive Image → Written Image
+    handed k member pipe [] e = (e, [])
+    handed k member pipe (packet ∷ waiting) e =
+        option_map_or (after_call k member.called waiting e) (next_on_packet images moment member.state packet e.services)
+        (after_taking k pipe waiting e)
+
+    -- one delivery: the seat's object has the first packet of its pipe
+    abbrev pub delivered_at : ℕ → Executive Image → Written Image
+    delivered_at k e =
+        option_map_or (λ (pipe : Pipe). handed k (seated e.seats k) pipe pipe.waiting e) (slice_index_or e.pipes k None) (e, [])
+
+    -- at most so many deliveries, each at the least seat with a packet
+    unfoldable pub drained : ℕ → Executive Image → Written Image
+    drained zero e = (e, [])
+    drained (suc most) e =
+        option_map_or (λ k. followed (delivered_at k e) (λ after. drained most after)) (ready_seat e.pipes) (e, [])
+
+    -- a packet is published, and all packets are delivered
+    abbrev pub passed_on : List ℕ → Executive Image → Written Image
+    passed_on packet e = drained most_deliveries (record e { pipes = published_to e.pipes packet })
+
+    -- ---- services
+
+    -- what a service does, and then its own event; or the event that says why it does nothing
+    abbrev pub answered_now : Service → List ℕ → Executive Image → Result (Written Image) Refusal → Written Image
+    answered_now service packet e (Ok step) = followed step (told_by_host moment (command_done service (function_code packet) ∷ []))
+    answered_now service packet e (Err refusal) = told_by_host moment (command_refused service refusal ∷ []) e
+
+    -- ---- executive services
+
+    -- an application starts, stops, or is replaced
+    abbrev pub ordered_now : Order → Name → Executive Image → Result (Written Image) Refusal
+    ordered_now Start name e =
+        if not (is_none (seat_of name e.seats)) then refused 123
+        else (do
+          i ← found (spare_of name e.stock) 122
+          k ← found (free_seat e.seats) 124
+          Ok (begun_on k (spare_at e.stock i) (without_spare i e)))
+    ordered_now Stop name e = do
+      k ← found (seat_of name e.seats) 121
+      Ok (left_from k e, [])
+    ordered_now Restart name e = do
+      k ← found (seat_of name e.seats) 121
+      Ok (begun_on k (seated e.seats k) (left_from k e))
+    ordered_now Reload name e = do
+      k ← found (seat_of name e.seats) 121
+      i ← found (spare_of name e.stock) 122
+      Ok (begun_on k (spare_at e.stock i) (without_spare i (left_from k e)))
+
+    -- executive services
+    abbrev pub executive_service_now : List ℕ → Executive Image → Result (Written Image) Refusal
+    executive_service_now packet e = do
+      command ← app_command (function_code packet) (payload packet)
+      ordered_now command.0 command.1 e
+
+  -- ---- event services
+
+  -- event services: what is asked changes the application that is named
+  abbrev pub event_service_now : List ℕ → ServicesNow Image → Result (ServicesNow Image) Refusal
+  event_service_now packet services = do
+    command ← event_command (function_code packet) (payload packet)
+    events ← found (services.events command.0) 101
+    after ← joined_now command.1 events
+    Ok (record services { events = with_at command.0 (Some after) services.events })
+
+  -- ---- files
+
+  -- the executive with these files, or the reason why they stay
+  abbrev pub filed_now : Moment → Executive Image → Result (List (Name × FileMeaning Image)) Refusal → Written Image
+  filed_now moment e (Ok files) = told_by_host moment (file_stored ∷ []) (record e { services = record e.services { files = files } })
+  filed_now moment e (Err refusal) = told_by_host moment (file_refused refusal ∷ []) e
+
+  -- ---- table services
+
+  module _ (images : Interpretation Image) where
+    -- the services after a table command
+    abbrev pub managed_now : TableCommand → ServicesNow Image → Result (ServicesNow Image) Refusal
+    managed_now (Load file) services = do
+      meaning ← found (held file services.files) 111
+      contents ← opened_file meaning
+      kind ← found (kind_named contents.0) 113
+      slot ← found (services.slots contents.0) 113
+      image ← provided (images.has_size kind contents.1) 114 contents.2
+      after ← loaded image slot
+      Ok (record services { slots = with_at contents.0 (Some after) services.slots })
+    managed_now (Manage move name) services = do
+      slot ← found (services.slots name) 113
+      after ← moved move slot
+      Ok (record services { slots = with_at name (Some after) services.slots })
+
+    -- table services: a load, or a move of the waiting image
+    abbrev pub table_service_now : List ℕ → ServicesNow Image → Result (ServicesNow Image) Refusal
+    table_service_now packet services = do
+      command ← table_command (function_code packet) (payload packet)
+      managed_now command services
+
+    -- ---- one record
+
+    -- a good packet goes to a service of the host, or to the pipes
+    abbrev pub routed_now : Moment → List ℕ → Executive Image → Written Image
+    routed_now moment packet e =
+        let mid : ℕ = message_id packet in
+        if mid == event_services_mid then answered_now images moment event_services packet e (with_services e (event_service_now packet e.services))
+        else if mid == table_services_mid then answered_now images moment table_services packet e (with_services e (table_service_now packet e.services))
+        else if mid == executive_services_mid then answered_now images moment executive_services packet e (executive_service_now images moment packet e)
+        else passed_on images moment packet e
+
+    -- what a record leads to
+    abbrev pub step_by : Moment → Executive Image → Input Image → Written Image
+    step_by moment e (Packet bytes) =
+        option_map_or (λ reason. told_by_host moment (bad_packet reason ∷ []) e) (stream_fault bytes) (routed_now moment bytes e)
+    step_by moment e Tick = passed_on images moment tick_packet e
+    step_by moment e (File name size meaning) = filed_now moment e (stored name size meaning e.services.files)
+
+    -- ---- whole runs
+
+    -- the packets that are written for these records, in order
+    unfoldable pub written_from : Executive Image → FileMeanings Image → List StreamEntry → List (List ℕ)
+    written_from e meanings [] = []
+    written_from e meanings (entry ∷ entries) =
+        let step : Written Image = step_by entry.moment e (input_of meanings entry.contents) in
+        step.1 ++ written_from step.0 meanings entries
+
+  -- nothing runs yet: HOST alone is registered, and these objects are in stock
+  abbrev pub first_executive : List Member → Executive Image
+  first_executive stock = record {
+    stock = stock;
+    seats = replicate seat_count None;
+    pipes = replicate seat_count None;
+    services = record {
+      files = [];
+      slots = λ name. None;
+      events = with_at host_name (Some new_sender) (λ name. None);
+      counts = λ mid. 0;
+    };
+  }

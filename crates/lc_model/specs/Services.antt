@@ -1,0 +1,6 @@
+-- The services of the host, as lists: what each of their calls answers and changes.
+pub mod Bus
+pub mod Events
+pub mod EventCalls
+pub mod Tables
+pub mod Interface

@@ -1,0 +1,150 @@
+-- The calls of the event services, one after the other, and the same services with whole logs: of each sender all that
+-- happened since it was registered, and of the packets all that were sent. From the cFE user's guide, event services; the
+-- seats and the numbers of the refusals are this project's own.
+use Rattle.std.specs.Prelude.{ℕ, ◌%◌, ◌<◌, Bool, false, ◌||◌, List, [], ◌∷◌, map, length, replicate, slice_index_or, slice_set, if◌then◌else◌, Option, Some, None, is_some, option_map, Result, Ok, Err, ⊤}
+use Rattle.std.specs.Option.{option_map_or}
+use Rattle.std.specs.List.{position_from}
+use Rattle.lc_model.specs.declared.record.Moment.{Moment}
+use Rattle.lc_model.specs.declared.rule.EventKind.{EventKind}
+use Rattle.lc_model.specs.Name.{Name, is_named, host_name}
+use Rattle.lc_model.specs.Refusal.{Refusal, ◌>>=◌, refused, found}
+use Rattle.lc_model.specs.Events.Log.{Log, LogItem, Requested, FilterSet, FiltersReset, TypesSet, chosen, joined}
+use Rattle.lc_model.specs.Events.Outgoing.{event_packet}
+use Rattle.lc_model.specs.Kept.Summary.{event_state}
+use Rattle.lc_model.specs.Kept.Executive.{seat_count}
+use Rattle.lc_model.specs.Services.Events.{Sender, EventService, Origin, registered_at, unregistered_at, commanded, event_asked}
+
+-- a call of the event services
+pub data EventCall : Type 0 where
+  Register : (seat : ℕ) (name : Name) → EventCall
+  Unregister : (seat : ℕ) → EventCall
+  Send : (origin : Origin) (moment : Moment) (id : ℕ) (kind : EventKind) (text : List ℕ) → EventCall
+  SetFilter : (name : Name) (id mask : ℕ) → EventCall
+  ResetFilters : (name : Name) → EventCall
+  SetTypes : (name : Name) (bits : ℕ) (on : Bool) → EventCall
+
+-- what a call answers: the packet, if one is sent, or a refusal
+abbrev pub Answer : Type 0
+Answer = Result (Option (List ℕ)) Refusal
+
+-- a set of types has four bits
+abbrev pub HasFourTypes : EventCall → Type 0
+HasFourTypes (SetTypes name bits on) = bits < 16
+HasFourTypes call = ⊤
+
+-- what there is after a call, with its answer; a call that is refused changes nothing
+abbrev pub unless_refused : {A : Type 0} → A → Result A Refusal → A × Answer
+unless_refused old (Ok new) = (new, Ok None)
+unless_refused old (Err refusal) = (old, Err refusal)
+
+abbrev pub with_packet : {A : Type 0} → A × Option (List ℕ) → A × Answer
+with_packet step = (step.0, Ok step.1)
+
+-- one call after the other: what there is in the end, and the answers in order
+abbrev pub all_after : {A : Type 0} → (EventCall → A → A × Answer) → List EventCall → A → A × List Answer
+all_after after [] a = (a, [])
+all_after {A} after (call ∷ calls) a =
+    let first : A × Answer = after call a in
+    let others : A × List Answer = all_after after calls first.0 in
+    (others.0, first.1 ∷ others.1)
+
+-- ---- in numbers
+
+-- the services after a call, and its answer
+abbrev pub called : EventCall → EventService → EventService × Answer
+called (Register seat name) service = unless_refused service (registered_at seat name service)
+called (Unregister seat) service = unless_refused service (unregistered_at seat service)
+called (Send origin moment id kind text) service = with_packet (event_asked origin moment id kind text service)
+called (SetFilter name id mask) service = unless_refused service (commanded name (FilterSet id mask) service)
+called (ResetFilters name) service = unless_refused service (commanded name FiltersReset service)
+called (SetTypes name bits on) service = unless_refused service (commanded name (TypesSet bits on) service)
+
+-- ---- with whole logs
+
+-- a registered sender with the log of its events since then
+pub record Remembered : Type 0 where
+  pub name : Name
+  pub log : Log
+
+-- HOST's log, the sender of each seat, and all event packets that were sent, the newest first
+pub record EventHistory : Type 0 where
+  pub host : Log
+  pub places : List (Option Remembered)
+  pub sent : List (List ℕ)
+
+-- HOST alone is registered, and nothing happened
+abbrev pub first_history : EventHistory
+first_history = record { host = []; places = replicate seat_count None; sent = [] }
+
+-- the sender of a place has this name
+abbrev pub is_remembered : Name → Option Remembered → Bool
+is_remembered name None = false
+is_remembered name (Some sender) = is_named name sender.name
+
+-- the place of a name, and the sender of a place
+abbrev pub origin_in : Name → EventHistory → Option Origin
+origin_in name history = if is_named name host_name then Some None else option_map Some (position_from (is_remembered name) 0 history.places)
+
+abbrev pub remembered_at : Origin → EventHistory → Option Remembered
+remembered_at None history = Some (record { name = host_name; log = history.host })
+remembered_at (Some seat) history = slice_index_or history.places seat None
+
+-- with another log of a place's sender
+abbrev pub with_log_at : Origin → Remembered → Log → EventHistory → EventHistory
+with_log_at None sender log history = record history { host = log }
+with_log_at (Some seat) sender log history =
+    record history { places = slice_set history.places seat (Some (record { name = sender.name; log = log })) }
+
+-- a seat begins a log under a name
+abbrev pub begun_at : ℕ → Name → EventHistory → Result EventHistory Refusal
+begun_at seat name history =
+    if is_some (slice_index_or history.places seat None) || is_some (origin_in name history) then refused 103
+    else Ok (record history { places = slice_set history.places seat (Some (record { name = name; log = [] })) })
+
+-- a seat's log ends
+abbrev pub ended_at : ℕ → EventHistory → Result EventHistory Refusal
+ended_at seat history =
+    if is_some (slice_index_or history.places seat None) then Ok (record history { places = slice_set history.places seat None })
+    else refused 101
+
+-- a command joins the log of a name
+abbrev pub joined_at : Name → LogItem → EventHistory → Result EventHistory Refusal
+joined_at name item history = do
+  origin ← found (origin_in name history) 101
+  sender ← found (remembered_at origin history) 101
+  log ← joined item sender.log
+  Ok (with_log_at origin sender log history)
+
+-- a request joins its sender's log, and its event is sent where the log chooses it; the packet's sequence count is the
+-- number of event packets that were sent before, modulo 16,384
+abbrev pub sent_by_log : Origin → Remembered → Moment → ℕ → EventKind → List ℕ → EventHistory → EventHistory × Option (List ℕ)
+sent_by_log origin sender moment id kind text history =
+    let after : EventHistory = with_log_at origin sender (Requested id kind ∷ sender.log) history in
+    let packet : List ℕ = event_packet (length history.sent % 16384) moment sender.name id kind text in
+    if chosen id kind sender.log then (record after { sent = packet ∷ history.sent }, Some packet) else (after, None)
+
+abbrev pub asked_at : Origin → Moment → ℕ → EventKind → List ℕ → EventHistory → EventHistory × Option (List ℕ)
+asked_at origin moment id kind text history =
+    option_map_or (λ (sender : Remembered). sent_by_log origin sender moment id kind text history) (remembered_at origin history) (history, None)
+
+-- the history after a call, and its answer
+abbrev pub happened : EventCall → EventHistory → EventHistory × Answer
+happened (Register seat name) history = unless_refused history (begun_at seat name history)
+happened (Unregister seat) history = unless_refused history (ended_at seat history)
+happened (Send origin moment id kind text) history = with_packet (asked_at origin moment id kind text history)
+happened (SetFilter name id mask) history = unless_refused history (joined_at name (FilterSet id mask) history)
+happened (ResetFilters name) history = unless_refused history (joined_at name FiltersReset history)
+happened (SetTypes name bits on) history = unless_refused history (joined_at name (TypesSet bits on) history)
+
+-- ---- the one by the other
+
+-- what is kept of a sender, and of all
+abbrev pub sender_of : Remembered → Sender
+sender_of sender = record { name = sender.name; events = event_state sender.log }
+
+abbrev pub service_of : EventHistory → EventService
+service_of history = record {
+  host = event_state history.host;
+  places = map (option_map sender_of) history.places;
+  sent = length history.sent % 16384;
+}

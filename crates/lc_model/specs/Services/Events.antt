@@ -1,0 +1,134 @@
+-- Who sends events, and what each call of the event services answers and changes. Types and filters are those of the cFE
+-- user's guide (event services); that senders have seats, and the numbers of the refusals, are this project's own.
+use Rattle.std.specs.Prelude.{◌≡◌, ℕ, ◌+◌, ◌%◌, ◌<◌, Bool, false, ◌||◌, List, [], ◌∷◌, length, replicate, slice_index_or, slice_set, if◌then◌else◌, Option, Some, None, is_some, option_map, Result, Ok}
+use Rattle.std.specs.Option.{option_map_or}
+use Rattle.std.specs.List.{position_from}
+use Rattle.lc_model.specs.declared.record.Moment.{Moment}
+use Rattle.lc_model.specs.declared.rule.EventKind.{EventKind}
+use Rattle.lc_model.specs.Name.{Name, is_named, AreDistinct, host_name}
+use Rattle.lc_model.specs.Refusal.{Refusal, ◌>>=◌, refused, found}
+use Rattle.lc_model.specs.Events.Log.{LogItem, Requested}
+use Rattle.lc_model.specs.Events.Outgoing.{event_packet}
+use Rattle.lc_model.specs.Kept.Summary.{EventState}
+use Rattle.lc_model.specs.Kept.Next.{next_chosen, events_after}
+use Rattle.lc_model.specs.Kept.Call.{new_sender}
+use Rattle.lc_model.specs.Kept.Executive.{seat_count, joined_now}
+
+-- a registered sender: its name, its types and its filters
+pub record Sender : Type 0 where
+  pub name : Name
+  pub events : EventState
+
+-- the event services: HOST's own types and filters, the sender of each seat, and how many event packets were sent, modulo
+-- 16,384
+pub record EventService : Type 0 where
+  pub host : EventState
+  pub places : List (Option Sender)
+  pub sent : ℕ
+
+-- HOST alone is registered, and nothing was sent
+abbrev pub first_events : EventService
+first_events = record { host = new_sender; places = replicate seat_count None; sent = 0 }
+
+-- ---- who is registered
+
+-- the sender of a place has this name
+abbrev pub is_sender : Name → Option Sender → Bool
+is_sender name None = false
+is_sender name (Some sender) = is_named name sender.name
+
+-- the types and filters of the first sender of a name
+abbrev pub events_among : List (Option Sender) → Name → Option EventState
+events_among [] name = None
+events_among (None ∷ places) name = events_among places name
+events_among (Some sender ∷ places) name = if is_named name sender.name then Some sender.events else events_among places name
+
+-- what is held under a name: HOST's types and filters, or a sender's
+abbrev pub sender_named : EventService → Name → Option EventState
+sender_named service name = if is_named name host_name then Some service.host else events_among service.places name
+
+-- whose events: HOST's, or those of the sender of a seat
+abbrev pub Origin : Type 0
+Origin = Option ℕ
+
+-- the place of a name
+abbrev pub origin_named : Name → EventService → Option Origin
+origin_named name service = if is_named name host_name then Some None else option_map Some (position_from (is_sender name) 0 service.places)
+
+-- the sender of a place
+abbrev pub sender_at : Origin → EventService → Option Sender
+sender_at None service = Some (record { name = host_name; events = service.host })
+sender_at (Some seat) service = slice_index_or service.places seat None
+
+-- the services with other types and filters of a place's sender
+abbrev pub with_events : Origin → Sender → EventState → EventService → EventService
+with_events None sender events service = record service { host = events }
+with_events (Some seat) sender events service =
+    record service { places = slice_set service.places seat (Some (record { name = sender.name; events = events })) }
+
+-- ---- what is so between any two calls
+
+-- the names of the senders
+abbrev pub names_of : List (Option Sender) → List Name
+names_of [] = []
+names_of (None ∷ places) = names_of places
+names_of (Some sender ∷ places) = sender.name ∷ names_of places
+
+-- there are eight seats, each sender and HOST have names of their own, and the count is one of a packet
+pub record IsEventService (service : EventService) : Type 0 where
+  pub seats : length service.places ≡ seat_count
+  pub names : AreDistinct (host_name ∷ names_of service.places)
+  pub count : service.sent < 16384
+
+-- ---- senders come and go
+
+-- a seat begins to send events under a name, with no filter and all types but debug on. A seat or a name that is taken is
+-- refused.
+abbrev pub registered_at : ℕ → Name → EventService → Result EventService Refusal
+registered_at seat name service =
+    if is_some (slice_index_or service.places seat None) || is_some (origin_named name service) then refused 103
+    else Ok (record service { places = slice_set service.places seat (Some (record { name = name; events = new_sender })) })
+
+-- a seat sends events no more, and its filters are gone
+abbrev pub unregistered_at : ℕ → EventService → Result EventService Refusal
+unregistered_at seat service =
+    if is_some (slice_index_or service.places seat None) then Ok (record service { places = slice_set service.places seat None })
+    else refused 101
+
+-- ---- types and filters
+
+-- a filter is set, filters are reset, or types are set, of the sender of a name
+abbrev pub commanded : Name → LogItem → EventService → Result EventService Refusal
+commanded name item service = do
+  origin ← found (origin_named name service) 101
+  sender ← found (sender_at origin service) 101
+  events ← joined_now item sender.events
+  Ok (with_events origin sender events service)
+
+-- ---- sending
+
+-- what a sender's request for an event leads to, where so many event packets were sent before: its types and filters, the
+-- number of packets, and the packet, where the event is sent
+pub record Asked : Type 0 where
+  pub events : EventState
+  pub sent : ℕ
+  pub packet : Option (List ℕ)
+
+-- an event is sent where its type is on and its filter lets it through; a request is counted where its type is on
+abbrev pub asked_by : Sender → Moment → ℕ → EventKind → List ℕ → ℕ → Asked
+asked_by sender moment id kind text sent = record {
+  events = events_after (Requested id kind) sender.events;
+  sent = if next_chosen id kind sender.events then (sent + 1) % 16384 else sent;
+  packet = if next_chosen id kind sender.events then Some (event_packet sent moment sender.name id kind text) else None;
+}
+
+-- the services after it, and the packet
+abbrev pub accounted_at : Origin → Sender → Asked → EventService → EventService × Option (List ℕ)
+accounted_at origin sender asked service = (record (with_events origin sender asked.events service) { sent = asked.sent }, asked.packet)
+
+-- an event of HOST or of the sender of a seat: the services afterwards, and the packet that is sent. Where nobody is
+-- registered nothing is.
+abbrev pub event_asked : Origin → Moment → ℕ → EventKind → List ℕ → EventService → EventService × Option (List ℕ)
+event_asked origin moment id kind text service =
+    option_map_or (λ (sender : Sender). accounted_at origin sender (asked_by sender moment id kind text service.sent) service)
+    (sender_at origin service) (service, None)

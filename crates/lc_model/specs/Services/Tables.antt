@@ -1,0 +1,212 @@
+-- Stored files and registered tables, and what each call of the table services answers and changes. Loads, validation,
+-- activation and abortion are the cFE user's guide's (table services); that tables belong to seats, the limits and the numbers
+-- of the refusals are this project's own.
+use Rattle.std.specs.Prelude.{◌≡◌, ℕ, ◌+◌, ◌≤◌, Bool, false, ◌&&◌, ◌||◌, ◌==◌, nat_lt, nat_le, List, [], ◌∷◌, ◌++◌, length, map, replicate, slice_get, slice_index_or, slice_set, if◌then◌else◌, Option, Some, None, is_some, is_none, Result, Ok, Err}
+use Rattle.std.specs.Option.{option_map_or}
+use Rattle.std.specs.List.{position_from, AllByRecursion}
+use Rattle.lc_model.specs.Name.{Name, is_named, AreDistinct, name_in, held, put}
+use Rattle.lc_model.specs.Refusal.{Refusal, ◌>>=◌, refused, found, provided}
+use Rattle.lc_model.specs.Tables.File.{TableFile, opened}
+use Rattle.lc_model.specs.Tables.Slot.{Move, Slot, no_images, loaded, moved, judged, taken, installed}
+use Rattle.lc_model.specs.Command.{TableCommand, Load, Manage}
+use Rattle.lc_model.specs.Host.World.{max_files}
+use Rattle.lc_model.specs.Host.React.{max_file_size}
+use Rattle.lc_model.specs.Kept.Executive.{seat_count}
+
+-- a registered table: its name, the one or two sizes that its images may have, in bytes, and its images
+pub record Table : Type 0 where
+  pub name : Name
+  pub size : ℕ
+  pub other : Option ℕ
+  pub slot : Slot (List ℕ)
+
+-- the stored files, each name once, and the tables of each seat in the order in which they were registered
+pub record TableService : Type 0 where
+  pub files : List (Name × List ℕ)
+  pub places : List (List Table)
+
+-- a seat has at most so many tables
+abbrev pub tables_a_seat : ℕ
+tables_a_seat = 2
+
+-- nothing is stored and no table is registered
+abbrev pub first_tables : TableService
+first_tables = record { files = []; places = replicate seat_count [] }
+
+-- ---- files
+
+-- the files with one more, in place of another of its name. One that is too long, or finds no place, is refused.
+abbrev pub files_with : Name → List ℕ → List (Name × List ℕ) → Result (List (Name × List ℕ)) Refusal
+files_with name bytes files =
+    if nat_lt max_file_size (length bytes) then refused 119
+    else if nat_le max_files (length files) && is_none (held name files) then refused 118
+    else Ok (put name bytes files)
+
+-- a file is stored
+abbrev pub file_put : Name → List ℕ → TableService → Result TableService Refusal
+file_put name bytes service = do
+  files ← files_with name bytes service.files
+  Ok (record service { files = files })
+
+-- ---- which table
+
+-- the tables of all seats
+abbrev pub Places : Type 0
+Places = List (List Table)
+
+-- a table of a seat, by its number among the seat's
+pub record Handle : Type 0 where
+  pub seat : ℕ
+  pub number : ℕ
+
+-- the tables of a seat
+abbrev pub tables_at : ℕ → Places → List Table
+tables_at seat places = slice_index_or places seat []
+
+-- the table of a handle
+abbrev pub table_at : Handle → Places → Option Table
+table_at handle places = slice_get (tables_at handle.seat places) handle.number
+
+-- the number of the first table of a name, among these tables
+abbrev pub number_named : Name → List Table → Option ℕ
+number_named name tables = position_from (λ (table : Table). is_named name table.name) 0 tables
+
+-- its handle, among the tables of the seats from this one on
+unfoldable pub handle_from : Name → ℕ → Places → Option Handle
+handle_from name seat [] = None
+handle_from name seat (tables ∷ places) =
+    option_map_or (λ number. Some (record { seat = seat; number = number })) (number_named name tables) (handle_from name (seat + 1) places)
+
+-- the handle of the first table of a name
+abbrev pub handle_named : Name → Places → Option Handle
+handle_named name places = handle_from name 0 places
+
+-- an image may have this size
+abbrev pub fits_table : Table → ℕ → Bool
+fits_table table size = size == table.size || option_map_or (λ other. size == other) table.other false
+
+-- ---- tables come and go
+
+-- a table without images
+abbrev pub new_table : Name → ℕ → Option ℕ → Table
+new_table name size other = record { name = name; size = size; other = other; slot = no_images }
+
+-- a seat registers one table more. A third one, or a name that is taken, is refused.
+abbrev pub table_registered : ℕ → Name → ℕ → Option ℕ → TableService → Result TableService Refusal
+table_registered seat name size other service =
+    let tables : List Table = tables_at seat service.places in
+    if nat_le tables_a_seat (length tables) || is_some (handle_named name service.places) then refused 120
+    else Ok (record service { places = slice_set service.places seat (tables ++ new_table name size other ∷ []) })
+
+-- its handle: it comes behind the seat's others
+abbrev pub new_handle : ℕ → TableService → Handle
+new_handle seat service = record { seat = seat; number = length (tables_at seat service.places) }
+
+-- all tables of a seat go, with their images
+abbrev pub tables_unregistered : ℕ → TableService → TableService
+tables_unregistered seat service = record service { places = slice_set service.places seat [] }
+
+-- ---- images
+
+-- the slot of a handle; of a handle without a table nothing is asked
+abbrev pub slot_at : Handle → TableService → Slot (List ℕ)
+slot_at handle service = option_map_or (λ (table : Table). table.slot) (table_at handle service.places) no_images
+
+-- a table with this slot, in its place
+abbrev pub with_slot : Handle → Table → Places → Slot (List ℕ) → Places
+with_slot handle table places slot =
+    slice_set places handle.seat (slice_set (tables_at handle.seat places) handle.number (record table { slot = slot }))
+
+-- a handle's slot changed
+abbrev pub changed_among : (Slot (List ℕ) → Slot (List ℕ)) → Handle → Places → Places
+changed_among change handle places = option_map_or (λ (table : Table). with_slot handle table places (change table.slot)) (table_at handle places) places
+
+abbrev pub slot_changed : (Slot (List ℕ) → Slot (List ℕ)) → Handle → TableService → TableService
+slot_changed change handle service = record service { places = changed_among change handle service.places }
+
+-- the owner's calls: the verdict on an image that was asked about, taking an activated one, and using one of its own
+abbrev pub verdict_set : Handle → Bool → TableService → TableService
+verdict_set handle valid service = slot_changed (judged valid) handle service
+
+abbrev pub image_taken : Handle → TableService → TableService
+image_taken handle service = slot_changed taken handle service
+
+abbrev pub image_installed : Handle → List ℕ → TableService → TableService
+image_installed handle image service = slot_changed (installed image) handle service
+
+-- the image of a file, where it opens
+abbrev pub image_in : Result TableFile ℕ → Option (List ℕ)
+image_in (Ok file) = Some file.image
+image_in (Err fault) = None
+
+-- the image of a stored file, where the file opens
+abbrev pub stored_image : Name → TableService → Option (List ℕ)
+stored_image name service = option_map_or (λ bytes. image_in (opened bytes)) (held name service.files) None
+
+-- the image fits a handle's table
+abbrev pub fits_at : Handle → TableService → List ℕ → Bool
+fits_at handle service image = option_map_or (λ (table : Table). fits_table table (length image)) (table_at handle service.places) false
+
+-- ---- commands
+
+-- a file's fault, as a refusal
+abbrev pub file_refusal : Result TableFile ℕ → Result TableFile Refusal
+file_refusal (Ok file) = Ok file
+file_refusal (Err fault) = Err (112 ∷ fault ∷ [])
+
+-- the tables after a command that moves the waiting image of one
+abbrev pub moved_among : Move → Name → Places → Result Places Refusal
+moved_among move name places = do
+  handle ← found (handle_named name places) 113
+  table ← found (table_at handle places) 113
+  slot ← moved move table.slot
+  Ok (with_slot handle table places slot)
+
+-- the tables after an image is loaded onto one
+abbrev pub image_loaded_among : List ℕ → Name → Places → Result Places Refusal
+image_loaded_among image name places = do
+  handle ← found (handle_named name places) 113
+  table ← found (table_at handle places) 113
+  fitting ← provided (fits_table table (length image)) 114 image
+  slot ← loaded fitting table.slot
+  Ok (with_slot handle table places slot)
+
+-- the tables after a file is loaded
+abbrev pub loaded_among : List ℕ → Places → Result Places Refusal
+loaded_among bytes places = do
+  file ← file_refusal (opened bytes)
+  image_loaded_among file.image (name_in file.name_field) places
+
+-- with these tables
+abbrev pub with_places : TableService → Result Places Refusal → Result TableService Refusal
+with_places service r = do
+  places ← r
+  Ok (record service { places = places })
+
+-- a command to a table
+abbrev pub table_commanded : TableCommand → TableService → Result TableService Refusal
+table_commanded (Load name) service = do
+  bytes ← found (held name service.files) 111
+  with_places service (loaded_among bytes service.places)
+table_commanded (Manage move name) service = with_places service (moved_among move name service.places)
+
+-- ---- what is so between any two calls
+
+-- how many of these tables have a name
+unfoldable pub times_in : Name → List Table → ℕ
+times_in name [] = 0
+times_in name (table ∷ tables) = (if is_named name table.name then 1 else 0) + times_in name tables
+
+-- the same of all seats' tables
+unfoldable pub times_among : Name → Places → ℕ
+times_among name [] = 0
+times_among name (tables ∷ places) = times_in name tables + times_among name places
+
+-- at most eight files, each name once and each within its bound; eight seats with at most two tables each, and no name twice
+pub record IsTableService (service : TableService) : Type 0 where
+  pub few_files : length service.files ≤ max_files
+  pub file_names : AreDistinct (map (λ (file : Name × List ℕ). file.0) service.files)
+  pub file_sizes : AllByRecursion (λ (file : Name × List ℕ). length file.1 ≤ max_file_size) service.files
+  pub seats : length service.places ≡ seat_count
+  pub few_tables : AllByRecursion (λ (tables : List Table). length tables ≤ tables_a_seat) service.places
+  pub table_names : (name : Name) → times_among name service.places ≤ 1

@@ -1,0 +1,28 @@
+//! The event services by seats, by names and by whole logs.
+
+ghost use Rattle.std.specs.Prelude.{List, ℕ};
+ghost use Rattle.lc_model.specs.Laws.Senders.{AllSameByLogs, ChangesKeep, CommandsByName, CommandsKeep, EventsByName, EventsKeep, FirstIsService, RegisteringByName, RegisteringKeeps, SameByLogs, UnregisteringByName, UnregisteringKeeps};
+
+/// Eight seats, names that differ, and a count below 16,384: no call of the event services changes that.
+pub fn event_services_stay_sound()
+    ensures first { FirstIsService }
+    ensures registering { RegisteringKeeps }
+    ensures unregistering { UnregisteringKeeps }
+    ensures commands { CommandsKeep }
+    ensures events { EventsKeep }
+    ensures changes { ChangesKeep }
+{}
+
+/// What the event services hold under names changes as the host in numbers says.
+pub fn event_services_go_by_names()
+    ensures registering { RegisteringByName }
+    ensures unregistering { UnregisteringByName }
+    ensures commands { CommandsByName }
+    ensures events { EventsByName (List ℕ) }
+{}
+
+/// Over every list of calls an event is sent exactly where the log since registration chooses it.
+pub fn event_services_go_by_logs()
+    ensures call { SameByLogs }
+    ensures calls { AllSameByLogs }
+{}

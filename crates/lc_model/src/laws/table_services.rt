@@ -1,0 +1,14 @@
+//! The table services by their calls.
+
+ghost use Rattle.lc_model.specs.Laws.TableServices.{ChangesStaySound, CommandsStaySound, FilesStaySound, FirstIsSound, RegisteringStaysSound, UnregisteringStaysSound};
+
+/// Whatever is called, there are at most eight files under names of their own, within their bound, and at most two tables on a
+/// seat, none of a name that another has.
+pub fn table_services_stay_sound()
+    ensures first { FirstIsSound }
+    ensures files { FilesStaySound }
+    ensures registering { RegisteringStaysSound }
+    ensures unregistering { UnregisteringStaysSound }
+    ensures commands { CommandsStaySound }
+    ensures changes { ChangesStaySound }
+{}

@@ -1,0 +1,21 @@
+//! The message ids that the host knows (CCSDS 133.0-B, cFE user's guide; the numbers are this project's own).
+
+/// Telemetry with a secondary header, from the first to the last.
+pub const FIRST_TELEMETRY: u16 = 0x0800;
+
+pub const LAST_TELEMETRY: u16 = 0x0FFF;
+
+/// Event packets, out.
+pub const EVENT: u16 = 0x0808;
+
+/// Housekeeping of the Limit Checker, out.
+pub const LC_HOUSEKEEPING: u16 = 0x08A7;
+
+/// Sequence requests, out.
+pub const SEQUENCE: u16 = 0x18A9;
+
+/// Ticks, inside the host.
+pub const TICK: u16 = 0x18C0;
+
+/// Requests to sample the Limit Checker's rules.
+pub const SAMPLE: u16 = 0x18A6;

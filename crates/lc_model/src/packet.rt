@@ -1,0 +1,140 @@
+//! Packets: why they are refused, what is read of them, and sequence requests (CCSDS 133.0-B and the cFE user's guide; the
+//! time code and the checks on what comes in are this project's own).
+
+ghost use Rattle.std.specs.Prelude.{◌≡◌, ◌≤◌, ◌+◌, ◌%◌, ◌<◌, ◌^◌, None, length};
+ghost use Rattle.lc_model.specs.Packet.{function_code, header_fault, is_own_mid, message_id, parity, stream_fault};
+ghost use Rattle.lc_model.specs.Events.Outgoing.{sequence_request};
+
+use crate::mids;
+use crate::numbers::u16_at;
+
+/// The bytes of a command's headers, which every packet has.
+const COMMAND_HEADERS: usize = 8;
+
+/// The bytes of telemetry's headers.
+const TELEMETRY_HEADERS: usize = 12;
+
+/// The most bytes of a packet.
+pub const LONGEST_PACKET: usize = 2_048;
+
+/// The bytes of a sequence request.
+pub const REQUEST_SIZE: usize = 12;
+
+/// Sequence counts are below this number.
+const COUNT_END: u16 = 16_384;
+
+// ---- reading
+
+/// The message id: version, type, secondary header flag and application id.
+pub fn message_id(packet: &[u8]) -> u16
+    requires { 2 ≤ length packet.now }
+    ensures { result ≡ message_id packet.now }
+{
+    u16_at(packet, 0)
+}
+
+/// A command's function code.
+pub fn function_code(command: &[u8]) -> u8
+    requires { 7 ≤ length command.now }
+    ensures { result ≡ function_code command.now }
+{
+    command[6] % 128
+}
+
+/// Why the bytes are no packet: 1 too short for its headers, 2 another version than 0, 3 no secondary header, 4 a part of a
+/// packet, 5 another length than its header says, 6 over 2,048 bytes. Without a fault they are a whole packet, of at least
+/// the eight bytes of a command's headers.
+pub fn header_fault(bytes: &[u8]) -> Option<u8>
+    ensures fault { result ≡ header_fault bytes.now }
+    ensures shortest { result ≡ None → COMMAND_HEADERS ≤ length bytes.now }
+    ensures longest { result ≡ None → length bytes.now ≤ LONGEST_PACKET }
+{
+    let size = bytes.len();
+    if size < COMMAND_HEADERS {
+        return Some(1);
+    }
+    let mid = u16_at(bytes, 0);
+    let is_command = mid / 4096 % 2 == 1;
+    if !is_command && size < TELEMETRY_HEADERS {
+        Some(1)
+    } else if mid / 8192 != 0 {
+        Some(2)
+    } else if mid / 2048 % 2 != 1 {
+        Some(3)
+    } else if u16_at(bytes, 2) / 16384 != 3 {
+        Some(4)
+    } else if u16_at(bytes, 4) as usize + 7 != size {
+        Some(5)
+    } else if size > LONGEST_PACKET {
+        Some(6)
+    } else {
+        None
+    }
+}
+
+/// Whether the message id is the host's own to send.
+fn is_own_mid(mid: u16) -> bool
+    ensures { result ≡ is_own_mid mid }
+{
+    mid == mids::EVENT || mid == mids::LC_HOUSEKEEPING || mid == mids::SEQUENCE || mid == mids::TICK
+}
+
+/// Why the bytes are no packet that a stream may bring: 1 to 6 as in any packet, 7 a message id that is the host's own to
+/// send.
+pub fn stream_fault(bytes: &[u8]) -> Option<u8>
+    ensures fault { result ≡ stream_fault bytes.now }
+    ensures shortest { result ≡ None → COMMAND_HEADERS ≤ length bytes.now }
+    ensures longest { result ≡ None → length bytes.now ≤ LONGEST_PACKET }
+{
+    if let Some(reason) = header_fault(bytes) {
+        return Some(reason);
+    }
+    if is_own_mid(message_id(bytes)) {
+        return Some(7);
+    }
+    None
+}
+
+// ---- writing
+
+/// The sequence count behind this one.
+pub fn next_count(count: u16) -> u16
+    requires { count < 2 ^ 14 }
+    ensures next { result ≡ (count + 1) % 16384 }
+    ensures below { result < 2 ^ 14 }
+{
+    (count + 1) % COUNT_END
+}
+
+/// The exclusive or of all bytes.
+fn parity(bytes: &[u8]) -> u8
+    ensures { result ≡ parity bytes.now }
+{
+    bytes.iter().fold(0, |parity, byte| parity ^ byte)
+}
+
+/// The packet that requests a command sequence: message id 0x18A9, whole (flags 3) with this sequence count, code 4, a
+/// checksum that makes the exclusive or of all bytes 0xFF, the sequence's number and two zeros.
+pub fn sequence_request(count: u16, number: u16) -> [u8; REQUEST_SIZE]
+    requires { count < 2 ^ 14 }
+    ensures { result ≡ sequence_request count number }
+{
+    let [count_high, count_low] = (0xC000 + count).to_be_bytes();
+    let [number_high, number_low] = number.to_be_bytes();
+    let mut packet = [
+        0x18,
+        0xA9,
+        count_high,
+        count_low,
+        0,
+        5,
+        4,
+        0,
+        number_high,
+        number_low,
+        0,
+        0,
+    ];
+    packet[7] = 0xFF ^ parity(&packet);
+    packet
+}

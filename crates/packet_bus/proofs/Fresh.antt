@@ -1,0 +1,37 @@
+-- A bus without pipes.
+use Rattle.std.proofs.Common.{◌≡◌, ◌∙◌, ap, sym, refl, ℕ, zero, suc, ◌+◌, ◌<◌, ◌≤◌, Bool, false, List, [], ◌∷◌, length, map, replicate, arith}
+use Rattle.std.specs.Prelude.{Option, Some, None, slice_index_or}
+use Rattle.packet_bus.specs.Slots.{Kept, slot_at, no_packet, no_slots, occurrences}
+use Rattle.packet_bus.specs.Line.{Line, slots_in, has_slots, is_long, hears_mid}
+use Rattle.packet_bus.specs.Inside.{no_lines, nobody, place_at, waiting_slots, audience_of, IsBus}
+
+-- what is the same everywhere is so at each place, and beyond
+same_at : {X : Type 0} (n k : ℕ) (x : X) → slice_index_or (replicate n x) k x ≡ x
+same_at zero k x = refl
+same_at (suc n) zero x = refl
+same_at (suc n) (suc k) x = same_at n k x
+
+length_of : {X : Type 0} (n : ℕ) (x : X) → length (replicate n x) ≡ n
+length_of zero x = refl
+length_of (suc n) x = ap suc (length_of n x)
+
+rows_are : (n : ℕ) → n ≡ 8192 → length (replicate n nobody) ≡ 8192
+rows_are n e = length_of n nobody ∙ e
+
+nobody_hears : (n mid : ℕ) → audience_of (replicate n nobody) mid ≡ map (hears_mid mid) no_lines
+nobody_hears n mid = same_at n mid nobody
+
+nothing_kept : (n slot : ℕ) → 0 ≡ (slot_at (replicate n no_packet) slot).readers
+nothing_kept n slot = ap (λ (kept : Kept). kept.readers) (sym (same_at n slot no_packet))
+
+module _ (slots rows : ℕ) (all_rows : rows ≡ 8192) where
+  pub fresh : IsBus no_lines (replicate slots no_packet) (replicate rows nobody) nobody nobody
+  fresh = record {
+    eight = refl;
+    readers = λ slot. nothing_kept slots slot;
+    short = λ seat. let none : place_at no_lines seat ≡ None = same_at 8 seat None in rw none (omega arith);
+    rows = rows_are rows all_rows;
+    heard = λ mid below. nobody_hears rows mid;
+    waits = refl;
+    is_full = refl;
+  }

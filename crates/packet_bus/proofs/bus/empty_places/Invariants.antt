@@ -1,0 +1,10 @@
+use Rattle.std.proofs.Common.{◌≡◌, ◌≤◌, replicate}
+use Rattle.std.specs.Prelude.{vec_capacity, vec_len, None}
+use Rattle.packet_bus.proofs.bus.empty_places.Given as goal
+
+abbrev pub invariant-loop : goal.invariant-loop
+invariant-loop l = record {
+  places : l.places.items ≡ replicate l.counter None;
+  len : vec_len l.places ≡ l.counter;
+  room : 8 ≤ vec_capacity l.places;
+}

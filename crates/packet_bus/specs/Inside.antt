@@ -1,0 +1,78 @@
+-- What the parts of the bus are together (this project's own).
+use Rattle.std.specs.Prelude.{◌≡◌, ℕ, ◌<◌, ◌≤◌, Bool, true, false, if◌then◌else◌, List, [], ◌∷◌, length, map, replicate, slice_index_or, slice_set, Option, Some, None, is_some, option_map}
+use Rattle.std.specs.List.{flat_map}
+use Rattle.lc_model.specs.Services.Bus.{Publication, Queue, Bus, pipe_at}
+use Rattle.packet_bus.specs.Slots.{Kept, slot_at, occurrences}
+use Rattle.packet_bus.specs.Line.{Line, slots_in, has_slots, is_long, hears_mid, with_slot}
+
+-- ---- what the bus is
+
+-- what waits in a slot: the slot's number serves as the publication's
+abbrev pub publication_in : List Kept → ℕ → Publication
+publication_in pool slot = record { number = slot; bytes = (slot_at pool slot).packet }
+
+-- a pipe by its slots
+abbrev pub queue_over : List Kept → Line → Queue
+queue_over pool line = record { subscriptions = line.subscriptions; waiting = map (publication_in pool) line.slots }
+
+-- the bus by its pool and its places
+abbrev pub shown : List Kept → List (Option Line) → Bus
+shown pool places = map (option_map (queue_over pool)) places
+
+-- ---- how its parts belong together
+
+-- the place of a seat
+abbrev pub place_at : List (Option Line) → ℕ → Option Line
+place_at places seat = slice_index_or places seat None
+
+-- the slots that wait anywhere, one place after the other
+abbrev pub waiting_slots : List (Option Line) → List ℕ
+waiting_slots places = flat_map slots_in places
+
+-- no pipe on any seat
+abbrev pub no_lines : List (Option Line)
+no_lines = replicate 8 None
+
+-- no seat
+abbrev pub nobody : List Bool
+nobody = replicate 8 false
+
+-- who is subscribed to a message id
+abbrev pub audience_of : List (List Bool) → ℕ → List Bool
+audience_of audience mid = slice_index_or audience mid nobody
+
+pub record IsBus (places : List (Option Line)) (pool : List Kept) (audience : List (List Bool)) (ready full : List Bool) : Type 0 where
+  pub eight : length places ≡ 8
+  -- each slot has as many readers as pipes wait for it
+  pub readers : (slot : ℕ) → occurrences slot (waiting_slots places) ≡ (slot_at pool slot).readers
+  pub short : (seat : ℕ) → length (slots_in (place_at places seat)) ≤ 72
+  -- a row for each message id that passes the header check
+  pub rows : length audience ≡ 8192
+  pub heard : (mid : ℕ) → mid < 8192 → audience_of audience mid ≡ map (hears_mid mid) places
+  pub waits : ready ≡ map has_slots places
+  pub is_full : full ≡ map is_long places
+
+-- ---- steps
+
+-- the pipe of a seat changes
+abbrev pub changed : ℕ → (Queue → Queue) → Bus → Bus
+changed seat change bus = slice_set bus seat (option_map change (pipe_at seat bus))
+
+-- a pipe without packets, and without subscriptions
+abbrev pub without_packets : Queue → Queue
+without_packets queue = record queue { waiting = [] }
+
+abbrev pub without_subscriptions : Queue → Queue
+without_subscriptions queue = record queue { subscriptions = [] }
+
+-- a slot is put behind what waits on these seats
+abbrev pub delivered : ℕ → List Bool → List (Option Line) → List (Option Line)
+delivered slot hearers [] = []
+delivered slot [] (place ∷ places) = place ∷ places
+delivered slot (true ∷ hearers) (place ∷ places) = option_map (with_slot slot) place ∷ delivered slot hearers places
+delivered slot (false ∷ hearers) (place ∷ places) = place ∷ delivered slot hearers places
+
+-- these seats have pipes with room
+abbrev pub HaveRoom : List Bool → List (Option Line) → Type 0
+HaveRoom hearers places =
+    (seat : ℕ) → slice_index_or hearers seat false ≡ true → (is_some (place_at places seat) ≡ true) × (is_long (place_at places seat) ≡ false)

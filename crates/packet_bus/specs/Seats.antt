@@ -1,0 +1,17 @@
+-- Sets of seats, in the bits of a byte: seat 0 is the lowest bit.
+use Rattle.std.specs.Prelude.{ℕ, ◌==◌, Bool, true, false, ◌&&◌, ◌||◌, List, [], ◌∷◌, map}
+use Rattle.std.specs.Int.{bit_at}
+
+-- whether a seat is in a set, where that is said of each
+abbrev pub is_in : Bool → Bool
+is_in inside = inside
+
+-- for each seat, in order, whether it is in the set
+abbrev pub seats_in : ℕ → List Bool
+seats_in bits = map (λ seat. bit_at bits seat == 1) (0 ∷ 1 ∷ 2 ∷ 3 ∷ 4 ∷ 5 ∷ 6 ∷ 7 ∷ [])
+
+-- whether a seat is in both
+abbrev pub meet : List Bool → List Bool → Bool
+meet [] others = false
+meet (inside ∷ seats) [] = false
+meet (inside ∷ seats) (other ∷ others) = (inside && other) || meet seats others

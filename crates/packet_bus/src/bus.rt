@@ -1,0 +1,310 @@
+//! The bus (cFE user's guide, software bus services; the pool is this project's own).
+
+ghost use Rattle.std.specs.Prelude.{◌≡◌, ◌<◌, ◌+◌, ◌++◌, true, false, length, drop, map, is_some, IfOk, IfErr, OnOk, OnErr, replicate, IfSome, IfNone, option_map, slice_set};
+ghost use Rattle.lc_model.specs.Kept.Executive.{ready_seat};
+ghost use Rattle.lc_model.specs.Services.Bus as model;
+ghost use Rattle.lc_model.specs.Services.Bus.{after, refusal_of, seen, pipe_at, oldest_at, no_pipes, publish_refusal, IsPublished, free_publications};
+ghost use Rattle.packet_bus.specs.Error.{refusal_in};
+ghost use Rattle.packet_bus.specs.declared.error.BusError.TheVariants.{Memory};
+ghost use Rattle.packet_bus.specs.Line.{has_slots, is_long};
+ghost use Rattle.packet_bus.specs.Inside.{changed, delivered, nobody, no_lines, without_packets, without_subscriptions, HaveRoom};
+ghost use Rattle.packet_bus.specs.Filled.{filled};
+
+use crate::BusError;
+use crate::header::checked_message_id;
+use crate::pipe::Place;
+use crate::pool::{PACKET_SIZE, Pool};
+use crate::seats::SeatSet;
+use lc_model::Seat;
+use std::alloc::{AllocError, Global};
+use std::marker::Model;
+
+/// The message ids of packet version 0. No packet has another.
+const MESSAGE_IDS: usize = 8192;
+
+/// The packet bus: for each seat none or one pipe, with up to 256 subscriptions and 72 packets.
+///
+/// A packet is kept once, however many pipes wait for it. Who hears a message id, which seat is the least with a packet, and
+/// which slot is free is found in constant time. All memory is taken by `new`. Contracts see the pipes as lists of
+/// subscriptions and packets.
+#[derive(Drop)]
+pub struct Bus {
+    places: Vec<Place>,
+    pool: Pool,
+    /// For each message id who is subscribed to it.
+    audience: Vec<SeatSet>,
+    /// The seats with a packet.
+    ready: SeatSet,
+    /// The seats whose pipes have no room.
+    full: SeatSet,
+}
+
+impl Model for Bus {
+    ghost use Rattle.std.specs.Prelude.{List, Option};
+    ghost use Rattle.lc_model.specs.Services.Bus.{Queue};
+    ghost use Rattle.packet_bus.specs.Inside.{shown, IsBus};
+
+    ghost Value = { List (Option Queue) };
+
+    ghost view = { λ b. shown b.pool b.places.items };
+
+    ghost invariant = { λ b. IsBus b.places.items b.pool b.audience.items b.ready b.full };
+}
+
+/// A row for each message id, with nobody in it.
+fn empty_rows(alloc: Global) -> Result<Vec<SeatSet>, AllocError>
+    ensures { IfOk result (λ rows. rows.items ≡ replicate 8192 nobody) }
+{
+    let mut rows = Vec::with_capacity(alloc, MESSAGE_IDS)?;
+    for _ in 0..MESSAGE_IDS {
+        rows.push_reserved(SeatSet::new());
+    }
+    Ok(rows)
+}
+
+/// A place for each seat, without a pipe.
+fn empty_places(alloc: Global) -> Result<Vec<Place>, AllocError>
+    ensures { IfOk result (λ places. places.items ≡ no_lines) }
+{
+    let mut places = Vec::with_capacity(alloc, Seat::COUNT)?;
+    for _ in 0..Seat::COUNT {
+        places.push_reserved(Place::new(alloc)?);
+    }
+    Ok(places)
+}
+
+/// Puts a slot behind what waits on these seats, whose pipes have room.
+fn deliver(
+    slot: u16,
+    hearers: SeatSet,
+    places: &mut Vec<Place>,
+    ready: &mut SeatSet,
+    full: &mut SeatSet,
+)
+    requires eight { length places.old.items ≡ 8 }
+    requires room { HaveRoom hearers places.old.items }
+    requires ready { ready.old ≡ map has_slots places.old.items }
+    requires full { full.old ≡ map is_long places.old.items }
+    ensures places { places.new.items ≡ delivered slot hearers places.old.items }
+    ensures ready { ready.new ≡ map has_slots places.new.items }
+    ensures full { full.new ≡ map is_long places.new.items }
+{
+    let mut left = hearers;
+    while let Some(seat) = left.least() {
+        left.remove(seat);
+        let at = seat.index();
+        places[at].push(slot);
+        ready.insert(seat);
+        if places[at].is_full() {
+            full.insert(seat);
+        }
+    }
+}
+
+impl Bus {
+    /// A bus without pipes. It takes all the memory there will ever be; out of memory is the only error.
+    pub fn new(alloc: Global) -> Result<Bus, BusError>
+        ensures pipes { IfOk result (λ bus. bus ≡ no_pipes) }
+        ensures memory { IfErr result (λ e. e ≡ Memory) }
+    {
+        Ok(Bus {
+            places: empty_places(alloc)?,
+            pool: Pool::new(alloc)?,
+            audience: empty_rows(alloc)?,
+            ready: SeatSet::new(),
+            full: SeatSet::new(),
+        })
+    }
+
+    /// The seat gets a pipe, without subscriptions. 94 where it has one.
+    pub fn add_pipe(&mut self, seat: Seat) -> Result<(), BusError>
+        ensures after { self.new ≡ after self.old (model.pipe_added seat self.old) }
+        ensures answer { refusal_in result ≡ refusal_of (model.pipe_added seat self.old) }
+        ensures eight { length self.old ≡ 8 }
+    {
+        if self.has_pipe(seat) {
+            return Err(BusError::TooManyPipes);
+        }
+        self.places[seat.index()].open();
+        Ok(())
+    }
+
+    /// The seat's pipe goes, with its subscriptions and packets. 93 where it has none.
+    pub fn remove_pipe(&mut self, seat: Seat) -> Result<(), BusError>
+        ensures after { self.new ≡ after self.old (model.pipe_removed seat self.old) }
+        ensures answer { refusal_in result ≡ refusal_of (model.pipe_removed seat self.old) }
+        ensures eight { length self.old ≡ 8 }
+    {
+        if !self.has_pipe(seat) {
+            return Err(BusError::NoPipe);
+        }
+        self.discard_all(seat);
+        self.forget_all(seat);
+        self.places[seat.index()].close();
+        Ok(())
+    }
+
+    /// The seat's pipe hears packets of a message id from now on; one that it hears already changes nothing. 93 where there is
+    /// no pipe, 95 where it has 256 subscriptions to others.
+    pub fn subscribe(&mut self, seat: Seat, mid: u16) -> Result<(), BusError>
+        ensures after { self.new ≡ after self.old (model.subscribed seat mid self.old) }
+        ensures answer { refusal_in result ≡ refusal_of (model.subscribed seat mid self.old) }
+        ensures eight { length self.old ≡ 8 }
+    {
+        if !self.has_pipe(seat) {
+            return Err(BusError::NoPipe);
+        }
+        let at = seat.index();
+        if self.places[at].is_subscribed(mid) {
+            return Ok(());
+        }
+        if self.places[at].subscriptions() == 256 {
+            return Err(BusError::TooManySubscriptions);
+        }
+        self.places[at].subscribe(mid);
+        if (mid as usize) < MESSAGE_IDS {
+            self.audience[mid as usize].insert(seat);
+        }
+        Ok(())
+    }
+
+    /// The seat's pipe hears packets of a message id no more; what waits in it stays. One that it doesn't hear changes nothing.
+    /// 93 where there is no pipe.
+    pub fn unsubscribe(&mut self, seat: Seat, mid: u16) -> Result<(), BusError>
+        ensures after { self.new ≡ after self.old (model.unsubscribed seat mid self.old) }
+        ensures answer { refusal_in result ≡ refusal_of (model.unsubscribed seat mid self.old) }
+        ensures eight { length self.old ≡ 8 }
+    {
+        if !self.has_pipe(seat) {
+            return Err(BusError::NoPipe);
+        }
+        self.forget(seat, mid);
+        Ok(())
+    }
+
+    /// Each pipe that is subscribed to the packet's message id gets it once, behind what waits. 91 where the bytes are no packet,
+    /// and 92 where one of these pipes holds 72 packets; then none gets it.
+    pub fn publish(&mut self, packet: &[u8]) -> Result<(), BusError>
+        ensures answer { refusal_in result ≡ publish_refusal packet.now self.old }
+        ensures published { OnOk result (IsPublished packet.now self.old self.new) }
+        ensures refused { OnErr result (self.new ≡ self.old) }
+    {
+        let mid = match checked_message_id(packet) {
+            Ok(mid) => mid,
+            Err(reason) => return Err(BusError::BadPacket { reason }),
+        };
+        let hearers = self.audience[mid as usize].copy();
+        if hearers.meets(&self.full) {
+            return Err(BusError::PipeFull);
+        }
+        let readers = hearers.count();
+        if readers > 0 {
+            let slot = self.pool.keep(packet, readers);
+            deliver(
+                slot,
+                hearers,
+                &mut self.places,
+                &mut self.ready,
+                &mut self.full,
+            );
+        }
+        Ok(())
+    }
+
+    /// Takes the oldest packet of the seat's pipe into the front of a buffer, whose further bytes stay, and answers how many
+    /// bytes it has; None where no packet waits. 93 where the seat has no pipe.
+    pub fn receive(
+        &mut self,
+        seat: Seat,
+        buffer: &mut [u8; PACKET_SIZE],
+    ) -> Result<Option<usize>, BusError>
+        ensures after { self.new ≡ after self.old (model.received seat self.old) }
+        ensures answer { refusal_in result ≡ refusal_of (model.received seat self.old) }
+        ensures size { IfOk result (λ size. size ≡ option_map length (oldest_at seat self.old)) }
+        ensures buffer { buffer.new ≡ filled (oldest_at seat self.old) buffer.old }
+        ensures eight { length self.old ≡ 8 }
+    {
+        if !self.has_pipe(seat) {
+            return Err(BusError::NoPipe);
+        }
+        let size = self.read_oldest(seat, buffer);
+        self.discard_oldest(seat);
+        Ok(size)
+    }
+
+    /// The least seat with a packet.
+    pub fn least_ready(&self) -> Option<Seat>
+        ensures least { result ≡ ready_seat (seen self.now) }
+        ensures eight { length self.now ≡ 8 }
+    {
+        self.ready.least()
+    }
+
+    /// 576 less the number of publications that wait in a pipe.
+    pub fn free(&self) -> u32
+        ensures { result ≡ free_publications self.now }
+    {
+        self.pool.free() as u32
+    }
+
+    fn has_pipe(&self, seat: Seat) -> bool
+        ensures has { result ≡ is_some (pipe_at seat self.now) }
+        ensures eight { length self.now ≡ 8 }
+    {
+        self.places[seat.index()].is_open()
+    }
+
+    /// Copies the oldest packet of a seat to the front of a buffer, and answers how many bytes it has.
+    fn read_oldest(&self, seat: Seat, buffer: &mut [u8; PACKET_SIZE]) -> Option<usize>
+        ensures size { result ≡ option_map length (oldest_at seat self.now) }
+        ensures buffer { buffer.new ≡ filled (oldest_at seat self.now) buffer.old }
+    {
+        let slot = self.places[seat.index()].first()?;
+        Some(self.pool.read(slot, buffer))
+    }
+
+    /// The oldest packet of a seat is taken, and its slot released. Answers whether there was one.
+    fn discard_oldest(&mut self, seat: Seat) -> bool
+        ensures after { self.new ≡ changed seat model.without_oldest self.old }
+        ensures some { result ≡ is_some (oldest_at seat self.old) }
+        ensures eight { length self.old ≡ 8 }
+    {
+        let at = seat.index();
+        let Some(slot) = self.places[at].pop() else {
+            return false;
+        };
+        self.pool.release(slot);
+        self.full.remove(seat);
+        if !self.places[at].is_ready() {
+            self.ready.remove(seat);
+        }
+        true
+    }
+
+    /// All packets of a seat are taken.
+    fn discard_all(&mut self, seat: Seat)
+        ensures { self.new ≡ changed seat without_packets self.old }
+    {
+        while self.discard_oldest(seat) {}
+    }
+
+    /// A seat's pipe is no longer subscribed to a message id.
+    fn forget(&mut self, seat: Seat, mid: u16)
+        ensures after { self.new ≡ changed seat (model.parted mid) self.old }
+        ensures eight { length self.old ≡ 8 }
+    {
+        self.places[seat.index()].unsubscribe(mid);
+        if (mid as usize) < MESSAGE_IDS {
+            self.audience[mid as usize].remove(seat);
+        }
+    }
+
+    /// A seat's pipe has no subscription any more.
+    fn forget_all(&mut self, seat: Seat)
+        ensures { self.new ≡ changed seat without_subscriptions self.old }
+    {
+        while let Some(mid) = self.places[seat.index()].first_subscription() {
+            self.forget(seat, mid);
+        }
+    }
+}

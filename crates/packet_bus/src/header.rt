@@ -1,0 +1,136 @@
+//! The headers of space packets (CCSDS 133.0-B; cFE user's guide, message headers).
+
+ghost use Rattle.std.specs.Prelude.{◌≡◌, ◌≤◌, ◌+◌, ◌==◌, length, IfOk};
+ghost use Rattle.lc_model.specs.Bytes as model;
+ghost use Rattle.lc_model.specs.Packet.{header_fault, message_id};
+ghost use Rattle.packet_bus.specs.Header.{fault_number, fault_in, header_of, header_size};
+
+use byteorder::{BigEndian, ByteOrder};
+use thiserror::Error;
+
+/// Why bytes are no packet of this profile: the first reason that they give.
+#[derive(Clone, Copy, Debug, PartialEq, Eq, Error)]
+pub enum HeaderFault {
+    /// Fewer bytes than the header has: 8 of a command, 12 of telemetry.
+    #[error("fewer bytes than a header")]
+    TooShort,
+    /// Another packet version than 0.
+    #[error("the packet's version isn't 0")]
+    WrongVersion,
+    /// The secondary header flag is off.
+    #[error("no secondary header")]
+    NoSecondaryHeader,
+    /// The sequence flags aren't 3: a part of a packet.
+    #[error("a part of a packet")]
+    Segment,
+    /// The length field says another length.
+    #[error("the packet has another length than its header says")]
+    WrongLength,
+    /// Over 2,048 bytes.
+    #[error("the packet is over 2,048 bytes long")]
+    TooLong,
+}
+
+impl HeaderFault {
+    /// The reason's number, 1 to 6.
+    pub fn number(self) -> u8
+        ensures { result ≡ fault_number self }
+    {
+        match self {
+            HeaderFault::TooShort => 1,
+            HeaderFault::WrongVersion => 2,
+            HeaderFault::NoSecondaryHeader => 3,
+            HeaderFault::Segment => 4,
+            HeaderFault::WrongLength => 5,
+            HeaderFault::TooLong => 6,
+        }
+    }
+}
+
+/// What a packet is, by the type bit of its header.
+#[derive(Clone, Copy, Debug, PartialEq, Eq)]
+pub enum PacketKind {
+    /// A command, with its function code, below 128. Its payload begins at byte 8.
+    Command { function_code: u8 },
+    /// Telemetry. Its payload begins at byte 12, behind the time.
+    Telemetry,
+}
+
+impl PacketKind {
+    /// How many bytes of header stand before the payload.
+    pub fn header_size(self) -> usize
+        ensures { result ≡ header_size self }
+    {
+        match self {
+            PacketKind::Command { function_code: _ } => 8,
+            PacketKind::Telemetry => 12,
+        }
+    }
+}
+
+/// What the header of a packet says.
+#[derive(Clone, Copy, Debug, PartialEq, Eq)]
+pub struct Header {
+    /// The first 16 bits: version, type, secondary header flag and application id.
+    pub message_id: u16,
+    /// How many packets of this message id were sent before, modulo 16,384.
+    pub sequence_count: u16,
+    pub kind: PacketKind,
+}
+
+/// The number in the two bytes at a place.
+fn u16_at(bytes: &[u8], at: usize) -> u16
+    requires { at + 2 ≤ length bytes.now }
+    ensures { result ≡ model.u16_at bytes.now at }
+{
+    BigEndian::read_u16(&bytes[at..])
+}
+
+/// The bytes' first fault, or their message id.
+#[inline]
+pub(crate) fn checked_message_id(bytes: &[u8]) -> Result<u16, HeaderFault>
+    ensures exact { fault_in result ≡ header_fault bytes.now }
+    ensures value { IfOk result (λ mid. mid ≡ message_id bytes.now) }
+{
+    let size = bytes.len();
+    if size < 8 {
+        return Err(HeaderFault::TooShort);
+    }
+    let message_id = u16_at(bytes, 0);
+    let is_command = message_id / 4096 % 2 == 1;
+    if !is_command && size < 12 {
+        Err(HeaderFault::TooShort)
+    } else if message_id / 8192 != 0 {
+        Err(HeaderFault::WrongVersion)
+    } else if message_id / 2048 % 2 != 1 {
+        Err(HeaderFault::NoSecondaryHeader)
+    } else if u16_at(bytes, 2) / 16384 != 3 {
+        Err(HeaderFault::Segment)
+    } else if u16_at(bytes, 4) as usize + 7 != size {
+        Err(HeaderFault::WrongLength)
+    } else if size > 2048 {
+        Err(HeaderFault::TooLong)
+    } else {
+        Ok(message_id)
+    }
+}
+
+/// Reads the header of a packet, or answers why the bytes are none: the first of the reasons 1 to 6.
+pub fn parse_header(bytes: &[u8]) -> Result<Header, HeaderFault>
+    ensures exact { fault_in result ≡ header_fault bytes.now }
+    ensures says { IfOk result (λ header. header ≡ header_of bytes.now) }
+{
+    let message_id = checked_message_id(bytes)?;
+    let kind = if message_id / 4096 % 2 == 1 {
+        PacketKind::Command {
+            function_code: bytes[6] % 128,
+        }
+    } else {
+        PacketKind::Telemetry
+    };
+    Ok(Header {
+        message_id,
+        sequence_count: u16_at(bytes, 2) % 16384,
+        kind,
+    })
+}

@@ -1,0 +1,144 @@
+//! The pipe of one seat (cFE user's guide, software bus services).
+
+ghost use Rattle.std.specs.Prelude.{◌≡◌, ◌<◌, ◌≤◌, true, false, length, is_some, option_map, Some, None, IfOk};
+ghost use Rattle.packet_bus.specs.Line.{Line, new_line, mids_in, slots_in, first_slot, behind_first, with_slot, with_subscription, without_subscription, is_long, has_slots, hears_mid, first_mid};
+
+use circular_buffer::HeapCircularBuffer;
+use std::alloc::{AllocError, Global};
+use std::marker::Model;
+
+/// A pipe holds so many packets.
+const PIPE_DEPTH: usize = 72;
+
+/// A pipe has so many subscriptions.
+const SUBSCRIPTIONS: usize = 256;
+
+/// The place of a pipe. Contracts see none, or its subscriptions and the slots of what waits, oldest first.
+#[derive(Drop)]
+pub(crate) struct Place {
+    is_open: bool,
+    subscriptions: Vec<u16>,
+    waiting: HeapCircularBuffer<u16>,
+}
+
+impl Model for Place {
+    ghost use Rattle.std.specs.Prelude.{Option, vec_capacity, vec_len, ◌≤◌};
+    ghost use Rattle.packet_bus.specs.Line.{Line, line_if, IsPlace};
+
+    ghost Value = { Option Line };
+
+    ghost view = { λ p. line_if p.is_open p.subscriptions.items p.waiting.items };
+
+    ghost invariant = { λ p. IsPlace p.is_open p.subscriptions.items p.waiting (vec_capacity p.subscriptions) };
+}
+
+impl Place {
+    /// No pipe, with room for one. Out of memory is the only error.
+    pub fn new(alloc: Global) -> Result<Place, AllocError>
+        ensures { IfOk result (λ place. place ≡ None) }
+    {
+        Ok(Place {
+            is_open: false,
+            subscriptions: Vec::with_capacity(alloc, SUBSCRIPTIONS)?,
+            waiting: HeapCircularBuffer::with_capacity(alloc, PIPE_DEPTH)?,
+        })
+    }
+
+    pub fn is_open(&self) -> bool
+        ensures { result ≡ is_some self.now }
+    {
+        self.is_open
+    }
+
+    /// A pipe that has nothing.
+    pub fn open(&mut self)
+        requires { self.old ≡ None }
+        ensures { self.new ≡ Some new_line }
+    {
+        self.is_open = true;
+    }
+
+    /// The pipe goes. It has nothing any more.
+    pub fn close(&mut self)
+        requires { self.old ≡ Some new_line }
+        ensures { self.new ≡ None }
+    {
+        self.is_open = false;
+    }
+
+    /// A slot more waits. There is room.
+    pub fn push(&mut self, slot: u16)
+        requires open { is_some self.old ≡ true }
+        requires room { is_long self.old ≡ false }
+        ensures { self.new ≡ option_map (with_slot slot) self.old }
+    {
+        self.waiting.push_back(slot);
+    }
+
+    /// Takes the oldest slot, if one waits.
+    pub fn pop(&mut self) -> Option<u16>
+        ensures slot { result ≡ first_slot self.old }
+        ensures after { self.new ≡ option_map behind_first self.old }
+    {
+        self.waiting.pop_front()
+    }
+
+    /// Whether the pipe has as many slots as it can.
+    pub fn is_full(&self) -> bool
+        ensures { result ≡ is_long self.now }
+    {
+        self.waiting.is_full()
+    }
+
+    /// Whether a slot waits.
+    pub fn is_ready(&self) -> bool
+        ensures { result ≡ has_slots self.now }
+    {
+        !self.waiting.is_empty()
+    }
+
+    /// The oldest slot, if one waits.
+    pub fn first(&self) -> Option<u16>
+        ensures { result ≡ first_slot self.now }
+    {
+        self.waiting.front().copied()
+    }
+
+    /// Whether the pipe is subscribed to a message id.
+    pub fn is_subscribed(&self, mid: u16) -> bool
+        ensures { result ≡ hears_mid mid self.now }
+    {
+        self.subscriptions.iter().any(|other| mid == *other)
+    }
+
+    /// How many subscriptions there are.
+    pub fn subscriptions(&self) -> usize
+        ensures count { result ≡ length (mids_in self.now) }
+        ensures few { result ≤ 256 }
+    {
+        self.subscriptions.len()
+    }
+
+    /// The oldest subscription, if there is one.
+    pub fn first_subscription(&self) -> Option<u16>
+        ensures { result ≡ first_mid self.now }
+    {
+        self.subscriptions.first().copied()
+    }
+
+    /// Subscribes to a message id. There is room.
+    pub fn subscribe(&mut self, mid: u16)
+        requires open { is_some self.old ≡ true }
+        requires room { length (mids_in self.old) < 256 }
+        ensures { self.new ≡ option_map (with_subscription mid) self.old }
+    {
+        self.subscriptions.push_reserved(mid);
+    }
+
+    /// Unsubscribes from a message id.
+    pub fn unsubscribe(&mut self, mid: u16)
+        ensures { self.new ≡ option_map (without_subscription mid) self.old }
+    {
+        self.subscriptions.retain(|other| !(mid == *other));
+    }
+}

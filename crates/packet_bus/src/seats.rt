@@ -1,0 +1,77 @@
+//! Sets of seats.
+
+ghost use Rattle.std.specs.Prelude.{◌≡◌, ◌<◌, ◌==◌, true, false, length, replicate, slice_set, slice_index_or, count_by, Bool};
+ghost use Rattle.std.specs.List.{list_any, position_from};
+ghost use Rattle.packet_bus.specs.Seats.{seats_in, is_in, meet};
+
+use lc_model::Seat;
+use std::marker::Model;
+
+/// A set of seats, a bit for each. Contracts see for each seat, in order, whether it is in the set.
+#[derive(Drop)]
+pub(crate) struct SeatSet {
+    bits: u8,
+}
+
+impl Model for SeatSet {
+    ghost use Rattle.std.specs.Prelude.{List, Bool, ◌<◌};
+    ghost use Rattle.packet_bus.specs.Seats.{seats_in};
+
+    ghost Value = { List Bool };
+
+    ghost view = { λ s. seats_in s.bits };
+
+    ghost invariant = { λ s. s.bits < 256 };
+}
+
+impl SeatSet {
+    /// No seat.
+    pub fn new() -> SeatSet
+        ensures { result ≡ replicate 8 false }
+    {
+        SeatSet { bits: 0 }
+    }
+
+    /// The same seats.
+    pub fn copy(&self) -> SeatSet
+        ensures { result ≡ self.now }
+    {
+        SeatSet { bits: self.bits }
+    }
+
+    pub fn insert(&mut self, seat: Seat)
+        ensures { self.new ≡ slice_set self.old seat true }
+    {
+        self.bits |= 1 << seat.index();
+    }
+
+    pub fn remove(&mut self, seat: Seat)
+        ensures { self.new ≡ slice_set self.old seat false }
+    {
+        self.bits &= !(1 << seat.index());
+    }
+
+    /// The least seat.
+    pub fn least(&self) -> Option<Seat>
+        ensures { result ≡ position_from is_in 0 self.now }
+    {
+        if self.bits == 0 {
+            return None;
+        }
+        Some(Seat::new(self.bits.trailing_zeros() as u8))
+    }
+
+    /// How many seats there are.
+    pub fn count(&self) -> u8
+        ensures { result ≡ count_by is_in self.now }
+    {
+        self.bits.count_ones() as u8
+    }
+
+    /// Whether a seat is in both.
+    pub fn meets(&self, other: &SeatSet) -> bool
+        ensures { result ≡ meet self.now other.now }
+    {
+        self.bits & other.bits != 0
+    }
+}

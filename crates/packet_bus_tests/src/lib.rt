@@ -1,0 +1,17 @@
+//! The tests of `packet_bus`, by its public calls alone. Expected values come from the rules of packets and pipes, and from a
+//! plain model of lists, never from what the bus answers.
+#![tactic(auto)]
+
+#[cfg(test)]
+mod headers;
+#[cfg(test)]
+mod long_run;
+#[cfg(test)]
+mod outgoing;
+#[cfg(test)]
+mod pipes;
+#[cfg(test)]
+mod pool;
+pub mod shared;
+#[cfg(test)]
+mod speed;

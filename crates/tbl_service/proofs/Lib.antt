@@ -1,0 +1,4 @@
+mod Firsts
+mod StoredFiles
+mod Handles
+mod Installed

@@ -1,0 +1,30 @@
+-- The images of a table by what is kept of them.
+use Rattle.std.specs.Prelude.{ℕ, Bool, List, Option, Some, None, option_map, if◌then◌else◌}
+use Rattle.lc_model.specs.Tables.Slot as model
+use Rattle.lc_model.specs.Tables.Slot.{Slot, Waiting}
+use Rattle.tbl_service.specs.declared.slot.Stage.{Stage}
+use Rattle.tbl_service.specs.declared.slot.Stage.TheVariants.{Loaded, Asked, Valid, Activated}
+use Rattle.tbl_service.specs.declared.slot.Move.{Move}
+use Rattle.tbl_service.specs.declared.slot.Move.TheVariants.{Validate, Activate, Abort}
+
+abbrev pub stage_of : Stage → model.Stage
+stage_of Loaded = model.Loaded
+stage_of Asked = model.Asked
+stage_of Valid = model.Valid
+stage_of Activated = model.Activated
+
+abbrev pub move_of : Move → model.Move
+move_of Validate = model.Validate
+move_of Activate = model.Activate
+move_of Abort = model.Abort
+
+-- an image that waits
+abbrev pub waiting_seen : Stage → List ℕ → Waiting (List ℕ)
+waiting_seen stage image = record { stage = stage_of stage; image = image }
+
+-- the image in use, if there is one, and the one that waits, if there is one
+abbrev pub slot_of : List ℕ → Bool → List ℕ → Option Stage → Slot (List ℕ)
+slot_of active is_active waiting stage = record {
+  active = if is_active then Some active else None;
+  waiting = option_map (λ (s : Stage). waiting_seen s waiting) stage;
+}

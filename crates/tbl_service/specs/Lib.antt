@@ -1,0 +1,4 @@
+pub mod Error
+pub mod Images
+pub mod Store
+pub mod Places

@@ -1,0 +1,32 @@
+-- The tables of a seat by what is kept of them.
+use Rattle.std.specs.Prelude.{◌≡◌, ℕ, ◌+◌, ◌≤◌, List, length, slice_index_or, slice_set, Result, Ok}
+use Rattle.lc_model.specs.Refusal.{Refusal, ◌>>=◌, provided}
+use Rattle.lc_model.specs.Tables.Slot.{Slot, loaded}
+use Rattle.lc_model.specs.Services.Tables.{Table, fits_table}
+
+-- there are images for two tables, those of tables and those still free, and room for either in both lists
+pub record IsPlace (tables : List Table) (spare : List (Slot (List ℕ))) (table_room spare_room : ℕ) : Type 0 where
+  pub images : length tables + length spare ≡ 2
+  pub tables_fit : 2 ≤ table_room
+  pub spare_fits : 2 ≤ spare_room
+
+-- a table with these images
+abbrev pub with_images : Slot (List ℕ) → Table → Table
+with_images slot table = record table { slot = slot }
+
+-- the tables with the images of one changed
+abbrev pub with_images_at : ℕ → (Slot (List ℕ) → Slot (List ℕ)) → Table → List Table → List Table
+with_images_at number change d tables =
+    slice_set tables number (with_images (change (slice_index_or tables number d).slot) (slice_index_or tables number d))
+
+-- the same where the change may be refused
+abbrev pub changed_by : (Slot (List ℕ) → Result (Slot (List ℕ)) Refusal) → ℕ → Table → List Table → Result (List Table) Refusal
+changed_by change number d tables = do
+  slot ← change (slice_index_or tables number d).slot
+  Ok (slice_set tables number (with_images slot (slice_index_or tables number d)))
+
+-- a load onto one, which may be refused for the image's size
+abbrev pub loaded_at : List ℕ → ℕ → Table → List Table → Result (List Table) Refusal
+loaded_at image number d tables = do
+  fitting ← provided (fits_table (slice_index_or tables number d) (length image)) 114 image
+  changed_by (loaded fitting) number d tables

@@ -1,0 +1,53 @@
+//! Room for the bytes of one file or of one image.
+
+ghost use Rattle.std.specs.Prelude.{◌≡◌, ◌≤◌, [], length, IfOk};
+
+use crate::error::TableError;
+use std::alloc::Global;
+use std::marker::Model;
+
+/// The most bytes of a file, headers included.
+pub(crate) const MAX_FILE: usize = 32_768;
+
+/// Bytes on the heap, with room for a file. Contracts see the bytes.
+#[derive(Debug, Drop)]
+pub(crate) struct Buffer {
+    bytes: Vec<u8>,
+}
+
+impl Model for Buffer {
+    ghost use Rattle.std.specs.Prelude.{ℕ, List, ◌≤◌, length, vec_capacity};
+
+    ghost Value = { List ℕ };
+
+    ghost view = { λ b. b.bytes.items };
+
+    ghost invariant = { λ b. (32768 ≤ vec_capacity b.bytes) × (length b.bytes.items ≤ 32768) };
+}
+
+impl Buffer {
+    /// Empty. Out of memory is the only error.
+    pub(crate) fn new(alloc: Global) -> Result<Buffer, TableError>
+        ensures { IfOk result (λ buffer. buffer ≡ []) }
+    {
+        Ok(Buffer {
+            bytes: Vec::with_capacity(alloc, MAX_FILE)?,
+        })
+    }
+
+    /// Has these bytes from now on.
+    pub(crate) fn fill(&mut self, bytes: &[u8])
+        requires { length bytes.now ≤ 32768 }
+        ensures { self.new ≡ bytes.now }
+    {
+        self.bytes.clear();
+        self.bytes.extend_from_slice(bytes).unwrap();
+    }
+
+    pub(crate) fn bytes(&self) -> &[u8]
+        ensures bytes { result.now ≡ self.now }
+        ensures fits { length result.now ≤ 32768 }
+    {
+        self.bytes.as_slice()
+    }
+}

@@ -1,0 +1,14 @@
+//! Table services (cFE user's guide, table services): the stored files, and the tables that applications register, each with
+//! an image in use and one that waits.
+#![tactic(auto)]
+
+mod buffer;
+mod error;
+mod place;
+mod service;
+mod slot;
+mod store;
+
+pub use error::TableError;
+pub use service::{Slot, Tables};
+pub use slot::Stage;

@@ -1,0 +1,248 @@
+//! The tables of one seat, and the images that are free for another.
+
+ghost use Rattle.std.specs.Prelude.{◌≡◌, ◌<◌, ◌≤◌, [], ◌∷◌, ◌++◌, length, slice_index_or, slice_set, option_map, IfOk, IfSome, IsTrue, is_some, Some, None, OnErr, nat_le, if◌then◌else◌};
+ghost use Rattle.std.specs.List.{position_from};
+ghost use Rattle.lc_model.specs.Tables.Slot.{Activated, Asked, installed, judged, loaded, moved, taken, waiting_at};
+ghost use Rattle.lc_model.specs.Name.{is_named};
+ghost use Rattle.lc_model.specs.Services.Tables.{Table as Kept, fits_table, new_table, number_named};
+ghost use Rattle.tbl_service.specs.Error.{answered};
+ghost use Rattle.tbl_service.specs.Images.{move_of, waiting_seen};
+ghost use Rattle.tbl_service.specs.Places.{changed_by, loaded_at, with_images, with_images_at};
+
+use crate::error::TableError;
+use crate::slot::{Images, Move, Stage};
+use crate::store::MAX_NAME;
+use arrayvec::ArrayVec;
+use std::alloc::Global;
+use std::marker::Model;
+
+/// The most tables of a seat.
+const MAX_TABLES: usize = 2;
+
+/// A registered table: its name, the sizes that its images may have, in bytes, and its images.
+#[derive(Debug, Drop)]
+pub(crate) struct Table {
+    name: ArrayVec<u8, MAX_NAME>,
+    size: usize,
+    other: Option<usize>,
+    images: Images,
+}
+
+impl Model for Table {
+    ghost use Rattle.lc_model.specs.Services.Tables.{Table as Kept};
+
+    ghost Value = { Kept };
+
+    ghost view = { λ t. record { name = t.name.items; size = t.size; other = t.other; slot = t.images } };
+}
+
+impl Table {
+    /// A table without images; these two are its buffers.
+    fn new(name: &[u8], size: usize, other: Option<usize>, mut images: Images) -> Table
+        requires { length name.now ≤ 40 }
+        ensures { result ≡ new_table name.now size other }
+    {
+        let mut own_name = ArrayVec::new();
+        own_name.try_extend_from_slice(name).unwrap();
+        images.clear();
+        Table {
+            name: own_name,
+            size,
+            other,
+            images,
+        }
+    }
+
+    fn into_images(self) -> Images
+        ensures { result ≡ self.slot }
+    {
+        self.images
+    }
+
+    fn is_named(&self, name: &[u8]) -> bool
+        ensures { result ≡ is_named name.now self.now.name }
+    {
+        name == self.name.as_slice()
+    }
+
+    /// Whether an image may have this size.
+    fn fits(&self, size: usize) -> bool
+        ensures { result ≡ fits_table self.now size }
+    {
+        size == self.size || self.other == Some(size)
+    }
+
+    pub(crate) fn load(&mut self, image: &[u8]) -> Result<(), TableError>
+        requires { length image.now ≤ 32768 }
+        ensures answer { answered result self.new.slot ≡ loaded image.now self.old.slot }
+        ensures rest { self.new ≡ with_images self.new.slot self.old }
+        ensures refused { OnErr result (self.new ≡ self.old) }
+    {
+        self.images.load(image)
+    }
+
+    pub(crate) fn change(&mut self, change: Move) -> Result<(), TableError>
+        ensures answer { answered result self.new.slot ≡ moved (move_of change) self.old.slot }
+        ensures rest { self.new ≡ with_images self.new.slot self.old }
+        ensures refused { OnErr result (self.new ≡ self.old) }
+    {
+        self.images.change(change)
+    }
+
+    pub(crate) fn judge(&mut self, valid: bool)
+        requires { IsTrue (is_some (waiting_at Asked self.old.slot)) }
+        ensures { self.new ≡ with_images (judged valid self.old.slot) self.old }
+    {
+        self.images.judge(valid);
+    }
+
+    pub(crate) fn take(&mut self)
+        requires { IsTrue (is_some (waiting_at Activated self.old.slot)) }
+        ensures { self.new ≡ with_images (taken self.old.slot) self.old }
+    {
+        self.images.take();
+    }
+
+    pub(crate) fn install(&mut self, image: &[u8])
+        requires { length image.now ≤ 32768 }
+        ensures { self.new ≡ with_images (installed image.now self.old.slot) self.old }
+    {
+        self.images.install(image);
+    }
+
+    pub(crate) fn active(&self) -> Option<&[u8]>
+        ensures { option_map (λ image. image.now) result ≡ self.now.slot.active }
+    {
+        self.images.active()
+    }
+
+    pub(crate) fn pending(&self) -> Option<(Stage, &[u8])>
+        ensures { option_map (λ pending. waiting_seen pending.0 pending.1.now) result ≡ self.now.slot.waiting }
+    {
+        self.images.pending()
+    }
+}
+
+/// At most two tables, in the order in which they were registered.
+#[derive(Debug, Drop)]
+pub(crate) struct Place {
+    tables: Vec<Table>,
+    spare: Vec<Images>,
+}
+
+impl Model for Place {
+    ghost use Rattle.std.specs.Prelude.{List, vec_capacity};
+    ghost use Rattle.lc_model.specs.Services.Tables.{Table as Kept};
+    ghost use Rattle.tbl_service.specs.Places.{IsPlace};
+
+    ghost Value = { List Kept };
+
+    ghost view = { λ p. p.tables.items };
+
+    ghost invariant = { λ p. IsPlace p.tables.items p.spare.items (vec_capacity p.tables) (vec_capacity p.spare) };
+}
+
+impl Place {
+    /// None. Out of memory is the only error.
+    pub(crate) fn new(alloc: Global) -> Result<Place, TableError>
+        ensures { IfOk result (λ place. place ≡ []) }
+    {
+        let tables = Vec::with_capacity(alloc, MAX_TABLES)?;
+        let mut spare = Vec::with_capacity(alloc, MAX_TABLES)?;
+        for _ in 0..MAX_TABLES {
+            spare.push(Images::new(alloc)?)?;
+        }
+        Ok(Place { tables, spare })
+    }
+
+    /// One table more, without images. It answers the number of it, or none where there are two.
+    pub(crate) fn register(
+        &mut self,
+        name: &[u8],
+        size: usize,
+        other: Option<usize>,
+    ) -> Option<usize>
+        requires { length name.now ≤ 40 }
+        ensures room { result ≡ (if nat_le 2 (length self.old) then None else Some (length self.old)) }
+        ensures after { self.new ≡ (if nat_le 2 (length self.old) then self.old else self.old ++ new_table name.now size other ∷ []) }
+    {
+        let images = self.spare.pop()?;
+        let number = self.tables.len();
+        let table = Table::new(name, size, other, images);
+        self.tables.push(table).unwrap();
+        Some(number)
+    }
+
+    /// No table from now on.
+    pub(crate) fn clear(&mut self)
+        ensures { self.new ≡ [] }
+    {
+        while let Some(table) = self.tables.pop() {
+            self.spare.push(table.into_images()).unwrap();
+        }
+    }
+
+    /// The tables.
+    pub(crate) fn tables(&self) -> &[Table]
+        ensures { result.now ≡ self.now }
+    {
+        self.tables.as_slice()
+    }
+
+    /// A load onto the table of this number. Errors: `WrongSize`, `UpdatePending`.
+    pub(crate) fn load(&mut self, number: usize, image: &[u8]) -> Result<(), TableError>
+        requires inside { number < length self.old }
+        requires fits { length image.now ≤ 32768 }
+        ensures answer { (d : Kept) → answered result self.new ≡ loaded_at image.now number d self.old }
+        ensures refused { OnErr result (self.new ≡ self.old) }
+    {
+        if !self.tables[number].fits(image.len()) {
+            return Err(TableError::WrongSize);
+        }
+        self.tables[number].load(image)
+    }
+
+    /// A command to the table of this number.
+    pub(crate) fn change(&mut self, number: usize, change: Move) -> Result<(), TableError>
+        requires inside { number < length self.old }
+        ensures answer { (d : Kept) → answered result self.new ≡ changed_by (moved (move_of change)) number d self.old }
+        ensures refused { OnErr result (self.new ≡ self.old) }
+    {
+        self.tables[number].change(change)
+    }
+
+    /// The verdict on the image that waits at the table of this number.
+    pub(crate) fn judge(&mut self, number: usize, valid: bool)
+        requires inside { number < length self.old }
+        requires asked { (d : Kept) → IsTrue (is_some (waiting_at Asked (slice_index_or self.old number d).slot)) }
+        ensures { (d : Kept) → self.new ≡ with_images_at number (judged valid) d self.old }
+    {
+        self.tables[number].judge(valid);
+    }
+
+    /// The activated image of the table of this number comes into use.
+    pub(crate) fn take(&mut self, number: usize)
+        requires inside { number < length self.old }
+        requires activated { (d : Kept) → IsTrue (is_some (waiting_at Activated (slice_index_or self.old number d).slot)) }
+        ensures { (d : Kept) → self.new ≡ with_images_at number taken d self.old }
+    {
+        self.tables[number].take();
+    }
+
+    /// An image of the owner's comes into use at the table of this number.
+    pub(crate) fn install(&mut self, number: usize, image: &[u8])
+        requires inside { number < length self.old }
+        requires fits { length image.now ≤ 32768 }
+        ensures { (d : Kept) → self.new ≡ with_images_at number (installed image.now) d self.old }
+    {
+        self.tables[number].install(image);
+    }
+}
+
+/// The number of the first table of a name.
+pub(crate) fn number_of(tables: &[Table], name: &[u8]) -> Option<usize>
+    ensures number { result ≡ number_named name.now tables.now }
+    ensures inside { IfSome result (λ number. number < length tables.now) }
+{
+    tables.iter().position(|table| table.is_named(name))
+}

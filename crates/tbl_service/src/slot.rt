@@ -1,0 +1,153 @@
+//! The two images of a table, and how commands and their owner move them (cFE user's guide, table services).
+
+ghost use Rattle.std.specs.Prelude.{◌≡◌, ◌≤◌, length, Some, IsTrue, is_some, option_map, IfOk, OnErr};
+ghost use Rattle.lc_model.specs.Tables.Slot.{Activated, Asked, installed, judged, loaded, moved, no_images, taken, waiting_at};
+ghost use Rattle.tbl_service.specs.Error.{answered};
+ghost use Rattle.tbl_service.specs.Images.{move_of, stage_of, waiting_seen};
+
+use crate::buffer::Buffer;
+use crate::error::TableError;
+use std::alloc::Global;
+use std::marker::Model;
+use std::mem;
+
+/// How far an image that waits has come.
+#[derive(Clone, Copy, Debug, PartialEq, Eq)]
+pub enum Stage {
+    /// It was loaded, or was found invalid.
+    Loaded,
+    /// Its owner is asked whether it is valid.
+    Asked,
+    /// Its owner found it valid.
+    Valid,
+    /// Its owner is to take it into use.
+    Activated,
+}
+
+/// A command to a table that has an image waiting.
+#[derive(Clone, Copy, Debug, PartialEq, Eq)]
+pub(crate) enum Move {
+    Validate,
+    Activate,
+    Abort,
+}
+
+/// The image in use and the one that waits, each in a buffer of its own.
+#[derive(Debug, Drop)]
+pub(crate) struct Images {
+    active: Buffer,
+    is_active: bool,
+    waiting: Buffer,
+    stage: Option<Stage>,
+}
+
+impl Model for Images {
+    ghost use Rattle.std.specs.Prelude.{ℕ, List};
+    ghost use Rattle.lc_model.specs.Tables.Slot.{Slot};
+    ghost use Rattle.tbl_service.specs.Images.{slot_of};
+
+    ghost Value = { Slot (List ℕ) };
+
+    ghost view = { λ s. slot_of s.active s.is_active s.waiting s.stage };
+}
+
+impl Images {
+    /// None. Out of memory is the only error.
+    pub(crate) fn new(alloc: Global) -> Result<Images, TableError>
+        ensures { IfOk result (λ images. images ≡ no_images) }
+    {
+        Ok(Images {
+            active: Buffer::new(alloc)?,
+            is_active: false,
+            waiting: Buffer::new(alloc)?,
+            stage: None,
+        })
+    }
+
+    /// None from now on.
+    pub(crate) fn clear(&mut self)
+        ensures { self.new ≡ no_images }
+    {
+        self.is_active = false;
+        self.stage = None;
+    }
+
+    /// An image waits, in place of another. Error: `UpdatePending`, where that one is activated.
+    pub(crate) fn load(&mut self, image: &[u8]) -> Result<(), TableError>
+        requires { length image.now ≤ 32768 }
+        ensures answer { answered result self.new ≡ loaded image.now self.old }
+        ensures refused { OnErr result (self.new ≡ self.old) }
+    {
+        if let Some(Stage::Activated) = self.stage {
+            return Err(TableError::UpdatePending);
+        }
+        self.waiting.fill(image);
+        self.stage = Some(Stage::Loaded);
+        Ok(())
+    }
+
+    /// Moves the image that waits. Errors: `NothingLoaded`, `UpdatePending`, `NotValidated`.
+    pub(crate) fn change(&mut self, change: Move) -> Result<(), TableError>
+        ensures answer { answered result self.new ≡ moved (move_of change) self.old }
+        ensures refused { OnErr result (self.new ≡ self.old) }
+    {
+        let Some(stage) = self.stage else {
+            return Err(TableError::NothingLoaded);
+        };
+        match (change, stage) {
+            (Move::Abort, _any) => self.stage = None,
+            (_other, Stage::Activated) => return Err(TableError::UpdatePending),
+            (Move::Validate, _any) => self.stage = Some(Stage::Asked),
+            (Move::Activate, Stage::Valid) => self.stage = Some(Stage::Activated),
+            (Move::Activate, _any) => return Err(TableError::NotValidated),
+        }
+        Ok(())
+    }
+
+    /// The owner's verdict on the image that it is asked about.
+    pub(crate) fn judge(&mut self, valid: bool)
+        requires { IsTrue (is_some (waiting_at Asked self.old)) }
+        ensures { self.new ≡ judged valid self.old }
+    {
+        self.stage = Some(if valid { Stage::Valid } else { Stage::Loaded });
+    }
+
+    /// The activated image comes into use; no byte is copied.
+    pub(crate) fn take(&mut self)
+        requires { IsTrue (is_some (waiting_at Activated self.old)) }
+        ensures { self.new ≡ taken self.old }
+    {
+        mem::swap(&mut self.active, &mut self.waiting);
+        self.is_active = self.stage.take().is_some();
+    }
+
+    /// An image of the owner's comes into use; the one that waits stays.
+    pub(crate) fn install(&mut self, image: &[u8])
+        requires { length image.now ≤ 32768 }
+        ensures { self.new ≡ installed image.now self.old }
+    {
+        self.active.fill(image);
+        self.is_active = true;
+    }
+
+    /// The image in use.
+    pub(crate) fn active(&self) -> Option<&[u8]>
+        ensures { option_map (λ image. image.now) result ≡ self.now.active }
+    {
+        if self.is_active {
+            Some(self.active.bytes())
+        } else {
+            None
+        }
+    }
+
+    /// The image that waits, and how far it has come.
+    pub(crate) fn pending(&self) -> Option<(Stage, &[u8])>
+        ensures { option_map (λ pending. waiting_seen pending.0 pending.1.now) result ≡ self.now.waiting }
+    {
+        match self.stage {
+            None => None,
+            Some(stage) => Some((stage, self.waiting.bytes())),
+        }
+    }
+}

@@ -1,0 +1,142 @@
+//! The stored files, each under a name of its own.
+
+ghost use Rattle.std.specs.Prelude.{◌≡◌, ◌<◌, ◌≤◌, [], length, option_map, IfOk, IfSome, OnErr};
+ghost use Rattle.std.specs.List.{position_from};
+ghost use Rattle.lc_model.specs.Name.{held, is_named};
+ghost use Rattle.lc_model.specs.Services.Tables.{files_with};
+ghost use Rattle.tbl_service.specs.Error.{answered};
+ghost use Rattle.tbl_service.specs.Store.{NamedFile};
+
+use crate::buffer::{Buffer, MAX_FILE};
+use crate::error::TableError;
+use arrayvec::ArrayVec;
+use std::alloc::Global;
+use std::marker::Model;
+
+/// The most bytes of a file's or a table's name.
+pub(crate) const MAX_NAME: usize = 40;
+
+/// The most files.
+const MAX_FILES: usize = 8;
+
+/// A file under its name.
+#[derive(Debug, Drop)]
+struct StoredFile {
+    name: ArrayVec<u8, MAX_NAME>,
+    bytes: Buffer,
+}
+
+impl Model for StoredFile {
+    ghost use Rattle.tbl_service.specs.Store.{NamedFile};
+
+    ghost Value = { NamedFile };
+
+    ghost view = { λ f. (f.name.items, f.bytes) };
+}
+
+impl StoredFile {
+    fn new(name: &[u8], bytes: Buffer) -> StoredFile
+        requires { length name.now ≤ 40 }
+        ensures { result ≡ (name.now, bytes) }
+    {
+        let mut own_name = ArrayVec::new();
+        own_name.try_extend_from_slice(name).unwrap();
+        StoredFile {
+            name: own_name,
+            bytes,
+        }
+    }
+
+    fn is_named(&self, name: &[u8]) -> bool
+        ensures { result ≡ is_named name.now self.now.0 }
+    {
+        name == self.name.as_slice()
+    }
+
+    fn replace(&mut self, bytes: &[u8])
+        requires { length bytes.now ≤ 32768 }
+        ensures { self.new ≡ (self.old.0, bytes.now) }
+    {
+        self.bytes.fill(bytes);
+    }
+
+    fn bytes(&self) -> &[u8]
+        ensures bytes { result.now ≡ self.now.1 }
+        ensures fits { length result.now ≤ 32768 }
+    {
+        self.bytes.bytes()
+    }
+}
+
+/// At most eight files, in the order in which their names came, and the buffers that are still free.
+#[derive(Debug, Drop)]
+pub(crate) struct Files {
+    list: Vec<StoredFile>,
+    spare: Vec<Buffer>,
+}
+
+impl Model for Files {
+    ghost use Rattle.std.specs.Prelude.{List, vec_capacity};
+    ghost use Rattle.tbl_service.specs.Store.{NamedFile, IsStore};
+
+    ghost Value = { List NamedFile };
+
+    ghost view = { λ f. f.list.items };
+
+    ghost invariant = { λ f. IsStore f.list.items f.spare.items (vec_capacity f.list) };
+}
+
+impl Files {
+    /// None. Out of memory is the only error.
+    pub(crate) fn new(alloc: Global) -> Result<Files, TableError>
+        ensures { IfOk result (λ files. files ≡ []) }
+    {
+        let list = Vec::with_capacity(alloc, MAX_FILES)?;
+        let mut spare = Vec::with_capacity(alloc, MAX_FILES)?;
+        for _ in 0..MAX_FILES {
+            spare.push(Buffer::new(alloc)?)?;
+        }
+        Ok(Files { list, spare })
+    }
+
+    /// Stores a file, in place of another of its name. Errors: `FileTooLong`, over 32,768 bytes; `StoreFull`.
+    pub(crate) fn put(&mut self, name: &[u8], bytes: &[u8]) -> Result<(), TableError>
+        requires { length name.now ≤ 40 }
+        ensures answer { answered result self.new ≡ files_with name.now bytes.now self.old }
+        ensures refused { OnErr result (self.new ≡ self.old) }
+    {
+        if bytes.len() > MAX_FILE {
+            return Err(TableError::FileTooLong);
+        }
+        match place_of(self.list.as_slice(), name) {
+            Some(place) => self.list[place].replace(bytes),
+            None => {
+                let Some(mut buffer) = self.spare.pop() else {
+                    return Err(TableError::StoreFull);
+                };
+                buffer.fill(bytes);
+                self.list.push(StoredFile::new(name, buffer)).unwrap();
+            }
+        }
+        Ok(())
+    }
+
+    /// The bytes of the file of a name.
+    pub(crate) fn find(&self, name: &[u8]) -> Option<&[u8]>
+        ensures bytes { option_map (λ bytes. bytes.now) result ≡ held name.now self.now }
+        ensures fits { IfSome result (λ bytes. length bytes.now ≤ 32768) }
+    {
+        match place_of(self.list.as_slice(), name) {
+            None => None,
+            Some(place) => Some(self.list[place].bytes()),
+        }
+    }
+}
+
+/// Where the file of a name stands.
+fn place_of(files: &[StoredFile], name: &[u8]) -> Option<usize>
+    ensures place { result ≡ position_from (λ (file : NamedFile). is_named name.now file.0) 0 files.now }
+    ensures inside { IfSome result (λ place. place < length files.now) }
+{
+    files.iter().position(|file| file.is_named(name))
+}

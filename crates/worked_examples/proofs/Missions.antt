@@ -1,0 +1,201 @@
+-- A mission that meets all premises of the promise of `run`, and of the laws over it, at once: the low-volts text, a stream
+-- that starts the Limit Checker from its two halves, and two failing samples. So none of these premises is one that nobody
+-- can meet.
+use Rattle.std.proofs.Common.{◌≡◌, refl, ap, sym, ◌∙◌, subst, ℕ, zero, suc, ◌<◌, Bool, true, false, ◌&&◌, nat_lt, List, [], ◌∷◌, ◌++◌, length, slice_index_or, slice_get, arith, append-nil, codes, Some, unwrap_or, is_some, Contains, true≢false, lit≤}
+use Rattle.std.specs.List.{list_all}
+use Rattle.std.proofs.lemmas.Bool.{ltb-true}
+use Rattle.sha2.specs.Sha256.{sha256, first_words, schedule, rounds, compress, hash_after, digest_bytes}
+use Rattle.lc_model.specs.declared.kind.Kind.{Kind}
+use Rattle.lc_model.specs.declared.kind.Kind.TheVariants.{Wdt, Adt}
+use Rattle.lc_model.specs.declared.mode.LcMode.TheVariants as mode
+use Rattle.lc_model.specs.Bytes.{zero_filled, u16, u32}
+use Rattle.lc_model.specs.Name.{lc_name, sch_name, counter_name}
+use Rattle.lc_model.specs.Packet.{command, executive_services_mid, sample_mid}
+use Rattle.lc_model.specs.Tables.Image.{Actionpoints, wdt_image, adt_image, version_1_layouts}
+use Rattle.lc_model.specs.Tables.File.{file_bytes, wrapped}
+use Rattle.lc_model.specs.Tables.HalvesAndBytes.{Text}
+use Rattle.lc_model.specs.Tables.Edition.{text_order_edition, IsCompiledFile, AreCompiledFiles}
+use Rattle.lc_model.specs.Host.Schedule.{IsSchedule}
+use Rattle.lc_model.specs.Host.Stream.{StreamEntry, Contents, Packet, Tick, File, Half, Whole}
+use Rattle.lc_model.specs.Host.Outcome.{Devices, devices, Ending, Complete}
+use Rattle.lc_model.specs.Host.Promise.{HaveOwnHashes, CarryHalves, HaveFixedTables, Mission, IsOfTexts, records_in, output_by_bytes, IsRun, IsUndisturbed}
+use Rattle.lc_model.specs.Kept.Effort.{no_effort}
+use Rattle.lc_model.specs.Kept.Summary.{LcState, SchState, CounterState}
+use Rattle.lc_model.specs.Kept.Executive.{Member}
+use Rattle.host_laws.specs.Statements.{AreBytes, IsStock}
+use Rattle.worked_examples.proofs.Watchpoints.{low_volts}
+use Rattle.worked_examples.proofs.Reading.{low_volts_text, low_volts_rules, low_volts_compiles}
+use Rattle.worked_examples.proofs.Halves.{hash, entries, entry_fits, wdt_is_half, adt_is_half}
+use Rattle.worked_examples.proofs.Records.{stock, volts, sample}
+
+-- ---- the mission, and the files of its text
+
+abbrev low_volts_mission : Mission
+low_volts_mission = record { edition = text_order_edition; sources = low_volts_text ∷ []; schedule = [] ∷ []; stock = stock; most_reads = 2 }
+
+abbrev text : Text
+text = record { source = low_volts_text; rules = low_volts_rules }
+
+of_texts : IsOfTexts low_volts_mission (text ∷ [])
+of_texts = ((refl, low_volts_compiles), tt)
+
+schedule_fits : IsSchedule low_volts_mission.schedule
+schedule_fits = record { some = lit≤ tt; few = lit≤ tt; slots = ((lit≤ tt, tt), tt) }
+
+abbrev compiled : Kind → ℕ → List ℕ
+compiled Wdt number = file_bytes (wrapped Wdt (wdt_image hash (low_volts ∷ [])))
+compiled Adt number = file_bytes (wrapped Adt (adt_image Actionpoints hash 1 entries))
+
+wdt_compiled : IsCompiledFile text_order_edition Wdt (compiled Wdt 0) text
+unfolding sha256 hash_after compress rounds schedule first_words digest_bytes
+wdt_compiled = (wdt_image hash (low_volts ∷ []), refl, refl, wdt_is_half)
+
+adt_compiled : IsCompiledFile text_order_edition Adt (compiled Adt 0) text
+unfolding sha256 hash_after compress rounds schedule first_words digest_bytes
+adt_compiled = (
+  (adt_image Actionpoints hash 1 entries, refl, refl, adt_is_half),
+  (Actionpoints, entries, refl, ((entry_fits, (λ e. absurd (cc e), tt)), tt), ((refl, refl), tt)),
+)
+
+-- a list of one has nothing else
+only : {A : Type 0} (a b : A) (k : ℕ) → slice_get (a ∷ []) k ≡ Some b → a ≡ b
+only a b zero is = ap (λ o. unwrap_or o a) is
+only a b (suc k) is = absurd (true≢false (sym (ap is_some is)))
+
+one_text : (a : Text) → Contains (text ∷ []) a → text ≡ a
+one_text a (zero, less, is) = is
+one_text a (suc k, less, is) = absurd (let none : ⊥ = omega (arith, less) in none)
+
+are_compiled : AreCompiledFiles text_order_edition (text ∷ []) compiled
+are_compiled Wdt number other is = subst (IsCompiledFile text_order_edition Wdt (compiled Wdt 0)) (only text other number is) wdt_compiled
+are_compiled Adt number other is = subst (IsCompiledFile text_order_edition Adt (compiled Adt 0)) (only text other number is) adt_compiled
+
+own_hashes : HaveOwnHashes (text ∷ [])
+own_hashes a b in_a in_b same = ap (λ (t : Text). t.source) (sym (one_text a in_a) ∙ one_text b in_b)
+
+-- ---- its stream
+
+header : ℕ → ℕ → List ℕ
+header kind size = kind ∷ (u32 100 ++ u16 0 ++ u32 size)
+
+half_record : List ℕ → ℕ → List ℕ
+half_record name half = header 4 43 ++ zero_filled 40 name ++ half ∷ u16 0
+
+packet_record : List ℕ → List ℕ
+packet_record bytes = header 1 (length bytes) ++ bytes
+
+voltage : List ℕ
+voltage = packet_record (0x08 ∷ 0x83 ∷ 0xC0 ∷ 0 ∷ 0 ∷ 9 ∷ 0 ∷ 0 ∷ 0 ∷ 0 ∷ 0 ∷ 0 ∷ (u16 2399 ++ 0 ∷ 0 ∷ []))
+
+sampling : List ℕ
+sampling = packet_record (command sample_mid 0 0 (0xFF ∷ 0xFF ∷ 0xFF ∷ 0xFF ∷ 0 ∷ 0 ∷ 0 ∷ 0 ∷ []))
+
+stream : List ℕ
+stream =
+    half_record (codes "/cf/lc_def_wdt.tbl") 1 ++ half_record (codes "/cf/lc_def_adt.tbl") 2
+    ++ packet_record (command executive_services_mid 0 1 (zero_filled 20 lc_name)) ++ voltage ++ sampling ++ voltage ++ sampling
+
+bytes_below : (bytes : List ℕ) → list_all (λ b. nat_lt b 256) bytes ≡ true → AreBytes bytes
+bytes_below [] all = tt
+bytes_below (b ∷ bytes) all = by_test (nat_lt b 256) refl all (bytes_below bytes)
+  where
+    by_test : (test : Bool) → nat_lt b 256 ≡ test → (test && list_all (λ b. nat_lt b 256) bytes) ≡ true → (list_all (λ b. nat_lt b 256) bytes ≡ true → AreBytes bytes) → AreBytes (b ∷ bytes)
+    by_test true is all others = (ltb-true b 256 is, others all)
+    by_test false is all others = absurd (true≢false (sym all))
+
+of_bytes : AreBytes stream
+unfolding stream voltage sampling packet_record half_record header
+of_bytes = bytes_below stream refl
+
+fixed : HaveFixedTables (records_in low_volts_mission stream).0
+unfolding stream voltage sampling packet_record half_record header
+fixed = (volts 2399 ∷ sample ∷ volts 2399 ∷ sample ∷ [], refl, refl)
+
+whole : (records_in low_volts_mission stream).1 ≡ Whole
+unfolding stream voltage sampling packet_record half_record header
+whole = refl
+
+seven : 7 ≡ length (records_in low_volts_mission stream).0
+unfolding stream voltage sampling packet_record half_record header
+seven = refl
+
+-- none of its records is a raw file
+is_no_file : Contents → Bool
+is_no_file (File name bytes) = false
+is_no_file (Packet bytes) = true
+is_no_file Tick = true
+is_no_file (Half name kind number) = true
+
+no_files : list_all (λ (entry : StreamEntry). is_no_file entry.contents) (records_in low_volts_mission stream).0 ≡ true
+unfolding is_no_file stream voltage sampling packet_record half_record header
+no_files = refl
+
+carries_none : (entries : List StreamEntry) → list_all (λ (entry : StreamEntry). is_no_file entry.contents) entries ≡ true → CarryHalves version_1_layouts (text ∷ []) entries
+unfolding is_no_file
+carries_none entries all entry name bytes (k, less, there) is =
+    absurd (true≢false (sym (no_file_at entries k less all entry) ∙ ap (λ (e : StreamEntry). is_no_file e.contents) there ∙ ap is_no_file is))
+  where
+    no_file_at : (entries : List StreamEntry) (k : ℕ) → k < length entries → list_all (λ (entry : StreamEntry). is_no_file entry.contents) entries ≡ true → (d : StreamEntry) →
+        is_no_file (slice_index_or entries k d).contents ≡ true
+    no_file_at [] k less all d = absurd (let none : ⊥ = omega (arith, less) in none)
+    no_file_at (entry ∷ entries) zero less all d = first (is_no_file entry.contents) _ all
+      where
+        first : (a b : Bool) → (a && b) ≡ true → a ≡ true
+        first true b e = refl
+        first false b e = e
+    no_file_at (entry ∷ entries) (suc k) less all d = no_file_at entries k (omega (arith, less)) (second (is_no_file entry.contents) _ all) d
+      where
+        second : (a b : Bool) → (a && b) ≡ true → b ≡ true
+        second true b e = e
+        second false b e = absurd (true≢false (sym e))
+
+carry : CarryHalves version_1_layouts (text ∷ []) (records_in low_volts_mission stream).0
+carry = carries_none (records_in low_volts_mission stream).0 no_files
+
+-- ---- its stock
+
+abbrev spares : List Member
+spares =
+    record { called = lc_name; state = LcState (record { mode = mode.Active; terms = []; rules = []; watch = []; points = []; effort = no_effort }) }
+    ∷ record { called = lc_name; state = LcState (record { mode = mode.Active; terms = []; rules = []; watch = []; points = []; effort = no_effort }) }
+    ∷ record { called = sch_name; state = SchState low_volts_mission.schedule 0 }
+    ∷ record { called = counter_name; state = CounterState 0 } ∷ []
+
+is_stock : IsStock low_volts_mission spares
+is_stock = record { names = refl; profile = (refl, (refl, ((refl, refl), (refl, tt)))) }
+
+-- ---- a run
+
+output : List ℕ
+output = output_by_bytes low_volts_mission compiled (records_in low_volts_mission stream).0
+
+abbrev both_devices : Devices
+both_devices = devices (record { rest = Some stream; reads = 0; failed = false }) (record { rest = Some []; reads = 2; failed = false })
+    (record { gained = Some []; failed = false }) (record { gained = Some output; failed = false })
+
+abbrev ending : Ending
+ending = Complete 7 (length output)
+
+is_run : IsRun low_volts_mission both_devices ending
+unfolding output
+is_run = record {
+  ends = record {
+    texts = text ∷ [];
+    compile = of_texts;
+    compiled = compiled;
+    files = are_compiled;
+    outcome = record {
+      bytes = stream;
+      so = record { took = sym (append-nil stream); wrote = refl; no_write_failed = refl };
+      whole = whole;
+      at_the_end = refl;
+      no_read_failed = refl;
+      records_counted = seven;
+      bytes_counted = refl;
+    };
+  };
+  few_reads = lit≤ tt;
+}
+
+undisturbed : IsUndisturbed low_volts_mission both_devices ending
+undisturbed = record { no_read_failed = refl; no_write_failed = refl; within_bound = λ e. absurd (cc e); memory = λ e. absurd (cc e) }
