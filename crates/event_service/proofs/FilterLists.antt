@@ -1,5 +1,5 @@
 -- A change of the one filter that an id has.
-use Rattle.std.proofs.Common.{◌≡◌, ℕ, zero, suc, ◌+◌, ◌<◌, ◌==◌, Bool, true, false, not, ◌&&◌, ◌||◌, List, [], ◌∷◌, ◌++◌, length, map, refl, ap, sym, ◌∙◌, subst, arith, Option, Some, None, if◌then◌else◌, cond, take, drop, IsTrue, IsFalse, true≢false, nat_le}
+use Rattle.std.proofs.Common.{◌≡◌, ℕ, zero, suc, ◌+◌, ◌<◌, ◌==◌, Bool, true, false, not, ◌&&◌, ◌||◌, List, [], ◌∷◌, ◌++◌, length, map, refl, ap, sym, ◌∙◌, subst, arith, Some, None, if◌then◌else◌, cond, take, drop, IsTrue, IsFalse, true≢false, nat_le}
 use Rattle.std.specs.Prelude.{slice_index_or, slice_set}
 use Rattle.std.specs.List.{list_any, position_from, find, refill}
 use Rattle.std.proofs.lemmas.Grind.{common_steps}
@@ -8,7 +8,7 @@ use Rattle.std.proofs.lemmas.Bool.Decides.{Decides-eqb}
 use Rattle.lc_model.specs.Kept.Summary.{Filter}
 use Rattle.lc_model.specs.Kept.Next.{filter_of, filters_with, filter_put}
 use Rattle.lc_model.specs.Events.Log.{is_full_for}
-use Rattle.event_service.specs.Filters.{ids_of, AreDistinct, HaveOwnIds, asked_once, renewed}
+use Rattle.event_service.specs.Filters.{ids_of, AreDistinct, HaveOwnIds, renewed}
 
 -- a filter is the id's
 abbrev is_of : ℕ → Filter → Bool
@@ -55,6 +55,43 @@ none_from id i (filter ∷ filters) e = by_test (id == filter.id) refl (λ e. no
 
 pub none : (id : ℕ) (filters : List Filter) → position_from (λ (filter : Filter). id == filter.id) 0 filters ≡ None → IsFalse (list_any (λ (filter : Filter). id == filter.id) filters)
 none id filters e = none_from id 0 filters e
+
+-- ---- what is looked for at a place
+
+distinct_there : (x k : ℕ) (filters : List Filter) (d : Filter) → k < length filters → IsTrue (x == (slice_index_or filters k d).id) → IsTrue (list_any (λ other. x == other) (ids_of filters))
+distinct_there x k [] d inside h = absurd (omega (arith, inside))
+distinct_there x zero (filter ∷ filters) d inside h = ap (λ t. t || list_any (λ other. x == other) (ids_of filters)) h
+distinct_there x (suc k) (filter ∷ filters) d inside h = by_test (x == filter.id) (distinct_there x k filters d (omega (arith, inside)) h)
+  where
+    by_test : (t : Bool) → IsTrue (list_any (λ other. x == other) (ids_of filters)) → IsTrue (t || list_any (λ other. x == other) (ids_of filters))
+    by_test true rest = refl
+    by_test false rest = rest
+
+-- the one filter of an id is its first
+pub hinted_is_first : (id k : ℕ) (filters : List Filter) (d : Filter) → HaveOwnIds filters → k < length filters → IsTrue (id == (slice_index_or filters k d).id) → IsFirst id filters k
+hinted_is_first id k [] d own inside h = absurd (omega (arith, inside))
+hinted_is_first id zero (filter ∷ filters) d own inside h = h
+hinted_is_first id (suc k) (filter ∷ filters) d own inside h = (by_test (id == filter.id) refl, hinted_is_first id k filters d own.1 (omega (arith, inside)) h)
+  where
+    by_test : (t : Bool) → (id == filter.id) ≡ t → IsFalse t
+    by_test true e =
+        let there : IsTrue (list_any (λ other. id == other) (ids_of filters)) = distinct_there id k filters d (omega (arith, inside)) h in
+        absurd (true≢false (sym there ∙ ap (λ n. list_any (λ other. n == other) (ids_of filters)) ((Decides-eqb id filter.id).0 e) ∙ own.0))
+    by_test false e = refl
+
+first_position : (id i k : ℕ) (filters : List Filter) → IsFirst id filters k → position_from (λ (filter : Filter). id == filter.id) i filters ≡ Some (i + k)
+first_position id i k [] h = absurd h
+first_position id i zero (filter ∷ filters) h =
+    ap (λ t. cond t (Some i) (position_from (λ (filter : Filter). id == filter.id) (i + 1) filters)) h ∙ ap Some (omega arith)
+first_position id i (suc k) (filter ∷ filters) h =
+    ap (λ t. cond t (Some i) (position_from (λ (filter : Filter). id == filter.id) (i + 1) filters)) h.0
+    ∙ first_position id (i + 1) k filters h.1 ∙ ap Some (omega arith)
+
+pub hinted : (id k : ℕ) (filters : List Filter) (found : Filter) → HaveOwnIds filters → k < length filters → found ≡ slice_index_or filters k found → IsTrue (id == found.id) →
+    Some k ≡ position_from (λ (filter : Filter). id == filter.id) 0 filters
+hinted id k filters found own inside at h =
+    let same : k ≡ 0 + k = omega arith in
+    ap Some same ∙ sym (first_position id 0 k filters (hinted_is_first id k filters found own inside (sym (ap (λ (filter : Filter). id == filter.id) at) ∙ h)))
 
 -- ---- what is found
 

@@ -1,5 +1,5 @@
 -- A rule's text in its parts.
-use Rattle.std.proofs.Common.{◌≡◌, ℕ, List, [], ◌∷◌, ◌++◌, refl, ap, sym, ◌∙◌, append_assoc, codes, decimal}
+use Rattle.std.proofs.Common.{◌≡◌, ℕ, List, [], ◌∷◌, ◌++◌, ap, sym, ◌∙◌, append_assoc, codes, decimal}
 use Rattle.std.specs.List.{flat_map}
 use Rattle.lc_model.specs.Name.{lc_name}
 use Rattle.lc_model.specs.Rule.{Actionpoint}

@@ -1,5 +1,5 @@
 -- The event services stay what they should be.
-use Rattle.std.proofs.Common.{◌≡◌, ℕ, zero, suc, ◌<◌, ◌||◌, Bool, true, false, List, [], ◌∷◌, length, refl, ap, sym, ◌∙◌, subst, arith, Option, Some, None, is_some, option_map, Result, Ok, Err, if◌then◌else◌, IfOk, IsTrue}
+use Rattle.std.proofs.Common.{◌≡◌, ℕ, ◌<◌, ◌||◌, true, false, List, length, refl, ap, sym, ◌∙◌, subst, arith, Option, Some, None, is_some, option_map, Ok, if◌then◌else◌, IfOk}
 use Rattle.std.specs.Prelude.{slice_index_or, slice_set}
 use Rattle.std.specs.Option.{option_map_or}
 use Rattle.std.specs.List.{position_from}
@@ -9,7 +9,7 @@ use Rattle.lc_model.specs.declared.rule.EventKind.{EventKind}
 use Rattle.lc_model.specs.Name.{Name, is_named, host_name}
 use Rattle.lc_model.specs.Refusal.{refused}
 use Rattle.lc_model.specs.Kept.Call.{new_sender}
-use Rattle.lc_model.specs.Services.Events.{Sender, EventService, IsEventService, is_sender, origin_named, registered_at, unregistered_at, asked_by, accounted_at, event_asked}
+use Rattle.lc_model.specs.Services.Events.{Sender, EventService, IsEventService, is_sender, origin_named, registered_at, asked_by, accounted_at}
 use Rattle.lc_model.specs.Laws.Senders.{ChangesKeep, RegisteringKeeps, UnregisteringKeeps, EventsKeep}
 use Rattle.event_service.specs.Service.{service_of, AreServices}
 

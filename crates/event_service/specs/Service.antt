@@ -1,5 +1,5 @@
 -- The event services by what they keep.
-use Rattle.std.specs.Prelude.{◌≡◌, ℕ, ◌<◌, ◌≤◌, List, length, Option, Some, None, ⊤, []}
+use Rattle.std.specs.Prelude.{◌≡◌, ℕ, List, Option}
 use Rattle.lc_model.specs.Name.{host_name}
 use Rattle.lc_model.specs.Services.Events.{Sender, EventService, IsEventService}
 

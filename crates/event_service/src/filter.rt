@@ -14,6 +14,9 @@ use std::marker::Model;
 /// The most filters of a sender.
 pub(crate) const MAX_FILTERS: usize = 16;
 
+/// The values of a byte.
+const LOW_BYTES: usize = 256;
+
 /// The filter of an id: its mask, and how often it was asked.
 #[derive(Clone, Copy, Debug, Default)]
 pub(crate) struct Filter {
@@ -67,6 +70,8 @@ impl Filter {
 #[derive(Debug, Drop)]
 pub(crate) struct Filters {
     list: ArrayVec<Filter, MAX_FILTERS>,
+    /// Where an id's filter is looked for first, by the id's low byte. A wrong place costs time and nothing else.
+    hints: [u8; LOW_BYTES],
 }
 
 impl Model for Filters {
@@ -88,6 +93,7 @@ impl Filters {
     {
         Filters {
             list: ArrayVec::new(),
+            hints: [0; LOW_BYTES],
         }
     }
 
@@ -96,7 +102,8 @@ impl Filters {
         ensures open { result ≡ is_unfiltered (filter_of id self.old) }
         ensures after { self.new ≡ filters_with asked_once id self.old }
     {
-        ask_of(self.list.as_mut_slice(), id)
+        let hint = self.hints[id as usize % LOW_BYTES] as usize;
+        ask_of(self.list.as_mut_slice(), id, hint)
     }
 
     /// Sets the mask of an id, whose count begins again. It answers whether there was room: there is, where the id has a
@@ -111,6 +118,7 @@ impl Filters {
         if self.list.is_full() {
             return false;
         }
+        self.hints[id as usize % LOW_BYTES] = self.list.len() as u8;
         self.list.push(Filter::new(id, mask));
         true
     }
@@ -124,12 +132,12 @@ impl Filters {
 }
 
 /// Asks the filter of the id, where there is one, and answers whether the event is sent.
-fn ask_of(filters: &mut [Filter], id: u16) -> bool
+fn ask_of(filters: &mut [Filter], id: u16, hint: usize) -> bool
     requires own_ids { HaveOwnIds filters.old }
     ensures open { result ≡ is_unfiltered (filter_of id filters.old) }
     ensures after { filters.new ≡ filters_with asked_once id filters.old }
 {
-    match place_of(filters, id) {
+    match find(filters, id, hint) {
         None => true,
         Some(place) => filters[place].ask(),
     }
@@ -156,6 +164,18 @@ fn reset_all(filters: &mut [Filter])
     for filter in filters.iter_mut() {
         filter.reset();
     }
+}
+
+/// Where the filter of the id stands, looked for at the hint first.
+fn find(filters: &[Filter], id: u16, hint: usize) -> Option<usize>
+    requires own_ids { HaveOwnIds filters.now }
+    ensures place { result ≡ position_from (λ (filter : Kept). id == filter.id) 0 filters.now }
+    ensures inside { IfSome result (λ place. place < length filters.now) }
+{
+    if hint < filters.len() && filters[hint].is_of(id) {
+        return Some(hint);
+    }
+    place_of(filters, id)
 }
 
 /// Where the filter of the id stands.

@@ -203,3 +203,25 @@ fn sixteen_ids_and_no_more(rt: HostRuntime) {
         ],
     );
 }
+
+#[test]
+fn ids_that_share_their_low_byte(rt: HostRuntime) {
+    run(
+        &rt,
+        &[
+            Register(0, b"LC", None),
+            Filter(b"LC", 0x0101, 0xFFFF, None),
+            Filter(b"LC", 0x0201, 0xFFFF, None),
+            Filter(b"LC", 0x0001, 0xFFFE, None),
+            Send(0, 0x0101, Error, true),
+            Send(0, 0x0101, Error, false),
+            Send(0, 0x0201, Error, true),
+            Send(0, 0x0201, Error, false),
+            Send(0, 0x0001, Error, true),
+            Send(0, 0x0001, Error, true),
+            Send(0, 0x0001, Error, false),
+            Send(0, 0x0301, Error, true),
+            Send(0, 0x0301, Error, true),
+        ],
+    );
+}

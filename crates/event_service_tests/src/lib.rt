@@ -3,6 +3,7 @@
 //! from what the crate answers.
 #![tactic(auto)]
 
+pub mod calls;
 #[cfg(test)]
 mod filters;
 #[cfg(test)]
@@ -11,9 +12,11 @@ mod packets;
 mod random;
 #[cfg(test)]
 mod senders;
-pub mod shared;
+#[cfg(test)]
+mod shared;
 #[cfg(test)]
 mod speed;
-pub mod steps;
+#[cfg(test)]
+mod steps;
 #[cfg(test)]
 mod texts;

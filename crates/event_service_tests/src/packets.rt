@@ -1,7 +1,7 @@
 //! The bytes of event packets.
 
+use crate::calls::{MOMENT, register, seat};
 use crate::shared::{fresh, holds, same};
-use crate::steps::{MOMENT, register, seat};
 use event_service::{EventPacket, Events, PACKET_SIZE};
 use lc_model::{EventKind, Moment, Seat};
 use std::process::Abort;

@@ -2,8 +2,8 @@
 
 ghost use Rattle.std.specs.Prelude.{◌<◌};
 
+use crate::calls::{MOMENT, register, seat};
 use crate::shared::{fresh, same};
-use crate::steps::{MOMENT, register, seat};
 use event_service::{EventError, EventPacket, EventTypes, Events};
 use lc_model::{EventKind, Seat};
 use std::process::Abort;

@@ -1,8 +1,9 @@
 //! Who may send events.
 
+use crate::calls::register;
 use crate::shared::same;
 use crate::steps::Step::{Filter, Register, Reset, Send, SendHost, Types, Unregister};
-use crate::steps::{register, run};
+use crate::steps::run;
 use event_service::{EventError, Events};
 use lc_model::EventKind::{Critical, Debug, Error, Information};
 

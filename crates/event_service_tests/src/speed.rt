@@ -2,8 +2,8 @@
 
 ghost use Rattle.std.specs.Prelude.{◌≡◌, ◌≤◌, length};
 
+use crate::calls::{MOMENT, register, seat};
 use crate::shared::{fresh, holds, same};
-use crate::steps::{MOMENT, register, seat};
 use event_service::{Events, PACKET_SIZE};
 use lc_model::EventKind;
 use std::process::Abort;

@@ -1,15 +1,10 @@
 //! Event services, driven through the steps of a table.
 
+use crate::calls::{ask, code, is_sent, register, seat};
 use crate::shared::{fresh, same};
-use event_service::{EventError, EventTypes, Events};
-use lc_model::{EventKind, Moment, Seat};
+use event_service::{EventTypes, Events};
+use lc_model::EventKind;
 use std::process::Abort;
-
-/// When all events of tables are sent.
-pub const MOMENT: Moment = Moment {
-    seconds: 100,
-    subseconds: 0,
-};
 
 /// A call, and the number of the refusal that it is to answer, or whether the event is to be sent.
 #[derive(Clone, Copy)]
@@ -27,38 +22,6 @@ pub enum Step {
     Filters(&'static [u8], u16, u16, u16),
     Reset(&'static [u8], Option<u8>),
     Types(&'static [u8], u8, bool, Option<u8>),
-}
-
-/// One of the eight seats.
-pub fn seat(number: u8) -> Seat {
-    Seat::new(number % 8)
-}
-
-/// The number of the refusal, if it is one.
-fn code(answer: Result<(), EventError>) -> Option<u8> {
-    match answer {
-        Ok(()) => None,
-        Err(error) => error.code(),
-    }
-}
-
-/// Registers a name of at most 20 bytes; none of the tables has a longer one.
-pub fn register(events: &mut Events, number: u8, name: &[u8]) -> Option<u8> {
-    if name.len() > 20 {
-        return None;
-    }
-    code(events.register(seat(number), name))
-}
-
-/// Whether the event is sent.
-fn is_sent(events: &mut Events, from: Option<Seat>, id: u16, kind: EventKind) -> bool {
-    events.send(from, MOMENT, id, kind, b"text").is_some()
-}
-
-fn ask(events: &mut Events, number: u8, id: u16, kind: EventKind, times: u32) {
-    for _ in 0..times {
-        let _sent = is_sent(events, Some(seat(number)), id, kind);
-    }
 }
 
 fn set_filters<R: Abort>(

@@ -1,5 +1,6 @@
-//! How a ground team makes table files from a rule text, and judges files before they go up.
+//! A ground team makes table files from a rule text, and judges files before they go up.
 
+use crate::judging::{Unfit, judge};
 use lc_model::Kind;
 use rpn_compiler::compile;
 use std::process::Abort;
@@ -14,20 +15,6 @@ const TEXT: &str = "packet P = mid 0x0883 length 16; \
 
 /// Where the low byte of the first word of the first actionpoint stands: behind both headers, the preamble and 46 bytes.
 const FIRST_WORD: usize = 116 + 40 + 46 + 1;
-
-/// Why a file doesn't go up.
-#[derive(Clone, Copy, Debug, PartialEq, Eq)]
-enum Unfit {
-    File(FileError),
-    Table(TableFault),
-}
-
-/// Whether a file may go up as the table of this kind.
-fn judge(kind: Kind, file: &[u8]) -> Result<(), Unfit> {
-    let file = table_file::open(file).map_err(Unfit::File)?;
-    table_validator::validate(kind, file.image()).map_err(Unfit::Table)?;
-    Ok(())
-}
 
 /// The table may go up.
 fn may_go_up<R: Abort>(rt: &R, kind: Kind, file: &[u8]) {

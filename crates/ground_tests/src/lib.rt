@@ -11,10 +11,12 @@ mod checker;
 mod compiler;
 #[cfg(test)]
 mod ground_team;
+pub mod judging;
 #[cfg(test)]
 mod lexer;
 #[cfg(test)]
 mod parser;
-pub mod shared;
+#[cfg(test)]
+mod shared;
 #[cfg(test)]
 mod sharing;

@@ -5,12 +5,19 @@ mod faults;
 mod memory;
 mod nesting;
 
-use crate::shared::{accepted, joined, parsed, same};
-use rule_parser::{ParseError, What};
+use crate::shared::{accepted, joined, same};
+use rule_lexer::lex;
+use rule_parser::{ParseError, RuleFile, What, parse};
 use std::process::Abort;
 
 /// What stands before the condition of a rule.
 const FRONT: &str = "rule R active fails 1 sequence 2 event info 3 \"t\" when ";
+
+/// The items of a text that splits into tokens.
+fn parsed<'a, R: Abort + AllocGlobal>(rt: &R, text: &'a str) -> Result<RuleFile<'a>, ParseError> {
+    let tokens = accepted(rt, text, lex(rt.alloc(), text.as_bytes()));
+    parse(rt.alloc(), text.as_bytes(), tokens.as_slice())
+}
 
 /// The text has so many items.
 fn reads<R: Abort + AllocGlobal>(rt: &R, text: &str, count: usize) {

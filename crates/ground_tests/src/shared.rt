@@ -4,8 +4,6 @@
 
 ghost use Rattle.std.specs.Prelude.{◌≡◌, Ok};
 
-use rule_lexer::lex;
-use rule_parser::{ParseError, RuleFile, parse};
 use std::fmt::Debug;
 use std::process::Abort;
 
@@ -31,15 +29,6 @@ pub fn accepted<R: Abort, W: Debug + Drop, T, E: Debug + Drop>(
         Ok(value) => value,
         Err(error) => panic!(rt; "{of:?} is refused: {error:?}"),
     }
-}
-
-/// The items of a text that splits into tokens.
-pub fn parsed<'a, R: Abort + AllocGlobal>(
-    rt: &R,
-    text: &'a str,
-) -> Result<RuleFile<'a>, ParseError> {
-    let tokens = accepted(rt, text, lex(rt.alloc(), text.as_bytes()));
-    parse(rt.alloc(), text.as_bytes(), tokens.as_slice())
 }
 
 /// The parts, one behind the other.

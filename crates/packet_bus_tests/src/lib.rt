@@ -6,12 +6,14 @@
 mod headers;
 #[cfg(test)]
 mod long_run;
+pub mod marks;
 #[cfg(test)]
 mod outgoing;
 #[cfg(test)]
 mod pipes;
 #[cfg(test)]
 mod pool;
-pub mod shared;
+#[cfg(test)]
+mod shared;
 #[cfg(test)]
 mod speed;

@@ -1,6 +1,7 @@
 //! Many calls in a random order, from a fixed seed, against a plain model of lists.
 
-use crate::shared::{new_bus, received, same, telemetry};
+use crate::marks::{received, telemetry};
+use crate::shared::{new_bus, same};
 use lc_model::Seat;
 use packet_bus::{Bus, BusError};
 use std::alloc::Global;

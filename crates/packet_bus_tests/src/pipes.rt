@@ -1,6 +1,7 @@
 //! Pipes and subscriptions at their limits, and each refusal.
 
-use crate::shared::{add_subscriber, holds, new_bus, received, same, telemetry};
+use crate::marks::{received, telemetry};
+use crate::shared::{add_subscriber, holds, new_bus, same};
 use lc_model::Seat;
 use packet_bus::{BusError, HeaderFault};
 

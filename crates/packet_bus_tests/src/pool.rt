@@ -1,6 +1,7 @@
 //! The pool: a packet is kept once, and its slot is free with the last reader.
 
-use crate::shared::{add_subscriber, new_bus, received, same, telemetry};
+use crate::marks::{received, telemetry};
+use crate::shared::{add_subscriber, new_bus, same};
 use lc_model::Seat;
 
 #[test]

@@ -1,6 +1,7 @@
 //! What a publication and its receipt cost: `valgrind --tool=callgrind` on these tests counts the instructions.
 
-use crate::shared::{add_subscriber, new_bus, same, telemetry};
+use crate::marks::telemetry;
+use crate::shared::{add_subscriber, new_bus, same};
 use lc_model::Seat;
 
 /// A packet of 16 bytes to one subscriber, published and received many times over.

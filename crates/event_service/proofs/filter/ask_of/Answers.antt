@@ -1,4 +1,4 @@
-use Rattle.std.proofs.Common.{◌≡◌, ap, sym, ◌∙◌, refl}
+use Rattle.std.proofs.Common.{ap, sym, ◌∙◌}
 use Rattle.lc_model.specs.Kept.Next.{is_unfiltered}
 use Rattle.event_service.specs.Filters.{asked_once}
 use Rattle.event_service.proofs.FilterLists.{first, first_is_found, first_changes, none, none_is_found, none_changes}

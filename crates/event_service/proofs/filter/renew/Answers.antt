@@ -1,5 +1,4 @@
-use Rattle.std.proofs.Common.{◌≡◌, ap, sym, ◌∙◌, refl}
-use Rattle.std.specs.Prelude.{slice_index_or}
+use Rattle.std.proofs.Common.{sym}
 use Rattle.event_service.specs.Filters.{renewed}
 use Rattle.event_service.proofs.FilterLists.{first, first_is_there, replaced, none, none_changes}
 use Rattle.event_service.proofs.filter.renew.Goals as goal

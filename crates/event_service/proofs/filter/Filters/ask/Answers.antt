@@ -1,4 +1,4 @@
-use Rattle.std.proofs.Common.{◌≡◌, ap, sym, ◌∙◌, refl}
+use Rattle.std.proofs.Common.{refl}
 use Rattle.event_service.specs.Filters.{asked_once}
 use Rattle.event_service.proofs.FilterLists.{written, own_ids_with}
 use Rattle.event_service.proofs.filter.Filters.ask.Goals as goal

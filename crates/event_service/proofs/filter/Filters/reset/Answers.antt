@@ -1,4 +1,4 @@
-use Rattle.std.proofs.Common.{◌≡◌, ap, sym, ◌∙◌, refl}
+use Rattle.std.proofs.Common.{refl}
 use Rattle.lc_model.specs.Kept.Summary.{Filter}
 use Rattle.event_service.proofs.FilterLists.{written_over, own_ids_of_all}
 use Rattle.event_service.proofs.filter.Filters.reset.Goals as goal

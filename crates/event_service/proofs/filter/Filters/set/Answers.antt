@@ -1,7 +1,4 @@
-use Rattle.std.proofs.Common.{◌≡◌, ap, sym, ◌∙◌, refl}
-use Rattle.std.proofs.Common.{IsFalse, false, ◌==◌, length, arith, ◌++◌, ◌∷◌, [], List}
-use Rattle.std.specs.List.{list_any, refill}
-use Rattle.lc_model.specs.Kept.Summary.{Filter}
+use Rattle.std.proofs.Common.{refl}
 use Rattle.event_service.specs.Filters.{renewed}
 use Rattle.event_service.proofs.FilterLists.{written, own_ids_with, room_there, full, unchanged, own_with_more, put_more}
 use Rattle.event_service.proofs.filter.Filters.set.Goals as goal

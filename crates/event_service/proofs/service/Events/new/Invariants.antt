@@ -1,4 +1,4 @@
-use Rattle.std.proofs.Common.{◌≡◌, ◌≤◌, replicate, None, vec_capacity}
+use Rattle.std.proofs.Common.{◌≡◌, replicate, None}
 use Rattle.event_service.proofs.service.Events.new.Given as goal
 
 abbrev pub invariant-loop : goal.invariant-loop
