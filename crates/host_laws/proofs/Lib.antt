@@ -19,6 +19,7 @@ pub mod Records
 pub mod Runs
 pub mod Stays
 pub mod Laws
+mod PartsKept
 pub mod Telemetry
 pub mod FineFiles
 pub mod Brought

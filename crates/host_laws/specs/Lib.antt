@@ -3,3 +3,4 @@ pub mod Statements
 pub mod Calls
 pub mod Writes
 pub mod Invariants
+pub mod Parts

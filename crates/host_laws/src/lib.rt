@@ -8,6 +8,7 @@ ghost use Rattle.lc_model.specs.Tables.HalvesAndBytes.{as_bytes};
 ghost use Rattle.lc_model.specs.Tables.Image.{Layout};
 ghost use Rattle.host_laws.specs.Calls.{CallsKeepOthers, CopiesServe, PacketsKeep, PublishesFew, StartsGoWith, StartsWriteLittle, TheHostKeeps, WritesLittle};
 ghost use Rattle.host_laws.specs.Invariants.{FilesStayAMap, NamesStayOwn, PipesFollowStates};
+ghost use Rattle.host_laws.specs.Parts.{HasSpares, HasStates, HoldsCounts, HoldsFiles, HoldsFilters, HoldsTables, IsKept, PipesAreEmpty, RunsOnOneSeat};
 ghost use Rattle.host_laws.specs.Writes.{CallsAreBounded, OpenHostsTake, WritesAreTheSteps};
 ghost use Rattle.host_laws.specs.Statements.{AreBytes, BeginsSo, EachRecordKeeps, RecordsAreFine, RunsGoOn, SchedulesFit, SeatsGoWith, StreamsBring, WritesByBytes, WritesByTexts, WritesWhatIsCalledFor, WritesWithFixedTables};
 
@@ -19,6 +20,24 @@ pub fn begins_as_the_world()
 /// Each record keeps the host in numbers to the world, and the packets that it writes are those that the world sends.
 pub fn keeps_to_the_world()
     ensures { (layouts : List Layout) (schedule : Schedule) → EachRecordKeeps (as_bytes layouts) AreBytes schedule }
+{}
+
+/// Part by part, what each record keeps.
+pub fn each_part_is_kept()
+    // The stored files, the registered tables with their slots, the senders of events with their types and filters, and each
+    // message id's sequence count are the world's.
+    ensures files { (layouts : List Layout) (schedule : Schedule) → IsKept (as_bytes layouts) schedule AreBytes (HoldsFiles (as_bytes layouts) schedule) }
+    ensures tables { (layouts : List Layout) (schedule : Schedule) → IsKept (as_bytes layouts) schedule AreBytes (HoldsTables (as_bytes layouts) schedule) }
+    ensures filters { (layouts : List Layout) (schedule : Schedule) → IsKept (as_bytes layouts) schedule AreBytes (HoldsFilters (as_bytes layouts) schedule) }
+    ensures counts { (layouts : List Layout) (schedule : Schedule) → IsKept (as_bytes layouts) schedule AreBytes (HoldsCounts (as_bytes layouts) schedule) }
+
+    // An application has one seat where it runs, and none else; its object has the state that its lists come to.
+    ensures seats { (layouts : List Layout) (schedule : Schedule) → IsKept (as_bytes layouts) schedule AreBytes (RunsOnOneSeat (as_bytes layouts) schedule) }
+    ensures states { (layouts : List Layout) (schedule : Schedule) → IsKept (as_bytes layouts) schedule AreBytes (HasStates (as_bytes layouts) schedule) }
+
+    // The stock is the world's, and between records no packet waits.
+    ensures spares { (layouts : List Layout) (schedule : Schedule) → IsKept (as_bytes layouts) schedule AreBytes (HasSpares (as_bytes layouts) schedule) }
+    ensures pipes { (layouts : List Layout) (schedule : Schedule) → IsKept (as_bytes layouts) schedule AreBytes (PipesAreEmpty (as_bytes layouts) schedule) }
 {}
 
 /// Over whole runs it writes exactly what is called for.

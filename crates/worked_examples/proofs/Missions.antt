@@ -1,32 +1,44 @@
 -- A mission that meets all premises of the promise of `run`, and of the laws over it, at once: the low-volts text, a stream
 -- that starts the Limit Checker from its two halves, and two failing samples. So none of these premises is one that nobody
 -- can meet.
-use Rattle.std.proofs.Common.{◌≡◌, refl, ap, sym, ◌∙◌, subst, ℕ, zero, suc, ◌<◌, Bool, true, false, ◌&&◌, nat_lt, List, [], ◌∷◌, ◌++◌, length, slice_index_or, slice_get, arith, append-nil, codes, Some, unwrap_or, is_some, Contains, true≢false, lit≤}
-use Rattle.std.specs.List.{list_all}
+use Rattle.std.proofs.Common.{◌≡◌, refl, ap, sym, ◌∙◌, subst, ℕ, zero, suc, ◌<◌, Bool, true, false, ◌&&◌, nat_lt, List, [], ◌∷◌, ◌++◌, map, length, slice_index_or, slice_get, arith, append-nil, codes, Some, unwrap_or, is_some, Contains, true≢false, lit≤}
+use Rattle.std.specs.Prelude.{IfSome}
+use Rattle.std.specs.Fmt.{digits}
+use Rattle.std.specs.List.{list_all, AllByRecursion}
 use Rattle.std.proofs.lemmas.Bool.{ltb-true}
 use Rattle.sha2.specs.Sha256.{sha256, first_words, schedule, rounds, compress, hash_after, digest_bytes}
 use Rattle.lc_model.specs.declared.kind.Kind.{Kind}
 use Rattle.lc_model.specs.declared.kind.Kind.TheVariants.{Wdt, Adt}
 use Rattle.lc_model.specs.declared.mode.LcMode.TheVariants as mode
 use Rattle.lc_model.specs.Bytes.{zero_filled, u16, u32}
-use Rattle.lc_model.specs.Name.{lc_name, sch_name, counter_name}
+use Rattle.lc_model.specs.Name.{is_named, lc_name, sch_name, counter_name}
 use Rattle.lc_model.specs.Packet.{command, executive_services_mid, sample_mid}
 use Rattle.lc_model.specs.Tables.Image.{Actionpoints, wdt_image, adt_image, version_1_layouts}
 use Rattle.lc_model.specs.Tables.File.{file_bytes, wrapped}
-use Rattle.lc_model.specs.Tables.HalvesAndBytes.{Text}
+use Rattle.lc_model.specs.Tables.Interpretation.{Interpretation, FileMeanings}
+use Rattle.lc_model.specs.Tables.HalvesAndBytes.{Text, as_bytes, byte_meanings}
 use Rattle.lc_model.specs.Tables.Edition.{text_order_edition, IsCompiledFile, AreCompiledFiles}
 use Rattle.lc_model.specs.Host.Schedule.{IsSchedule}
 use Rattle.lc_model.specs.Host.Stream.{StreamEntry, Contents, Packet, Tick, File, Half, Whole}
+use Rattle.lc_model.specs.Host.World.{World, first_world}
+use Rattle.lc_model.specs.Host.Run.{handled, input_of}
 use Rattle.lc_model.specs.Host.Outcome.{Devices, devices, Ending, Complete}
 use Rattle.lc_model.specs.Host.Promise.{HaveOwnHashes, CarryHalves, HaveFixedTables, Mission, IsOfTexts, records_in, output_by_bytes, IsRun, IsUndisturbed}
 use Rattle.lc_model.specs.Kept.Effort.{no_effort}
-use Rattle.lc_model.specs.Kept.Summary.{LcState, SchState, CounterState}
-use Rattle.lc_model.specs.Kept.Executive.{Member}
-use Rattle.host_laws.specs.Statements.{AreBytes, IsStock}
+use Rattle.lc_model.specs.Kept.Summary.{AppState, LcState, SchState, CounterState}
+use Rattle.lc_model.specs.Kept.GoesWith.{own_name, GoesWith}
+use Rattle.lc_model.specs.Kept.Executive.{Member, Executive}
+use Rattle.host_laws.specs.Keeping.{KeepsTo, runs_in, standing_of, LimitChecker}
+use Rattle.host_laws.specs.Statements.{AreBytes, IsStock, IsShort, IsWhole, AreFineInputs}
+use Rattle.host_laws.specs.Calls.{AreTwo}
+use Rattle.host_laws.proofs.Laws.{each_record_keeps, bytes_are_sensible}
+use Rattle.host_laws.proofs.Runs.{begins_so}
+use Rattle.host_laws.proofs.SeatsGo.{seats_go_with}
+use Rattle.host_laws.proofs.FineFiles.{records_are_fine}
 use Rattle.worked_examples.proofs.Watchpoints.{low_volts}
 use Rattle.worked_examples.proofs.Reading.{low_volts_text, low_volts_rules, low_volts_compiles}
 use Rattle.worked_examples.proofs.Halves.{hash, entries, entry_fits, wdt_is_half, adt_is_half}
-use Rattle.worked_examples.proofs.Records.{stock, volts, sample}
+use Rattle.worked_examples.proofs.Records.{stock, order, volts, sample}
 
 -- ---- the mission, and the files of its text
 
@@ -199,3 +211,56 @@ is_run = record {
 
 undisturbed : IsUndisturbed low_volts_mission both_devices ending
 undisturbed = record { no_read_failed = refl; no_write_failed = refl; within_bound = λ e. absurd (cc e); memory = λ e. absurd (cc e) }
+
+-- ---- what it leads to: a host that keeps to a world in which the Limit Checker runs
+
+abbrev bytes : Interpretation (List ℕ)
+bytes = as_bytes version_1_layouts
+
+abbrev meanings : FileMeanings (List ℕ)
+meanings = byte_meanings compiled
+
+short : IsShort low_volts_mission.schedule
+short = (lit≤ tt, tt)
+
+world_after : World (List ℕ) → List StreamEntry → World (List ℕ)
+world_after w [] = w
+world_after w (entry ∷ entries) = world_after (handled bytes low_volts_mission.schedule entry.moment (input_of meanings entry.contents) w).0 entries
+
+-- a world, and a host that keeps to it
+record Kept (w : World (List ℕ)) : Type 0 where
+  executive : Executive (List ℕ)
+  keeps : KeepsTo bytes low_volts_mission.schedule w executive
+  is_whole : IsWhole bytes AreBytes w
+
+kept_after : (entries : List StreamEntry) (w : World (List ℕ)) → Kept w → AreFineInputs bytes AreBytes low_volts_mission.schedule meanings entries → Kept (world_after w entries)
+unfolding world_after
+kept_after [] w before fit = before
+kept_after (entry ∷ entries) w before fit =
+    let now = each_record_keeps bytes AreBytes low_volts_mission.schedule (bytes_are_sensible version_1_layouts) entry.moment w before.executive
+    (input_of meanings entry.contents) short before.keeps before.is_whole fit.0 in
+    kept_after entries _ (record { executive = _; keeps = now.keeps; is_whole = now.whole }) fit.1
+
+at_first : Kept (first_world (map (λ (m : Member). m.called) spares))
+at_first = let begun = begins_so bytes AreBytes low_volts_mission.schedule spares is_stock.profile in record { executive = _; keeps = begun.0; is_whole = begun.1 }
+
+starting : List StreamEntry
+starting = order 1 lc_name ∷ volts 2399 ∷ sample ∷ []
+
+fine : AreFineInputs bytes AreBytes low_volts_mission.schedule meanings starting
+unfolding starting
+fine = records_are_fine text_order_edition (text ∷ []) compiled low_volts_mission.schedule starting are_compiled (tt, (tt, (tt, tt)))
+
+at_last : Kept (world_after (first_world (map (λ (m : Member). m.called) spares)) starting)
+at_last = kept_after starting _ at_first fine
+
+it_runs : runs_in (standing_of (world_after (first_world (map (λ (m : Member). m.called) spares)) starting)) LimitChecker ≡ true
+unfolding world_after starting digits
+it_runs = refl
+
+-- its object goes with the services, and is another than the scheduler's
+goes_with : AllByRecursion (λ seat. IfSome seat (λ (member : Member). GoesWith bytes member.state at_last.executive.services)) at_last.executive.seats
+goes_with = seats_go_with bytes AreBytes low_volts_mission.schedule _ at_last.executive schedule_fits at_last.keeps at_last.is_whole
+
+two : (state : AppState) → own_name state ≡ lc_name → AreTwo state (SchState low_volts_mission.schedule 0)
+two state is = ap (λ name. is_named sch_name name) is
