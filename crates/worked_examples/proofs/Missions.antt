@@ -14,7 +14,7 @@ use Rattle.lc_model.specs.Packet.{command, executive_services_mid, sample_mid}
 use Rattle.lc_model.specs.Tables.Image.{Actionpoints, wdt_image, adt_image, version_1_layouts}
 use Rattle.lc_model.specs.Tables.File.{file_bytes, wrapped}
 use Rattle.lc_model.specs.Tables.HalvesAndBytes.{Text}
-use Rattle.lc_model.specs.Tables.Edition.{text_order_edition, IsCompiledFile, AreCompiledFiles}
+use Rattle.lc_model.specs.Tables.Edition.{heavier_first_edition, IsCompiledFile, AreCompiledFiles}
 use Rattle.lc_model.specs.Host.Schedule.{IsSchedule}
 use Rattle.lc_model.specs.Host.Stream.{StreamEntry, Contents, Packet, Tick, File, Half, Whole}
 use Rattle.lc_model.specs.Host.Outcome.{Devices, devices, Ending, Complete}
@@ -31,7 +31,7 @@ use Rattle.worked_examples.proofs.Records.{stock, volts, sample}
 -- ---- the mission, and the files of its text
 
 abbrev low_volts_mission : Mission
-low_volts_mission = record { edition = text_order_edition; sources = low_volts_text ∷ []; schedule = [] ∷ []; stock = stock; most_reads = 2 }
+low_volts_mission = record { edition = heavier_first_edition; sources = low_volts_text ∷ []; schedule = [] ∷ []; stock = stock; most_reads = 2 }
 
 abbrev text : Text
 text = record { source = low_volts_text; rules = low_volts_rules }
@@ -46,11 +46,11 @@ abbrev compiled : Kind → ℕ → List ℕ
 compiled Wdt number = file_bytes (wrapped Wdt (wdt_image hash (low_volts ∷ [])))
 compiled Adt number = file_bytes (wrapped Adt (adt_image Actionpoints hash 1 entries))
 
-wdt_compiled : IsCompiledFile text_order_edition Wdt (compiled Wdt 0) text
+wdt_compiled : IsCompiledFile heavier_first_edition Wdt (compiled Wdt 0) text
 unfolding sha256 hash_after compress rounds schedule first_words digest_bytes
 wdt_compiled = (wdt_image hash (low_volts ∷ []), refl, refl, wdt_is_half)
 
-adt_compiled : IsCompiledFile text_order_edition Adt (compiled Adt 0) text
+adt_compiled : IsCompiledFile heavier_first_edition Adt (compiled Adt 0) text
 unfolding sha256 hash_after compress rounds schedule first_words digest_bytes
 adt_compiled = (
   (adt_image Actionpoints hash 1 entries, refl, refl, adt_is_half),
@@ -66,9 +66,9 @@ one_text : (a : Text) → Contains (text ∷ []) a → text ≡ a
 one_text a (zero, less, is) = is
 one_text a (suc k, less, is) = absurd (let none : ⊥ = omega (arith, less) in none)
 
-are_compiled : AreCompiledFiles text_order_edition (text ∷ []) compiled
-are_compiled Wdt number other is = subst (IsCompiledFile text_order_edition Wdt (compiled Wdt 0)) (only text other number is) wdt_compiled
-are_compiled Adt number other is = subst (IsCompiledFile text_order_edition Adt (compiled Adt 0)) (only text other number is) adt_compiled
+are_compiled : AreCompiledFiles heavier_first_edition (text ∷ []) compiled
+are_compiled Wdt number other is = subst (IsCompiledFile heavier_first_edition Wdt (compiled Wdt 0)) (only text other number is) wdt_compiled
+are_compiled Adt number other is = subst (IsCompiledFile heavier_first_edition Adt (compiled Adt 0)) (only text other number is) adt_compiled
 
 own_hashes : HaveOwnHashes (text ∷ [])
 own_hashes a b in_a in_b same = ap (λ (t : Text). t.source) (sym (one_text a in_a) ∙ one_text b in_b)
