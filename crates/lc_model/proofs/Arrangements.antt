@@ -1,8 +1,8 @@
 -- A condition with its operands in either order has as many words, and the same mentions.
-use Rattle.std.proofs.Common.{◌≡◌, refl, ap, ℕ, ◌+◌, arith}
+use Rattle.std.proofs.Common.{◌≡◌, refl, ap, ◌+◌, arith}
 use Rattle.std.specs.List.{AllByRecursion}
 use Rattle.lc_model.specs.declared.field.Term.{Term}
-use Rattle.lc_model.specs.Condition.{Condition, Operator, Join}
+use Rattle.lc_model.specs.Condition.{Condition}
 use Rattle.lc_model.specs.Tables.Equation.{IsRearranged, mention, negation, in_order, turned, mentions, size}
 use Rattle.lc_model.proofs.ResultLaws.{front, back}
 use Rattle.lc_model.proofs.SaidLaws.{all_append}

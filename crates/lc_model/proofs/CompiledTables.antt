@@ -11,8 +11,8 @@ use Rattle.lc_model.specs.Rule.{NamedRule, actions}
 use Rattle.lc_model.specs.Codes.{table_entries}
 use Rattle.lc_model.specs.Text.Token.{is_text_byte}
 use Rattle.lc_model.specs.Tables.Equation.{terms_of, words, equal_word, operator_word, SpellsInOrder, Spells}
-use Rattle.lc_model.specs.Tables.InForce.{arranged}
-use Rattle.lc_model.specs.Tables.Lowering.{words_in}
+use Rattle.lc_model.specs.Tables.InForce.{limits, arranged}
+use Rattle.lc_model.specs.Tables.Lowering.{words_in, NeedsFew}
 use Rattle.lc_model.specs.Tables.Image.{Watchpoints, Actionpoints, filled, term_bytes, TableEntry, FitsEntry, EndsOnce, entry_bytes, HasPreamble, adt_image, equation_tests}
 use Rattle.lc_model.specs.Tables.Half.{entry_over, IsEntryOf}
 use Rattle.lc_model.specs.Tables.Spelled.{spelled_condition}
@@ -134,12 +134,17 @@ entries_have_words : (terms : List Term) (rules : List NamedRule) →
 entries_have_words terms [] = tt
 entries_have_words terms (rule ∷ rules) = ((refl, refl), entries_have_words terms rules)
 
+each_light : (terms : List Term) (rules : List NamedRule) → AllByRecursion (RuleRuns terms) rules → AllByRecursion (NeedsFew limits arranged) rules
+each_light terms [] runs = tt
+each_light terms (rule ∷ rules) runs = (runs.0.light, each_light terms rules runs.1)
+
 -- ---- the tables of a text
 
 pub compiled_tables_are_halves : CompiledTablesAreHalves
 compiled_tables_are_halves text rules compiles = record {
   watchpoints_fit = terms_fit text rules compiles.0;
   entries_fit = each_fits (length terms) entries sound;
+  light = each_light terms rules run.each;
   tables = record {
     watchpoints = (rules, compiles.0, sound_wdt (sha256 text) terms long run.watchpoints (all_fit text rules compiles.0), refl);
     actionpoints = (

@@ -1,5 +1,5 @@
 -- The words of rules within the limits can be run.
-use Rattle.std.proofs.Common.{◌≡◌, refl, sym, ℕ, zero, suc, ◌+◌, ◌≤◌, Bool, true, false, if◌then◌else◌, List, [], ◌∷◌, ◌++◌, length, flat_map, slice_get, filter_map, Option, Some, None, option_map, IsTrue, true≢false, nat_lt, Contains, arith, length-append}
+use Rattle.std.proofs.Common.{◌≡◌, refl, sym, ℕ, zero, suc, ◌+◌, ◌^◌, ◌≤◌, Bool, true, false, if◌then◌else◌, List, [], ◌∷◌, ◌++◌, length, flat_map, slice_get, filter_map, Option, Some, None, option_map, IsTrue, true≢false, nat_lt, Contains, arith, length-append}
 use Rattle.std.specs.List.{list_any, enumerate_from, AllByRecursion}
 use Rattle.lc_model.specs.declared.field.Term.{Term}
 use Rattle.lc_model.specs.Condition.{Condition, Watch, Not, Join}
@@ -8,7 +8,7 @@ use Rattle.lc_model.specs.Codes.{table_entries}
 use Rattle.lc_model.specs.Text.Reading.{ForText, ForRule}
 use Rattle.lc_model.specs.Tables.Equation.{IsRearranged, same_term, mentions, terms_of, words, size, operator_word, need}
 use Rattle.lc_model.specs.Tables.Image.{most_waiting}
-use Rattle.lc_model.specs.Tables.Compiling.{limit_refusal, equation_fault}
+use Rattle.lc_model.specs.Tables.Compiling.{equation_fault}
 use Rattle.lc_model.specs.Tables.InForce.{limits, arranged}
 use Rattle.lc_model.specs.Laws.Equations.{WordsSpell, RuleRuns, LoweredWordsRun}
 use Rattle.lc_model.proofs.Arrangements.{same_size, still_all}
@@ -45,13 +45,19 @@ none_refused n (rule ∷ rules) e = go (equation_fault limits rule) refl (none_r
 record Fits (c : Condition) : Type 0 where
   short : size c + 1 ≤ limits.words
   same : IsRearranged c (arranged c)
+  power : 2 ^ need (arranged c) ≤ limits.words
   light : need (arranged c) ≤ most_waiting
 
 fits : (rule : NamedRule) → equation_fault limits rule ≡ None → Fits rule.action.condition
 fits rule e =
     let c : Condition = rule.action.condition in
     let short : size c + 1 ≤ limits.words = tested_not_less limits.words (size c + 1) (passed (nat_lt limits.words (size c + 1)) 42 None e).0 in
-    record { short = short; same = (light c).same; light = omega (arith, (light c).thirty_two (omega (arith, short))) }
+    record {
+      short = short;
+      same = (light c).same;
+      power = omega (arith, (light c).power, short);
+      light = omega (arith, (light c).thirty_two (omega (arith, short)));
+    }
 
 -- ---- words
 
@@ -90,6 +96,7 @@ each_runs terms few [] none over = tt
 each_runs terms few (rule ∷ rules) none over = (
   record {
     few = omega (arith, length-words terms (arranged c), same_size own.same, own.short);
+    light = own.power;
     runs = record {
       sound = (sound_words_spell (length terms) (words terms (arranged c)) few).1 (need (arranged c), own.light, spelled.equation);
       spelled = computed terms (omega (arith, few)) spelled.spell;

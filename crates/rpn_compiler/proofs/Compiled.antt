@@ -39,6 +39,7 @@ module _ (text : List ℕ) (rules : List NamedRule) (terms : List Term) (same : 
           are.actionpoints,
         );
         words = are.words;
+        light = compiled.light;
         own_watchpoints = as_many ∙ sym are.wdt_preamble.own_is;
         own_rules = counted ∙ sym are.adt_preamble.own_is;
         watchpoints_of_text = as_many;

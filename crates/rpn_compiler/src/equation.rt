@@ -32,13 +32,7 @@ fn need_of_both(first: usize, second: usize) -> usize
 
 /// Puts the words of the second operand, which begin at `middle`, before those of the first, which begin at `start`, where it
 /// has the greater need.
-fn put_heavier_first(
-    words: &mut [u16],
-    start: usize,
-    middle: usize,
-    first: usize,
-    second: usize,
-)
+fn put_heavier_first(words: &mut [u16], start: usize, middle: usize, first: usize, second: usize)
     requires order { start ≤ middle }
     requires within { middle ≤ length words.old }
     ensures { (before a b : List ℕ) → words.old ≡ before ++ a ++ b → length before ≡ start → length before + length a ≡ middle

@@ -68,9 +68,7 @@ fn the_heavier_operand_first(rt: HostRuntime) {
         ),
         (
             "V < 1 and V < 2 or not ((V < 3 and V < 4) xor (V < 5 and V < 6))",
-            &[
-                2, 3, AND, 4, 5, AND, XOR, NOT, 0, 1, AND, OR, EQUAL,
-            ],
+            &[2, 3, AND, 4, 5, AND, XOR, NOT, 0, 1, AND, OR, EQUAL],
         ),
     ];
     have_words(&rt, table);
