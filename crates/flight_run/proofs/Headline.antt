@@ -38,8 +38,6 @@ refused_by source d untouched compiler.TooManyRules (inr (refusal, is, why)) =
     record { first = refl; refusal = refusal; is = is; why = why; untouched = untouched }
 refused_by source d untouched (compiler.EquationTooLong rule) (inr (refusal, is, why)) =
     record { first = refl; refusal = refusal; is = is; why = why; untouched = untouched }
-refused_by source d untouched (compiler.TooDeep rule) (inr (refusal, is, why)) =
-    record { first = refl; refusal = refusal; is = is; why = why; untouched = untouched }
 
 pub refused : (source : List ℕ) (d : Devices) → IsUntouched d → (error : CompileError) → Refuses (compiling.IsRefused limits source) error →
     (answer : RunError) → answer ≡ refusal_of error → IsRun source d (Err answer)

@@ -12,5 +12,6 @@ pub mod Follows
 pub mod Advancing
 pub mod Courses
 pub mod Headline
+pub mod EitherOrder
 pub mod Started
 pub mod Loaded

@@ -10,12 +10,12 @@ use Rattle.lc_model.specs.Tables.Equation.{terms_of}
 use Rattle.lc_model.specs.Tables.Half.{IsHalf, IsMatch}
 use Rattle.lc_model.specs.Tables.HalvesAndBytes.{Text}
 use Rattle.lc_model.specs.Tables.Spelled.{spelled_terms, spelled_rules}
-use Rattle.lc_model.specs.Laws.Correspondence.{HalvesInOrderSpellTheText}
+use Rattle.lc_model.specs.Laws.Correspondence.{HalvesSpellTheText}
 use Rattle.lc_model.specs.Laws.Tables.{HalvesOfOneText}
 use Rattle.limit_checker.specs.Watcher.{Watcher, fresh}
 use Rattle.rpn_compiler.specs.declared.files.TablePair.{TablePair}
 use Rattle.table_validator.specs.Sound.{TableImage}
-use Rattle.flight_run.specs.Flight.{Kept, at_start}
+use Rattle.flight_run.specs.Flight.{Kept, BeginsWith}
 use Rattle.flight_run.specs.Tables.{AreFilesOf}
 
 module _ (rules : List NamedRule) (pair : TablePair) (are : AreFilesOf rules pair) where
@@ -38,14 +38,14 @@ module _ (rules : List NamedRule) (pair : TablePair) (are : AreFilesOf rules pai
     pub belong : HalvesOfOneText → IsMatch w.bytes a.bytes
     belong law = rw (wdt_is, adt_is) (law layouts are.text wdt adt rules are.compiles.0 wdt_half adt_half).match
 
-    -- what they spell is what the text says
-    pub said : HalvesInOrderSpellTheText → fresh (spelled_terms w.bytes) (spelled_rules layouts w.bytes a.bytes) ≡ fresh (terms_of rules) (actions rules)
-    said law =
+    -- a Limit Checker with what they spell, before its first packet, begins with what the text says
+    pub begins : HalvesSpellTheText → (watcher : Watcher) → watcher ≡ fresh (spelled_terms w.bytes) (spelled_rules layouts w.bytes a.bytes) →
+        BeginsWith rules (record { watcher = watcher; count = 0 })
+    begins law watcher is =
         let text : Text = record { source = are.text; rules = rules } in
-        let spelled = law layouts text wdt adt are.compiles.0 wdt_half adt_half are.tables.words_in_order in
-        rw (wdt_is, adt_is) (ap₂ fresh spelled.0 spelled.1)
-
--- a Limit Checker with these rules, before its first packet
-pub at_rest : (rules : List NamedRule) (watcher : Watcher) → watcher ≡ fresh (terms_of rules) (actions rules) →
-    (let kept : Kept = record { watcher = watcher; count = 0 } in kept) ≡ at_start rules
-at_rest rules watcher is = ap (λ (w : Watcher). let kept : Kept = record { watcher = w; count = 0 } in kept) is
+        let spelled = law layouts text wdt adt are.compiles.0 wdt_half adt_half in
+        let terms : spelled_terms w.bytes ≡ terms_of rules = ap (λ (t : TableImage). spelled_terms t.bytes) wdt_is ∙ spelled.0 in
+        let said : spelled_rules layouts w.bytes a.bytes ≡ spelled_rules layouts wdt adt =
+        ap₂ (λ (t u : TableImage). spelled_rules layouts t.bytes u.bytes) wdt_is adt_is in
+        let whole : watcher ≡ fresh (terms_of rules) (spelled_rules layouts wdt adt) = is ∙ ap₂ fresh terms said in
+        (spelled_rules layouts wdt adt, spelled.1, ap (λ (v : Watcher). let kept : Kept = record { watcher = v; count = 0 } in kept) whole)

@@ -14,13 +14,14 @@ use Rattle.lc_model.specs.Host.FixedTables.{halves_of, fixed_halves, lc_from_sta
 use Rattle.lc_model.specs.Kept.Next.{by_counts}
 use Rattle.lc_model.specs.Laws.Past.{IsInRange}
 use Rattle.lc_model.specs.Laws.Reading.{IsWithinRanges, RulesAreWithinRanges}
-use Rattle.lc_model.specs.Laws.LimitChecker.{HalvesAreSensible, IsSensible, SamePacketStep, StaysSettled}
+use Rattle.lc_model.specs.Laws.LimitChecker.{HalvesAreSensible, IsSensible, SamePacketStep, SameRulesSampleAlike, StaysSettled}
 use Rattle.limit_checker.specs.Watcher.{fresh_point}
 use Rattle.flight_run.specs.declared.error.Report.{Report}
 use Rattle.flight_run.specs.declared.error.RunError.{RunError}
-use Rattle.flight_run.specs.Flight.{Kept, at_start, handled, handled_if, record_handled, all_handled}
+use Rattle.flight_run.specs.Flight.{Kept, at_start, BeginsWith, handled, handled_if, record_handled, all_handled}
 use Rattle.flight_run.specs.Ending.{IsOutcome}
 use Rattle.flight_run.specs.Course.{over_records, output_from}
+use Rattle.flight_run.proofs.EitherOrder.{same_output}
 use Rattle.flight_run.proofs.Follows.{follows_from_start, all_follow}
 
 in_range : (rules : List NamedRule) → AllByRecursion (λ (rule : NamedRule). IsWithinRanges rule.action) rules → AllByRecursion IsInRange (actions rules)
@@ -54,8 +55,9 @@ module _ (agrees : SamePacketStep fixed_halves) (settles : StaysSettled fixed_ha
       (by_counts.unseen (terms_of text.rules)) (map fresh_point (actions text.rules)) 0 (follows_from_start text))
 
   -- how such a run ends
-  pub ends_as_called : (text : Text) → Reads text.source text.rules → (kept : Kept) → kept ≡ at_start text.rules → (d : Devices) (result : Result Report RunError) →
+  pub ends_as_called : SameRulesSampleAlike → (text : Text) → Reads text.source text.rules → (kept : Kept) → BeginsWith text.rules kept → (d : Devices) (result : Result Report RunError) →
       IsOutcome (output_from record_handled kept) d result → IsOutcome (fixed_output text) d result
-  ends_as_called text reads kept is d result outcome =
-      let same : output_from record_handled kept ≡ fixed_output text = (λ i. output_from record_handled (is i)) ∙ (λ i entries. calls_for text reads entries i) in
+  ends_as_called alike text reads kept begins d result outcome =
+      let same : output_from record_handled kept ≡ fixed_output text =
+      λ i entries. (same_output alike text.rules kept begins entries ∙ calls_for text reads entries) i in
       subst (λ (output : List StreamEntry → List ℕ). IsOutcome output d result) same outcome

@@ -1,6 +1,7 @@
 -- What the program keeps between two packets, and what a packet makes of it, in the Limit Checker's numbers.
-use Rattle.std.specs.Prelude.{ℕ, zero, suc, ◌+◌, ◌%◌, ◌==◌, not, List, [], ◌∷◌, ◌++◌, length, if◌then◌else◌, Option, Some, None, Result, Ok, Err}
-use Rattle.std.specs.List.{concat}
+use Rattle.std.specs.Prelude.{◌≡◌, ℕ, zero, suc, ◌+◌, ◌%◌, ◌==◌, not, List, [], ◌∷◌, ◌++◌, length, if◌then◌else◌, Option, Some, None, Result, Ok, Err}
+use Rattle.std.specs.List.{concat, AllZip}
+use Rattle.lc_model.specs.declared.field.Term.{Term}
 use Rattle.lc_model.specs.Packet.{message_id, function_code, payload, sample_mid}
 use Rattle.lc_model.specs.Refusal.{Refusal}
 use Rattle.lc_model.specs.Command.{sample_request, takes}
@@ -8,19 +9,27 @@ use Rattle.lc_model.specs.declared.command.SampleRequest.{SampleRequest}
 use Rattle.lc_model.specs.Events.Request.{Request, Event, Sequence, Housekeeping}
 use Rattle.lc_model.specs.Host.FixedTables.{is_taken, packet_in, sequences_sent}
 use Rattle.lc_model.specs.Host.Stream.{StreamEntry}
-use Rattle.lc_model.specs.Rule.{NamedRule}
+use Rattle.lc_model.specs.Rule.{Actionpoint, NamedRule, actions}
+use Rattle.lc_model.specs.Laws.Tables.{IsSameRule}
 use Rattle.lc_model.specs.Tables.Equation.{terms_of}
 use Rattle.limit_checker.specs.Watcher.{Watcher, fresh, after_packet, after_aging, after_sample}
-use Rattle.lc_model.specs.Rule.{actions}
 
 -- the Limit Checker, and the sequence count of the next request
 pub record Kept : Type 0 where
   pub watcher : Watcher
   pub count : ℕ
 
--- a Limit Checker with the text's rules, before its first packet and its first request
+-- a Limit Checker with these watchpoints and rules, before its first packet and its first request
+abbrev pub beginning : List Term → List Actionpoint → Kept
+beginning terms rules = record { watcher = fresh terms rules; count = 0 }
+
+-- the same with the text's rules
 abbrev pub at_start : List NamedRule → Kept
-at_start rules = record { watcher = fresh (terms_of rules) (actions rules); count = 0 }
+at_start rules = beginning (terms_of rules) (actions rules)
+
+-- the same with the text's rules, operands in either order
+abbrev pub BeginsWith : List NamedRule → Kept → Type 0
+BeginsWith rules kept = (said : List Actionpoint) × AllZip IsSameRule said (actions rules) × (kept ≡ beginning (terms_of rules) said)
 
 -- the rules from this number on, this many, are sampled where the request takes them
 unfoldable pub sampled_from : SampleRequest → ℕ → ℕ → Watcher → Watcher × List Request

@@ -38,6 +38,7 @@ fn compile_and_fly<R: ByteSource, W: ByteSink>(
     laws::reading::rules_are_within_ranges();
     laws::limit_checker::limit_checker_agrees_on_texts();
     laws::limit_checker::halves_are_sensible();
+    laws::limit_checker::same_rules_sample_alike();
     let pair = match rpn_compiler::compile(alloc, text) {
         Ok(pair) => pair,
         Err(error) => return Err(refusal(error)),

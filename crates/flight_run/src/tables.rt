@@ -6,7 +6,7 @@ ghost use Rattle.lc_model.specs.Tables.File.{file_bytes, wrapped};
 ghost use Rattle.lc_model.specs.Tables.Half.{IsFileOfHalf};
 ghost use Rattle.lc_model.specs.Tables.InForce.{layouts};
 ghost use Rattle.lc_model.specs.Tables.Interpretation.{compiled_size};
-ghost use Rattle.flight_run.specs.Flight.{at_start};
+ghost use Rattle.flight_run.specs.Flight.{BeginsWith};
 ghost use Rattle.flight_run.specs.Kept.{kept_of};
 ghost use Rattle.flight_run.specs.Tables.{AreFilesOf};
 
@@ -27,13 +27,14 @@ fn image_in(kind: Kind, file: &[u8]) -> ValidImage<'_>
     table_validator::validate(kind, file.image()).unwrap()
 }
 
-/// A Limit Checker with the tables of a text in force, before its first packet.
+/// A Limit Checker with the tables of a text in force, before its first packet: its rules are the text's, operands in either
+/// order.
 pub fn flight_with(alloc: Global, pair: &TablePair) -> Result<Flight, AllocError>
     requires { (rules : List NamedRule) × AreFilesOf rules pair.now }
-    ensures { (rules : List NamedRule) → AreFilesOf rules pair.now → IfOk result (λ flight. kept_of flight ≡ at_start rules) }
+    ensures { (rules : List NamedRule) → AreFilesOf rules pair.now → IfOk result (λ flight. BeginsWith rules (kept_of flight)) }
 {
     laws::tables::halves_say_their_text();
-    laws::correspondence::halves_in_order_spell_the_text();
+    laws::correspondence::halves_spell_the_text();
     let mut checker = LimitChecker::new(alloc)?;
     let wdt = image_in(Kind::Wdt, pair.wdt.as_slice());
     let adt = image_in(Kind::Adt, pair.adt.as_slice());

@@ -6,12 +6,13 @@ use Rattle.std.proofs.lemmas.List.{length-map}
 use Rattle.sha2.specs.Sha256.{sha256}
 use Rattle.sha2.proofs.Facts256.{length-sha256}
 use Rattle.lc_model.specs.declared.field.Term.{Term}
-use Rattle.lc_model.specs.Condition.{Operator, And, Or, Xor, Condition, Watch, Not, Join}
+use Rattle.lc_model.specs.Condition.{Operator, And, Or, Xor, Condition}
 use Rattle.lc_model.specs.Rule.{NamedRule, actions}
 use Rattle.lc_model.specs.Codes.{table_entries}
 use Rattle.lc_model.specs.Text.Token.{is_text_byte}
-use Rattle.lc_model.specs.Tables.Equation.{terms_of, words, equal_word, operator_word, SpellsInOrder, Spells, IsRearranged}
-use Rattle.lc_model.specs.Tables.Lowering.{equation_in}
+use Rattle.lc_model.specs.Tables.Equation.{terms_of, words, equal_word, operator_word, SpellsInOrder, Spells}
+use Rattle.lc_model.specs.Tables.InForce.{limits, arranged}
+use Rattle.lc_model.specs.Tables.Lowering.{words_in, NeedsFew}
 use Rattle.lc_model.specs.Tables.Image.{Watchpoints, Actionpoints, filled, term_bytes, TableEntry, FitsEntry, EndsOnce, entry_bytes, HasPreamble, adt_image, equation_tests}
 use Rattle.lc_model.specs.Tables.Half.{entry_over, IsEntryOf}
 use Rattle.lc_model.specs.Tables.Spelled.{spelled_condition}
@@ -24,6 +25,7 @@ use Rattle.lc_model.proofs.SoundWords.{none_stands, sound_words_spell, IsWord, n
 use Rattle.lc_model.proofs.Facts.{or_second, or_first, and_first, tested_at_most}
 use Rattle.lc_model.proofs.SpelledEquations.{condition_of_equation}
 use Rattle.lc_model.proofs.SpellsOnce.{computed}
+use Rattle.lc_model.proofs.Light.{light}
 use Rattle.lc_model.proofs.LoweredRules.{lowered_words_run}
 use Rattle.lc_model.proofs.EntryLengths.{wdt_long, adt_long}
 use Rattle.lc_model.proofs.EntriesAgain.{preamble_again}
@@ -75,9 +77,9 @@ text_bytes (b ∷ text) all = (text_byte b all.0, text_bytes text all.1)
 -- ---- rules
 
 sound_entry : (terms : List Term) (rule : NamedRule) → length terms ≤ table_entries → IsWithinRanges rule.action → RuleRuns terms rule →
-    IsSoundEntry (length terms) (entry_over terms rule)
+    IsSoundEntry (length terms) (entry_over arranged terms rule)
 sound_entry terms rule few ranges runs =
-    let ws : List ℕ = words terms rule.action.condition in
+    let ws : List ℕ = words_in arranged terms rule in
     let tests : AllByRecursion (λ t. t.0 ≡ false) (equation_tests (length terms) ws) = none_stands (equation_tests (length terms) ws) runs.runs.sound in
     let each = each_word (length terms) few ws tests.0 tests.1.0 in
     record {
@@ -104,50 +106,45 @@ sound_entry terms rule few ranges runs =
 
 sound_entries : (terms : List Term) (rules : List NamedRule) → length terms ≤ table_entries →
     AllByRecursion (λ (rule : NamedRule). IsWithinRanges rule.action) rules → AllByRecursion (RuleRuns terms) rules →
-    AllByRecursion (IsSoundEntry (length terms)) (map (entry_over terms) rules)
+    AllByRecursion (IsSoundEntry (length terms)) (map (entry_over arranged terms) rules)
 sound_entries terms [] few ranges runs = tt
 sound_entries terms (rule ∷ rules) few ranges runs =
     (sound_entry terms rule few ranges.0 runs.0, sound_entries terms rules few ranges.1 runs.1)
 
--- the words of a rule spell its condition
+-- the words of a rule spell its condition, arranged
 spelled : (terms : List Term) (rule : NamedRule) → length terms ≤ table_entries → RuleRuns terms rule →
-    SpellsInOrder terms (words terms rule.action.condition) rule.action.condition
+    SpellsInOrder terms (words_in arranged terms rule) (arranged rule.action.condition)
 spelled terms rule few runs =
-    let ws : List ℕ = words terms rule.action.condition in
+    let ws : List ℕ = words_in arranged terms rule in
     let equation = (sound_words_spell (length terms) ws few).0 runs.runs.sound in
     let some : IsSpelled terms ws equation.0 = condition_of_equation terms equation.2 in
     let read : spelled_condition terms ws ≡ Some some.0 = computed terms (omega (arith, few)) some.1 in
-    let whole : Some some.0 ≡ Some rule.action.condition = sym read ∙ runs.runs.spelled in
-    let same : some.0 ≡ rule.action.condition = cc whole in
+    let whole : Some some.0 ≡ Some (arranged rule.action.condition) = sym read ∙ runs.runs.spelled in
+    let same : some.0 ≡ arranged rule.action.condition = cc whole in
     subst (λ (c : Condition). SpellsInOrder terms ws c) same some.1
 
-as_it_stands : (c : Condition) → IsRearranged c c
-as_it_stands (Watch t) = IsRearranged.mention
-as_it_stands (Not c) = IsRearranged.negation (as_it_stands c)
-as_it_stands (Join o a b) = IsRearranged.in_order (as_it_stands a) (as_it_stands b)
-
 entries_spell : (terms : List Term) (rules : List NamedRule) → length terms ≤ table_entries → AllByRecursion (RuleRuns terms) rules →
-    AllZip (IsEntryOf (Spells terms)) (actions rules) (map (entry_over terms) rules)
+    AllZip (IsEntryOf (Spells terms)) (actions rules) (map (entry_over arranged terms) rules)
 entries_spell terms [] few runs = tt
 entries_spell terms (rule ∷ rules) few runs =
-    ((refl, (rule.action.condition, as_it_stands rule.action.condition, spelled terms rule few runs.0)), entries_spell terms rules few runs.1)
+    ((refl, (arranged rule.action.condition, (light rule.action.condition).same, spelled terms rule few runs.0)), entries_spell terms rules few runs.1)
 
-entries_in_order : (terms : List Term) (rules : List NamedRule) →
-    AllZip (IsEntryOf (λ ws c. ws ≡ words terms c)) (actions rules) (map (entry_over terms) rules)
-entries_in_order terms [] = tt
-entries_in_order terms (rule ∷ rules) = ((refl, refl), entries_in_order terms rules)
+entries_have_words : (terms : List Term) (rules : List NamedRule) →
+    AllZip (IsEntryOf (λ ws c. ws ≡ words terms (arranged c))) (actions rules) (map (entry_over arranged terms) rules)
+entries_have_words terms [] = tt
+entries_have_words terms (rule ∷ rules) = ((refl, refl), entries_have_words terms rules)
+
+each_light : (terms : List Term) (rules : List NamedRule) → AllByRecursion (RuleRuns terms) rules → AllByRecursion (NeedsFew limits arranged) rules
+each_light terms [] runs = tt
+each_light terms (rule ∷ rules) runs = (runs.0.light, each_light terms rules runs.1)
 
 -- ---- the tables of a text
-
-texts_short : (rules : List NamedRule) → AllByRecursion (λ (rule : NamedRule). IsWithinRanges rule.action) rules →
-    AllByRecursion (λ (rule : NamedRule). length rule.action.text < 32) rules
-texts_short [] ranges = tt
-texts_short (rule ∷ rules) ranges = (ranges.0.text_length, texts_short rules ranges.1)
 
 pub compiled_tables_are_halves : CompiledTablesAreHalves
 compiled_tables_are_halves text rules compiles = record {
   watchpoints_fit = terms_fit text rules compiles.0;
   entries_fit = each_fits (length terms) entries sound;
+  light = each_light terms rules run.each;
   tables = record {
     watchpoints = (rules, compiles.0, sound_wdt (sha256 text) terms long run.watchpoints (all_fit text rules compiles.0), refl);
     actionpoints = (
@@ -156,12 +153,12 @@ compiled_tables_are_halves text rules compiles = record {
       sound_adt (sha256 text) (length terms) entries long run.watchpoints few sound,
       (Actionpoints, entries, refl, once, entries_spell terms rules run.watchpoints run.each),
     );
-    words_in_order =
-        (Actionpoints, entries, ap (λ (h : List ℕ). adt_image Actionpoints h (length terms) entries) (sym front.hash_is), once, entries_in_order terms rules);
+    words =
+        (Actionpoints, entries, ap (λ (h : List ℕ). adt_image Actionpoints h (length terms) entries) (sym front.hash_is), once, entries_have_words terms rules);
     wdt_length = wdt_long (sha256 text) terms long run.watchpoints;
     adt_length = adt_long (sha256 text) (length terms) entries long few (each_fits (length terms) entries sound);
     wdt_preamble = preamble_again Watchpoints (length terms) (length terms) (sha256 text) (filled Watchpoints (map term_bytes terms)) long run.watchpoints (omega (arith, run.watchpoints));
-    adt_preamble = record { hash_is = front.hash_is; own_is = front.own_is ∙ length-map rules (entry_over terms); watchpoints_are = front.watchpoints_are };
+    adt_preamble = record { hash_is = front.hash_is; own_is = front.own_is ∙ length-map rules (entry_over arranged terms); watchpoints_are = front.watchpoints_are };
   };
 }
   where
@@ -175,8 +172,7 @@ compiled_tables_are_halves text rules compiles = record {
     ranges = within_ranges text rules compiles.0
 
     run : RulesRun rules terms
-    run = lowered_words_run rules terms (map (equation_in terms) rules)
-        (record { within = compiles.1; watchpoints = refl; words = refl; texts = texts_short rules ranges })
+    run = lowered_words_run rules compiles.1
 
     long : length (sha256 text) ≡ 32
     long = length-sha256 text
@@ -188,7 +184,7 @@ compiled_tables_are_halves text rules compiles = record {
     once = each_once (length terms) entries sound
 
     few : length entries ≤ table_entries
-    few = omega (arith, length-map rules (entry_over terms), run.actionpoints)
+    few = omega (arith, length-map rules (entry_over arranged terms), run.actionpoints)
 
     front : HasPreamble (adt_image Actionpoints (sha256 text) (length terms) entries) (sha256 text) (length entries) (length terms)
     front = preamble_again Actionpoints (length entries) (length terms) (sha256 text) (filled Actionpoints (map (entry_bytes Actionpoints) entries)) long few (omega (arith, run.watchpoints))

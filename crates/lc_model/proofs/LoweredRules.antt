@@ -1,15 +1,18 @@
--- The words of lowered rules can be run.
-use Rattle.std.proofs.Common.{◌≡◌, refl, sym, ℕ, zero, suc, ◌+◌, ◌≤◌, Bool, true, false, if◌then◌else◌, List, [], ◌∷◌, ◌++◌, length, flat_map, slice_get, filter_map, Option, Some, None, option_map, IsTrue, true≢false, nat_lt, Contains, arith, length-append}
+-- The words of rules within the limits can be run.
+use Rattle.std.proofs.Common.{◌≡◌, refl, sym, ℕ, zero, suc, ◌+◌, ◌^◌, ◌≤◌, Bool, true, false, if◌then◌else◌, List, [], ◌∷◌, ◌++◌, length, flat_map, slice_get, filter_map, Option, Some, None, option_map, IsTrue, true≢false, nat_lt, Contains, arith, length-append}
 use Rattle.std.specs.List.{list_any, enumerate_from, AllByRecursion}
 use Rattle.lc_model.specs.declared.field.Term.{Term}
 use Rattle.lc_model.specs.Condition.{Condition, Watch, Not, Join}
 use Rattle.lc_model.specs.Rule.{NamedRule}
 use Rattle.lc_model.specs.Codes.{table_entries}
 use Rattle.lc_model.specs.Text.Reading.{ForText, ForRule}
-use Rattle.lc_model.specs.Tables.Equation.{same_term, mentions, terms_of, words, size, operator_word, need}
+use Rattle.lc_model.specs.Tables.Equation.{IsRearranged, same_term, mentions, terms_of, words, size, operator_word, need}
 use Rattle.lc_model.specs.Tables.Image.{most_waiting}
-use Rattle.lc_model.specs.Tables.Compiling.{text_order_limits, equation_fault}
+use Rattle.lc_model.specs.Tables.Compiling.{equation_fault}
+use Rattle.lc_model.specs.Tables.InForce.{limits, arranged}
 use Rattle.lc_model.specs.Laws.Equations.{WordsSpell, RuleRuns, LoweredWordsRun}
+use Rattle.lc_model.proofs.Arrangements.{same_size, still_all}
+use Rattle.lc_model.proofs.Light.{light}
 use Rattle.lc_model.proofs.ResultLaws.{one_term, front, back}
 use Rattle.lc_model.proofs.SensibleLaws.{all_among}
 use Rattle.lc_model.proofs.SoundWords.{sound_words_spell}
@@ -26,29 +29,35 @@ passed false refusal others e = (refl, e)
 
 -- no rule is refused
 none_refused : (n : ℕ) (rules : List NamedRule) →
-    slice_get (filter_map (λ (m : ℕ × NamedRule). option_map (λ code. ForRule code m.0) (equation_fault text_order_limits m.1)) (enumerate_from n rules)) 0 ≡ None →
-    AllByRecursion (λ (rule : NamedRule). equation_fault text_order_limits rule ≡ None) rules
+    slice_get (filter_map (λ (m : ℕ × NamedRule). option_map (λ code. ForRule code m.0) (equation_fault limits m.1)) (enumerate_from n rules)) 0 ≡ None →
+    AllByRecursion (λ (rule : NamedRule). equation_fault limits rule ≡ None) rules
 none_refused n [] e = tt
-none_refused n (rule ∷ rules) e = go (equation_fault text_order_limits rule) refl (none_refused (n + 1) rules)
+none_refused n (rule ∷ rules) e = go (equation_fault limits rule) refl (none_refused (n + 1) rules)
   where
-    go : (fault : Option ℕ) → equation_fault text_order_limits rule ≡ fault →
-        (slice_get (filter_map (λ (m : ℕ × NamedRule). option_map (λ code. ForRule code m.0) (equation_fault text_order_limits m.1)) (enumerate_from (n + 1) rules)) 0 ≡ None →
-        AllByRecursion (λ (rule : NamedRule). equation_fault text_order_limits rule ≡ None) rules) →
-        AllByRecursion (λ (rule : NamedRule). equation_fault text_order_limits rule ≡ None) (rule ∷ rules)
+    go : (fault : Option ℕ) → equation_fault limits rule ≡ fault →
+        (slice_get (filter_map (λ (m : ℕ × NamedRule). option_map (λ code. ForRule code m.0) (equation_fault limits m.1)) (enumerate_from (n + 1) rules)) 0 ≡ None →
+        AllByRecursion (λ (rule : NamedRule). equation_fault limits rule ≡ None) rules) →
+        AllByRecursion (λ (rule : NamedRule). equation_fault limits rule ≡ None) (rule ∷ rules)
     go None is others = (is, others (rw is at e))
     go (Some code) is others = absurd (cc (rw is at e))
 
 -- few words, of which few wait
 record Fits (c : Condition) : Type 0 where
-  short : size c + 1 ≤ 20
-  light : need c ≤ most_waiting
+  short : size c + 1 ≤ limits.words
+  same : IsRearranged c (arranged c)
+  power : 2 ^ need (arranged c) ≤ limits.words
+  light : need (arranged c) ≤ most_waiting
 
-fits : (rule : NamedRule) → equation_fault text_order_limits rule ≡ None → Fits rule.action.condition
+fits : (rule : NamedRule) → equation_fault limits rule ≡ None → Fits rule.action.condition
 fits rule e =
     let c : Condition = rule.action.condition in
-    let short = passed (nat_lt 20 (size c + 1)) 42 _ e in
-    let light = passed (nat_lt 8 (need c)) 43 None short.1 in
-    record { short = tested_not_less 20 (size c + 1) short.0; light = tested_not_less 8 (need c) light.0 }
+    let short : size c + 1 ≤ limits.words = tested_not_less limits.words (size c + 1) (passed (nat_lt limits.words (size c + 1)) 42 None e).0 in
+    record {
+      short = short;
+      same = (light c).same;
+      power = omega (arith, (light c).power, short);
+      light = omega (arith, (light c).thirty_two (omega (arith, short)));
+    }
 
 -- ---- words
 
@@ -81,14 +90,15 @@ over_own rules =
 
 -- each rule runs
 each_runs : (terms : List Term) → length terms ≤ table_entries → (rules : List NamedRule) →
-    AllByRecursion (λ (rule : NamedRule). equation_fault text_order_limits rule ≡ None) rules →
+    AllByRecursion (λ (rule : NamedRule). equation_fault limits rule ≡ None) rules →
     AllByRecursion (Contains terms) (flat_map (λ (rule : NamedRule). mentions rule.action.condition) rules) → AllByRecursion (RuleRuns terms) rules
 each_runs terms few [] none over = tt
 each_runs terms few (rule ∷ rules) none over = (
   record {
-    few = omega (arith, length-words terms c, own.short);
+    few = omega (arith, length-words terms (arranged c), same_size own.same, own.short);
+    light = own.power;
     runs = record {
-      sound = (sound_words_spell (length terms) (words terms c) few).1 (need c, own.light, spelled.equation);
+      sound = (sound_words_spell (length terms) (words terms (arranged c)) few).1 (need (arranged c), own.light, spelled.equation);
       spelled = computed terms (omega (arith, few)) spelled.spell;
     };
   },
@@ -104,18 +114,16 @@ each_runs terms few (rule ∷ rules) none over = (
     own : Fits c
     own = fits rule none.0
 
-    spelled : WordsSpell terms c
-    spelled = words_spell_in terms c (front (Contains terms) (mentions c) others over)
+    spelled : WordsSpell terms (arranged c)
+    spelled = words_spell_in terms (arranged c) (still_all (Contains terms) own.same (front (Contains terms) (mentions c) others over))
 
 pub lowered_words_run : LoweredWordsRun
-lowered_words_run rules terms equations lowers =
-    let all : List Term = flat_map (λ (rule : NamedRule). mentions rule.action.condition) rules in
-    let one = passed (nat_lt table_entries (length (terms_of rules))) (ForText 31) _ lowers.within in
+lowered_words_run rules within =
+    let one = passed (nat_lt table_entries (length (terms_of rules))) (ForText 31) _ within in
     let two = passed (nat_lt table_entries (length rules)) (ForText 41) _ one.1 in
-    let few : length terms ≤ table_entries = rw lowers.watchpoints (tested_not_less _ _ one.0) in
-    let over : AllByRecursion (Contains terms) all = rw lowers.watchpoints (over_own rules) in
+    let few : length (terms_of rules) ≤ table_entries = tested_not_less _ _ one.0 in
     record {
       watchpoints = few;
       actionpoints = tested_not_less _ _ two.0;
-      each = each_runs terms few rules (none_refused 0 rules two.1) over;
+      each = each_runs (terms_of rules) few rules (none_refused 0 rules two.1) (over_own rules);
     }

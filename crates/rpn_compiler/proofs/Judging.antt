@@ -5,24 +5,18 @@ use Rattle.std.specs.List.{enumerate_from}
 use Rattle.std.proofs.lemmas.Bool.{le-ltb, lt-ltb}
 use Rattle.lc_model.specs.Rule.{NamedRule}
 use Rattle.lc_model.specs.Text.Reading.{TextRefusal, ForRule}
-use Rattle.lc_model.specs.Tables.Equation.{size, need}
+use Rattle.lc_model.specs.Tables.Equation.{size}
 use Rattle.lc_model.specs.Tables.Compiling.{equation_fault}
 use Rattle.lc_model.specs.Tables.InForce.{limits}
 use Rattle.rpn_compiler.specs.Limits.{refusal_of_rule}
 
 -- ---- one rule
 
-pub too_long : (n : ℕ) (rule : NamedRule) → 20 ≤ size rule.action.condition → refusal_of_rule n rule ≡ Some (ForRule 42 n)
-too_long n rule long = rw (lt-ltb 20 (size rule.action.condition + 1) (omega (arith, long))) refl
+pub too_long : (n : ℕ) (rule : NamedRule) → limits.words ≤ size rule.action.condition → refusal_of_rule n rule ≡ Some (ForRule 42 n)
+too_long n rule long = rw (lt-ltb limits.words (size rule.action.condition + 1) (omega (arith, long))) refl
 
-pub too_deep : (n : ℕ) (rule : NamedRule) → size rule.action.condition < 20 → 8 < need rule.action.condition →
-    refusal_of_rule n rule ≡ Some (ForRule 43 n)
-too_deep n rule short deep =
-    rw (le-ltb 20 (size rule.action.condition + 1) (omega (arith, short)), lt-ltb 8 (need rule.action.condition) deep) refl
-
-pub fits : (n : ℕ) (rule : NamedRule) → size rule.action.condition < 20 → need rule.action.condition ≤ 8 → refusal_of_rule n rule ≡ None
-fits n rule short shallow =
-    rw (le-ltb 20 (size rule.action.condition + 1) (omega (arith, short)), le-ltb 8 (need rule.action.condition) shallow) refl
+pub fits : (n : ℕ) (rule : NamedRule) → size rule.action.condition < limits.words → refusal_of_rule n rule ≡ None
+fits n rule short = rw (le-ltb limits.words (size rule.action.condition + 1) (omega (arith, short))) refl
 
 -- ---- all rules
 

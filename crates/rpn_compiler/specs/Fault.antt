@@ -13,7 +13,7 @@ use Rattle.field_checker.specs.Fault.{text_fault_of}
 use Rattle.watch_sharing.specs.declared.error.ShareError.{ShareError}
 use Rattle.watch_sharing.specs.declared.error.ShareError.TheVariants as sharing
 use Rattle.rpn_compiler.specs.declared.error.CompileError.{CompileError}
-use Rattle.rpn_compiler.specs.declared.error.CompileError.TheVariants.{Lex, Parse, Check, TooManyWatchpoints, TooManyRules, EquationTooLong, TooDeep, Memory}
+use Rattle.rpn_compiler.specs.declared.error.CompileError.TheVariants.{Lex, Parse, Check, TooManyWatchpoints, TooManyRules, EquationTooLong, Memory}
 
 -- ---- the compiler's error where a part of it has one
 
@@ -58,7 +58,6 @@ refusal_of (Check error) = option_map AtPlace (text_fault_of error)
 refusal_of TooManyWatchpoints = Some (ForText 31)
 refusal_of TooManyRules = Some (ForText 41)
 refusal_of (EquationTooLong rule) = Some (ForRule 42 rule)
-refusal_of (TooDeep rule) = Some (ForRule 43 rule)
 refusal_of Memory = None
 
 -- the number of a fault of the parser, and of a refusal

@@ -61,11 +61,10 @@ fn lower_text(alloc: Global, text: &[u8]) -> Result<Lowered, CompileError>
 }
 
 /// Lowers a rule text: its rules as the text says them, their watchpoints in order of first mention, and for each rule
-/// the words of its condition, operands first in the text's order.
+/// the words of its condition, the heavier operand of two first.
 ///
 /// Errors: the first refusal, where the whole text is lexed, then parsed, then checked, and its watchpoints are counted,
-/// its rules, and last the words and waiting operands of each rule. `Memory` comes only where what is compiled finds no
-/// room.
+/// its rules, and last the words of each rule. `Memory` comes only where what is compiled finds no room.
 pub fn lower(alloc: Global, text: &[u8]) -> Result<Lowered, CompileError>
     ensures compiles { IfOk result (λ lowered. Compiles limits text.now lowered.rules.rules) }
     ensures lowered { IfOk result IsLowered }

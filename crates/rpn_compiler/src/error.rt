@@ -30,13 +30,9 @@ pub enum CompileError {
     /// Over 176 rules: 41.
     #[error("there are over 176 rules")]
     TooManyRules,
-    /// The first rule, counted from 0, that has over 20 words, EQUAL included, or over 8 operands that wait; this one has too
-    /// many words: 42.
+    /// The first rule, counted from 0, that has over 20 words, EQUAL included: 42.
     #[error("the equation of rule {rule} has over 20 words")]
     EquationTooLong { rule: usize },
-    /// The same, but not too many words: 43.
-    #[error("over 8 operands wait in the equation of rule {rule}")]
-    TooDeep { rule: usize },
     /// No memory for what is compiled.
     #[error("out of memory")]
     Memory,
@@ -103,7 +99,7 @@ impl<T: Drop> From<AllocFailed<T>> for CompileError {
 }
 
 impl CompileError {
-    /// The refusal's number, 1 to 43. Want of memory has none, since the text isn't at fault.
+    /// The refusal's number, 1 to 42. Want of memory has none, since the text isn't at fault.
     pub fn code(self) -> Option<u8>
         ensures { result ≡ option_map code_of (refusal_of self) }
     {
@@ -114,7 +110,6 @@ impl CompileError {
             CompileError::TooManyWatchpoints => Some(31),
             CompileError::TooManyRules => Some(41),
             CompileError::EquationTooLong { .. } => Some(42),
-            CompileError::TooDeep { .. } => Some(43),
             CompileError::Memory => None,
         }
     }

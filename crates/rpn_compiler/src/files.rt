@@ -92,11 +92,13 @@ fn files(alloc: Global, text: &[u8], lowered: Lowered) -> Result<TablePair, Comp
 }
 
 /// Compiles a rule text to the files of its two tables: its watchpoints in order of first mention, its rules in the order
-/// of the text, with the words of each equation operands first in the text's order, and in both the SHA-256 of the text.
+/// of the text, with the words of each equation operands first, and in both the SHA-256 of the text. Of two operands the one
+/// in whose words more operands wait comes first, and they stay as they stand where as many do; so at most 4 wait in 20
+/// words, and no rule that fits its words is refused for its depth.
 ///
 /// Errors: the first refusal, where the whole text is lexed, then parsed, then checked, and its watchpoints are counted,
-/// its rules, and last the words and waiting operands of each rule. `Memory` comes only where the files, or what is made on
-/// the way to them, find no room.
+/// its rules, and last the words of each rule. `Memory` comes only where the files, or what is made on the way to them,
+/// find no room.
 pub fn compile(alloc: Global, text: &[u8]) -> Result<TablePair, CompileError>
     ensures compiles { IfOk result (λ pair. (rules : List NamedRule) × Compiles limits text.now rules × AreTables text.now rules pair) }
     ensures refused { IfErr result (Refuses (IsRefused limits text.now)) }

@@ -3,6 +3,7 @@
 ghost use Rattle.std.specs.Prelude.{◌≡◌, map, IfOk};
 ghost use Rattle.lc_model.specs.Rule.{rule_of};
 ghost use Rattle.lc_model.specs.Tables.Half.{entry_of, entry_over};
+ghost use Rattle.lc_model.specs.Tables.InForce.{arranged};
 ghost use Rattle.rpn_compiler.specs.Lowered.{IsLowered};
 
 use crate::lowered::Lowered;
@@ -31,7 +32,7 @@ fn entry(alloc: Global, rule: &Rule, words: &[u16]) -> Result<TableEntry, AllocE
 /// The entries of the rules, in their order.
 pub fn entries(alloc: Global, lowered: &Lowered) -> Result<Vec<TableEntry>, AllocError>
     requires { IsLowered lowered.now }
-    ensures { IfOk result (λ entries. entries.items ≡ map (entry_over lowered.now.terms.items) lowered.now.rules.rules) }
+    ensures { IfOk result (λ entries. entries.items ≡ map (entry_over arranged lowered.now.terms.items) lowered.now.rules.rules) }
 {
     let rules = lowered.rules.rules.as_slice();
     let words = lowered.words.as_slice();

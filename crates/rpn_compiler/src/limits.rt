@@ -1,17 +1,16 @@
-//! Which rules fit into the tables (176 actionpoints are the cFS Limit Checker's; the words and their stack are this
-//! project's own).
+//! Which rules fit into the tables (176 actionpoints are the cFS Limit Checker's; the words are this project's own).
 
 ghost use Rattle.std.specs.Prelude.{◌≡◌, ◌-◌, ◌^◌, ◌≤◌, None, length, min, MatchResult};
 ghost use Rattle.lc_model.specs.Condition.{condition_of};
 ghost use Rattle.lc_model.specs.Codes.{table_entries};
 ghost use Rattle.lc_model.specs.Rule.{rule_of, rules_of};
-ghost use Rattle.lc_model.specs.Tables.Equation.{size as size_of, need as need_of, terms_of};
+ghost use Rattle.lc_model.specs.Tables.Equation.{size as size_of, terms_of};
 ghost use Rattle.lc_model.specs.Tables.Compiling.{limit_refusal};
 ghost use Rattle.lc_model.specs.Tables.InForce.{limits};
 ghost use Rattle.rpn_compiler.specs.Limits.{IsRefusal, refusal_of_rule};
 
 use crate::error::CompileError;
-use lc_model::{Cond, EQUATION_WORDS, MOST_WAITING, Rule, TABLE_ENTRIES};
+use lc_model::{Cond, EQUATION_WORDS, Rule, TABLE_ENTRIES};
 
 /// How many words spell the condition without EQUAL, or the largest number where there are more.
 fn size(cond: &Cond) -> usize
@@ -26,33 +25,17 @@ fn size(cond: &Cond) -> usize
     }
 }
 
-/// How many operands wait at once, at most, where the first operand comes first, or the largest number where more do.
-fn need(cond: &Cond) -> usize
-    ensures { result ≡ min (need_of (condition_of cond.now)) (2 ^ 64 - 1) }
-{
-    match cond {
-        Cond::Watch(_) => 1,
-        Cond::Not(operand) => need(operand),
-        Cond::And(first, second) | Cond::Or(first, second) | Cond::Xor(first, second) => need(
-            first,
-        ).max(need(second).saturating_add(1)),
-    }
-}
-
-/// Whether the equation of the rule with this number is short and shallow enough.
+/// Whether the equation of the rule with this number is short enough. However its operands stand, few wait at once.
 fn judge_rule(number: usize, rule: &Rule) -> Result<(), CompileError>
     ensures { MatchResult result (λ _. refusal_of_rule number (rule_of rule.now) ≡ None) (IsRefusal (refusal_of_rule number (rule_of rule.now))) }
 {
     if size(&rule.cond) >= EQUATION_WORDS {
         return Err(CompileError::EquationTooLong { rule: number });
     }
-    if need(&rule.cond) > MOST_WAITING {
-        return Err(CompileError::TooDeep { rule: number });
-    }
     Ok(())
 }
 
-/// Whether rules over at most 176 watchpoints are few enough, and then whether each equation is short and shallow enough.
+/// Whether rules over at most 176 watchpoints are few enough, and then whether each equation is short enough.
 pub fn judge(rules: &[Rule]) -> Result<(), CompileError>
     requires { length (terms_of (rules_of rules.now)) ≤ table_entries }
     ensures { MatchResult result (λ _. limit_refusal limits (rules_of rules.now) ≡ None) (IsRefusal (limit_refusal limits (rules_of rules.now))) }

@@ -17,7 +17,7 @@ use Rattle.lc_model.specs.Tables.Image.{Actionpoints, wdt_image, adt_image, vers
 use Rattle.lc_model.specs.Tables.File.{file_bytes, wrapped}
 use Rattle.lc_model.specs.Tables.Interpretation.{Interpretation, FileMeanings}
 use Rattle.lc_model.specs.Tables.HalvesAndBytes.{Text, as_bytes, byte_meanings}
-use Rattle.lc_model.specs.Tables.Edition.{text_order_edition, IsCompiledFile, AreCompiledFiles}
+use Rattle.lc_model.specs.Tables.Edition.{heavier_first_edition, IsCompiledFile, AreCompiledFiles}
 use Rattle.lc_model.specs.Host.Schedule.{IsSchedule}
 use Rattle.lc_model.specs.Host.Stream.{StreamEntry, Contents, Packet, Tick, File, Half, Whole}
 use Rattle.lc_model.specs.Host.World.{World, first_world}
@@ -43,7 +43,7 @@ use Rattle.worked_examples.proofs.Records.{stock, order, volts, sample}
 -- ---- the mission, and the files of its text
 
 abbrev low_volts_mission : Mission
-low_volts_mission = record { edition = text_order_edition; sources = low_volts_text ∷ []; schedule = [] ∷ []; stock = stock; most_reads = 2 }
+low_volts_mission = record { edition = heavier_first_edition; sources = low_volts_text ∷ []; schedule = [] ∷ []; stock = stock; most_reads = 2 }
 
 abbrev text : Text
 text = record { source = low_volts_text; rules = low_volts_rules }
@@ -58,11 +58,11 @@ abbrev compiled : Kind → ℕ → List ℕ
 compiled Wdt number = file_bytes (wrapped Wdt (wdt_image hash (low_volts ∷ [])))
 compiled Adt number = file_bytes (wrapped Adt (adt_image Actionpoints hash 1 entries))
 
-wdt_compiled : IsCompiledFile text_order_edition Wdt (compiled Wdt 0) text
+wdt_compiled : IsCompiledFile heavier_first_edition Wdt (compiled Wdt 0) text
 unfolding sha256 hash_after compress rounds schedule first_words digest_bytes
 wdt_compiled = (wdt_image hash (low_volts ∷ []), refl, refl, wdt_is_half)
 
-adt_compiled : IsCompiledFile text_order_edition Adt (compiled Adt 0) text
+adt_compiled : IsCompiledFile heavier_first_edition Adt (compiled Adt 0) text
 unfolding sha256 hash_after compress rounds schedule first_words digest_bytes
 adt_compiled = (
   (adt_image Actionpoints hash 1 entries, refl, refl, adt_is_half),
@@ -78,9 +78,9 @@ one_text : (a : Text) → Contains (text ∷ []) a → text ≡ a
 one_text a (zero, less, is) = is
 one_text a (suc k, less, is) = absurd (let none : ⊥ = omega (arith, less) in none)
 
-are_compiled : AreCompiledFiles text_order_edition (text ∷ []) compiled
-are_compiled Wdt number other is = subst (IsCompiledFile text_order_edition Wdt (compiled Wdt 0)) (only text other number is) wdt_compiled
-are_compiled Adt number other is = subst (IsCompiledFile text_order_edition Adt (compiled Adt 0)) (only text other number is) adt_compiled
+are_compiled : AreCompiledFiles heavier_first_edition (text ∷ []) compiled
+are_compiled Wdt number other is = subst (IsCompiledFile heavier_first_edition Wdt (compiled Wdt 0)) (only text other number is) wdt_compiled
+are_compiled Adt number other is = subst (IsCompiledFile heavier_first_edition Adt (compiled Adt 0)) (only text other number is) adt_compiled
 
 own_hashes : HaveOwnHashes (text ∷ [])
 own_hashes a b in_a in_b same = ap (λ (t : Text). t.source) (sym (one_text a in_a) ∙ one_text b in_b)
@@ -249,7 +249,7 @@ starting = order 1 lc_name ∷ volts 2399 ∷ sample ∷ []
 
 fine : AreFineInputs bytes AreBytes low_volts_mission.schedule meanings starting
 unfolding starting
-fine = records_are_fine text_order_edition (text ∷ []) compiled low_volts_mission.schedule starting are_compiled (tt, (tt, (tt, tt)))
+fine = records_are_fine heavier_first_edition (text ∷ []) compiled low_volts_mission.schedule starting are_compiled (tt, (tt, (tt, tt)))
 
 at_last : Kept (world_after (first_world (map (λ (m : Member). m.called) spares)) starting)
 at_last = kept_after starting _ at_first fine

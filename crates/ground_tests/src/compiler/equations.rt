@@ -1,6 +1,7 @@
-//! Watchpoints in order of first mention, and words in the order of the text.
+//! Watchpoints in order of first mention, and words with the heavier operand first.
 
 use super::{ENTRIES, below, compiled, compiled_rules, has, has_watchpoint, has_words, uses};
+use std::process::Abort;
 
 const AND: u16 = 0xFF01;
 
@@ -33,24 +34,82 @@ fn two_rules_share_a_watchpoint(rt: HostRuntime) {
     has_words(&rt, &pair, 1, &[1, 0, OR, EQUAL]);
 }
 
+/// Each condition has these words.
+fn have_words<R: Abort + AllocGlobal>(rt: &R, table: &[(&str, &[u16])]) {
+    for &(condition, words) in table {
+        has_words(rt, &compiled_rules(rt, &[condition]), 0, words);
+    }
+}
+
 #[test]
-fn operands_first_in_the_order_of_the_text(rt: HostRuntime) {
+fn operands_before_their_operator(rt: HostRuntime) {
     let table: &[(&str, &[u16])] = &[
         ("not V < 1", &[0, NOT, EQUAL]),
         ("not not V < 1", &[0, NOT, NOT, EQUAL]),
         ("V < 1 and V < 2 and V < 3", &[0, 1, AND, 2, AND, EQUAL]),
-        ("V < 1 and (V < 2 and V < 3)", &[0, 1, 2, AND, AND, EQUAL]),
-        (
-            "V < 1 or V < 2 xor V < 3 and V < 4",
-            &[0, 1, 2, 3, AND, XOR, OR, EQUAL],
-        ),
         ("(V < 1 or V < 2) and V < 3", &[0, 1, OR, 2, AND, EQUAL]),
-        ("V < 1 and (V < 2 or V < 3)", &[0, 1, 2, OR, AND, EQUAL]),
         ("not (V < 1 xor not V < 1)", &[0, 0, NOT, XOR, NOT, EQUAL]),
     ];
-    for &(condition, words) in table {
-        has_words(&rt, &compiled_rules(&rt, &[condition]), 0, words);
-    }
+    have_words(&rt, table);
+}
+
+#[test]
+fn the_heavier_operand_first(rt: HostRuntime) {
+    let table: &[(&str, &[u16])] = &[
+        ("V < 1 and (V < 2 and V < 3)", &[1, 2, AND, 0, AND, EQUAL]),
+        ("V < 1 and (V < 2 or V < 3)", &[1, 2, OR, 0, AND, EQUAL]),
+        (
+            "not V < 1 xor (V < 2 or V < 3)",
+            &[1, 2, OR, 0, NOT, XOR, EQUAL],
+        ),
+        (
+            "V < 1 or V < 2 xor V < 3 and V < 4",
+            &[2, 3, AND, 1, XOR, 0, OR, EQUAL],
+        ),
+        (
+            "V < 1 and V < 2 or not ((V < 3 and V < 4) xor (V < 5 and V < 6))",
+            &[2, 3, AND, 4, 5, AND, XOR, NOT, 0, 1, AND, OR, EQUAL],
+        ),
+    ];
+    have_words(&rt, table);
+}
+
+/// Two operands that need as much stay as they stand. What counts is the need of the words that are written: those of the
+/// second operand here would need more in the order of the text.
+#[test]
+fn a_tie_keeps_the_order(rt: HostRuntime) {
+    let table: &[(&str, &[u16])] = &[
+        ("V < 1 and V < 2", &[0, 1, AND, EQUAL]),
+        ("V < 1 or not V < 2", &[0, 1, NOT, OR, EQUAL]),
+        (
+            "(V < 1 and V < 2) or (V < 3 xor V < 4)",
+            &[0, 1, AND, 2, 3, XOR, OR, EQUAL],
+        ),
+        (
+            "(V < 1 and V < 2) or (V < 3 and (V < 4 and V < 5))",
+            &[0, 1, AND, 3, 4, AND, 2, AND, OR, EQUAL],
+        ),
+    ];
+    have_words(&rt, table);
+}
+
+#[test]
+fn a_balanced_tree_stays_as_it_stands(rt: HostRuntime) {
+    let table: &[(&str, &[u16])] = &[
+        (
+            "((V < 0 and V < 1) or (V < 2 and V < 3)) xor ((V < 4 and V < 5) or (V < 6 and V < 7))",
+            &[
+                0, 1, AND, 2, 3, AND, OR, 4, 5, AND, 6, 7, AND, OR, XOR, EQUAL,
+            ],
+        ),
+        (
+            "V < 8 and (((V < 0 and V < 1) or (V < 2 and V < 3)) xor ((V < 4 and V < 5) or (V < 6 and V < 7)))",
+            &[
+                1, 2, AND, 3, 4, AND, OR, 5, 6, AND, 7, 8, AND, OR, XOR, 0, AND, EQUAL,
+            ],
+        ),
+    ];
+    have_words(&rt, table);
 }
 
 #[test]

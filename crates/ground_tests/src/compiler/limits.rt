@@ -27,19 +27,35 @@ fn a_word_too_many(rt: HostRuntime) {
     are_refused(&rt, &[condition.as_str()], refusal);
 }
 
+/// Nine comparisons have room for two words more.
 #[test]
-fn eight_operands_wait_and_no_more(rt: HostRuntime) {
-    let eight =
-        "V < 0 and (V < 1 and (V < 2 and (V < 3 and (V < 4 and (V < 5 and (V < 6 and V < 7))))))";
+fn nine_comparisons_negated_twice(rt: HostRuntime) {
     let nine =
-        "V < 0 and (V < 1 and (V < 2 and (V < 3 and (V < 4 and (V < 5 and (V < 6 and (V < 7 and V < 8)))))))";
-    uses(&rt, &compiled_rules(&rt, &[eight]), 8, 1);
-    are_refused(&rt, &[nine], CompileError::TooDeep { rule: 0 });
-    are_refused(
-        &rt,
-        &["V < 1", nine, nine],
-        CompileError::TooDeep { rule: 1 },
-    );
+        "not not V < 0 and V < 1 and V < 2 and V < 3 and V < 4 and V < 5 and V < 6 and V < 7 and V < 8";
+    let words: [u16; 20] = [
+        0, 0xFF04, 0xFF04, 1, 0xFF01, 2, 0xFF01, 3, 0xFF01, 4, 0xFF01, 5, 0xFF01, 6, 0xFF01, 7,
+        0xFF01, 8, 0xFF01, 0xFF05,
+    ];
+    has_words(&rt, &compiled_rules(&rt, &[nine]), 0, &words);
+    let more = joined(&rt, &["not ", nine]);
+    let refusal = CompileError::EquationTooLong { rule: 1 };
+    are_refused(&rt, &["V < 1", more.as_str(), more.as_str()], refusal);
+}
+
+/// However deep a condition nests to the right, two operands wait.
+#[test]
+fn ten_nested_to_the_right(rt: HostRuntime) {
+    let ten =
+        "V < 0 and (V < 1 and (V < 2 and (V < 3 and (V < 4 and (V < 5 and (V < 6 and (V < 7 and (V < 8 and V < 9))))))))";
+    let words: [u16; 20] = [
+        8, 9, 0xFF01, 7, 0xFF01, 6, 0xFF01, 5, 0xFF01, 4, 0xFF01, 3, 0xFF01, 2, 0xFF01, 1, 0xFF01,
+        0, 0xFF01, 0xFF05,
+    ];
+    let pair = compiled_rules(&rt, &[ten]);
+    uses(&rt, &pair, 10, 1);
+    has_watchpoint(&rt, &pair, 0, below(0));
+    has_watchpoint(&rt, &pair, 9, below(9));
+    has_words(&rt, &pair, 0, &words);
 }
 
 #[test]

@@ -155,7 +155,6 @@ fn the_numbers_of_limits(rt: HostRuntime) {
         (CompileError::TooManyWatchpoints, Some(31)),
         (CompileError::TooManyRules, Some(41)),
         (CompileError::EquationTooLong { rule: 3 }, Some(42)),
-        (CompileError::TooDeep { rule: 3 }, Some(43)),
         (CompileError::Memory, None),
     ];
     for &(error, code) in table {

@@ -6,7 +6,7 @@ use Rattle.lc_model.specs.declared.kind.Kind.TheVariants.{Wdt, Adt}
 use Rattle.lc_model.specs.Condition.{Condition}
 use Rattle.lc_model.specs.Rule.{actions}
 use Rattle.lc_model.specs.Tables.Equation.{terms_of, heavier_first}
-use Rattle.lc_model.specs.Tables.Compiling.{Limits, text_order_limits, version_1_limits, version_2_limits}
+use Rattle.lc_model.specs.Tables.Compiling.{Limits, version_1_limits, version_2_limits}
 use Rattle.lc_model.specs.Tables.Image.{Layout, version_1_layouts, version_2_layouts}
 use Rattle.lc_model.specs.Tables.Half.{HasWords, IsFileOfHalf}
 use Rattle.lc_model.specs.Tables.HalvesAndBytes.{Text}
@@ -17,10 +17,6 @@ pub record Edition : Type 0 where
   pub layouts : List Layout
   pub limits : Limits
   pub arranged : Condition → Condition
-
--- operands in the order of the text
-abbrev pub text_order_edition : Edition
-text_order_edition = record { layouts = version_1_layouts; limits = text_order_limits; arranged = λ c. c }
 
 -- the heavier operand first
 abbrev pub heavier_first_edition : Edition

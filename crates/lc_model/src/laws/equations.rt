@@ -35,7 +35,7 @@ pub fn words_run()
     ensures { WordsRun }
 {}
 
-/// The words of lowered rules can be run, and there are few of them.
+/// The words of rules within the limits can be run, with the heavier operand first, and there are few of them.
 pub fn lowered_words_run()
     ensures { LoweredWordsRun }
 {}

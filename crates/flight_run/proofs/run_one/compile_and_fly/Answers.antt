@@ -18,6 +18,6 @@ returns-clause-run g c =
     let said = c.in-Ok.ensures.compiles in
     begun _ _ _ _ said.1
     (ends_as_called (c.limit_checker_agrees_on_texts.ensures.packet layouts) (c.limit_checker_agrees_on_texts.ensures.settled layouts)
-    c.halves_are_sensible.ensures c.rules_are_within_ranges.ensures
+    c.halves_are_sensible.ensures c.rules_are_within_ranges.ensures c.same_rules_sample_alike.ensures
     (record { source = c.args.text.now; rules = said.0 }) said.1.0 _
     (c.in_ok-flight.ensures said.0 (record { text = c.args.text.now; compiles = said.1; tables = said.2 })) _ _ c.fly.ensures.outcome)

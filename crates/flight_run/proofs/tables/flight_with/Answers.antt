@@ -2,7 +2,7 @@ use Rattle.std.proofs.Common.{sym, ◌∙◌, ℕ, List, subst, arith}
 use Rattle.lc_model.specs.declared.kind.Kind.TheVariants.{Wdt, Adt}
 use Rattle.lc_model.specs.Tables.Half.{IsFileOfHalf}
 use Rattle.lc_model.specs.Tables.InForce.{layouts}
-use Rattle.flight_run.proofs.Loaded.{belong, said, at_rest}
+use Rattle.flight_run.proofs.Loaded.{belong, begins}
 use Rattle.flight_run.proofs.tables.flight_with.Goals as goal
 
 pub image_in-wdt-requires : goal.image_in-wdt-requires
@@ -25,8 +25,7 @@ set-requires-clause-matching c =
 
 pub returns : goal.returns
 returns c = λ rules are.
-    at_rest rules _
-    (c.set.ensures ∙ said rules _ are _ _
+    begins rules _ are _ _
     (c.image_in-wdt.ensures are.tables.wdt.0 are.tables.wdt.2 (c.as_slice.ensures.value ∙ are.tables.wdt.1))
     (c.image_in-adt.ensures are.tables.adt.0 are.tables.adt.2 (c.as_slice-2.ensures.value ∙ are.tables.adt.1))
-    c.halves_in_order_spell_the_text.ensures)
+    c.halves_spell_the_text.ensures _ c.set.ensures

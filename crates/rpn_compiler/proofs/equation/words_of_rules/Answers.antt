@@ -5,6 +5,7 @@ use Rattle.lc_model.specs.declared.rule.Rule.{Rule}
 use Rattle.lc_model.specs.Condition.{condition_of}
 use Rattle.lc_model.specs.Rule.{rule_of, rules_of}
 use Rattle.lc_model.specs.Tables.Equation.{mentions, number_in, terms_of}
+use Rattle.lc_model.specs.Tables.InForce.{arranged}
 use Rattle.lc_model.specs.Tables.Lowering.{words_in}
 use Rattle.lc_model.proofs.Exits.{rules_more}
 use Rattle.rpn_compiler.specs.Numbered.{by_numbers, words_of}
@@ -27,12 +28,12 @@ loop-number-preserved c =
     let i : ℕ = c.loop-number.number in
     let numbers =
     numbers_at terms rules c.args.numbers.now i r c.index-numbers-number.result c.requires c.loop-number-test.true c.index-rules-number.is c.index-numbers-number.is in
-    let words : c.in_ok-words_of_rule.field-0.items ≡ words_in terms (rule_of r) =
+    let words : c.in_ok-words_of_rule.field-0.items ≡ words_in arranged terms (rule_of r) =
     c.in_ok-words_of_rule.ensures
-    ∙ ap (λ ns. (by_numbers (condition_of r.cond) ns).0) (c.as_slice.ensures.value ∙ numbers)
+    ∙ ap (λ ns. (by_numbers (condition_of r.cond) ns).0.words) (c.as_slice.ensures.value ∙ numbers)
     ∙ words_alone terms (condition_of r.cond) in
     ap words_of c.in_ok-push.ensures.items
     ∙ map-append (λ (ws : Vec ℕ Global). ws.items) c.loop-number.found.items (c.in_ok-words_of_rule.field-0 ∷ [])
     ∙ ap₂ (λ (wss : List (List ℕ)) (ws : List ℕ). wss ++ ws ∷ []) c.loop-number.invariant words
-    ∙ sym (map-append (words_in terms) (rules_of (take i rules)) (rule_of r ∷ []))
-    ∙ ap (map (words_in terms)) (sym (rules_more rules i r c.loop-number-test.true c.index-rules-number.is))
+    ∙ sym (map-append (words_in arranged terms) (rules_of (take i rules)) (rule_of r ∷ []))
+    ∙ ap (map (words_in arranged terms)) (sym (rules_more rules i r c.loop-number-test.true c.index-rules-number.is))

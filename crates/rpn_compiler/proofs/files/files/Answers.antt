@@ -7,6 +7,7 @@ use Rattle.lc_model.specs.Rule.{NamedRule}
 use Rattle.lc_model.specs.Tables.File.{file_bytes, wrapped}
 use Rattle.lc_model.specs.Tables.Image.{Actionpoints, TableEntry, FitsEntry, adt_image, wdt_image}
 use Rattle.lc_model.specs.Tables.Half.{entry_over}
+use Rattle.lc_model.specs.Tables.InForce.{arranged}
 use Rattle.rpn_compiler.proofs.Compiled.{fit_terms, fit_entries, tables}
 use Rattle.rpn_compiler.proofs.files.files.Goals as goal
 
@@ -33,4 +34,4 @@ returns-clause-tables c =
     (c.in_ok-adt_file.ensures.file
     ∙ (λ i. file_bytes (wrapped Adt (adt_image Actionpoints (c.digest-hash.ensures i) (watchpoints i) (c.in_ok-actionpoints.ensures i)))))
     watchpoints
-    (c.len-rules.ensures ∙ c.in_ok-actionpoints.actionpoints.ok.0 ∙ ap (λ (es : List TableEntry). length es) c.in_ok-actionpoints.ensures ∙ length-map rules (entry_over terms))
+    (c.len-rules.ensures ∙ c.in_ok-actionpoints.actionpoints.ok.0 ∙ ap (λ (es : List TableEntry). length es) c.in_ok-actionpoints.ensures ∙ length-map rules (entry_over arranged terms))

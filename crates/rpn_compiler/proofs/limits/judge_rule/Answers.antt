@@ -1,22 +1,12 @@
 use Rattle.std.proofs.Common.{refl, arith}
 use Rattle.lc_model.specs.Rule.{rule_of}
 use Rattle.lc_model.specs.Text.Reading.{ForRule}
-use Rattle.rpn_compiler.proofs.Judging.{too_long, too_deep, fits}
+use Rattle.rpn_compiler.proofs.Judging.{too_long, fits}
 use Rattle.rpn_compiler.proofs.limits.judge_rule.Goals as goal
 
 pub returns-then-size-ge-EQUATION_WORDS : goal.returns-then-size-ge-EQUATION_WORDS
 returns-then-size-ge-EQUATION_WORDS c =
     (ForRule 42 c.args.number, refl, too_long c.args.number (rule_of c.args.rule.now) (omega (arith, c.if-size-ge-EQUATION_WORDS.true, c.size.ensures)))
 
-pub returns-then-need-gt-MOST_WAITING : goal.returns-then-need-gt-MOST_WAITING
-returns-then-need-gt-MOST_WAITING c = (
-  ForRule 43 c.args.number,
-  refl,
-  too_deep c.args.number (rule_of c.args.rule.now) (omega (arith, c.if-size-ge-EQUATION_WORDS.false, c.size.ensures))
-      (omega (arith, c.if-need-gt-MOST_WAITING.true, c.need.ensures)),
-)
-
 pub returns : goal.returns
-returns c =
-    fits c.args.number (rule_of c.args.rule.now) (omega (arith, c.if-size-ge-EQUATION_WORDS.false, c.size.ensures))
-    (omega (arith, c.if-need-gt-MOST_WAITING.false, c.need.ensures))
+returns c = fits c.args.number (rule_of c.args.rule.now) (omega (arith, c.if-size-ge-EQUATION_WORDS.false, c.size.ensures))
