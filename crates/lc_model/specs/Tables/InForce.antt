@@ -1,11 +1,15 @@
 -- The forms of tables and the limits of rule texts that this edition of the project has in force. This project's own.
 use Rattle.std.specs.Prelude.{List}
 use Rattle.lc_model.specs.Tables.Compiling.{Limits, text_order_limits}
-use Rattle.lc_model.specs.Tables.Image.{Layout, version_1_layouts}
+use Rattle.lc_model.specs.Tables.Image.{Layout, WideActionpoints, version_2_layouts}
 
 -- the forms that images may have, the last of each kind that which is compiled
 abbrev pub layouts : List Layout
-layouts = version_1_layouts
+layouts = version_2_layouts
+
+-- that in which actionpoints are compiled
+abbrev pub compiled_actionpoints : Layout
+compiled_actionpoints = WideActionpoints
 
 -- what a text's equations may take
 abbrev pub limits : Limits
