@@ -44,7 +44,10 @@ fn encoded<R: Abort + AllocGlobal>(
     let terms = Vec::from_slice(rt.alloc(), watchpoints).expect(rt, "out of memory");
     Images {
         wdt: encoded_wdt(rt.alloc(), terms).expect(rt, "out of memory"),
-        adt: encoded_adt(rt.alloc(), AdtVersion::One, count, actionpoints).expect(rt, "out of memory"),
+        adt: encoded_adt(rt.alloc(), AdtVersion::One, count, actionpoints).expect(
+            rt,
+            "out of memory",
+        ),
     }
 }
 

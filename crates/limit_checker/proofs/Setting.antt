@@ -6,12 +6,11 @@ use Rattle.std.proofs.lemmas.List.{length-map, map-append}
 use Rattle.std.proofs.lemmas.List.Concat.{flat_map-append}
 use Rattle.std.proofs.lemmas.Option.{slice_get-map}
 use Rattle.lc_model.specs.declared.field.Term.{Term}
-use Rattle.lc_model.specs.declared.kind.Kind.TheVariants.{Adt}
 use Rattle.lc_model.specs.declared.mode.LcMode.TheVariants.{Active}
 use Rattle.lc_model.specs.Condition.{Condition}
 use Rattle.lc_model.specs.Rule.{Actionpoint}
 use Rattle.lc_model.specs.Tables.Half.{IsMatch}
-use Rattle.lc_model.specs.Tables.Image.{Layout, layout_of, own_count, watchpoint_count, entry_at, numbers_below}
+use Rattle.lc_model.specs.Tables.Image.{Layout, own_count, watchpoint_count, entry_at, numbers_below}
 use Rattle.lc_model.specs.Tables.InForce.{layouts}
 use Rattle.lc_model.specs.Tables.Spelled.{spelled_terms, spelled_condition, spelled_rule_if, spelled_by_layout, spelled_rules}
 use Rattle.lc_model.specs.Laws.Equations.{IsSpelled}

@@ -1,10 +1,9 @@
 -- A table of actionpoints that was written is read again.
-use Rattle.std.proofs.Common.{◌≡◌, ◌≢◌, refl, ◌∙◌, ap, ℕ, suc, ◌+◌, ◌-◌, ◌*◌, ◌<◌, ◌^◌, false, ◌==◌, List, [], ◌∷◌, ◌++◌, length, get_or, take, drop, map, replicate, arith}
+use Rattle.std.proofs.Common.{◌≡◌, ◌≢◌, refl, ◌∙◌, ap, ℕ, suc, ◌-◌, ◌<◌, ◌^◌, false, ◌==◌, List, [], ◌∷◌, ◌++◌, length, get_or, take, drop, map, replicate, arith}
 use Rattle.std.specs.List.{flat_map, AllByRecursion}
 use Rattle.std.specs.Int.{w16, from_be_bytes}
 use Rattle.std.proofs.lemmas.Nat.{from_be_bytes-to_be_bytes_2}
 use Rattle.std.proofs.lemmas.List.{length-map, take_at, drop_at}
-use Rattle.lc_model.specs.declared.kind.Kind.TheVariants.{Adt}
 use Rattle.lc_model.specs.declared.mode.ApMode.{ApMode}
 use Rattle.lc_model.specs.declared.mode.ApMode.TheVariants.{Active, Passive, Disabled, PermOff}
 use Rattle.lc_model.specs.declared.rule.EventKind.{EventKind}

@@ -1,5 +1,5 @@
 -- What a sound image gives its readers.
-use Rattle.std.proofs.Common.{◌≡◌, refl, sym, ap, ◌∙◌, subst, ℕ, zero, suc, ◌<◌, ◌≤◌, Bool, true, false, not, ◌&&◌, ◌||◌, nat_lt, nat_le, ◌==◌, List, [], ◌∷◌, length, Option, Some, None, is_none, unwrap_or, slice_index, slice_range, ◌++◌, arith}
+use Rattle.std.proofs.Common.{◌≡◌, refl, sym, ap, ◌∙◌, subst, ℕ, ◌<◌, ◌≤◌, Bool, true, false, not, ◌&&◌, ◌||◌, nat_lt, nat_le, ◌==◌, List, [], ◌∷◌, length, Option, Some, None, is_none, unwrap_or, arith}
 use Rattle.std.specs.List.{AllByRecursion, list_any, list_all}
 use Rattle.std.specs.Option.{option_map_or}
 use Rattle.std.specs.Int.{is_in_range}
@@ -7,15 +7,15 @@ use Rattle.lc_model.specs.declared.kind.Kind.TheVariants.{Wdt, Adt}
 use Rattle.lc_model.specs.declared.field.FieldType.{FieldType}
 use Rattle.lc_model.specs.declared.field.FieldType.TheVariants.{U8}
 use Rattle.lc_model.specs.Bytes.{u16_at}
-use Rattle.lc_model.specs.Codes.{state_code, event_code, kind_code, is_kind, table_entries}
+use Rattle.lc_model.specs.Codes.{kind_code, is_kind, table_entries}
 use Rattle.lc_model.specs.Field.{full_mask, is_in_type}
 use Rattle.lc_model.specs.Packet.{is_telemetry_mid, event_mid, lc_housekeeping_mid, reserved_mids}
-use Rattle.lc_model.specs.Tables.Entry.{mask_field, mid_field, operator_field, type_field, value_field, zero_field, event_id_field, event_type_field, fails_field, sequence_field, state_field, text_field}
+use Rattle.lc_model.specs.Tables.Entry.{mask_field, mid_field, operator_field, type_field, value_field, event_id_field, event_type_field, fails_field, sequence_field, state_field, text_field}
 use Rattle.lc_model.specs.Tables.Equation.{equal_word}
 use Rattle.lc_model.specs.Tables.Image as model
 use Rattle.lc_model.specs.Tables.Image.{Watchpoints, Actionpoints, WideActionpoints, image_length, own_count, watchpoint_count, entry_at, entry_code, used_code, preamble_code, IsSound, all_words, words_before_equal, words_after_equal, type_of_code, twos_complement_32, is_text_field, first_code, equation_tests, most_waiting, actionpoint_code, watchpoint_code, watchpoint_tests, actionpoint_tests}
 use Rattle.lc_model.specs.Tables.InForce.{layouts}
-use Rattle.lc_model.specs.Tables.Spelled.{spelled_term, state_of_code, event_of_code}
+use Rattle.lc_model.specs.Tables.Spelled.{spelled_term}
 use Rattle.lc_model.proofs.SoundWords.{none_stands, stands_none}
 use Rattle.lc_model.proofs.Facts.{tested_not_less, or_second, or_first, not_false, and_first, and_second, tested_at_most, test_less, tested_equal, tested_unequal}
 use Rattle.lc_model.proofs.SoundImages.{SoundParts, sound_parts, operator_again}

@@ -1,5 +1,5 @@
 -- Entries of actionpoints that are used, in each layout that has them.
-use Rattle.std.proofs.Common.{◌≡◌, sym, ◌∙◌, ap, ◌⊎◌, inl, inr, refl, ℕ, ◌<◌, nat_lt, List, bytes_eq, Option, Some, None, if◌then◌else◌, arith}
+use Rattle.std.proofs.Common.{◌≡◌, sym, ◌∙◌, ap, ◌⊎◌, inl, inr, refl, ℕ, ◌<◌, nat_lt, List}
 use Rattle.lc_model.specs.declared.kind.Kind.TheVariants.{Adt}
 use Rattle.lc_model.specs.Tables.Image as model
 use Rattle.lc_model.specs.Tables.Image.{Watchpoints, Actionpoints, WideActionpoints, kind_of, own_count, watchpoint_count, entry_at, entry_code, used_code, actionpoint_code}

@@ -1,9 +1,7 @@
 //! Tables of actionpoints of version 1 and 2, and what is wrong in either.
 
 use super::{Fault, answer, refused, refused_whole, taken};
-use crate::images::{
-    EQUAL, NOT, adt, adt_with, put, wdt, wide_actionpoint, wide_adt, wide_table,
-};
+use crate::images::{EQUAL, NOT, adt, adt_with, put, wdt, wide_actionpoint, wide_adt, wide_table};
 use crate::shared::same;
 use lc_model::Kind;
 use std::process::Abort;

@@ -1,4 +1,4 @@
-use Rattle.std.proofs.Common.{◌≡◌, ◌∙◌, ap, sym, arith}
+use Rattle.std.proofs.Common.{◌∙◌, sym, arith}
 use Rattle.table_file.specs.Layout.{layout_of}
 use Rattle.table_validator.proofs.Used.{of_actionpoints, entry_judged}
 use Rattle.table_validator.proofs.entry.entry_fault.Goals as goal
