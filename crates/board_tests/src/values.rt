@@ -29,7 +29,7 @@ pub fn low(stale: u32) -> Term
 }
 
 /// The actionpoint that requests a sequence after so many failures in a row, with these words before EQUAL: it fits tables
-/// of both versions.
+/// of version 2, and with under 20 words those of version 1.
 pub fn actionpoint(
     alloc: Global,
     mode: ApMode,
@@ -37,9 +37,9 @@ pub fn actionpoint(
     sequence: u16,
     words: &[u16],
 ) -> Result<TableEntry, AllocError>
-    requires few { length words.now < 20 }
+    requires few { length words.now < 32 }
     requires words { AllByRecursion (λ w. w < 2 ^ 16) words.now }
-    ensures first { IfOk result (λ entry. FitsEntry Actionpoints entry) }
+    ensures first { length words.now < 20 → IfOk result (λ entry. FitsEntry Actionpoints entry) }
     ensures second { IfOk result (λ entry. FitsEntry WideActionpoints entry) }
 {
     Ok(TableEntry {

@@ -6,8 +6,8 @@ ghost use Rattle.lc_model.specs.Tables.Image.{Watchpoints, image_length, preambl
 use super::{adt_file, changed, opened, wdt_file};
 use crate::images::put;
 use crate::shared::same;
-use crate::values::{HASH, low, low_volts_adt, low_volts_wdt};
-use lc_model::words::EQUAL;
+use crate::values::{HASH, actionpoint, encoded_adt, low, low_volts_adt, low_volts_wdt};
+use lc_model::words::{EQUAL, OR};
 use lc_model::{ApMode, CmpOp, EventKind, FieldType, Kind, ReportMaxima};
 use std::process::Abort;
 use table_file::{
@@ -186,6 +186,30 @@ fn the_actionpoints_image_of_version_2(rt: HostRuntime) {
     let entry = ActionpointEntry::of(Layout::WideActionpoints, &image, 0);
     has_low(&rt, &entry);
     has_one_mention(&rt, &entry, 32);
+}
+
+/// The longest equation of version 2: sixteen mentions, fifteen ORs, EQUAL.
+fn has_32_words<R: Abort>(rt: &R, entry: &ActionpointEntry) {
+    same(rt, "words before EQUAL", entry.equation_length(), 31);
+    if entry.word_count() == 32 {
+        let words = [entry.word(29), entry.word(30), entry.word(31)];
+        same(rt, "the last three", words, [0, OR, EQUAL]);
+    }
+}
+
+#[test]
+fn an_equation_of_32_words(rt: HostRuntime) {
+    let words = [
+        0, 0, OR, 0, OR, 0, OR, 0, OR, 0, OR, 0, OR, 0, OR, 0, OR, 0, OR, 0, OR, 0, OR, 0, OR, 0,
+        OR, 0, OR, 0, OR,
+    ];
+    let entry = actionpoint(rt.alloc(), ApMode::Active, 2, 7, &words).expect(&rt, "out of memory");
+    let entries = vec![in rt.alloc(); entry].expect(&rt, "out of memory");
+    let image = encoded_adt(rt.alloc(), AdtVersion::Two, 1, entries).expect(&rt, "out of memory");
+    has_32_words(
+        &rt,
+        &ActionpointEntry::of(Layout::WideActionpoints, &image, 0),
+    );
 }
 
 /// Each image has a layout of its own kind alone.
