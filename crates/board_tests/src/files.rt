@@ -12,7 +12,7 @@ use crate::values::{low_volts_adt, low_volts_wdt};
 use lc_model::Kind;
 use std::alloc::Global;
 use std::process::Abort;
-use table_file::{FileError, TableFile, open, wrap};
+use table_file::{AdtVersion, FileError, TableFile, open, wrap};
 
 /// The file of the text's watchpoints, if there is memory.
 fn made_wdt_file(alloc: Global) -> Result<Vec<u8>, FileError> {
@@ -21,8 +21,8 @@ fn made_wdt_file(alloc: Global) -> Result<Vec<u8>, FileError> {
 }
 
 /// The file of its actionpoints, if there is memory.
-fn made_adt_file(alloc: Global) -> Result<Vec<u8>, FileError> {
-    let image = low_volts_adt(alloc)?;
+fn made_adt_file(alloc: Global, version: AdtVersion) -> Result<Vec<u8>, FileError> {
+    let image = low_volts_adt(alloc, version)?;
     wrap(alloc, Kind::Adt, &image)
 }
 
@@ -30,8 +30,8 @@ fn wdt_file<R: Abort + AllocGlobal>(rt: &R) -> Vec<u8> {
     made_wdt_file(rt.alloc()).expect(rt, "out of memory")
 }
 
-fn adt_file<R: Abort + AllocGlobal>(rt: &R) -> Vec<u8> {
-    made_adt_file(rt.alloc()).expect(rt, "out of memory")
+fn adt_file<R: Abort + AllocGlobal>(rt: &R, version: AdtVersion) -> Vec<u8> {
+    made_adt_file(rt.alloc(), version).expect(rt, "out of memory")
 }
 
 /// The file, which has no fault.

@@ -14,10 +14,12 @@ use table_validator::{ValidImage, validate};
 /// The bytes before the entries.
 pub const PREAMBLE: usize = 40;
 
-/// The bytes of a watchpoint's entry, and of an actionpoint's.
+/// The bytes of a watchpoint's entry, and of an actionpoint's in tables of version 1 and 2.
 pub const WATCHPOINT: usize = 24;
 
 pub const ACTIONPOINT: usize = 86;
+
+pub const WIDE_ACTIONPOINT: usize = 110;
 
 /// From an actionpoint's first byte to its words.
 pub const WORDS: usize = 46;
@@ -44,15 +46,16 @@ pub const LOW: [u8; 23] = *b"\x01\x00\x00\x00\x00\x00\x00\x07\x00\x02\x00\x03\x0
 /// The bytes of a table whose first entries, so many, are this one.
 fn bytes_of(
     alloc: Global,
+    version: u8,
     kind: u8,
     used: u8,
     watchpoints: u8,
     entry: &[u8],
 ) -> Result<Vec<u8>, AllocError> {
-    let mut blank = [0; ACTIONPOINT];
+    let mut blank = [0; WIDE_ACTIONPOINT];
     blank[0] = 0xFF;
     let blank = blank.get(..entry.len()).unwrap_or_default();
-    let mut image = Vec::from_slice(alloc, &[0, 1, 0, kind, 0, used, 0, watchpoints])?;
+    let mut image = Vec::from_slice(alloc, &[0, version, 0, kind, 0, used, 0, watchpoints])?;
     image.extend_from_slice(&HASH)?;
     for number in 0..176 {
         let bytes = if number < used { entry } else { blank };
@@ -61,7 +64,7 @@ fn bytes_of(
     Ok(image)
 }
 
-/// A table whose first entries, so many, are this one.
+/// A table of version 1 whose first entries, so many, are this one.
 pub fn table<R: Abort + AllocGlobal>(
     rt: &R,
     kind: u8,
@@ -69,7 +72,17 @@ pub fn table<R: Abort + AllocGlobal>(
     watchpoints: u8,
     entry: &[u8],
 ) -> Vec<u8> {
-    bytes_of(rt.alloc(), kind, used, watchpoints, entry).expect(rt, "out of memory")
+    bytes_of(rt.alloc(), 1, kind, used, watchpoints, entry).expect(rt, "out of memory")
+}
+
+/// A table of actionpoints of version 2 whose first entries, so many, are this one.
+pub fn wide_table<R: Abort + AllocGlobal>(
+    rt: &R,
+    used: u8,
+    watchpoints: u8,
+    entry: &[u8; WIDE_ACTIONPOINT],
+) -> Vec<u8> {
+    bytes_of(rt.alloc(), 2, 2, used, watchpoints, entry).expect(rt, "out of memory")
 }
 
 /// A table of so many watchpoints.
@@ -77,15 +90,27 @@ pub fn wdt<R: Abort + AllocGlobal>(rt: &R, used: u8) -> Vec<u8> {
     table(rt, 1, used, used, &LOW_VOLTS)
 }
 
+/// Puts an actionpoint with these words, so many as there is room for.
+fn put_actionpoint(entry: &mut [u8], words: &[u16]) {
+    put(entry, 0, &LOW);
+    let mut place = WORDS;
+    for word in words {
+        put(entry, place, &word.to_be_bytes());
+        place = place.saturating_add(2);
+    }
+}
+
 /// An actionpoint's entry with these words and zeros behind them.
 pub fn actionpoint(words: &[u16]) -> [u8; ACTIONPOINT] {
     let mut entry = [0; ACTIONPOINT];
-    put(&mut entry, 0, &LOW);
-    let mut place = WORDS;
-    for word in words {
-        put(&mut entry, place, &word.to_be_bytes());
-        place = place.saturating_add(2);
-    }
+    put_actionpoint(&mut entry, words);
+    entry
+}
+
+/// The same in a table of version 2.
+pub fn wide_actionpoint(words: &[u16]) -> [u8; WIDE_ACTIONPOINT] {
+    let mut entry = [0; WIDE_ACTIONPOINT];
+    put_actionpoint(&mut entry, words);
     entry
 }
 
@@ -102,6 +127,11 @@ pub fn adt_with<R: Abort + AllocGlobal>(
 /// A table of so many actionpoints over one watchpoint.
 pub fn adt<R: Abort + AllocGlobal>(rt: &R, used: u8) -> Vec<u8> {
     adt_with(rt, used, 1, &[0, EQUAL])
+}
+
+/// The same of version 2.
+pub fn wide_adt<R: Abort + AllocGlobal>(rt: &R, used: u8) -> Vec<u8> {
+    wide_table(rt, used, 1, &wide_actionpoint(&[0, EQUAL]))
 }
 
 /// A table of so many entries, with one watchpoint beside actionpoints.

@@ -4,6 +4,7 @@
 mod codes;
 mod every_byte;
 mod sound;
+mod versions;
 mod whole_image;
 mod words;
 

@@ -3,11 +3,12 @@
 ghost use Rattle.std.specs.Prelude.{◌≡◌, ◌<◌, ◌≤◌, ◌^◌, length, IfOk};
 ghost use Rattle.std.specs.List.{AllByRecursion};
 ghost use Rattle.lc_model.specs.Codes.{table_entries};
-ghost use Rattle.lc_model.specs.Tables.Image.{Watchpoints, Actionpoints, image_length, FitsWatchpoint, FitsEntry};
+ghost use Rattle.lc_model.specs.Tables.Image.{Watchpoints, Actionpoints, WideActionpoints, image_length, FitsWatchpoint, FitsEntry};
+ghost use Rattle.table_file.specs.Layout.{layout_of_version};
 
 use lc_model::{ApMode, Bytes, CmpOp, EventKind, FieldType, ReportMaxima, Term};
 use std::alloc::{AllocError, Global};
-use table_file::{AdtImage, FileError, TableEntry, WdtImage, encode_adt, encode_wdt};
+use table_file::{AdtImage, AdtVersion, FileError, TableEntry, WdtImage, encode_adt, encode_wdt};
 
 /// In place of the text's hash.
 pub const HASH: [u8; 32] = [7; 32];
@@ -27,7 +28,8 @@ pub fn low(stale: u32) -> Term
     }
 }
 
-/// The actionpoint that requests a sequence after so many failures in a row, with these words before EQUAL.
+/// The actionpoint that requests a sequence after so many failures in a row, with these words before EQUAL: it fits tables
+/// of version 2, and with under 20 words those of version 1.
 pub fn actionpoint(
     alloc: Global,
     mode: ApMode,
@@ -35,9 +37,10 @@ pub fn actionpoint(
     sequence: u16,
     words: &[u16],
 ) -> Result<TableEntry, AllocError>
-    requires few { length words.now < 20 }
+    requires few { length words.now < 32 }
     requires words { AllByRecursion (λ w. w < 2 ^ 16) words.now }
-    ensures { IfOk result (λ entry. FitsEntry Actionpoints entry) }
+    ensures first { length words.now < 20 → IfOk result (λ entry. FitsEntry Actionpoints entry) }
+    ensures second { IfOk result (λ entry. FitsEntry WideActionpoints entry) }
 {
     Ok(TableEntry {
         mode,
@@ -71,14 +74,16 @@ pub fn encoded_wdt(alloc: Global, watchpoints: Vec<Term>) -> Result<Vec<u8>, Fil
 /// The image of a table of these actionpoints, over so many watchpoints.
 pub fn encoded_adt(
     alloc: Global,
+    version: AdtVersion,
     watchpoint_count: u16,
     actionpoints: Vec<TableEntry>,
 ) -> Result<Vec<u8>, FileError>
     requires few { length actionpoints.items ≤ table_entries }
-    requires fit { AllByRecursion (FitsEntry Actionpoints) actionpoints.items }
-    ensures { IfOk result (λ bytes. length bytes.items ≡ image_length Actionpoints) }
+    requires fit { AllByRecursion (FitsEntry (layout_of_version version)) actionpoints.items }
+    ensures { IfOk result (λ bytes. length bytes.items ≡ image_length (layout_of_version version)) }
 {
     let image = AdtImage {
+        version,
         hash: HASH,
         watchpoint_count,
         actionpoints,
@@ -94,10 +99,10 @@ pub fn low_volts_wdt(alloc: Global) -> Result<Vec<u8>, FileError>
 }
 
 /// The low-volts text's image of actionpoints.
-pub fn low_volts_adt(alloc: Global) -> Result<Vec<u8>, FileError>
-    ensures { IfOk result (λ bytes. length bytes.items ≡ image_length Actionpoints) }
+pub fn low_volts_adt(alloc: Global, version: AdtVersion) -> Result<Vec<u8>, FileError>
+    ensures { IfOk result (λ bytes. length bytes.items ≡ image_length (layout_of_version version)) }
 {
     let entry = actionpoint(alloc, ApMode::Active, 2, 7, &[0])?;
     let actionpoints = vec![in alloc; entry].map_err(|_| FileError::Memory)?;
-    encoded_adt(alloc, 1, actionpoints)
+    encoded_adt(alloc, version, 1, actionpoints)
 }

@@ -2,6 +2,7 @@
 
 mod one_rule;
 mod sound_tables;
+mod versions;
 
 ghost use Rattle.std.specs.Prelude.{◌<◌, ◌≤◌, ◌^◌, length};
 ghost use Rattle.std.specs.List.{AllByRecursion};
@@ -14,7 +15,7 @@ use crate::values::{actionpoint, encoded_adt, encoded_wdt};
 use lc_model::{ApMode, Kind, Term};
 use limit_checker::LimitChecker;
 use std::process::Abort;
-use table_file::{TableEntry, preamble};
+use table_file::{AdtVersion, TableEntry, preamble};
 
 /// Telemetry of message id 0x0883 with 2,399 in the 16 bits at byte 12, which is low.
 const LOW: &[u8] = &[
@@ -28,7 +29,7 @@ struct Images {
     adt: Vec<u8>,
 }
 
-/// The images of tables of these watchpoints and actionpoints.
+/// The images of tables of these watchpoints and actionpoints, of version 1.
 fn encoded<R: Abort + AllocGlobal>(
     rt: &R,
     watchpoints: &[Term],
@@ -43,7 +44,10 @@ fn encoded<R: Abort + AllocGlobal>(
     let terms = Vec::from_slice(rt.alloc(), watchpoints).expect(rt, "out of memory");
     Images {
         wdt: encoded_wdt(rt.alloc(), terms).expect(rt, "out of memory"),
-        adt: encoded_adt(rt.alloc(), count, actionpoints).expect(rt, "out of memory"),
+        adt: encoded_adt(rt.alloc(), AdtVersion::One, count, actionpoints).expect(
+            rt,
+            "out of memory",
+        ),
     }
 }
 

@@ -20,7 +20,7 @@ const ENTRIES: usize = IMAGE + 40;
 /// The bytes of an entry.
 const WDT_ENTRY: usize = 24;
 
-const ADT_ENTRY: usize = 86;
+const ADT_ENTRY: usize = 110;
 
 /// Where the words of an actionpoint begin in its entry.
 const WORDS: usize = 46;
@@ -138,7 +138,7 @@ fn has_words<R: Abort + AllocGlobal>(rt: &R, pair: &TablePair, rule: u16, words:
     );
 }
 
-/// The bytes of an equation's twenty words.
+/// The bytes of an equation's 32 words.
 fn equation<R: Abort + AllocGlobal>(rt: &R, words: &[u16]) -> Vec<u8> {
     let mut bytes = Vec::new(rt.alloc());
     for word in words {
@@ -146,6 +146,6 @@ fn equation<R: Abort + AllocGlobal>(rt: &R, words: &[u16]) -> Vec<u8> {
             .extend_from_slice(word.to_be_bytes().as_slice())
             .expect(rt, "no memory");
     }
-    bytes.resize(40, 0).expect(rt, "no memory");
+    bytes.resize(64, 0).expect(rt, "no memory");
     bytes
 }

@@ -10,10 +10,10 @@ use Rattle.lc_model.specs.Condition.{Operator, And, Or, Xor, Condition}
 use Rattle.lc_model.specs.Rule.{NamedRule, actions}
 use Rattle.lc_model.specs.Codes.{table_entries}
 use Rattle.lc_model.specs.Text.Token.{is_text_byte}
-use Rattle.lc_model.specs.Tables.Equation.{terms_of, words, equal_word, operator_word, SpellsInOrder, Spells}
-use Rattle.lc_model.specs.Tables.InForce.{limits, arranged}
+use Rattle.lc_model.specs.Tables.Equation.{terms_of, words, equal_word, operator_word, SpellsInOrder, Spells, IsRearranged}
+use Rattle.lc_model.specs.Tables.InForce.{limits, layouts, arranged, compiled_actionpoints}
 use Rattle.lc_model.specs.Tables.Lowering.{words_in, NeedsFew}
-use Rattle.lc_model.specs.Tables.Image.{Watchpoints, Actionpoints, filled, term_bytes, TableEntry, FitsEntry, EndsOnce, entry_bytes, HasPreamble, adt_image, equation_tests}
+use Rattle.lc_model.specs.Tables.Image.{Watchpoints, filled, term_bytes, TableEntry, FitsEntry, EndsOnce, entry_bytes, HasPreamble, adt_image, equation_tests}
 use Rattle.lc_model.specs.Tables.Half.{entry_over, IsEntryOf}
 use Rattle.lc_model.specs.Tables.Spelled.{spelled_condition}
 use Rattle.lc_model.specs.Laws.Reading.{IsWithinRanges}
@@ -77,7 +77,7 @@ text_bytes (b ∷ text) all = (text_byte b all.0, text_bytes text all.1)
 -- ---- rules
 
 sound_entry : (terms : List Term) (rule : NamedRule) → length terms ≤ table_entries → IsWithinRanges rule.action → RuleRuns terms rule →
-    IsSoundEntry (length terms) (entry_over arranged terms rule)
+    IsSoundEntry compiled_actionpoints (length terms) (entry_over arranged terms rule)
 sound_entry terms rule few ranges runs =
     let ws : List ℕ = words_in arranged terms rule in
     let tests : AllByRecursion (λ t. t.0 ≡ false) (equation_tests (length terms) ws) = none_stands (equation_tests (length terms) ws) runs.runs.sound in
@@ -92,7 +92,7 @@ sound_entry terms rule few ranges runs =
         event_id = ranges.event_id.1;
         text_length = ranges.text_length;
         text = text_bytes rule.action.text ranges.text;
-        words_length = runs.few;
+        words_length = omega (arith, runs.few);
         words = each.0;
       };
       once = each.1;
@@ -106,7 +106,7 @@ sound_entry terms rule few ranges runs =
 
 sound_entries : (terms : List Term) (rules : List NamedRule) → length terms ≤ table_entries →
     AllByRecursion (λ (rule : NamedRule). IsWithinRanges rule.action) rules → AllByRecursion (RuleRuns terms) rules →
-    AllByRecursion (IsSoundEntry (length terms)) (map (entry_over arranged terms) rules)
+    AllByRecursion (IsSoundEntry compiled_actionpoints (length terms)) (map (entry_over arranged terms) rules)
 sound_entries terms [] few ranges runs = tt
 sound_entries terms (rule ∷ rules) few ranges runs =
     (sound_entry terms rule few ranges.0 runs.0, sound_entries terms rules few ranges.1 runs.1)
@@ -143,20 +143,20 @@ each_light terms (rule ∷ rules) runs = (runs.0.light, each_light terms rules r
 pub compiled_tables_are_halves : CompiledTablesAreHalves
 compiled_tables_are_halves text rules compiles = record {
   watchpoints_fit = terms_fit text rules compiles.0;
-  entries_fit = each_fits (length terms) entries sound;
+  entries_fit = each_fits compiled_actionpoints (length terms) entries sound;
   light = each_light terms rules run.each;
   tables = record {
-    watchpoints = (rules, compiles.0, sound_wdt (sha256 text) terms long run.watchpoints (all_fit text rules compiles.0), refl);
+    watchpoints = (rules, compiles.0, sound_wdt layouts refl (sha256 text) terms long run.watchpoints (all_fit text rules compiles.0), refl);
     actionpoints = (
       rules,
       compiles.0,
-      sound_adt (sha256 text) (length terms) entries long run.watchpoints few sound,
-      (Actionpoints, entries, refl, once, entries_spell terms rules run.watchpoints run.each),
+      sound_adt layouts compiled_actionpoints refl refl (sha256 text) (length terms) entries long run.watchpoints few sound,
+      (compiled_actionpoints, entries, refl, once, entries_spell terms rules run.watchpoints run.each),
     );
     words =
-        (Actionpoints, entries, ap (λ (h : List ℕ). adt_image Actionpoints h (length terms) entries) (sym front.hash_is), once, entries_have_words terms rules);
+        (compiled_actionpoints, entries, ap (λ (h : List ℕ). adt_image compiled_actionpoints h (length terms) entries) (sym front.hash_is), once, entries_have_words terms rules);
     wdt_length = wdt_long (sha256 text) terms long run.watchpoints;
-    adt_length = adt_long (sha256 text) (length terms) entries long few (each_fits (length terms) entries sound);
+    adt_length = adt_long compiled_actionpoints refl (sha256 text) (length terms) entries long few (each_fits compiled_actionpoints (length terms) entries sound);
     wdt_preamble = preamble_again Watchpoints (length terms) (length terms) (sha256 text) (filled Watchpoints (map term_bytes terms)) long run.watchpoints (omega (arith, run.watchpoints));
     adt_preamble = record { hash_is = front.hash_is; own_is = front.own_is ∙ length-map rules (entry_over arranged terms); watchpoints_are = front.watchpoints_are };
   };
@@ -177,14 +177,16 @@ compiled_tables_are_halves text rules compiles = record {
     long : length (sha256 text) ≡ 32
     long = length-sha256 text
 
-    sound : AllByRecursion (IsSoundEntry (length terms)) entries
+    sound : AllByRecursion (IsSoundEntry compiled_actionpoints (length terms)) entries
     sound = sound_entries terms rules run.watchpoints ranges run.each
 
-    once : AllByRecursion (λ e. FitsEntry Actionpoints e × EndsOnce e) entries
-    once = each_once (length terms) entries sound
+    once : AllByRecursion (λ e. FitsEntry compiled_actionpoints e × EndsOnce e) entries
+    once = each_once compiled_actionpoints (length terms) entries sound
 
     few : length entries ≤ table_entries
     few = omega (arith, length-map rules (entry_over arranged terms), run.actionpoints)
 
-    front : HasPreamble (adt_image Actionpoints (sha256 text) (length terms) entries) (sha256 text) (length entries) (length terms)
-    front = preamble_again Actionpoints (length entries) (length terms) (sha256 text) (filled Actionpoints (map (entry_bytes Actionpoints) entries)) long few (omega (arith, run.watchpoints))
+    front : HasPreamble (adt_image compiled_actionpoints (sha256 text) (length terms) entries) (sha256 text) (length entries) (length terms)
+    front =
+        preamble_again compiled_actionpoints (length entries) (length terms) (sha256 text)
+        (filled compiled_actionpoints (map (entry_bytes compiled_actionpoints) entries)) long few (omega (arith, run.watchpoints))

@@ -3,10 +3,11 @@ use Rattle.std.proofs.Common.{◌≡◌, refl, ◌∙◌, ap, ℕ, zero, suc, �
 use Rattle.std.specs.List.{flat_map, AllByRecursion}
 use Rattle.std.proofs.lemmas.List.{length-replicate, length-map}
 use Rattle.lc_model.specs.declared.field.Term.{Term}
+use Rattle.lc_model.specs.declared.kind.Kind.TheVariants.{Adt}
 use Rattle.lc_model.specs.Bytes.{u16, zero_filled}
 use Rattle.lc_model.specs.Codes.{table_entries}
 use Rattle.lc_model.specs.Tables.Equation.{equal_word}
-use Rattle.lc_model.specs.Tables.Image.{Layout, Watchpoints, Actionpoints, WideActionpoints, entry_length, image_length, words_in, preamble, blank_entry, filled, term_bytes, TableEntry, entry_bytes, FitsEntry, wdt_image, adt_image}
+use Rattle.lc_model.specs.Tables.Image.{Layout, Watchpoints, Actionpoints, WideActionpoints, kind_of, entry_length, image_length, words_in, preamble, blank_entry, filled, term_bytes, TableEntry, entry_bytes, FitsEntry, wdt_image, adt_image}
 
 -- all of one length
 abbrev pub AreLong : ℕ → List (List ℕ) → Type 0
@@ -91,8 +92,14 @@ pub entries_long_of : (l : Layout) → 46 + 2 * words_in l ≡ entry_length l �
 entries_long_of l is [] all = tt
 entries_long_of l is (e ∷ entries) all = (entry_long l e all.0 ∙ is, entries_long_of l is entries all.1)
 
-pub adt_long : (h : List ℕ) (n : ℕ) (entries : List TableEntry) → length h ≡ 32 → length entries ≤ table_entries → AllByRecursion (FitsEntry Actionpoints) entries →
-    length (adt_image Actionpoints h n entries) ≡ image_length Actionpoints
-adt_long h n entries hash few fits =
-    image_long Actionpoints (length entries) n h (map (entry_bytes Actionpoints) entries) hash (entries_long_of Actionpoints refl entries fits)
-    (omega (arith, length-map entries (entry_bytes Actionpoints), few))
+-- the words of an actionpoint are all that is behind its first 46 bytes
+pub long_entry : (l : Layout) → kind_of l ≡ Adt → 46 + 2 * words_in l ≡ entry_length l
+long_entry Watchpoints e = absurd (cc e)
+long_entry Actionpoints e = refl
+long_entry WideActionpoints e = refl
+
+pub adt_long : (l : Layout) → kind_of l ≡ Adt → (h : List ℕ) (n : ℕ) (entries : List TableEntry) → length h ≡ 32 → length entries ≤ table_entries →
+    AllByRecursion (FitsEntry l) entries → length (adt_image l h n entries) ≡ image_length l
+adt_long l kind h n entries hash few fits =
+    image_long l (length entries) n h (map (entry_bytes l) entries) hash (entries_long_of l (long_entry l kind) entries fits)
+    (omega (arith, length-map entries (entry_bytes l), few))

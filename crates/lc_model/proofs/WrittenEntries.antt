@@ -20,7 +20,7 @@ use Rattle.lc_model.specs.Codes.{operator_code, state_code, event_code}
 use Rattle.lc_model.specs.Tables.Entry.{mask_field, mid_field, type_field, value_field, event_id_field, event_type_field, fails_field, sequence_field, text_field}
 use Rattle.lc_model.specs.Text.Token.{is_text_byte}
 use Rattle.lc_model.specs.Tables.Equation.{equal_word}
-use Rattle.lc_model.specs.Tables.Image.{Actionpoints, bits_32, twos_complement_32, term_bytes, type_of_code, watchpoint_code, TableEntry, entry_bytes, FitsEntry, EndsOnce, all_words, words_from, words_before_equal, words_after_equal, is_text_field, first_code, equation_tests, actionpoint_code, watchpoint_tests, actionpoint_tests}
+use Rattle.lc_model.specs.Tables.Image.{Layout, words_in, bits_32, twos_complement_32, term_bytes, type_of_code, watchpoint_code, TableEntry, entry_bytes, FitsEntry, EndsOnce, all_words, words_from, words_before_equal, words_after_equal, is_text_field, first_code, equation_tests, actionpoint_code, watchpoint_tests, actionpoint_tests}
 use Rattle.lc_model.proofs.SoundWords.{none_stands, stands_none, list_any-append}
 use Rattle.lc_model.proofs.Facts.{or_neither, test_at_most, test_not_less, test_less, or_true}
 use Rattle.lc_model.proofs.NumbersIn32Bits.{bits_small, value_again}
@@ -148,9 +148,9 @@ holds_equation size ws each once =
 
 -- ---- actionpoints
 
--- an actionpoint that a table may begin with, over so many watchpoints
-pub record IsSoundEntry (count : ℕ) (e : TableEntry) : Type 0 where
-  pub fits : FitsEntry Actionpoints e
+-- an actionpoint that a table of this layout may begin with, over so many watchpoints
+pub record IsSoundEntry (l : Layout) (count : ℕ) (e : TableEntry) : Type 0 where
+  pub fits : FitsEntry l e
   pub once : EndsOnce e
   pub begins : e.mode ≢ PermOff
   pub event_id : 1_000 ≤ e.event_id
@@ -159,15 +159,15 @@ pub record IsSoundEntry (count : ℕ) (e : TableEntry) : Type 0 where
   pub fails : 1 ≤ e.fails
   pub equation : first_code (equation_tests count e.words) ≡ None
 
-pub sound_actionpoint : (count : ℕ) (e : TableEntry) → IsSoundEntry count e → actionpoint_code count (entry_bytes Actionpoints e) ≡ None
-sound_actionpoint count e is =
-    let bytes : List ℕ = entry_bytes Actionpoints e in
+pub sound_actionpoint : (l : Layout) (count : ℕ) (e : TableEntry) → IsSoundEntry l count e → actionpoint_code count (entry_bytes l e) ≡ None
+sound_actionpoint l count e is =
+    let bytes : List ℕ = entry_bytes l e in
     let text : List ℕ = zero_filled 32 e.text in
-    let words : List ℕ = flat_map u16 (zero_filled 20 (e.words ++ equal_word ∷ [])) in
+    let words : List ℕ = flat_map u16 (zero_filled (words_in l) (e.words ++ equal_word ∷ [])) in
     let long : length text ≡ 32 = length-zero_filled 32 e.text (omega (arith, is.fits.text_length)) in
     let field : take 32 (text ++ words) ≡ text = take_at text words 32 long in
     let words_are : words_from (drop 32 (text ++ words)) ≡ words_from words = ap words_from (drop_at text words 32 long) in
-    let held : HoldsEquation e.words (words_from words) = holds_equation 20 e.words is.fits.words is.once in
+    let held : HoldsEquation e.words (words_from words) = holds_equation (words_in l) e.words is.fits.words is.once in
     let id_is : event_id_field bytes ≡ e.event_id = from_be_bytes-to_be_bytes_2 e.event_id is.fits.event_id in
     let sequence_is : sequence_field bytes ≡ e.sequence = from_be_bytes-to_be_bytes_2 e.sequence is.fits.sequence in
     let fails_is : fails_field bytes ≡ e.fails = from_be_bytes-to_be_bytes_2 e.fails is.fits.fails in

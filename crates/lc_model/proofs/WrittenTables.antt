@@ -11,10 +11,10 @@ use Rattle.lc_model.specs.declared.kind.Kind.TheVariants.{Wdt, Adt}
 use Rattle.lc_model.specs.declared.field.Term.{Term}
 use Rattle.lc_model.specs.Bytes.{u16_at}
 use Rattle.lc_model.specs.Codes.{is_kind, kind_code, table_entries}
-use Rattle.lc_model.specs.Tables.Image.{Layout, Watchpoints, Actionpoints, kind_of, version_of, entry_length, image_length, preamble, blank_entry, filled, term_bytes, wdt_image, TableEntry, entry_bytes, FitsEntry, EndsOnce, adt_image, HasPreamble, own_count, watchpoint_count, entry_at, used_code, entry_code, numbers_below, image_fault, preamble_code, layout_of, wrong_size, IsSound, version_1_layouts}
+use Rattle.lc_model.specs.Tables.Image.{Layout, Watchpoints, Actionpoints, WideActionpoints, kind_of, version_of, entry_length, image_length, preamble, blank_entry, filled, term_bytes, wdt_image, TableEntry, entry_bytes, FitsEntry, EndsOnce, adt_image, HasPreamble, own_count, watchpoint_count, entry_at, used_code, entry_code, actionpoint_code, numbers_below, image_fault, preamble_code, layout_of, wrong_size, IsSound}
 use Rattle.lc_model.proofs.SoundWords.{stands_none}
 use Rattle.lc_model.proofs.Facts.{or_neither, test_less, test_not_less, equal_itself}
-use Rattle.lc_model.proofs.EntryLengths.{AreLong, all_entries, all_long, length-all_entries, terms_long, wdt_long, entries_long_of, adt_long}
+use Rattle.lc_model.proofs.EntryLengths.{AreLong, all_entries, all_long, length-all_entries, terms_long, wdt_long, entries_long_of, long_entry, adt_long}
 use Rattle.lc_model.proofs.EntriesAgain.{entry_taken, entry_again, at_place, preamble_again}
 use Rattle.lc_model.proofs.TermsFit.{IsSoundTerm}
 use Rattle.lc_model.proofs.WrittenEntries.{sound_watchpoint, IsSoundEntry, sound_actionpoint}
@@ -34,9 +34,9 @@ no_first : {X : Type 0} (f : ℕ → Option X) (n : ℕ) → ((k : ℕ) → k < 
 no_first f n none = ap (λ xs. slice_get xs 0) (none_listed f n none)
 
 -- an image of a known layout without a fault of its preamble or of an entry is sound
-all_sound : (kind : Kind) (l : Layout) (image : List ℕ) → layout_of version_1_layouts kind image ≡ Some l → preamble_code l image ≡ None →
-    ((n : ℕ) → n < table_entries → entry_code l image n ≡ None) → IsSound version_1_layouts kind image
-all_sound kind l image found front entries =
+all_sound : (layouts : List Layout) (kind : Kind) (l : Layout) (image : List ℕ) → layout_of layouts kind image ≡ Some l → preamble_code l image ≡ None →
+    ((n : ℕ) → n < table_entries → entry_code l image n ≡ None) → IsSound layouts kind image
+all_sound layouts kind l image found front entries =
     ap (λ o. option_map_or (λ m. image_fault m image (preamble_code m image)) o (Some wrong_size)) found ∙ ap (image_fault l image) front
     ∙ no_first (λ n. option_map (λ code. record { code = code; entry = n }) (entry_code l image n)) table_entries
     (λ n below. ap (option_map (λ code. record { code = code; entry = n })) (entries n below))
@@ -119,6 +119,17 @@ preamble_tests l image =
       64,
     ) ∷ []
 
+-- the layout of a kind that has this size
+abbrev pub of_size : List Layout → Kind → ℕ → Option Layout
+of_size layouts kind size = find (λ l. is_kind kind (kind_of l) && (image_length l == size)) layouts
+
+-- a preamble that was written has its version and its kind
+version_and_kind : (l : Layout) (own n : ℕ) (h rest : List ℕ) → (not (u16_at (preamble l own n h ++ rest) 0 == version_of l) ≡ false)
+    × (not (u16_at (preamble l own n h ++ rest) 2 == kind_code (kind_of l)) ≡ false)
+version_and_kind Watchpoints own n h rest = (refl, refl)
+version_and_kind Actionpoints own n h rest = (refl, refl)
+version_and_kind WideActionpoints own n h rest = (refl, refl)
+
 -- ---- watchpoints
 
 each_watchpoint : (n : ℕ) (terms : List Term) → AllByRecursion IsSoundTerm terms → AllByRecursion (λ t. used_code Watchpoints n (term_bytes t) ≡ None) terms
@@ -126,51 +137,59 @@ each_watchpoint n [] are = tt
 each_watchpoint n (t ∷ terms) are = (sound_watchpoint t are.0, each_watchpoint n terms are.1)
 
 -- the table of at most 176 watchpoints in their ranges is sound
-pub sound_wdt : (h : List ℕ) (terms : List Term) → length h ≡ 32 → length terms ≤ table_entries → AllByRecursion IsSoundTerm terms →
-    IsSound version_1_layouts Wdt (wdt_image h terms)
-sound_wdt h terms hash few are =
+pub sound_wdt : (layouts : List Layout) → of_size layouts Wdt (image_length Watchpoints) ≡ Some Watchpoints → (h : List ℕ) (terms : List Term) →
+    length h ≡ 32 → length terms ≤ table_entries → AllByRecursion IsSoundTerm terms → IsSound layouts Wdt (wdt_image h terms)
+sound_wdt layouts among h terms hash few are =
     let image : List ℕ = wdt_image h terms in
     let n : ℕ = length terms in
     let front : HasPreamble image h n n = preamble_again Watchpoints n n h (filled Watchpoints (map term_bytes terms)) hash few (omega (arith, few)) in
-    let found : layout_of version_1_layouts Wdt image ≡ Some Watchpoints =
-    ap (λ size. find (λ l. is_kind Wdt (kind_of l) && (image_length l == size)) version_1_layouts) (wdt_long h terms hash few) in
+    let found : layout_of layouts Wdt image ≡ Some Watchpoints = ap (of_size layouts Wdt) (wdt_long h terms hash few) ∙ among in
     let counts : (nat_lt table_entries (own_count image) || nat_lt table_entries (watchpoint_count image)
     || (is_kind (kind_of Watchpoints) Wdt && not (own_count image == watchpoint_count image))) ≡ false =
     (λ i. nat_lt table_entries (front.own_is i) || nat_lt table_entries (front.watchpoints_are i) || (true && not (front.own_is i == front.watchpoints_are i)))
     ∙ or_neither (nat_lt table_entries n || nat_lt table_entries n) (not (n == n)) (few_counts n n few few) (ap not (equal_itself n)) in
-    all_sound Wdt Watchpoints image found (stands_none (preamble_tests Watchpoints image) (refl, (refl, (counts, tt))))
+    all_sound layouts Wdt Watchpoints image found (stands_none (preamble_tests Watchpoints image) (refl, (refl, (counts, tt))))
     (no_entry Watchpoints term_bytes n h terms hash (terms_long terms) few (omega (arith, few)) (each_watchpoint n terms are))
 
 -- ---- actionpoints
 
-each_actionpoint : (n : ℕ) (entries : List TableEntry) → AllByRecursion (IsSoundEntry n) entries →
-    AllByRecursion (λ e. used_code Actionpoints n (entry_bytes Actionpoints e) ≡ None) entries
-each_actionpoint n [] are = tt
-each_actionpoint n (e ∷ entries) are = (sound_actionpoint n e are.0, each_actionpoint n entries are.1)
+-- a used entry of actionpoints is judged as one
+judged : (l : Layout) → kind_of l ≡ Adt → (n : ℕ) (e : List ℕ) → used_code l n e ≡ actionpoint_code n e
+judged Watchpoints kind n e = absurd (cc kind)
+judged Actionpoints kind n e = refl
+judged WideActionpoints kind n e = refl
 
-pub each_once : (n : ℕ) (entries : List TableEntry) → AllByRecursion (IsSoundEntry n) entries → AllByRecursion (λ e. FitsEntry Actionpoints e × EndsOnce e) entries
-each_once n [] are = tt
-each_once n (e ∷ entries) are = ((are.0.fits, are.0.once), each_once n entries are.1)
+each_actionpoint : (l : Layout) → kind_of l ≡ Adt → (n : ℕ) (entries : List TableEntry) → AllByRecursion (IsSoundEntry l n) entries →
+    AllByRecursion (λ e. used_code l n (entry_bytes l e) ≡ None) entries
+each_actionpoint l kind n [] are = tt
+each_actionpoint l kind n (e ∷ entries) are =
+    (judged l kind n (entry_bytes l e) ∙ sound_actionpoint l n e are.0, each_actionpoint l kind n entries are.1)
 
-pub each_fits : (n : ℕ) (entries : List TableEntry) → AllByRecursion (IsSoundEntry n) entries → AllByRecursion (FitsEntry Actionpoints) entries
-each_fits n [] are = tt
-each_fits n (e ∷ entries) are = (are.0.fits, each_fits n entries are.1)
+pub each_once : (l : Layout) (n : ℕ) (entries : List TableEntry) → AllByRecursion (IsSoundEntry l n) entries → AllByRecursion (λ e. FitsEntry l e × EndsOnce e) entries
+each_once l n [] are = tt
+each_once l n (e ∷ entries) are = ((are.0.fits, are.0.once), each_once l n entries are.1)
+
+pub each_fits : (l : Layout) (n : ℕ) (entries : List TableEntry) → AllByRecursion (IsSoundEntry l n) entries → AllByRecursion (FitsEntry l) entries
+each_fits l n [] are = tt
+each_fits l n (e ∷ entries) are = (are.0.fits, each_fits l n entries are.1)
 
 -- the table of at most 176 actionpoints, each sound over at most 176 watchpoints, is sound
-pub sound_adt : (h : List ℕ) (n : ℕ) (entries : List TableEntry) → length h ≡ 32 → n ≤ table_entries → length entries ≤ table_entries →
-    AllByRecursion (IsSoundEntry n) entries → IsSound version_1_layouts Adt (adt_image Actionpoints h n entries)
-sound_adt h n entries hash watchpoints few are =
-    let image : List ℕ = adt_image Actionpoints h n entries in
+pub sound_adt : (layouts : List Layout) (l : Layout) → kind_of l ≡ Adt → of_size layouts Adt (image_length l) ≡ Some l →
+    (h : List ℕ) (n : ℕ) (entries : List TableEntry) → length h ≡ 32 → n ≤ table_entries → length entries ≤ table_entries →
+    AllByRecursion (IsSoundEntry l n) entries → IsSound layouts Adt (adt_image l h n entries)
+sound_adt layouts l kind among h n entries hash watchpoints few are =
+    let image : List ℕ = adt_image l h n entries in
     let own : ℕ = length entries in
-    let fits : AllByRecursion (FitsEntry Actionpoints) entries = each_fits n entries are in
-    let front : HasPreamble image h own n =
-    preamble_again Actionpoints own n h (filled Actionpoints (map (entry_bytes Actionpoints) entries)) hash few (omega (arith, watchpoints)) in
-    let found : layout_of version_1_layouts Adt image ≡ Some Actionpoints =
-    ap (λ size. find (λ l. is_kind Adt (kind_of l) && (image_length l == size)) version_1_layouts) (adt_long h n entries hash few fits) in
+    let rest : List ℕ = filled l (map (entry_bytes l) entries) in
+    let fits : AllByRecursion (FitsEntry l) entries = each_fits l n entries are in
+    let front : HasPreamble image h own n = preamble_again l own n h rest hash few (omega (arith, watchpoints)) in
+    let found : layout_of layouts Adt image ≡ Some l = ap (of_size layouts Adt) (adt_long l kind h n entries hash few fits) ∙ among in
+    let named = version_and_kind l own n h rest in
     let counts : (nat_lt table_entries (own_count image) || nat_lt table_entries (watchpoint_count image)
-    || (is_kind (kind_of Actionpoints) Wdt && not (own_count image == watchpoint_count image))) ≡ false =
-    (λ i. nat_lt table_entries (front.own_is i) || nat_lt table_entries (front.watchpoints_are i) || false)
+    || (is_kind (kind_of l) Wdt && not (own_count image == watchpoint_count image))) ≡ false =
+    (λ i. nat_lt table_entries (front.own_is i) || nat_lt table_entries (front.watchpoints_are i)
+    || (is_kind (kind i) Wdt && not (own_count image == watchpoint_count image)))
     ∙ or_neither (nat_lt table_entries own || nat_lt table_entries n) false (few_counts own n few watchpoints) refl in
-    all_sound Adt Actionpoints image found (stands_none (preamble_tests Actionpoints image) (refl, (refl, (counts, tt))))
-    (no_entry Actionpoints (entry_bytes Actionpoints) n h entries hash (entries_long_of Actionpoints refl entries fits) few (omega (arith, watchpoints))
-    (each_actionpoint n entries are))
+    all_sound layouts Adt l image found (stands_none (preamble_tests l image) (named.0, (named.1, (counts, tt))))
+    (no_entry l (entry_bytes l) n h entries hash (entries_long_of l (long_entry l kind) entries fits) few (omega (arith, watchpoints))
+    (each_actionpoint l kind n entries are))

@@ -5,7 +5,7 @@
 pub const TABLE_ENTRIES: usize = 176;
 
 /// The words of an equation, EQUAL included.
-pub const EQUATION_WORDS: usize = 20;
+pub const EQUATION_WORDS: usize = 32;
 
 /// The most operands that may wait at once while an equation is evaluated.
 pub const MOST_WAITING: usize = 8;

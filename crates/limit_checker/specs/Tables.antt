@@ -5,7 +5,7 @@ use Rattle.lc_model.specs.declared.mode.LcMode.{LcMode}
 use Rattle.lc_model.specs.Codes.{table_entries}
 use Rattle.lc_model.specs.LimitChecker.Steps.{Point}
 use Rattle.lc_model.specs.Kept.Summary.{WatchResult, Tally}
-use Rattle.lc_model.specs.Tables.Image.{Actionpoints, words_in}
+use Rattle.lc_model.specs.Tables.Image.{WideActionpoints, words_in}
 use Rattle.limit_checker.specs.declared.actionpoint.Entry.{Entry}
 use Rattle.limit_checker.specs.Entry.{rule_in, IsRunnable}
 use Rattle.limit_checker.specs.Shared.{AreShared}
@@ -32,4 +32,4 @@ pub record HasRoom (terms watch entries points words : ℕ) : Type 0 where
   pub for_watch : table_entries ≤ watch
   pub for_entries : table_entries ≤ entries
   pub for_points : table_entries ≤ points
-  pub for_words : words_in Actionpoints * table_entries ≤ words
+  pub for_words : words_in WideActionpoints * table_entries ≤ words

@@ -9,7 +9,8 @@ ghost use Rattle.lc_model.specs.Text.Reading.{TextRefusal};
 ghost use Rattle.lc_model.specs.Tables.Compiling.{Compiles, IsRefused};
 ghost use Rattle.lc_model.specs.Tables.InForce.{limits};
 ghost use Rattle.lc_model.specs.Tables.File.{file_bytes, wrapped};
-ghost use Rattle.lc_model.specs.Tables.Image.{Actionpoints, FitsEntry, FitsWatchpoint, adt_image, wdt_image};
+ghost use Rattle.lc_model.specs.Tables.Image.{FitsEntry, FitsWatchpoint, adt_image, wdt_image};
+ghost use Rattle.table_file.specs.Layout.{layout_of_version};
 ghost use Rattle.rpn_compiler.specs.declared.error.CompileError.TheVariants.{Memory};
 ghost use Rattle.rpn_compiler.specs.Fault.{Refuses};
 ghost use Rattle.rpn_compiler.specs.Lowered.{IsLowered};
@@ -23,7 +24,7 @@ use lc_model::Kind;
 use lc_model::laws::tables::compiled_tables_are_halves;
 use sha2::{Digest, Sha256};
 use std::alloc::Global;
-use table_file::{AdtImage, WdtImage, encode_adt, encode_wdt, wrap};
+use table_file::{AdtImage, AdtVersion, WdtImage, encode_adt, encode_wdt, wrap};
 
 /// The two tables of a rule text, each a complete file: a cFE file header (64 bytes), a table header (52 bytes) and the
 /// image.
@@ -31,7 +32,7 @@ use table_file::{AdtImage, WdtImage, encode_adt, encode_wdt, wrap};
 pub struct TablePair {
     /// The file of the table of watchpoints, 4,380 bytes.
     pub wdt: Vec<u8>,
-    /// The file of the table of actionpoints, 15,292 bytes.
+    /// The file of the table of actionpoints, of version 2: 19,516 bytes.
     pub adt: Vec<u8>,
     /// How many of the 176 entries of the first table are used.
     pub watchpoints: u16,
@@ -53,9 +54,9 @@ fn wdt_file(alloc: Global, image: &WdtImage) -> Result<Vec<u8>, CompileError>
 /// The file of a table of actionpoints. The writers refuse for want of memory alone.
 fn adt_file(alloc: Global, image: &AdtImage) -> Result<Vec<u8>, CompileError>
     requires few { length image.now.actionpoints.items ≤ table_entries }
-    requires fit { AllByRecursion (FitsEntry Actionpoints) image.now.actionpoints.items }
+    requires fit { AllByRecursion (FitsEntry (layout_of_version image.now.version)) image.now.actionpoints.items }
     ensures file { IfOk result (λ file. file.items ≡ file_bytes (wrapped kinds.Adt
-        (adt_image Actionpoints image.now.hash image.now.watchpoint_count image.now.actionpoints.items))) }
+        (adt_image (layout_of_version image.now.version) image.now.hash image.now.watchpoint_count image.now.actionpoints.items))) }
     ensures refused { IfErr result (λ error. error ≡ Memory) }
 {
     let bytes = encode_adt(alloc, image).map_err(|_| CompileError::Memory)?;
@@ -79,6 +80,7 @@ fn files(alloc: Global, text: &[u8], lowered: Lowered) -> Result<TablePair, Comp
         watchpoints: lowered.terms,
     };
     let adt = AdtImage {
+        version: AdtVersion::Two,
         hash,
         watchpoint_count,
         actionpoints,

@@ -1,10 +1,9 @@
 -- A table of actionpoints that was written is read again.
-use Rattle.std.proofs.Common.{◌≡◌, ◌≢◌, refl, ◌∙◌, ap, ℕ, suc, ◌+◌, ◌-◌, ◌*◌, ◌<◌, ◌^◌, false, ◌==◌, List, [], ◌∷◌, ◌++◌, length, get_or, take, drop, map, replicate, arith}
+use Rattle.std.proofs.Common.{◌≡◌, ◌≢◌, refl, ◌∙◌, ap, ℕ, suc, ◌-◌, ◌<◌, ◌^◌, false, ◌==◌, List, [], ◌∷◌, ◌++◌, length, get_or, take, drop, map, replicate, arith}
 use Rattle.std.specs.List.{flat_map, AllByRecursion}
 use Rattle.std.specs.Int.{w16, from_be_bytes}
 use Rattle.std.proofs.lemmas.Nat.{from_be_bytes-to_be_bytes_2}
 use Rattle.std.proofs.lemmas.List.{length-map, take_at, drop_at}
-use Rattle.lc_model.specs.declared.kind.Kind.TheVariants.{Adt}
 use Rattle.lc_model.specs.declared.mode.ApMode.{ApMode}
 use Rattle.lc_model.specs.declared.mode.ApMode.TheVariants.{Active, Passive, Disabled, PermOff}
 use Rattle.lc_model.specs.declared.rule.EventKind.{EventKind}
@@ -13,10 +12,10 @@ use Rattle.lc_model.specs.Bytes.{u16, zero_filled}
 use Rattle.lc_model.specs.Codes.{state_code, event_code}
 use Rattle.lc_model.specs.Name.{name_in}
 use Rattle.lc_model.specs.Tables.Equation.{equal_word}
-use Rattle.lc_model.specs.Tables.Image.{Layout, Watchpoints, Actionpoints, WideActionpoints, kind_of, entry_length, words_in, TableEntry, entry_bytes, FitsEntry, adt_image, entry_at, numbers_below, filled, words_from, words_before_equal}
+use Rattle.lc_model.specs.Tables.Image.{Layout, entry_length, words_in, TableEntry, entry_bytes, FitsEntry, adt_image, entry_at, numbers_below, filled, words_from, words_before_equal}
 use Rattle.lc_model.specs.Tables.Spelled.{state_of_code, event_of_code, read_entry}
 use Rattle.table_file.specs.Laws.{FitsTable, ActionpointsAreReadAgain}
-use Rattle.lc_model.proofs.EntryLengths.{AreLong, entries_long_of, length-zero_filled}
+use Rattle.lc_model.proofs.EntryLengths.{AreLong, entries_long_of, long_entry, length-zero_filled}
 use Rattle.lc_model.proofs.WrittenEntries.{before_at, holds_equation}
 use Rattle.lc_model.proofs.EntriesAgain.{entry_again, listed, at_place, preamble_again}
 
@@ -73,11 +72,6 @@ entry_read l e is =
 fits_all : (l : Layout) (entries : List TableEntry) → AllByRecursion (FitsTable l) entries → AllByRecursion (FitsEntry l) entries
 fits_all l [] all = tt
 fits_all l (e ∷ entries) all = (all.0.fits, fits_all l entries all.1)
-
-long_entry : (l : Layout) → kind_of l ≡ Adt → 46 + 2 * words_in l ≡ entry_length l
-long_entry Watchpoints e = absurd (cc e)
-long_entry Actionpoints e = refl
-long_entry WideActionpoints e = refl
 
 pub actionpoints_again : ActionpointsAreReadAgain
 actionpoints_again l hash watchpoints entries kind long small few fits =

@@ -6,7 +6,7 @@ use Rattle.std.specs.List.{AllByRecursion, slice_range}
 use Rattle.lc_model.specs.Bytes.{u32_at}
 use Rattle.lc_model.specs.Tables.File.{TableFile, content_type, subtype, file_header_length, headers_length, file_bytes, fields_of, opened}
 use Rattle.lc_model.specs.Laws.Tables.{IsTableFile, OneSpelling}
-use Rattle.lc_model.proofs.Facts.{test_less, test_not_less, tested_equal, tested_not_less}
+use Rattle.lc_model.proofs.Facts.{tested_equal, tested_not_less}
 use Rattle.table_file.specs.declared.error.FileError.{FileError}
 use Rattle.table_file.specs.declared.error.FileError.TheVariants.{ShortFile, NotCfe, WrongSubtype, HeaderLength, PartialLoad, SizeMismatch, Memory}
 use Rattle.table_file.specs.Error.{Answers}

@@ -4,12 +4,10 @@ use Rattle.std.proofs.lemmas.Nat.{from_be_bytes-to_be_bytes_2, from_be_bytes-to_
 use Rattle.std.proofs.lemmas.List.{length-map}
 use Rattle.lc_model.specs.declared.field.FieldType.{FieldType}
 use Rattle.lc_model.specs.declared.field.FieldType.TheVariants.{U8, I8, U16Be, U16Le, I16Be, I16Le, U32Be, U32Le, I32Be, I32Le}
-use Rattle.lc_model.specs.declared.field.CmpOp.{CmpOp}
-use Rattle.lc_model.specs.declared.field.CmpOp.TheVariants.{Less, LessOrEqual, NotEqual, Equal, GreaterOrEqual, Greater}
 use Rattle.lc_model.specs.declared.field.Term.{Term}
-use Rattle.lc_model.specs.Codes.{type_code, operator_code}
+use Rattle.lc_model.specs.Codes.{type_code}
 use Rattle.lc_model.specs.Tables.Image.{Watchpoints, bits_32, twos_complement_32, term_bytes, type_of_code, FitsWatchpoint, wdt_image, entry_at, numbers_below, filled}
-use Rattle.lc_model.specs.Tables.Spelled.{operator_of_code, spelled_term}
+use Rattle.lc_model.specs.Tables.Spelled.{spelled_term}
 use Rattle.lc_model.proofs.NumbersIn32Bits.{bits_small, value_again}
 use Rattle.table_file.specs.Laws.{WatchpointsAreReadAgain}
 use Rattle.lc_model.proofs.EntryLengths.{terms_long}

@@ -1,9 +1,17 @@
 -- The layouts that images are written and read in. This project's own.
 use Rattle.lc_model.specs.Tables.Image as model
 use Rattle.table_file.specs.declared.layout.Layout.{Layout}
-use Rattle.table_file.specs.declared.layout.Layout.TheVariants.{Watchpoints, Actionpoints}
+use Rattle.table_file.specs.declared.layout.Layout.TheVariants.{Watchpoints, Actionpoints, WideActionpoints}
+use Rattle.table_file.specs.declared.image.AdtVersion.{AdtVersion}
+use Rattle.table_file.specs.declared.image.AdtVersion.TheVariants.{One, Two}
 
 -- the layout of the definitions that this one is
 abbrev pub layout_of : Layout → model.Layout
 layout_of Watchpoints = model.Watchpoints
 layout_of Actionpoints = model.Actionpoints
+layout_of WideActionpoints = model.WideActionpoints
+
+-- the layout of a table of actionpoints of this version
+abbrev pub layout_of_version : AdtVersion → model.Layout
+layout_of_version One = model.Actionpoints
+layout_of_version Two = model.WideActionpoints

@@ -4,9 +4,9 @@ ghost use Rattle.std.specs.Prelude.{◌≡◌, ◌≤◌, ◌<◌, ◌++◌, [],
 ghost use Rattle.std.specs.List.{AllByRecursion, flat_map};
 ghost use Rattle.lc_model.specs.Codes.{table_entries};
 ghost use Rattle.lc_model.specs.Bytes.{u16, zero_filled};
-ghost use Rattle.lc_model.specs.Tables.Image.{Watchpoints, Actionpoints, image_length, FitsWatchpoint, FitsEntry, preamble, blank_entry, term_bytes, entry_bytes, bits_32, fits_32_bits, wdt_image, adt_image, words_in};
+ghost use Rattle.lc_model.specs.Tables.Image.{Watchpoints, image_length, FitsWatchpoint, FitsEntry, preamble, blank_entry, term_bytes, entry_bytes, bits_32, fits_32_bits, wdt_image, adt_image, words_in};
 ghost use Rattle.lc_model.specs.Tables.Equation.{equal_word};
-ghost use Rattle.table_file.specs.Layout.{layout_of};
+ghost use Rattle.table_file.specs.Layout.{layout_of, layout_of_version};
 ghost use Rattle.table_file.specs.Parts.{entry_numbers};
 ghost use Rattle.table_file.specs.declared.error.FileError.TheVariants.{Memory};
 
@@ -171,19 +171,20 @@ pub fn encode_wdt(alloc: Global, image: &WdtImage) -> Result<Vec<u8>, FileError>
     Ok(out)
 }
 
-/// The image of a table of actionpoints, 15,176 bytes. Of at most 176 entries each has at most 19 words, whatever they
-/// are, and at most 31 bytes of text, none of them zero. A word EQUAL ends what is read of an equation.
+/// The image of a table of actionpoints: 15,176 bytes of version 1, or 19,400 of version 2. Of at most 176 entries each has
+/// at most 31 bytes of text, none of them zero, and at most 19 words in version 1, or 31 in version 2, whatever they are.
+/// A word EQUAL ends what is read of an equation.
 ///
 /// Errors: `Memory` alone.
 pub fn encode_adt(alloc: Global, image: &AdtImage) -> Result<Vec<u8>, FileError>
     requires few { length image.now.actionpoints.items ≤ table_entries }
-    requires fit { AllByRecursion (FitsEntry Actionpoints) image.now.actionpoints.items }
+    requires fit { AllByRecursion (FitsEntry (layout_of_version image.now.version)) image.now.actionpoints.items }
     ensures bytes { IfOk result (λ bytes. bytes.items
-        ≡ adt_image Actionpoints image.now.hash image.now.watchpoint_count image.now.actionpoints.items) }
-    ensures length { IfOk result (λ bytes. length bytes.items ≡ image_length Actionpoints) }
+        ≡ adt_image (layout_of_version image.now.version) image.now.hash image.now.watchpoint_count image.now.actionpoints.items) }
+    ensures length { IfOk result (λ bytes. length bytes.items ≡ image_length (layout_of_version image.now.version)) }
     ensures refused { IfErr result (λ error. error ≡ Memory) }
 {
-    let layout = Layout::Actionpoints;
+    let layout = image.version.layout();
     let entries = image.actionpoints.as_slice();
     let count = entries.len() as u16;
     let mut out = Vec::with_capacity(alloc, layout.image_length())?;

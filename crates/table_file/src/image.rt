@@ -1,5 +1,9 @@
 //! What the images of the two tables hold.
 
+ghost use Rattle.std.specs.Prelude.{◌≡◌};
+ghost use Rattle.table_file.specs.Layout.{layout_of, layout_of_version};
+
+use crate::layout::Layout;
 use lc_model::{ApMode, Bytes, EventKind, ReportMaxima, Term};
 use std::marker::Model;
 
@@ -12,9 +16,31 @@ pub struct WdtImage {
     pub watchpoints: Vec<Term>,
 }
 
+/// The version of a table of actionpoints, by which its equations have room.
+#[derive(Clone, Copy, Debug, PartialEq, Eq)]
+pub enum AdtVersion {
+    /// Version 1: 20 words, in an image of 15,176 bytes.
+    One,
+    /// Version 2: 32 words, in an image of 19,400 bytes.
+    Two,
+}
+
+impl AdtVersion {
+    /// The layout of such a table.
+    pub fn layout(self) -> Layout
+        ensures { layout_of result ≡ layout_of_version self }
+    {
+        match self {
+            AdtVersion::One => Layout::Actionpoints,
+            AdtVersion::Two => Layout::WideActionpoints,
+        }
+    }
+}
+
 /// A table of actionpoints.
 #[derive(Debug, Drop)]
 pub struct AdtImage {
+    pub version: AdtVersion,
     /// The SHA-256 of the rule text.
     pub hash: [u8; 32],
     /// How many watchpoints the rule text has.
@@ -37,7 +63,7 @@ pub struct TableEntry {
     pub event_id: u16,
     /// The event's text: at most 31 bytes, none of them zero.
     pub text: Bytes,
-    /// The equation's words before the EQUAL at its end, at most 19.
+    /// The equation's words before the EQUAL at its end: at most 19 in a table of version 1, and 31 in one of version 2.
     pub words: Vec<u16>,
 }
 

@@ -1,11 +1,11 @@
 //! The layouts of table images (this project's own).
 
-ghost use Rattle.std.specs.Prelude.{◌≡◌, option_map};
+ghost use Rattle.std.specs.Prelude.{◌≡◌, ◌==◌, if◌then◌else◌, Some, None, option_map};
 ghost use Rattle.lc_model.specs.Tables.Image as model;
 ghost use Rattle.lc_model.specs.Tables.InForce.{layouts};
 ghost use Rattle.table_file.specs.Layout.{layout_of};
 
-use lc_model::{EQUATION_WORDS, Kind};
+use lc_model::Kind;
 
 /// The bytes before an image's entries.
 pub const PREAMBLE_LENGTH: usize = 40;
@@ -17,6 +17,8 @@ pub enum Layout {
     Watchpoints,
     /// Actionpoints with equations of 20 words, in entries of 86 bytes.
     Actionpoints,
+    /// Actionpoints with equations of 32 words, in entries of 110 bytes.
+    WideActionpoints,
 }
 
 impl Layout {
@@ -26,7 +28,7 @@ impl Layout {
     {
         match self {
             Layout::Watchpoints => Kind::Wdt,
-            Layout::Actionpoints => Kind::Adt,
+            Layout::Actionpoints | Layout::WideActionpoints => Kind::Adt,
         }
     }
 
@@ -36,6 +38,7 @@ impl Layout {
     {
         match self {
             Layout::Watchpoints | Layout::Actionpoints => 1,
+            Layout::WideActionpoints => 2,
         }
     }
 
@@ -45,7 +48,8 @@ impl Layout {
     {
         match self {
             Layout::Watchpoints => 0,
-            Layout::Actionpoints => EQUATION_WORDS,
+            Layout::Actionpoints => 20,
+            Layout::WideActionpoints => 32,
         }
     }
 
@@ -56,6 +60,7 @@ impl Layout {
         match self {
             Layout::Watchpoints => 24,
             Layout::Actionpoints => 86,
+            Layout::WideActionpoints => 110,
         }
     }
 
@@ -66,6 +71,18 @@ impl Layout {
         match self {
             Layout::Watchpoints => 4_264,
             Layout::Actionpoints => 15_176,
+            Layout::WideActionpoints => 19_400,
+        }
+    }
+
+    /// This layout, where its images have this length.
+    fn of_length(self, length: usize) -> Option<Layout>
+        ensures { result ≡ (if model.image_length (layout_of self) == length then Some self else None) }
+    {
+        if length == self.image_length() {
+            Some(self)
+        } else {
+            None
         }
     }
 
@@ -73,14 +90,11 @@ impl Layout {
     pub fn of_image(kind: Kind, image: &[u8]) -> Option<Layout>
         ensures { option_map layout_of result ≡ model.layout_of layouts kind image.now }
     {
-        let layout = match kind {
-            Kind::Wdt => Layout::Watchpoints,
-            Kind::Adt => Layout::Actionpoints,
-        };
-        if image.len() == layout.image_length() {
-            Some(layout)
-        } else {
-            None
+        match kind {
+            Kind::Wdt => Layout::Watchpoints.of_length(image.len()),
+            Kind::Adt => Layout::Actionpoints
+                .of_length(image.len())
+                .or(Layout::WideActionpoints.of_length(image.len())),
         }
     }
 }

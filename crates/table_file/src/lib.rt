@@ -22,7 +22,7 @@ pub use encode::{encode_adt, encode_wdt};
 pub use entry::{entry_bytes, is_blank};
 pub use error::FileError;
 pub use file::{TableFile, open};
-pub use image::{AdtImage, TableEntry, WdtImage};
+pub use image::{AdtImage, AdtVersion, TableEntry, WdtImage};
 pub use layout::Layout;
 pub use watchpoint::WatchpointEntry;
 pub use wrapping::{table_name, wrap};

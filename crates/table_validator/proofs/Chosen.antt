@@ -1,5 +1,5 @@
 -- The least code among tests in the order of their codes.
-use Rattle.std.proofs.Common.{◌≡◌, refl, sym, ◌∙◌, ap, ℕ, Bool, true, false, not, ◌||◌, nat_lt, ◌==◌, List, [], ◌∷◌, ◌++◌, slice_index, slice_range, Some, None}
+use Rattle.std.proofs.Common.{◌≡◌, refl, sym, ◌∙◌, ap, ℕ, Bool, true, false, not, ◌||◌, nat_lt, ◌==◌, List, [], ◌∷◌, ◌++◌, Some, None}
 use Rattle.std.specs.Int.{is_in_range}
 use Rattle.lc_model.specs.Tables.Entry.{event_id_field, event_type_field, fails_field, sequence_field, state_field, text_field}
 use Rattle.lc_model.specs.Tables.Image.{first_code, is_text_field, all_words, actionpoint_code}

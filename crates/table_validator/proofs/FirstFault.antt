@@ -83,7 +83,7 @@ pub all_sound : (kind : Kind) (image : List ℕ) (l : Layout) → layout_of layo
 all_sound kind image l found none n all entries =
     entries_count kind image l found none ∙ none_found l image (λ k below. entries k (omega (arith, below, all)))
 
-same_kind : (kind other : Kind) → is_kind kind other ≡ true → other ≡ kind
+pub same_kind : (kind other : Kind) → is_kind kind other ≡ true → other ≡ kind
 same_kind Wdt Wdt e = refl
 same_kind Wdt Adt e = absurd (cc e)
 same_kind Adt Wdt e = absurd (cc e)

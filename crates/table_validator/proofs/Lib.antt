@@ -2,5 +2,6 @@ pub mod Decided
 pub mod Reading
 pub mod Chosen
 pub mod FirstFault
+pub mod Used
 pub mod Evaluated
 pub mod Soundness

@@ -1,5 +1,5 @@
 -- What a sound image gives its readers.
-use Rattle.std.proofs.Common.{◌≡◌, refl, sym, ℕ, zero, suc, ◌<◌, ◌≤◌, Bool, true, false, not, ◌&&◌, ◌||◌, nat_lt, nat_le, ◌==◌, List, [], ◌∷◌, length, Option, Some, None, is_none, unwrap_or, slice_index, slice_range, ◌++◌, arith}
+use Rattle.std.proofs.Common.{◌≡◌, refl, sym, ap, ◌∙◌, subst, ℕ, ◌<◌, ◌≤◌, Bool, true, false, not, ◌&&◌, ◌||◌, nat_lt, nat_le, ◌==◌, List, [], ◌∷◌, length, Option, Some, None, is_none, unwrap_or, arith}
 use Rattle.std.specs.List.{AllByRecursion, list_any, list_all}
 use Rattle.std.specs.Option.{option_map_or}
 use Rattle.std.specs.Int.{is_in_range}
@@ -7,23 +7,22 @@ use Rattle.lc_model.specs.declared.kind.Kind.TheVariants.{Wdt, Adt}
 use Rattle.lc_model.specs.declared.field.FieldType.{FieldType}
 use Rattle.lc_model.specs.declared.field.FieldType.TheVariants.{U8}
 use Rattle.lc_model.specs.Bytes.{u16_at}
-use Rattle.lc_model.specs.Codes.{state_code, event_code, kind_code, is_kind, table_entries}
+use Rattle.lc_model.specs.Codes.{kind_code, is_kind, table_entries}
 use Rattle.lc_model.specs.Field.{full_mask, is_in_type}
 use Rattle.lc_model.specs.Packet.{is_telemetry_mid, event_mid, lc_housekeeping_mid, reserved_mids}
-use Rattle.lc_model.specs.Tables.Entry.{mask_field, mid_field, operator_field, type_field, value_field, zero_field, event_id_field, event_type_field, fails_field, sequence_field, state_field, text_field}
+use Rattle.lc_model.specs.Tables.Entry.{mask_field, mid_field, operator_field, type_field, value_field, event_id_field, event_type_field, fails_field, sequence_field, state_field, text_field}
 use Rattle.lc_model.specs.Tables.Equation.{equal_word}
 use Rattle.lc_model.specs.Tables.Image as model
 use Rattle.lc_model.specs.Tables.Image.{Watchpoints, Actionpoints, WideActionpoints, image_length, own_count, watchpoint_count, entry_at, entry_code, used_code, preamble_code, IsSound, all_words, words_before_equal, words_after_equal, type_of_code, twos_complement_32, is_text_field, first_code, equation_tests, most_waiting, actionpoint_code, watchpoint_code, watchpoint_tests, actionpoint_tests}
 use Rattle.lc_model.specs.Tables.InForce.{layouts}
-use Rattle.lc_model.specs.Tables.Spelled.{spelled_term, state_of_code, event_of_code}
+use Rattle.lc_model.specs.Tables.Spelled.{spelled_term}
 use Rattle.lc_model.proofs.SoundWords.{none_stands, stands_none}
 use Rattle.lc_model.proofs.Facts.{tested_not_less, or_second, or_first, not_false, and_first, and_second, tested_at_most, test_less, tested_equal, tested_unequal}
 use Rattle.lc_model.proofs.SoundImages.{SoundParts, sound_parts, operator_again}
 use Rattle.lc_model.proofs.CodesAgain.{state_again, event_again}
-use Rattle.table_file.specs.declared.layout.Layout.{Layout}
-use Rattle.table_file.specs.declared.layout.Layout.TheVariants as layouts
-use Rattle.table_file.specs.Layout.{layout_of}
-use Rattle.table_validator.specs.Sound.{IsSoundWatchpoint, IsSoundActionpoint, HasSoundWatchpoints, HasSoundActionpoints}
+use Rattle.table_validator.specs.Sound.{adt_layout, IsSoundWatchpoint, IsSoundActionpoint, HasSoundWatchpoints, HasSoundActionpoints}
+use Rattle.table_validator.proofs.FirstFault.{same_kind}
+use Rattle.table_validator.proofs.Used.{judged}
 use Rattle.table_validator.proofs.Reading.{ends_before}
 use Rattle.table_validator.proofs.Evaluated.{sound_equation}
 
@@ -148,32 +147,37 @@ watchpoint_parts image Watchpoints kind size preamble entries =
 watchpoint_parts image Actionpoints kind size preamble entries = absurd (cc kind)
 watchpoint_parts image WideActionpoints kind size preamble entries = absurd (cc kind)
 
-actionpoint_parts : (image : List ℕ) (l : model.Layout) → length image ≡ image_length Actionpoints → is_kind Adt (model.kind_of l) ≡ true →
-    image_length l ≡ length image → preamble_code l image ≡ None → ((n : ℕ) → n < table_entries → entry_code l image n ≡ None) → HasSoundActionpoints image
-actionpoint_parts image Watchpoints long kind size preamble entries = absurd (cc kind)
-actionpoint_parts image Actionpoints long kind size preamble entries =
-    let tests : counts_test Actionpoints image ≡ false = counts Actionpoints image preamble in
-    let few : own_count image ≤ table_entries = few_own Actionpoints image tests in
-    let watched : watchpoint_count image ≤ table_entries = few_watchpoints Actionpoints image tests in
+-- the layout that is found is the image's
+pub is_layout : (image : List ℕ) (l : model.Layout) → model.layout_of layouts Adt image ≡ Some l → adt_layout image ≡ l
+unfolding adt_layout
+is_layout image l found = ap (λ o. unwrap_or o Actionpoints) found
+
+actionpoint_parts : (image : List ℕ) (l : model.Layout) → model.layout_of layouts Adt image ≡ Some l → model.kind_of l ≡ Adt →
+    image_length l ≡ length image → preamble_code l image ≡ None → ((n : ℕ) → n < table_entries → entry_code l image n ≡ None) →
+    adt_layout image ≡ l → HasSoundActionpoints image
+actionpoint_parts image l found kind size preamble entries is =
+    let tests : counts_test l image ≡ false = counts l image preamble in
+    let few : own_count image ≤ table_entries = few_own l image tests in
+    let watched : watchpoint_count image ≤ table_entries = few_watchpoints l image tests in
     record {
-      size = long;
+      layout = found ∙ ap (λ m. Some m) (sym is);
+      kind = ap model.kind_of is ∙ kind;
+      size = sym size ∙ ap image_length (sym is);
       own = few;
       watchpoints = watched;
-      each = λ n below. sound_actionpoint (watchpoint_count image) (entry_at Actionpoints image n) watched
-          (used Actionpoints image n below (entries n (omega (arith, below, few))));
+      each = λ n below. subst (λ m. IsSoundActionpoint (watchpoint_count image) (entry_at m image n)) (sym is)
+          (sound_actionpoint (watchpoint_count image) (entry_at l image n) watched
+          (sym (judged l kind (watchpoint_count image) (entry_at l image n)) ∙ used l image n below (entries n (omega (arith, below, few)))));
     }
-actionpoint_parts image WideActionpoints long kind size preamble entries = absurd (omega (arith, long, size))
 
 -- of an image in this layout
-pub watchpoints_of : (l : Layout) (image : List ℕ) → IsSound layouts (model.kind_of (layout_of l)) image → model.kind_of (layout_of l) ≡ Wdt → HasSoundWatchpoints image
-watchpoints_of layouts.Watchpoints image sound kind =
-    let parts : SoundParts layouts Wdt image = sound_parts layouts Wdt image sound in
+pub watchpoints_of : (l : model.Layout) (image : List ℕ) → IsSound layouts (model.kind_of l) image → model.kind_of l ≡ Wdt → HasSoundWatchpoints image
+watchpoints_of l image sound kind =
+    let parts : SoundParts layouts Wdt image = sound_parts layouts Wdt image (subst (λ k. IsSound layouts k image) kind sound) in
     watchpoint_parts image parts.layout parts.of_kind parts.size parts.preamble parts.entries
-watchpoints_of layouts.Actionpoints image sound kind = absurd (cc kind)
 
-pub actionpoints_of : (l : Layout) (image : List ℕ) → IsSound layouts (model.kind_of (layout_of l)) image → length image ≡ image_length (layout_of l) →
-    model.kind_of (layout_of l) ≡ Adt → HasSoundActionpoints image
-actionpoints_of layouts.Watchpoints image sound long kind = absurd (cc kind)
-actionpoints_of layouts.Actionpoints image sound long kind =
-    let parts : SoundParts layouts Adt image = sound_parts layouts Adt image sound in
-    actionpoint_parts image parts.layout long parts.of_kind parts.size parts.preamble parts.entries
+pub actionpoints_of : (l : model.Layout) (image : List ℕ) → IsSound layouts (model.kind_of l) image → model.kind_of l ≡ Adt → HasSoundActionpoints image
+actionpoints_of l image sound kind =
+    let parts : SoundParts layouts Adt image = sound_parts layouts Adt image (subst (λ k. IsSound layouts k image) kind sound) in
+    actionpoint_parts image parts.layout parts.found (same_kind Adt (model.kind_of parts.layout) parts.of_kind) parts.size parts.preamble parts.entries
+    (is_layout image parts.layout parts.found)

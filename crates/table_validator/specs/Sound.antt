@@ -1,14 +1,16 @@
 -- What a sound image gives its readers. This project's own.
-use Rattle.std.specs.Prelude.{◌≡◌, ◌≢◌, ℕ, ◌<◌, ◌≤◌, ◌⊎◌, ◌==◌, List, length, take, Some, None, slice_index, IsTrue}
+use Rattle.std.specs.Prelude.{◌≡◌, ◌≢◌, ℕ, ◌<◌, ◌≤◌, ◌⊎◌, ◌==◌, List, length, take, Some, None, unwrap_or, slice_index, IsTrue}
 use Rattle.std.specs.List.{list_all}
 use Rattle.lc_model.specs.declared.kind.Kind.{Kind}
+use Rattle.lc_model.specs.declared.kind.Kind.TheVariants.{Adt}
 use Rattle.lc_model.specs.Codes.{operator_code, state_code, event_code, table_entries}
 use Rattle.lc_model.specs.Field.{full_mask, is_in_type}
 use Rattle.lc_model.specs.Packet.{is_telemetry_mid, event_mid, lc_housekeeping_mid}
 use Rattle.lc_model.specs.Tables.Entry.{operator_field, type_field, event_id_field, event_type_field, fails_field, sequence_field, state_field, text_field}
 use Rattle.lc_model.specs.Condition.{And}
 use Rattle.lc_model.specs.Tables.Equation.{operator_word, not_word, IsEquation, waiting}
-use Rattle.lc_model.specs.Tables.Image.{Watchpoints, Actionpoints, image_length, own_count, watchpoint_count, entry_at, all_words, words_before_equal, words_after_equal, operands_of, type_of_code, is_text_field, first_code, equation_tests, most_waiting}
+use Rattle.lc_model.specs.Tables.Image.{Layout, Watchpoints, Actionpoints, kind_of, image_length, layout_of, own_count, watchpoint_count, entry_at, all_words, words_before_equal, words_after_equal, operands_of, type_of_code, is_text_field, first_code, equation_tests, most_waiting}
+use Rattle.lc_model.specs.Tables.InForce.{layouts}
 use Rattle.lc_model.specs.Tables.Spelled.{spelled_term, state_of_code, event_of_code}
 
 -- an image, and the table that it is of
@@ -70,9 +72,15 @@ pub record IsSoundActionpoint (count : ℕ) (e : List ℕ) : Type 0 where
   pub sequence : sequence_field e ≢ 0
   pub fails : fails_field e ≢ 0
 
+-- the layout of an image of actionpoints, by its length
+unfoldable pub adt_layout : List ℕ → Layout
+adt_layout image = unwrap_or (layout_of layouts Adt image) Actionpoints
+
 -- an image of actionpoints
 pub record HasSoundActionpoints (image : List ℕ) : Type 0 where
-  pub size : length image ≡ image_length Actionpoints
+  pub layout : layout_of layouts Adt image ≡ Some (adt_layout image)
+  pub kind : kind_of (adt_layout image) ≡ Adt
+  pub size : length image ≡ image_length (adt_layout image)
   pub own : own_count image ≤ table_entries
   pub watchpoints : watchpoint_count image ≤ table_entries
-  pub each : (n : ℕ) → n < own_count image → IsSoundActionpoint (watchpoint_count image) (entry_at Actionpoints image n)
+  pub each : (n : ℕ) → n < own_count image → IsSoundActionpoint (watchpoint_count image) (entry_at (adt_layout image) image n)

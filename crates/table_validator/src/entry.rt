@@ -25,7 +25,7 @@ pub fn entry_fault(layout: Layout, image: &[u8], number: usize) -> Option<FaultC
     }
     match layout {
         Layout::Watchpoints => watchpoint_fault(&WatchpointEntry::of(image, number)),
-        Layout::Actionpoints => {
+        Layout::Actionpoints | Layout::WideActionpoints => {
             let entry = ActionpointEntry::of(layout, image, number);
             actionpoint_fault(&entry, preamble::watchpoint_count(image))
         }

@@ -12,7 +12,7 @@ pub const WHOLE_IMAGE: u16 = 65_535;
 /// What is wrong. The order is that of the numbers, by which the least fault of an entry is chosen.
 #[derive(Clone, Copy, Debug, PartialEq, Eq, Error)]
 pub enum FaultCode {
-    /// Another version than the layout's.
+    /// Another version than images of this length have.
     #[error("another version")]
     WrongVersion,
     /// The kind of another table than the one asked for.

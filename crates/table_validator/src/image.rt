@@ -2,10 +2,10 @@
 
 ghost use Rattle.std.specs.Prelude.{◌≡◌, ◌<◌, IfOk};
 ghost use Rattle.lc_model.specs.declared.kind.Kind.TheVariants.{Wdt, Adt};
-ghost use Rattle.lc_model.specs.Tables.Image.{Watchpoints, Actionpoints, IsSound, entry_at, fault_of, own_count, watchpoint_count};
+ghost use Rattle.lc_model.specs.Tables.Image.{Watchpoints, IsSound, entry_at, fault_of, own_count, watchpoint_count};
 ghost use Rattle.lc_model.specs.Tables.InForce.{layouts};
 ghost use Rattle.table_validator.specs.Fault.{refusal};
-ghost use Rattle.table_validator.specs.Sound.{HasSoundActionpoints, HasSoundWatchpoints, IsSoundActionpoint, IsSoundWatchpoint};
+ghost use Rattle.table_validator.specs.Sound.{adt_layout, HasSoundActionpoints, HasSoundWatchpoints, IsSoundActionpoint, IsSoundWatchpoint};
 
 use crate::entry::entry_fault;
 use crate::fault::{FaultCode, TableFault};
@@ -22,8 +22,9 @@ pub struct ValidImage<'a> {
 }
 
 impl<'a> Model for ValidImage<'a> {
-    ghost use Rattle.std.specs.Prelude.{◌≡◌, length};
-    ghost use Rattle.lc_model.specs.Tables.Image.{IsSound, image_length, kind_of};
+    ghost use Rattle.std.specs.Prelude.{◌≡◌, Some};
+    ghost use Rattle.lc_model.specs.Tables.Image as model;
+    ghost use Rattle.lc_model.specs.Tables.Image.{IsSound, kind_of};
     ghost use Rattle.lc_model.specs.Tables.InForce.{layouts};
     ghost use Rattle.table_file.specs.Layout.{layout_of};
     ghost use Rattle.table_validator.specs.Sound.{TableImage};
@@ -33,7 +34,7 @@ impl<'a> Model for ValidImage<'a> {
     ghost view = { λ v. record { kind = kind_of (layout_of v.layout); bytes = v.bytes.now } };
 
     ghost invariant = { λ v. IsSound layouts (kind_of (layout_of v.layout)) v.bytes.now
-        × (length v.bytes.now ≡ image_length (layout_of v.layout)) };
+        × (model.layout_of layouts (kind_of (layout_of v.layout)) v.bytes.now ≡ Some (layout_of v.layout)) };
 }
 
 impl<'a> ValidImage<'a> {
@@ -72,15 +73,15 @@ impl<'a> ValidImage<'a> {
     pub fn actionpoint(&self, number: usize) -> ActionpointEntry<'a>
         requires kind { self.now.kind ≡ Adt }
         requires used { number < own_count self.now.bytes }
-        ensures entry { result ≡ entry_at Actionpoints self.now.bytes number }
+        ensures entry { result ≡ entry_at (adt_layout self.now.bytes) self.now.bytes number }
         ensures sound { IsSoundActionpoint (watchpoint_count self.now.bytes) result }
     {
-        ActionpointEntry::of(Layout::Actionpoints, self.image(), number)
+        ActionpointEntry::of(self.layout, self.image(), number)
     }
 }
 
-/// Takes the image of a table where it is sound: 4,264 bytes of watchpoints, or 15,176 of actionpoints. Each entry is read
-/// once, and no memory is taken.
+/// Takes the image of a table where it is sound: 4,264 bytes of watchpoints, or of actionpoints 15,176 of version 1, with 20
+/// words an equation, or 19,400 of version 2, with 32. Each entry is read once, and no memory is taken.
 ///
 /// Errors: the image's one fault. The length counts first, then version, kind and counts; then the first entry with a
 /// fault, used or not, and of its faults the one with the least number.

@@ -24,7 +24,7 @@ fn has_wrong_counts(layout: Layout, image: &[u8]) -> bool
     let watchpoints = preamble::watchpoint_count(image);
     let differ = match layout {
         Layout::Watchpoints => own != watchpoints,
-        Layout::Actionpoints => false,
+        Layout::Actionpoints | Layout::WideActionpoints => false,
     };
     own as usize > TABLE_ENTRIES || watchpoints as usize > TABLE_ENTRIES || differ
 }

@@ -3,7 +3,7 @@
 use super::{adt_file, changed, opened, refused, wdt_file};
 use crate::shared::same;
 use std::process::Abort;
-use table_file::FileError;
+use table_file::{AdtVersion, FileError};
 
 /// Bytes that are wrong, each with its fault, in order: all but the last byte of a field, and the last one, too.
 const WRONG: [(usize, u8, FileError); 11] = [
@@ -65,7 +65,8 @@ fn cut<R: Abort>(rt: &R, file: &[u8]) {
 #[test]
 fn shorter_files(rt: HostRuntime) {
     cut(&rt, &wdt_file(&rt));
-    cut(&rt, &adt_file(&rt));
+    cut(&rt, &adt_file(&rt, AdtVersion::One));
+    cut(&rt, &adt_file(&rt, AdtVersion::Two));
     refused(&rt, &[0xFF; 115], FileError::ShortFile);
     refused(&rt, &[0xFF; 116], FileError::NotCfe);
 }

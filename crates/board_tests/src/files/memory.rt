@@ -3,7 +3,7 @@
 use super::{made_adt_file, made_wdt_file};
 use crate::shared::same;
 use std::process::Abort;
-use table_file::FileError;
+use table_file::{AdtVersion, FileError};
 
 /// A whole file of this length, or `Memory` and no other error.
 fn whole_or_no_memory<R: Abort>(rt: &R, file: Result<Vec<u8>, FileError>, length: usize) {
@@ -24,5 +24,5 @@ fn all_watchpoints_or_no_memory(rt: HostRuntime) {
 /// The same for N from 1 to 5: the text's, the words', the values', the image's and the file's room.
 #[test]
 fn all_actionpoints_or_no_memory(rt: HostRuntime) {
-    whole_or_no_memory(&rt, made_adt_file(rt.alloc()), 15_292);
+    whole_or_no_memory(&rt, made_adt_file(rt.alloc(), AdtVersion::Two), 19_516);
 }

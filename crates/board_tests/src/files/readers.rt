@@ -1,17 +1,18 @@
 //! What the readers find in the two files.
 
 ghost use Rattle.std.specs.Prelude.{◌≡◌, ◌≤◌, length};
-ghost use Rattle.lc_model.specs.Tables.Image.{Watchpoints, Actionpoints, image_length, preamble_length};
+ghost use Rattle.lc_model.specs.Tables.Image.{Watchpoints, image_length, preamble_length};
 
 use super::{adt_file, changed, opened, wdt_file};
 use crate::images::put;
 use crate::shared::same;
-use crate::values::{HASH, low, low_volts_adt, low_volts_wdt};
-use lc_model::words::EQUAL;
+use crate::values::{HASH, actionpoint, encoded_adt, low, low_volts_adt, low_volts_wdt};
+use lc_model::words::{EQUAL, OR};
 use lc_model::{ApMode, CmpOp, EventKind, FieldType, Kind, ReportMaxima};
 use std::process::Abort;
 use table_file::{
-    ActionpointEntry, Layout, TableFile, WatchpointEntry, entry_bytes, is_blank, preamble,
+    ActionpointEntry, AdtVersion, Layout, TableFile, WatchpointEntry, entry_bytes, is_blank,
+    preamble,
 };
 
 /// Spacecraft, processor and application, seconds and subseconds, and what is reserved.
@@ -36,11 +37,13 @@ fn has_written_fields<R: Abort>(rt: &R, file: &TableFile, name: &[u8], length: u
 }
 
 #[test]
-fn the_two_files_open(rt: HostRuntime) {
+fn the_files_open(rt: HostRuntime) {
     let wdt = wdt_file(&rt);
     has_written_fields(&rt, &opened(&rt, &wdt), b"LC.LC_WDT", 4_264);
-    let adt = adt_file(&rt);
+    let adt = adt_file(&rt, AdtVersion::One);
     has_written_fields(&rt, &opened(&rt, &adt), b"LC.LC_ADT", 15_176);
+    let wide = adt_file(&rt, AdtVersion::Two);
+    has_written_fields(&rt, &opened(&rt, &wide), b"LC.LC_ADT", 19_400);
 }
 
 #[test]
@@ -83,8 +86,8 @@ fn names_with_and_without_a_zero(rt: HostRuntime) {
     is_named(&rt, &file, &[b'n'; 40]);
 }
 
-/// The fields in front of an image's entries: version 1, and one entry over one watchpoint.
-fn has_preamble<R: Abort>(rt: &R, image: &[u8], kind_code: u16)
+/// The fields in front of an image's entries: one entry over one watchpoint.
+fn has_preamble<R: Abort>(rt: &R, image: &[u8], version: u16, kind_code: u16)
     requires { preamble_length ≤ length image.now }
 {
     let numbers = [
@@ -93,7 +96,12 @@ fn has_preamble<R: Abort>(rt: &R, image: &[u8], kind_code: u16)
         preamble::own_count(image),
         preamble::watchpoint_count(image),
     ];
-    same(rt, "version, kind, counts", numbers, [1, kind_code, 1, 1]);
+    same(
+        rt,
+        "version, kind, counts",
+        numbers,
+        [version, kind_code, 1, 1],
+    );
     same(rt, "hash", preamble::hash(image), &HASH);
 }
 
@@ -128,7 +136,7 @@ fn has_blank_entries<R: Abort>(rt: &R, image: &[u8])
 #[test]
 fn the_watchpoints_image(rt: HostRuntime) {
     let image = low_volts_wdt(rt.alloc()).expect(&rt, "out of memory");
-    has_preamble(&rt, &image, 1);
+    has_preamble(&rt, &image, 1, 1);
     has_low_volts(&rt, &WatchpointEntry::of(&image, 0));
     has_blank_entries(&rt, &image);
 }
@@ -151,35 +159,72 @@ fn has_low<R: Abort>(rt: &R, entry: &ActionpointEntry) {
     same(rt, "text's field", entry.text_field().len(), 32);
 }
 
-/// The equation of the one mention.
-fn has_one_mention<R: Abort>(rt: &R, entry: &ActionpointEntry) {
+/// The equation of the one mention, with room for so many words.
+fn has_one_mention<R: Abort>(rt: &R, entry: &ActionpointEntry, room: usize) {
     same(rt, "words before EQUAL", entry.equation_length(), 1);
-    same(rt, "words", entry.word_count(), 20);
-    if entry.word_count() == 20 {
-        let words = [entry.word(0), entry.word(1), entry.word(19)];
-        same(rt, "words 0, 1, 19", words, [0, EQUAL, 0]);
+    same(rt, "words", entry.word_count(), room);
+    if entry.word_count() > 1 {
+        let last = entry.word_count() - 1;
+        let words = [entry.word(0), entry.word(1), entry.word(last)];
+        same(rt, "the first two and the last", words, [0, EQUAL, 0]);
     }
 }
 
 #[test]
 fn the_actionpoints_image(rt: HostRuntime) {
-    let image = low_volts_adt(rt.alloc()).expect(&rt, "out of memory");
-    has_preamble(&rt, &image, 2);
+    let image = low_volts_adt(rt.alloc(), AdtVersion::One).expect(&rt, "out of memory");
+    has_preamble(&rt, &image, 1, 2);
     let entry = ActionpointEntry::of(Layout::Actionpoints, &image, 0);
     has_low(&rt, &entry);
-    has_one_mention(&rt, &entry);
+    has_one_mention(&rt, &entry, 20);
 }
 
-/// Of the images of both tables, each has the layout of its own kind alone.
+#[test]
+fn the_actionpoints_image_of_version_2(rt: HostRuntime) {
+    let image = low_volts_adt(rt.alloc(), AdtVersion::Two).expect(&rt, "out of memory");
+    has_preamble(&rt, &image, 2, 2);
+    let entry = ActionpointEntry::of(Layout::WideActionpoints, &image, 0);
+    has_low(&rt, &entry);
+    has_one_mention(&rt, &entry, 32);
+}
+
+/// The longest equation of version 2: sixteen mentions, fifteen ORs, EQUAL.
+fn has_32_words<R: Abort>(rt: &R, entry: &ActionpointEntry) {
+    same(rt, "words before EQUAL", entry.equation_length(), 31);
+    if entry.word_count() == 32 {
+        let words = [entry.word(29), entry.word(30), entry.word(31)];
+        same(rt, "the last three", words, [0, OR, EQUAL]);
+    }
+}
+
+#[test]
+fn an_equation_of_32_words(rt: HostRuntime) {
+    let words = [
+        0, 0, OR, 0, OR, 0, OR, 0, OR, 0, OR, 0, OR, 0, OR, 0, OR, 0, OR, 0, OR, 0, OR, 0, OR, 0,
+        OR, 0, OR, 0, OR,
+    ];
+    let entry = actionpoint(rt.alloc(), ApMode::Active, 2, 7, &words).expect(&rt, "out of memory");
+    let entries = vec![in rt.alloc(); entry].expect(&rt, "out of memory");
+    let image = encoded_adt(rt.alloc(), AdtVersion::Two, 1, entries).expect(&rt, "out of memory");
+    has_32_words(
+        &rt,
+        &ActionpointEntry::of(Layout::WideActionpoints, &image, 0),
+    );
+}
+
+/// Each image has a layout of its own kind alone.
 #[test]
 fn layouts_by_length(rt: HostRuntime) {
     let wdt = low_volts_wdt(rt.alloc()).expect(&rt, "out of memory");
-    let adt = low_volts_adt(rt.alloc()).expect(&rt, "out of memory");
+    let adt = low_volts_adt(rt.alloc(), AdtVersion::One).expect(&rt, "out of memory");
+    let wide = low_volts_adt(rt.alloc(), AdtVersion::Two).expect(&rt, "out of memory");
     for (kind, image, layout) in [
         (Kind::Wdt, &wdt, Some(Layout::Watchpoints)),
         (Kind::Adt, &adt, Some(Layout::Actionpoints)),
+        (Kind::Adt, &wide, Some(Layout::WideActionpoints)),
         (Kind::Adt, &wdt, None),
         (Kind::Wdt, &adt, None),
+        (Kind::Wdt, &wide, None),
     ] {
         same(&rt, kind, Layout::of_image(kind, image), layout);
     }

@@ -8,7 +8,7 @@ use crate::values::{actionpoint, encoded_adt, encoded_wdt};
 use lc_model::words::EQUAL;
 use lc_model::{ApMode, CmpOp, FieldType, Term};
 use std::process::Abort;
-use table_file::{ActionpointEntry, Layout, WatchpointEntry};
+use table_file::{ActionpointEntry, AdtVersion, Layout, WatchpointEntry};
 
 /// A table of one watchpoint with this number is read as it was written.
 fn is_read_again<R: Abort + AllocGlobal>(rt: &R, kind: FieldType, value: i64)
@@ -54,6 +54,6 @@ fn words_up_to_the_first_equal(rt: HostRuntime) {
     let words = [0, EQUAL, 0xFFFF];
     let entry = actionpoint(rt.alloc(), ApMode::Active, 2, 7, &words).expect(&rt, "out of memory");
     let entries = vec![in rt.alloc(); entry].expect(&rt, "out of memory");
-    let image = encoded_adt(rt.alloc(), 1, entries).expect(&rt, "out of memory");
+    let image = encoded_adt(rt.alloc(), AdtVersion::One, 1, entries).expect(&rt, "out of memory");
     has_a_word_behind_equal(&rt, &image);
 }

@@ -1,9 +1,10 @@
 //! The two files, byte for byte.
 
 use super::{adt_file, has, wdt_file};
-use crate::images::{adt, wdt};
+use crate::images::{adt, wdt, wide_adt};
 use crate::shared::same;
 use std::process::Abort;
+use table_file::AdtVersion;
 
 /// The headers, from the cFE's magic word on; they differ in the image's length and the table's name.
 fn has_headers<R: Abort>(rt: &R, file: &[u8], length_and_name: &[u8; 13]) {
@@ -28,8 +29,16 @@ fn low_volts_watchpoints(rt: HostRuntime) {
 
 #[test]
 fn low_volts_actionpoints(rt: HostRuntime) {
-    let file = adt_file(&rt);
+    let file = adt_file(&rt, AdtVersion::One);
     same(&rt, "length", file.len(), 15_292);
     has_headers(&rt, &file, b"\x00\x00\x3B\x48LC.LC_ADT");
     has(&rt, &file, 116, &adt(&rt, 1));
+}
+
+#[test]
+fn low_volts_actionpoints_of_version_2(rt: HostRuntime) {
+    let file = adt_file(&rt, AdtVersion::Two);
+    same(&rt, "length", file.len(), 19_516);
+    has_headers(&rt, &file, b"\x00\x00\x4B\xC8LC.LC_ADT");
+    has(&rt, &file, 116, &wide_adt(&rt, 1));
 }

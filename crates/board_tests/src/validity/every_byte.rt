@@ -1,7 +1,7 @@
-//! Both images of the text with each byte set to 0xFF in turn; the answers were worked out by hand, field by field.
+//! The images of the text, of actionpoints in both versions, with each byte set to 0xFF in turn; the answers were worked out by hand, field by field.
 
 use super::answer;
-use crate::images::{ACTIONPOINT, PREAMBLE, WATCHPOINT, adt, start, wdt};
+use crate::images::{ACTIONPOINT, PREAMBLE, WATCHPOINT, WIDE_ACTIONPOINT, adt, wdt, wide_adt};
 use crate::shared::same;
 use lc_model::Kind;
 use std::process::Abort;
@@ -48,7 +48,7 @@ fn actionpoint_answer(place: usize) -> Option<(u8, u16)> {
         46 | 47 => Some((76, 0)),
         // 0xFFFF in the place of EQUAL, whose high byte is 0xFF.
         49 => Some((74, 0)),
-        50..=85 => Some((75, 0)),
+        50..=109 => Some((75, 0)),
         _ => None,
     }
 }
@@ -69,23 +69,40 @@ fn with_one_byte<R: Abort>(
     }
 }
 
+/// By the place in the first entry or in a blank one.
+fn entry_answer(kind: Kind, entry: u16, place: usize) -> Option<(u8, u16)> {
+    if entry > 0 {
+        return blank_answer(entry, place);
+    }
+    match kind {
+        Kind::Wdt => watchpoint_answer(place),
+        Kind::Adt => actionpoint_answer(place),
+    }
+}
+
+/// Each byte of the preamble.
+fn of_the_preamble<R: Abort>(rt: &R, kind: Kind, image: &mut [u8]) {
+    for place in 0..PREAMBLE {
+        with_one_byte(rt, kind, image, place, preamble_answer(place));
+    }
+}
+
+/// Each byte of an entry, where entries have this length and one is used.
+fn of_the_entry<R: Abort>(rt: &R, kind: Kind, image: &mut [u8], length: usize, entry: u16) {
+    let start = PREAMBLE.saturating_add(length.saturating_mul(entry as usize));
+    for place in 0..length {
+        let at = start.saturating_add(place);
+        with_one_byte(rt, kind, image, at, entry_answer(kind, entry, place));
+    }
+}
+
 #[test]
 fn of_the_watchpoints(rt: HostRuntime) {
     let mut image = wdt(&rt, 1);
     same(&rt, "length", image.len(), 4_264);
-    for place in 0..PREAMBLE {
-        with_one_byte(&rt, Kind::Wdt, &mut image, place, preamble_answer(place));
-    }
+    of_the_preamble(&rt, Kind::Wdt, &mut image);
     for entry in 0..176 {
-        for place in 0..WATCHPOINT {
-            let expected = if entry == 0 {
-                watchpoint_answer(place)
-            } else {
-                blank_answer(entry, place)
-            };
-            let at = start(Kind::Wdt, entry).saturating_add(place);
-            with_one_byte(&rt, Kind::Wdt, &mut image, at, expected);
-        }
+        of_the_entry(&rt, Kind::Wdt, &mut image, WATCHPOINT, entry);
     }
 }
 
@@ -93,18 +110,18 @@ fn of_the_watchpoints(rt: HostRuntime) {
 fn of_the_actionpoints(rt: HostRuntime) {
     let mut image = adt(&rt, 1);
     same(&rt, "length", image.len(), 15_176);
-    for place in 0..PREAMBLE {
-        with_one_byte(&rt, Kind::Adt, &mut image, place, preamble_answer(place));
-    }
+    of_the_preamble(&rt, Kind::Adt, &mut image);
     for entry in 0..176 {
-        for place in 0..ACTIONPOINT {
-            let expected = if entry == 0 {
-                actionpoint_answer(place)
-            } else {
-                blank_answer(entry, place)
-            };
-            let at = start(Kind::Adt, entry).saturating_add(place);
-            with_one_byte(&rt, Kind::Adt, &mut image, at, expected);
-        }
+        of_the_entry(&rt, Kind::Adt, &mut image, ACTIONPOINT, entry);
+    }
+}
+
+#[test]
+fn of_the_actionpoints_of_version_2(rt: HostRuntime) {
+    let mut image = wide_adt(&rt, 1);
+    same(&rt, "length", image.len(), 19_400);
+    of_the_preamble(&rt, Kind::Adt, &mut image);
+    for entry in [0, 1, 175] {
+        of_the_entry(&rt, Kind::Adt, &mut image, WIDE_ACTIONPOINT, entry);
     }
 }

@@ -40,7 +40,7 @@ fn has_lengths<R: Abort>(rt: &R, pair: &TablePair) {
         rt,
         "the lengths",
         (pair.wdt.len(), pair.adt.len()),
-        (4_380, 15_292),
+        (4_380, 19_516),
     );
 }
 
@@ -53,7 +53,7 @@ fn one_rule_over_one_watchpoint(rt: HostRuntime) {
     has(&rt, wdt, 76, b"LC.LC_WDT\0");
     has(&rt, adt, 76, b"LC.LC_ADT\0");
     has(&rt, wdt, IMAGE, &[0, 1, 0, 1, 0, 1, 0, 1]);
-    has(&rt, adt, IMAGE, &[0, 1, 0, 2, 0, 1, 0, 1]);
+    has(&rt, adt, IMAGE, &[0, 2, 0, 2, 0, 1, 0, 1]);
     let hash = Sha256::digest(LOW_VOLTS.as_bytes());
     has(&rt, wdt, HASH, hash.as_slice());
     has(&rt, adt, HASH, hash.as_slice());
@@ -83,7 +83,7 @@ fn the_empty_text(rt: HostRuntime) {
     uses(&rt, &pair, 0, 0);
     has_lengths(&rt, &pair);
     has(&rt, wdt, IMAGE, &[0, 1, 0, 1, 0, 0, 0, 0]);
-    has(&rt, adt, IMAGE, &[0, 1, 0, 2, 0, 0, 0, 0]);
+    has(&rt, adt, IMAGE, &[0, 2, 0, 2, 0, 0, 0, 0]);
     has(&rt, wdt, HASH, hash.as_slice());
     has(&rt, adt, HASH, hash.as_slice());
     is_blank(&rt, wdt, ENTRIES, WDT_ENTRY);
@@ -99,7 +99,7 @@ fn a_report_and_two_rules(rt: HostRuntime) {
     let pair = compiled(&rt, text);
     let adt = pair.adt.as_slice();
     uses(&rt, &pair, 3, 2);
-    has(&rt, adt, IMAGE, &[0, 1, 0, 2, 0, 2, 0, 3]);
+    has(&rt, adt, IMAGE, &[0, 2, 0, 2, 0, 2, 0, 3]);
     let second = [
         2, 4, 0x08, 0x83, 0, 0, 0, 14, 0, 0, 0, 0x7F, 0, 0, 0, 0, 0, 0, 0, 0, 0xFF, 0xFF, 0xFF,
         0xFF,

@@ -24,7 +24,7 @@ fn two_files_or_no_memory(rt: HostRuntime) {
             &rt,
             "the lengths",
             (pair.wdt.len(), pair.adt.len()),
-            (4_380, 15_292),
+            (4_380, 19_516),
         ),
         Err(error) => same(&rt, "the error", error, CompileError::Memory),
     }

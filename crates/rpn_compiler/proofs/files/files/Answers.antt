@@ -5,7 +5,8 @@ use Rattle.lc_model.specs.declared.field.Term.{Term}
 use Rattle.lc_model.specs.declared.kind.Kind.TheVariants.{Wdt, Adt}
 use Rattle.lc_model.specs.Rule.{NamedRule}
 use Rattle.lc_model.specs.Tables.File.{file_bytes, wrapped}
-use Rattle.lc_model.specs.Tables.Image.{Actionpoints, TableEntry, FitsEntry, adt_image, wdt_image}
+use Rattle.lc_model.specs.Tables.Image.{TableEntry, FitsEntry, adt_image, wdt_image}
+use Rattle.lc_model.specs.Tables.InForce.{compiled_actionpoints}
 use Rattle.lc_model.specs.Tables.Half.{entry_over}
 use Rattle.lc_model.specs.Tables.InForce.{arranged}
 use Rattle.rpn_compiler.proofs.Compiled.{fit_terms, fit_entries, tables}
@@ -20,7 +21,7 @@ wdt_file-requires-clause-fit c =
 pub adt_file-requires-clause-fit : goal.adt_file-requires-clause-fit
 adt_file-requires-clause-fit c =
     let rules : List NamedRule = c.args.lowered.rules.rules in
-    subst (AllByRecursion (FitsEntry Actionpoints)) (sym c.in_ok-actionpoints.ensures)
+    subst (AllByRecursion (FitsEntry compiled_actionpoints)) (sym c.in_ok-actionpoints.ensures)
     (fit_entries c.args.text.now rules c.args.lowered.terms.items c.requires.lowered.watchpoints
     (c.compiled_tables_are_halves.ensures c.args.text.now rules c.requires.compiles))
 
@@ -32,6 +33,6 @@ returns-clause-tables c =
     tables c.args.text.now rules terms c.requires.lowered.watchpoints (c.compiled_tables_are_halves.ensures c.args.text.now rules c.requires.compiles) _
     (c.in_ok-wdt_file.ensures.file ∙ ap (λ (h : List ℕ). file_bytes (wrapped Wdt (wdt_image h terms))) c.digest-hash.ensures)
     (c.in_ok-adt_file.ensures.file
-    ∙ (λ i. file_bytes (wrapped Adt (adt_image Actionpoints (c.digest-hash.ensures i) (watchpoints i) (c.in_ok-actionpoints.ensures i)))))
+    ∙ (λ i. file_bytes (wrapped Adt (adt_image compiled_actionpoints (c.digest-hash.ensures i) (watchpoints i) (c.in_ok-actionpoints.ensures i)))))
     watchpoints
     (c.len-rules.ensures ∙ c.in_ok-actionpoints.actionpoints.ok.0 ∙ ap (λ (es : List TableEntry). length es) c.in_ok-actionpoints.ensures ∙ length-map rules (entry_over arranged terms))

@@ -39,5 +39,7 @@ invariant_of-result c =
     let passed : preamble_code l image ≡ None = sym c.preamble_fault.ensures ∙ ap (option_map code_number) c.in_default-preamble_fault.is in
     let is : IsOf c.args.kind image l = layout_found c.args.kind image l found in
     let sound : IsSound layouts c.args.kind image =
-    all_sound c.args.kind image l found passed c.loop-number.number (omega arith) c.loop-number.invariant in
-    (subst (λ (kind : Kind). IsSound layouts kind image) (sym is.of_kind) sound, is.size)
+    all_sound c.args.kind image l found passed c.loop-number.number (omega arith) c.loop-number.invariant in (
+      subst (λ (kind : Kind). IsSound layouts kind image) (sym is.of_kind) sound,
+      subst (λ (kind : Kind). model.layout_of layouts kind image ≡ Some l) (sym is.of_kind) found,
+    )
