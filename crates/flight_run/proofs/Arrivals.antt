@@ -1,5 +1,5 @@
 -- What a packet leads to, by what it is to the Limit Checker.
-use Rattle.std.proofs.Common.{◌≡◌, refl, ◌∙◌, ap, ℕ, ◌≤◌, Bool, true, false, ◌&&◌, ◌==◌, nat_le, List, [], Result, Ok, Err, IsErr, inl, inr, arith}
+use Rattle.std.proofs.Common.{◌≡◌, refl, ◌∙◌, ap, ℕ, ◌≤◌, true, false, ◌==◌, nat_le, List, [], Result, Ok, Err, IsErr, inl, inr, arith}
 use Rattle.lc_model.specs.Packet.{message_id, function_code, payload, is_telemetry_mid, sample_mid}
 use Rattle.lc_model.specs.Refusal.{Refusal}
 use Rattle.lc_model.specs.Command.{sample_request}

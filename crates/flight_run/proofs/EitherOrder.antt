@@ -1,5 +1,5 @@
 -- Rules with operands in either order lead to the same bytes.
-use Rattle.std.proofs.Common.{◌≡◌, refl, sym, ◌∙◌, ap, ap₂, subst, ℕ, zero, suc, ◌+◌, Bool, true, false, not, ◌&&◌, ◌==◌, if◌then◌else◌, List, [], ◌∷◌, ◌++◌, length, map, slice_get, Option, Some, None, Result, Ok, Err}
+use Rattle.std.proofs.Common.{◌≡◌, refl, sym, ◌∙◌, ap, ap₂, ℕ, zero, suc, ◌+◌, Bool, true, false, not, ◌&&◌, ◌==◌, if◌then◌else◌, List, [], ◌∷◌, ◌++◌, length, map, slice_get, Option, Some, None, Result, Ok, Err}
 use Rattle.std.specs.List.{AllZip}
 use Rattle.std.specs.Prelude.{slice_set}
 use Rattle.lc_model.specs.declared.mode.LcMode.TheVariants.{Active}
@@ -11,7 +11,7 @@ use Rattle.lc_model.specs.declared.command.SampleRequest.{SampleRequest}
 use Rattle.lc_model.specs.Rule.{Actionpoint, NamedRule, actions}
 use Rattle.lc_model.specs.Tables.Equation.{terms_of}
 use Rattle.lc_model.specs.Events.Request.{Request}
-use Rattle.lc_model.specs.LimitChecker.Steps.{Point, is_disabled, is_sampled, sampled_point}
+use Rattle.lc_model.specs.LimitChecker.Steps.{Point, is_disabled, is_sampled}
 use Rattle.lc_model.specs.Host.FixedTables.{is_taken, packet_in}
 use Rattle.lc_model.specs.Host.Stream.{StreamEntry}
 use Rattle.lc_model.specs.Kept.Summary.{Tally}
@@ -19,7 +19,7 @@ use Rattle.lc_model.specs.Kept.Next.{by_counts}
 use Rattle.lc_model.specs.Laws.Correspondence.{BothOrNone}
 use Rattle.lc_model.specs.Laws.LimitChecker.{SameRulesSampleAlike}
 use Rattle.lc_model.specs.Laws.Tables.{IsSameRule}
-use Rattle.limit_checker.specs.Watcher.{Watcher, fresh, fresh_point, after_packet, after_aging, sample_with, after_sample}
+use Rattle.limit_checker.specs.Watcher.{Watcher, fresh_point, after_packet, after_aging, sample_with, after_sample}
 use Rattle.flight_run.specs.Flight.{Kept, beginning, at_start, BeginsWith, sampled_from, sampled, after_arrival, with_requests, handled, handled_if, record_handled}
 use Rattle.flight_run.specs.Course.{over_records, output_from}
 

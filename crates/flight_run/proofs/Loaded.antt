@@ -1,11 +1,8 @@
 -- The tables of a text, from their files: they belong together, and say the text's watchpoints and rules.
-use Rattle.std.proofs.Common.{◌≡◌, refl, ap, ap₂, ◌∙◌, ℕ, ◌≤◌, Bool, true, false, nat_lt, if◌then◌else◌, List, length, Option, Some, None, arith}
-use Rattle.std.proofs.lemmas.List.{length-map}
+use Rattle.std.proofs.Common.{◌≡◌, ap, ap₂, ◌∙◌, ℕ, List}
 use Rattle.lc_model.specs.declared.kind.Kind.TheVariants.{Wdt, Adt}
-use Rattle.lc_model.specs.Rule.{NamedRule, actions}
-use Rattle.lc_model.specs.Text.Reading.{TextRefusal, ForText}
-use Rattle.lc_model.specs.Tables.Compiling.{limit_refusal, first_refused}
-use Rattle.lc_model.specs.Tables.InForce.{limits, layouts}
+use Rattle.lc_model.specs.Rule.{NamedRule}
+use Rattle.lc_model.specs.Tables.InForce.{layouts}
 use Rattle.lc_model.specs.Tables.Equation.{terms_of}
 use Rattle.lc_model.specs.Tables.Half.{IsHalf, IsMatch}
 use Rattle.lc_model.specs.Tables.HalvesAndBytes.{Text}

@@ -18,7 +18,7 @@ use Rattle.lc_model.specs.Laws.LimitChecker.{HalvesAreSensible, IsSensible, Same
 use Rattle.limit_checker.specs.Watcher.{fresh_point}
 use Rattle.flight_run.specs.declared.error.Report.{Report}
 use Rattle.flight_run.specs.declared.error.RunError.{RunError}
-use Rattle.flight_run.specs.Flight.{Kept, at_start, BeginsWith, handled, handled_if, record_handled, all_handled}
+use Rattle.flight_run.specs.Flight.{Kept, at_start, BeginsWith, handled, record_handled, all_handled}
 use Rattle.flight_run.specs.Ending.{IsOutcome}
 use Rattle.flight_run.specs.Course.{over_records, output_from}
 use Rattle.flight_run.proofs.EitherOrder.{same_output}

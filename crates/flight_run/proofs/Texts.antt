@@ -1,5 +1,5 @@
 -- With a rule text in force, the program's numbers follow the Limit Checker of the definitions.
-use Rattle.std.proofs.Common.{◌≡◌, refl, sym, ◌∙◌, ap, subst, ℕ, ◌≤◌, Bool, true, false, cond, ◌&&◌, ◌==◌, nat_le, if◌then◌else◌, List, [], ◌∷◌, length, Some, Result, Ok, Err, arith}
+use Rattle.std.proofs.Common.{◌≡◌, refl, sym, ◌∙◌, ap, subst, ℕ, ◌≤◌, Bool, true, false, cond, ◌==◌, nat_le, if◌then◌else◌, List, [], ◌∷◌, length, Some, Result, Ok, Err, arith}
 use Rattle.std.proofs.lemmas.Slice.Eq.{bytes_eq-Decides}
 use Rattle.std.specs.Prelude.{bytes_eq}
 use Rattle.std.specs.Option.{option_map_or}
@@ -17,7 +17,7 @@ use Rattle.lc_model.specs.LimitChecker.Steps.{Point, in_force, is_short, sampled
 use Rattle.lc_model.specs.Host.FixedTables.{halves_of, fixed_halves}
 use Rattle.lc_model.specs.Kept.Summary.{WatchResult, Tally, LcNow}
 use Rattle.lc_model.specs.Kept.Next.{by_counts}
-use Rattle.lc_model.proofs.Facts.{and_first, and_second}
+use Rattle.lc_model.proofs.Facts.{and_second}
 use Rattle.limit_checker.specs.Watcher.{Watcher, after_packet, after_aging}
 use Rattle.flight_run.specs.Flight.{sampled, sampled_from, count_after, request_bytes}
 use Rattle.flight_run.proofs.Following.{sampled_alike}

@@ -1,11 +1,11 @@
 -- The words of a condition whose mentions are numbered are the words of its equation, the heavier operand first.
-use Rattle.std.proofs.Common.{◌≡◌, refl, sym, ◌∙◌, ap, ℕ, ◌+◌, ◌^◌, ◌<◌, ◌≤◌, max, Bool, true, false, nat_lt, if◌then◌else◌, List, [], ◌∷◌, ◌++◌, length, map, get_or, Vec, Global, arith}
+use Rattle.std.proofs.Common.{◌≡◌, refl, sym, ◌∙◌, ap, ℕ, ◌+◌, ◌^◌, ◌<◌, ◌≤◌, Bool, true, false, nat_lt, if◌then◌else◌, List, [], ◌∷◌, ◌++◌, length, map, get_or, Vec, Global, arith}
 use Rattle.std.proofs.lemmas.List.{append_assoc, append-nil, get_or-map, length-append, length-map, map-append}
 use Rattle.lc_model.specs.declared.rule.Rule.{Rule}
 use Rattle.lc_model.specs.Rule.{rule_of, rules_of}
 use Rattle.lc_model.specs.declared.field.Term.{Term}
 use Rattle.lc_model.specs.Condition.{Condition, Operator, Watch, Not, Join, condition_of}
-use Rattle.lc_model.specs.Tables.Equation.{mentions, mention_numbers, number_in, operator_word, not_word, size, words, need, heavier_first}
+use Rattle.lc_model.specs.Tables.Equation.{mentions, mention_numbers, number_in, operator_word, not_word, words, need, heavier_first}
 use Rattle.rpn_compiler.specs.Numbered.{Emitted, in_turn, joined, by_numbers, words_of}
 
 -- a condition takes as many numbers as it has mentions

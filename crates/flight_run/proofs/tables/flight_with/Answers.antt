@@ -1,4 +1,4 @@
-use Rattle.std.proofs.Common.{sym, ◌∙◌, ℕ, List, subst, arith}
+use Rattle.std.proofs.Common.{sym, ◌∙◌, ℕ, List, subst}
 use Rattle.lc_model.specs.declared.kind.Kind.TheVariants.{Wdt, Adt}
 use Rattle.lc_model.specs.Tables.Half.{IsFileOfHalf}
 use Rattle.lc_model.specs.Tables.InForce.{layouts}

@@ -1,6 +1,5 @@
-use Rattle.std.proofs.Common.{rules, ◌≤◌, ◌<◌, ◌+◌, length, arith}
+use Rattle.std.proofs.Common.{rules, arith}
 use Rattle.lc_model.specs.Condition.{condition_of}
-use Rattle.lc_model.specs.Tables.Equation.{mentions}
 use Rattle.rpn_compiler.proofs.Numbered.{enough_left, small_need}
 use Rattle.rpn_compiler.proofs.equation.+words.Goals as goal
 

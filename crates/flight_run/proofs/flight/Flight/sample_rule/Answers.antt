@@ -1,4 +1,4 @@
-use Rattle.std.proofs.Common.{sym, ◌∙◌, ap, subst, ◌≤◌, length, ◌++◌, List, append-nil}
+use Rattle.std.proofs.Common.{sym, ◌∙◌, ap, subst, ◌++◌, append-nil}
 use Rattle.limit_checker.specs.Watcher.{Watcher, after_sample}
 use Rattle.flight_run.proofs.OneRequest.{SendAs, send_as, sample_requests, sample_keeps_rules}
 use Rattle.flight_run.proofs.flight.Flight.sample_rule.Goals as goal
