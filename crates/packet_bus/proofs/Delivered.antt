@@ -1,11 +1,11 @@
 -- How a slot is put behind what waits on several seats, one seat after the other.
-use Rattle.std.proofs.Common.{◌≡◌, ◌≢◌, ◌∙◌, ap, sym, refl, ℕ, zero, suc, ◌+◌, ◌<◌, ◌≤◌, ◌==◌, Bool, true, false, not, List, [], ◌∷◌, ◌++◌, length, map, arith, length-set, count_by}
+use Rattle.std.proofs.Common.{◌≡◌, ◌≢◌, ◌∙◌, ap, ap₂, sym, refl, ℕ, zero, suc, ◌+◌, ◌<◌, ◌≤◌, ◌==◌, Bool, true, false, not, ◌||◌, List, [], ◌∷◌, ◌++◌, length, map, arith, length-set, count_by}
 use Rattle.std.specs.Prelude.{Option, Some, None, option_map, slice_set, slice_index_or, is_some, if◌then◌else◌}
 use Rattle.std.specs.List.{position_from}
 use Rattle.std.proofs.lemmas.List.{map-set, get_or-set_same, get_or-set_other}
 use Rattle.std.proofs.lemmas.List.Sums.{sum_by-set}
 use Rattle.std.proofs.Math.Seq.{map-set_same}
-use Rattle.packet_bus.specs.Seats.{is_in}
+use Rattle.packet_bus.specs.Seats.{is_in, together}
 use Rattle.packet_bus.specs.Line.{Line, slots_in, with_slot, has_slots, is_long}
 use Rattle.packet_bus.specs.Inside.{place_at, delivered, HaveRoom}
 
@@ -76,10 +76,22 @@ has_one : (slot : ℕ) (place : Option Line) → is_some place ≡ true → has_
 has_one slot None e = cc
 has_one slot (Some line) e = longer line.slots slot
 
-pub ready_then : (slot k : ℕ) (places : List (Option Line)) → is_some (place_at places k) ≡ true →
-    slice_set (map has_slots places) k true ≡ map has_slots (slice_set places k (option_map (with_slot slot) (place_at places k)))
-ready_then slot k places some =
-    ap (slice_set (map has_slots places) k) (sym (has_one slot (place_at places k) some)) ∙ sym (map-set has_slots places k (option_map (with_slot slot) (place_at places k)))
+or_true : (b : Bool) → (b || true) ≡ true
+or_true true = refl
+or_true false = refl
+
+or_false : (b : Bool) → (b || false) ≡ b
+or_false true = refl
+or_false false = refl
+
+pub ready_then : (slot : ℕ) (hearers : List Bool) (places : List (Option Line)) → HaveRoom hearers places →
+    together (map has_slots places) hearers ≡ map has_slots (delivered slot hearers places)
+ready_then slot hearers [] room = refl
+ready_then slot [] (place ∷ places) room = refl
+ready_then slot (true ∷ hearers) (place ∷ places) room =
+    ap₂ (λ b bs. b ∷ bs) (or_true (has_slots place) ∙ sym (has_one slot place (room 0 refl).0)) (ready_then slot hearers places (λ seat inside. room (suc seat) inside))
+ready_then slot (false ∷ hearers) (place ∷ places) room =
+    ap₂ (λ b bs. b ∷ bs) (or_false (has_slots place)) (ready_then slot hearers places (λ seat inside. room (suc seat) inside))
 
 pub full_then : (k : ℕ) (places : List (Option Line)) (new : Option Line) → is_long new ≡ true → slice_set (map is_long places) k true ≡ map is_long (slice_set places k new)
 full_then k places new long = ap (slice_set (map is_long places) k) (sym long) ∙ sym (map-set is_long places k new)

@@ -15,3 +15,9 @@ abbrev pub meet : List Bool → List Bool → Bool
 meet [] others = false
 meet (inside ∷ seats) [] = false
 meet (inside ∷ seats) (other ∷ others) = (inside && other) || meet seats others
+
+-- the seats of both
+abbrev pub together : List Bool → List Bool → List Bool
+together [] others = []
+together (inside ∷ seats) [] = inside ∷ seats
+together (inside ∷ seats) (other ∷ others) = (inside || other) ∷ together seats others

@@ -1,13 +1,13 @@
 //! The bus (cFE user's guide, software bus services; the pool is this project's own).
 
-ghost use Rattle.std.specs.Prelude.{◌≡◌, ◌<◌, ◌+◌, ◌++◌, true, false, length, drop, map, is_some, IfOk, IfErr, OnOk, OnErr, replicate, IfSome, IfNone, option_map, slice_set};
+ghost use Rattle.std.specs.Prelude.{◌≡◌, ◌≤◌, ◌<◌, ◌+◌, ◌++◌, ℕ, true, false, length, drop, map, is_some, IfOk, IfErr, OnOk, OnErr, replicate, IfSome, IfNone, option_map, slice_set};
 ghost use Rattle.lc_model.specs.Kept.Executive.{ready_seat};
 ghost use Rattle.lc_model.specs.Services.Bus as model;
 ghost use Rattle.lc_model.specs.Services.Bus.{after, refusal_of, seen, pipe_at, oldest_at, no_pipes, publish_refusal, IsPublished, free_publications};
 ghost use Rattle.packet_bus.specs.Error.{refusal_in};
 ghost use Rattle.packet_bus.specs.declared.error.BusError.TheVariants.{Memory};
-ghost use Rattle.packet_bus.specs.Line.{has_slots, is_long};
-ghost use Rattle.packet_bus.specs.Inside.{changed, delivered, nobody, no_lines, without_packets, without_subscriptions, HaveRoom};
+ghost use Rattle.packet_bus.specs.Line.{behind_first, first_slot, has_slots, is_long, slots_in};
+ghost use Rattle.packet_bus.specs.Inside.{changed, delivered, nobody, no_lines, place_at, without_packets, without_subscriptions, HaveRoom};
 ghost use Rattle.packet_bus.specs.Filled.{filled};
 
 use crate::BusError;
@@ -89,16 +89,39 @@ fn deliver(
     ensures ready { ready.new ≡ map has_slots places.new.items }
     ensures full { full.new ≡ map is_long places.new.items }
 {
-    let mut left = hearers;
-    while let Some(seat) = left.least() {
-        left.remove(seat);
-        let at = seat.index();
-        places[at].push(slot);
-        ready.insert(seat);
-        if places[at].is_full() {
+    let mut left = hearers.copy();
+    while let Some(seat) = left.pop_least() {
+        if places[seat.index()].push(slot) {
             full.insert(seat);
         }
     }
+    ready.add(&hearers);
+}
+
+/// Takes the oldest slot that waits on a seat, if one does.
+fn take_oldest(
+    seat: Seat,
+    places: &mut Vec<Place>,
+    ready: &mut SeatSet,
+    full: &mut SeatSet,
+) -> Option<u16>
+    requires eight { length places.old.items ≡ 8 }
+    requires short { (seat : ℕ) → length (slots_in (place_at places.old.items seat)) ≤ 72 }
+    requires ready { ready.old ≡ map has_slots places.old.items }
+    requires full { full.old ≡ map is_long places.old.items }
+    ensures slot { result ≡ first_slot (place_at places.old.items seat) }
+    ensures places { places.new.items ≡ slice_set places.old.items seat (option_map behind_first (place_at places.old.items seat)) }
+    ensures ready { ready.new ≡ map has_slots places.new.items }
+    ensures full { full.new ≡ map is_long places.new.items }
+    ensures below { seat < 8 }
+{
+    let place = &mut places[seat.index()];
+    let slot = place.pop()?;
+    if !place.is_ready() {
+        ready.remove(seat);
+    }
+    full.remove(seat);
+    Some(slot)
 }
 
 impl Bus {
@@ -199,7 +222,7 @@ impl Bus {
         }
         let readers = hearers.count();
         if readers > 0 {
-            let slot = self.pool.keep(packet, readers);
+            let slot = self.pool.reserve(readers);
             deliver(
                 slot,
                 hearers,
@@ -207,6 +230,7 @@ impl Bus {
                 &mut self.ready,
                 &mut self.full,
             );
+            self.pool.put(slot, packet);
         }
         Ok(())
     }
@@ -224,11 +248,10 @@ impl Bus {
         ensures buffer { buffer.new ≡ filled (oldest_at seat self.old) buffer.old }
         ensures eight { length self.old ≡ 8 }
     {
-        if !self.has_pipe(seat) {
+        let size = self.take_packet(seat, buffer);
+        if size.is_none() && !self.has_pipe(seat) {
             return Err(BusError::NoPipe);
         }
-        let size = self.read_oldest(seat, buffer);
-        self.discard_oldest(seat);
         Ok(size)
     }
 
@@ -254,13 +277,15 @@ impl Bus {
         self.places[seat.index()].is_open()
     }
 
-    /// Copies the oldest packet of a seat to the front of a buffer, and answers how many bytes it has.
-    fn read_oldest(&self, seat: Seat, buffer: &mut [u8; PACKET_SIZE]) -> Option<usize>
-        ensures size { result ≡ option_map length (oldest_at seat self.now) }
-        ensures buffer { buffer.new ≡ filled (oldest_at seat self.now) buffer.old }
+    /// Takes the oldest packet of a seat into the front of a buffer, and answers how many bytes it has.
+    fn take_packet(&mut self, seat: Seat, buffer: &mut [u8; PACKET_SIZE]) -> Option<usize>
+        ensures after { self.new ≡ changed seat model.without_oldest self.old }
+        ensures size { result ≡ option_map length (oldest_at seat self.old) }
+        ensures buffer { buffer.new ≡ filled (oldest_at seat self.old) buffer.old }
+        ensures eight { length self.old ≡ 8 }
     {
-        let slot = self.places[seat.index()].first()?;
-        Some(self.pool.read(slot, buffer))
+        let slot = take_oldest(seat, &mut self.places, &mut self.ready, &mut self.full)?;
+        Some(self.pool.take(slot, buffer))
     }
 
     /// The oldest packet of a seat is taken, and its slot released. Answers whether there was one.
@@ -269,15 +294,11 @@ impl Bus {
         ensures some { result ≡ is_some (oldest_at seat self.old) }
         ensures eight { length self.old ≡ 8 }
     {
-        let at = seat.index();
-        let Some(slot) = self.places[at].pop() else {
+        let oldest = take_oldest(seat, &mut self.places, &mut self.ready, &mut self.full);
+        let Some(slot) = oldest else {
             return false;
         };
         self.pool.release(slot);
-        self.full.remove(seat);
-        if !self.places[at].is_ready() {
-            self.ready.remove(seat);
-        }
         true
     }
 

@@ -1,7 +1,7 @@
 use Rattle.std.proofs.Common.{◌≡◌, ◌∙◌, ap, ap₂, sym, ℕ, ◌<◌, arith, List, Bool, true, false, length, length-set, map, count_by}
 use Rattle.std.specs.Prelude.{option_map, Option, Some, None, slice_set, is_some, slice_index_or}
 use Rattle.std.specs.List.{position_from}
-use Rattle.packet_bus.specs.Seats.{is_in}
+use Rattle.packet_bus.specs.Seats.{is_in, together}
 use Rattle.packet_bus.specs.Line.{Line, with_slot, has_slots, is_long}
 use Rattle.packet_bus.specs.Inside.{place_at, delivered, HaveRoom}
 use Rattle.packet_bus.proofs.Places.{is_place_at, is_written}
@@ -42,83 +42,87 @@ module _ (slot seat at : ℕ) (left : List Bool) (places : List (Option Line)) (
     room_still : (left' : List Bool) → left' ≡ slice_set left seat false → HaveRoom left' (slice_set places at new)
     room_still left' e = rw (removed left' e) (room_left at left places new (left_within at left next) room)
 
-    ready_now : (ready ready' : List Bool) → ready ≡ map has_slots places → ready' ≡ slice_set ready seat true → ready' ≡ map has_slots (slice_set places at new)
-    ready_now ready ready' old_ready e =
-        e ∙ ap₂ (λ r k. slice_set r k true) old_ready (sym index) ∙ ready_then slot at places open_there ∙ ap (λ place. map has_slots (slice_set places at place)) (sym written)
-
 pub push-requires-clause-open : goal.push-requires-clause-open
 push-requires-clause-open c =
-    let below : c.index-at.result < length c.loop-seat.places.items = omega (arith, c.index-at.ensures.below, c.loop-seat.invariant.eight) in
-    is_open 0 c.in-Some.seat c.index-at.result c.loop-seat.left c.loop-seat.places.items c.index-at.ensures.value (sym c.least.ensures ∙ c.in-Some.is) c.loop-seat.invariant.room
+    let below : c.index.result < length c.loop-seat.places.items = omega (arith, c.index.ensures.below, c.loop-seat.invariant.eight) in
+    is_open 0 c.in-Some.seat c.index.result c.loop-seat.left c.loop-seat.places.items c.index.ensures.value (sym c.pop_least.ensures.least ∙ c.in-Some.is) c.loop-seat.invariant.room
     c.index_mut.result.now None below c.index_mut.ensures.value
 
 pub push-requires-clause-room : goal.push-requires-clause-room
 push-requires-clause-room c =
-    let below : c.index-at.result < length c.loop-seat.places.items = omega (arith, c.index-at.ensures.below, c.loop-seat.invariant.eight) in
-    has_room 0 c.in-Some.seat c.index-at.result c.loop-seat.left c.loop-seat.places.items c.index-at.ensures.value (sym c.least.ensures ∙ c.in-Some.is) c.loop-seat.invariant.room
+    let below : c.index.result < length c.loop-seat.places.items = omega (arith, c.index.ensures.below, c.loop-seat.invariant.eight) in
+    has_room 0 c.in-Some.seat c.index.result c.loop-seat.left c.loop-seat.places.items c.index.ensures.value (sym c.pop_least.ensures.least ∙ c.in-Some.is) c.loop-seat.invariant.room
     c.index_mut.result.now None below c.index_mut.ensures.value
 
-pub loop-seat-smaller-then-is_full : goal.loop-seat-smaller-then-is_full
-loop-seat-smaller-then-is_full c =
-    let below : c.index-at.result < length c.loop-seat.places.items = omega (arith, c.index-at.ensures.below, c.loop-seat.invariant.eight) in
-    smaller 0 c.in-Some.seat c.index-at.result c.loop-seat.left c.loop-seat.places.items c.index-at.ensures.value (sym c.least.ensures ∙ c.in-Some.is) c.loop-seat.invariant.room
-    c.index_mut.result.now None below c.index_mut.ensures.value _ c.remove.ensures
+pub loop-seat-smaller-then-push : goal.loop-seat-smaller-then-push
+loop-seat-smaller-then-push c =
+    let below : c.index.result < length c.loop-seat.places.items = omega (arith, c.index.ensures.below, c.loop-seat.invariant.eight) in
+    smaller 0 c.in-Some.seat c.index.result c.loop-seat.left c.loop-seat.places.items c.index.ensures.value (sym c.pop_least.ensures.least ∙ c.in-Some.is) c.loop-seat.invariant.room
+    c.index_mut.result.now None below c.index_mut.ensures.value _ c.in-Some.ensures.after
 
 pub loop-seat-smaller : goal.loop-seat-smaller
 loop-seat-smaller c =
-    let below : c.index-at.result < length c.loop-seat.places.items = omega (arith, c.index-at.ensures.below, c.loop-seat.invariant.eight) in
-    smaller 0 c.in-Some.seat c.index-at.result c.loop-seat.left c.loop-seat.places.items c.index-at.ensures.value (sym c.least.ensures ∙ c.in-Some.is) c.loop-seat.invariant.room
-    c.index_mut.result.now None below c.index_mut.ensures.value _ c.remove.ensures
+    let below : c.index.result < length c.loop-seat.places.items = omega (arith, c.index.ensures.below, c.loop-seat.invariant.eight) in
+    smaller 0 c.in-Some.seat c.index.result c.loop-seat.left c.loop-seat.places.items c.index.ensures.value (sym c.pop_least.ensures.least ∙ c.in-Some.is) c.loop-seat.invariant.room
+    c.index_mut.result.now None below c.index_mut.ensures.value _ c.in-Some.ensures.after
 
 pub loop-seat-preserved : goal.loop-seat-preserved
 loop-seat-preserved c =
     let kept = c.loop-seat.invariant in
-    let at = c.index-at.result in
+    let at = c.index.result in
     let seat = c.in-Some.seat in
     let left = c.loop-seat.left in
     let places = c.loop-seat.places.items in
-    let below : at < length places = omega (arith, c.index-at.ensures.below, kept.eight) in
-    let least : position_from is_in 0 left ≡ Some seat = sym c.least.ensures ∙ c.in-Some.is in
-    let index = c.index-at.ensures.value in
+    let below : at < length places = omega (arith, c.index.ensures.below, kept.eight) in
+    let least : position_from is_in 0 left ≡ Some seat = sym c.pop_least.ensures.least ∙ c.in-Some.is in
+    let index = c.index.ensures.value in
     let old = c.index_mut.result.now in
     let new = c.push.new.self in
     let found = c.index_mut.ensures.value in
     record {
-      whole = whole c.args.slot seat at left places index least kept.room old new below found c.push.ensures _ c.remove.ensures ∙ kept.whole;
+      whole = whole c.args.slot seat at left places index least kept.room old new below found c.push.ensures.after _ c.in-Some.ensures.after ∙ kept.whole;
       eight = length-set places at new ∙ kept.eight;
-      seats = ap length c.remove.ensures ∙ length-set left seat false ∙ kept.seats;
-      room = room_still c.args.slot seat at left places index least kept.room old new below found c.push.ensures _ c.remove.ensures;
-      ready = ready_now c.args.slot seat at left places index least kept.room old new below found c.push.ensures _ _ kept.ready c.insert.ensures;
+      seats = ap length c.in-Some.ensures.after ∙ length-set left seat false ∙ kept.seats;
+      room = room_still c.args.slot seat at left places index least kept.room old new below found c.push.ensures.after _ c.in-Some.ensures.after;
       full =
           kept.full
-          ∙ full_as_before at places new (ap is_long (sym (is_written places at new c.index.result.now below c.index.ensures)) ∙ sym c.if-is_full.ensures)
+          ∙ full_as_before at places new (sym c.if-push.ensures.full)
           (room_there c.args.slot seat at left places index least kept.room old new below found);
     }
 
-pub loop-seat-preserved-then-is_full : goal.loop-seat-preserved-then-is_full
-loop-seat-preserved-then-is_full c =
+pub loop-seat-preserved-then-push : goal.loop-seat-preserved-then-push
+loop-seat-preserved-then-push c =
     let kept = c.loop-seat.invariant in
-    let at = c.index-at.result in
+    let at = c.index.result in
     let seat = c.in-Some.seat in
     let left = c.loop-seat.left in
     let places = c.loop-seat.places.items in
-    let below : at < length places = omega (arith, c.index-at.ensures.below, kept.eight) in
-    let least : position_from is_in 0 left ≡ Some seat = sym c.least.ensures ∙ c.in-Some.is in
-    let index = c.index-at.ensures.value in
+    let below : at < length places = omega (arith, c.index.ensures.below, kept.eight) in
+    let least : position_from is_in 0 left ≡ Some seat = sym c.pop_least.ensures.least ∙ c.in-Some.is in
+    let index = c.index.ensures.value in
     let old = c.index_mut.result.now in
     let new = c.push.new.self in
     let found = c.index_mut.ensures.value in
     record {
-      whole = whole c.args.slot seat at left places index least kept.room old new below found c.push.ensures _ c.remove.ensures ∙ kept.whole;
+      whole = whole c.args.slot seat at left places index least kept.room old new below found c.push.ensures.after _ c.in-Some.ensures.after ∙ kept.whole;
       eight = length-set places at new ∙ kept.eight;
-      seats = ap length c.remove.ensures ∙ length-set left seat false ∙ kept.seats;
-      room = room_still c.args.slot seat at left places index least kept.room old new below found c.push.ensures _ c.remove.ensures;
-      ready = ready_now c.args.slot seat at left places index least kept.room old new below found c.push.ensures _ _ kept.ready c.insert.ensures;
+      seats = ap length c.in-Some.ensures.after ∙ length-set left seat false ∙ kept.seats;
+      room = room_still c.args.slot seat at left places index least kept.room old new below found c.push.ensures.after _ c.in-Some.ensures.after;
       full =
-          c.insert-then-is_full.ensures
+          c.insert.ensures
           ∙ ap₂ (λ f k. slice_set f k true) kept.full (sym index)
-          ∙ full_then at places new (ap is_long (sym (is_written places at new c.index.result.now below c.index.ensures)) ∙ sym c.if-is_full.ensures);
+          ∙ full_then at places new (sym c.if-push.ensures.full);
     }
 
 pub returns-clause-places : goal.returns-clause-places
-returns-clause-places c = sym (none_left c.args.slot c.loop-seat.left c.loop-seat.places.items (sym c.in_default.ensures)) ∙ c.loop-seat.invariant.whole
+returns-clause-places c =
+    sym (none_left c.args.slot c.loop-seat.left c.loop-seat.places.items (sym c.in_default.ensures.least))
+    ∙ c.loop-seat.invariant.whole
+    ∙ ap (λ hearers. delivered c.args.slot hearers c.args.places.now.items) c.copy-left.ensures
+
+pub returns-clause-ready : goal.returns-clause-ready
+returns-clause-ready c =
+    c.add.ensures
+    ∙ ap (λ ready. together ready c.args.hearers) c.requires.ready
+    ∙ ready_then c.args.slot c.args.hearers c.args.places.now.items c.requires.room
+    ∙ ap (map has_slots) (sym (returns-clause-places c))

@@ -3,7 +3,7 @@ use Rattle.lc_model.specs.Packet.{message_id}
 use Rattle.packet_bus.specs.Seats.{is_in}
 use Rattle.packet_bus.specs.Line.{hears_mid}
 use Rattle.packet_bus.specs.Inside.{delivered, HaveRoom}
-use Rattle.packet_bus.proofs.Published.{published_together, is_published, unheard}
+use Rattle.packet_bus.proofs.Published.{kept_then, published_together, is_published, unheard}
 use Rattle.packet_bus.proofs.Publishing.{answer_if, hearers_are, blocked, with_room, some_slot}
 use Rattle.packet_bus.proofs.bus.Bus.publish.Goals as goal
 
@@ -15,8 +15,8 @@ returns-then-meets-clause-answer c =
     c.copy-hearers.ensures c.args.self.now c.self.view_is)
     ∙ sym c.if-meets.ensures))
 
-pub keep-slot-requires-clause-room : goal.keep-slot-requires-clause-room
-keep-slot-requires-clause-room c =
+pub reserve-slot-requires-clause-room : goal.reserve-slot-requires-clause-room
+reserve-slot-requires-clause-room c =
     some_slot _ _ _ _ _ c.self.invariant c.args.packet.now c.in-Ok.mid c.index.result.now c.copy-hearers.result c.in-Ok.ensures.exact c.in-Ok.ensures.value c.index.ensures c.copy-hearers.ensures
     (sym c.if-meets.ensures) (omega (arith, c.if-readers-gt0.true, c.count-readers.ensures))
 
@@ -31,9 +31,9 @@ pub invariant_of-self : goal.invariant_of-self
 invariant_of-self c =
     let hearers = hearers_are _ _ _ _ _ c.self.invariant c.args.packet.now c.in-Ok.mid c.index.result.now c.copy-hearers.result c.in-Ok.ensures.exact c.in-Ok.ensures.value c.index.ensures c.copy-hearers.ensures in
     let room = with_room _ _ _ _ _ c.self.invariant c.args.packet.now c.in-Ok.mid c.index.result.now c.copy-hearers.result c.in-Ok.ensures.exact c.in-Ok.ensures.value c.index.ensures c.copy-hearers.ensures (sym c.if-meets.ensures) in
-    rw c.keep-slot.ensures.after
-    (published_together _ _ _ _ _ c.self.invariant c.keep-slot.result c.args.packet.now c.count-readers.result c.keep-slot.ensures.within c.keep-slot.ensures.free c.deliver.new.places.items
-    c.deliver.new.ready c.deliver.new.full (c.deliver.ensures.places ∙ ap (λ (seats : List Bool). delivered c.keep-slot.result seats c.self.inside.places.items) hearers)
+    rw (kept_then _ _ _ _ _ c.args.packet.now c.reserve-slot.ensures.within c.reserve-slot.ensures.after c.put.ensures)
+    (published_together _ _ _ _ _ c.self.invariant c.reserve-slot.result c.args.packet.now c.count-readers.result c.reserve-slot.ensures.within c.reserve-slot.ensures.free c.deliver.new.places.items
+    c.deliver.new.ready c.deliver.new.full (c.deliver.ensures.places ∙ ap (λ (seats : List Bool). delivered c.reserve-slot.result seats c.self.inside.places.items) hearers)
     (c.count-readers.ensures ∙ ap (count_by is_in) hearers) room c.deliver.ensures.ready c.deliver.ensures.full)
 
 pub returns-then-readers-gt0-clause-answer : goal.returns-then-readers-gt0-clause-answer
@@ -47,9 +47,9 @@ returns-then-readers-gt0-clause-answer c =
 pub returns-then-readers-gt0-clause-published : goal.returns-then-readers-gt0-clause-published
 returns-then-readers-gt0-clause-published c =
     let hearers = hearers_are _ _ _ _ _ c.self.invariant c.args.packet.now c.in-Ok.mid c.index.result.now c.copy-hearers.result c.in-Ok.ensures.exact c.in-Ok.ensures.value c.index.ensures c.copy-hearers.ensures in
-    rw c.keep-slot.ensures.after
-    (is_published _ _ _ _ _ c.self.invariant c.keep-slot.result c.args.packet.now c.count-readers.result c.keep-slot.ensures.within c.keep-slot.ensures.free c.deliver.new.places.items
-    c.args.self.now (c.deliver.ensures.places ∙ ap (λ (seats : List Bool). delivered c.keep-slot.result seats c.self.inside.places.items) hearers) c.self.view_is)
+    rw (kept_then _ _ _ _ _ c.args.packet.now c.reserve-slot.ensures.within c.reserve-slot.ensures.after c.put.ensures)
+    (is_published _ _ _ _ _ c.self.invariant c.reserve-slot.result c.args.packet.now c.count-readers.result c.reserve-slot.ensures.within c.reserve-slot.ensures.free c.deliver.new.places.items
+    c.args.self.now (c.deliver.ensures.places ∙ ap (λ (seats : List Bool). delivered c.reserve-slot.result seats c.self.inside.places.items) hearers) c.self.view_is)
 
 pub returns-else-readers-gt0-clause-answer : goal.returns-else-readers-gt0-clause-answer
 returns-else-readers-gt0-clause-answer c =
