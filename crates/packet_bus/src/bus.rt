@@ -6,7 +6,7 @@ ghost use Rattle.lc_model.specs.Services.Bus as model;
 ghost use Rattle.lc_model.specs.Services.Bus.{after, refusal_of, seen, pipe_at, oldest_at, no_pipes, publish_refusal, IsPublished, free_publications};
 ghost use Rattle.packet_bus.specs.Error.{refusal_in};
 ghost use Rattle.packet_bus.specs.declared.error.BusError.TheVariants.{Memory};
-ghost use Rattle.packet_bus.specs.Line.{behind_first, first_slot, has_slots, is_long, slots_in};
+ghost use Rattle.packet_bus.specs.Line.{behind_first, first_slot, has_slots, is_long, slots_in, with_slot};
 ghost use Rattle.packet_bus.specs.Inside.{changed, delivered, nobody, no_lines, place_at, without_packets, without_subscriptions, HaveRoom};
 ghost use Rattle.packet_bus.specs.Filled.{filled};
 
@@ -73,29 +73,56 @@ fn empty_places(alloc: Global) -> Result<Vec<Place>, AllocError>
     Ok(places)
 }
 
-/// Puts a slot behind what waits on these seats, whose pipes have room.
+/// Puts a slot behind what waits on a seat, whose pipe has room.
+fn deliver_to(seat: Seat, slot: u16, places: &mut Vec<Place>, full: &mut SeatSet)
+    requires eight { length places.old.items ≡ 8 }
+    requires open { is_some (place_at places.old.items seat) ≡ true }
+    requires room { is_long (place_at places.old.items seat) ≡ false }
+    requires full { full.old ≡ map is_long places.old.items }
+    ensures places { places.new.items ≡ slice_set places.old.items seat (option_map (with_slot slot) (place_at places.old.items seat)) }
+    ensures full { full.new ≡ map is_long places.new.items }
+{
+    if places[seat.index()].push(slot) {
+        full.insert(seat);
+    }
+}
+
+/// The same on each of these seats.
+#[inline(never)]
+fn deliver_to_each(hearers: &SeatSet, slot: u16, places: &mut Vec<Place>, full: &mut SeatSet)
+    requires eight { length places.old.items ≡ 8 }
+    requires room { HaveRoom hearers.now places.old.items }
+    requires full { full.old ≡ map is_long places.old.items }
+    ensures places { places.new.items ≡ delivered slot hearers.now places.old.items }
+    ensures full { full.new ≡ map is_long places.new.items }
+{
+    let mut left = hearers.copy();
+    while let Some(seat) = left.pop_least() {
+        deliver_to(seat, slot, places, full);
+    }
+}
+
+/// The same, with what is ready. Most packets have one hearer.
 fn deliver(
+    hearers: &SeatSet,
     slot: u16,
-    hearers: SeatSet,
     places: &mut Vec<Place>,
     ready: &mut SeatSet,
     full: &mut SeatSet,
 )
     requires eight { length places.old.items ≡ 8 }
-    requires room { HaveRoom hearers places.old.items }
+    requires room { HaveRoom hearers.now places.old.items }
     requires ready { ready.old ≡ map has_slots places.old.items }
     requires full { full.old ≡ map is_long places.old.items }
-    ensures places { places.new.items ≡ delivered slot hearers places.old.items }
+    ensures places { places.new.items ≡ delivered slot hearers.now places.old.items }
     ensures ready { ready.new ≡ map has_slots places.new.items }
     ensures full { full.new ≡ map is_long places.new.items }
 {
-    let mut left = hearers.copy();
-    while let Some(seat) = left.pop_least() {
-        if places[seat.index()].push(slot) {
-            full.insert(seat);
-        }
+    ready.add(hearers);
+    match hearers.only() {
+        Some(seat) => deliver_to(seat, slot, places, full),
+        None => deliver_to_each(hearers, slot, places, full),
     }
-    ready.add(&hearers);
 }
 
 /// Takes the oldest slot that waits on a seat, if one does.
@@ -224,8 +251,8 @@ impl Bus {
         if readers > 0 {
             let slot = self.pool.reserve(readers);
             deliver(
+                &hearers,
                 slot,
-                hearers,
                 &mut self.places,
                 &mut self.ready,
                 &mut self.full,

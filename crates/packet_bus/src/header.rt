@@ -92,7 +92,7 @@ fn is_packet(bytes: &[u8]) -> bool
     message_id / 8192 == 0
         && message_id / 2048 % 2 == 1
         && u16_at(bytes, 2) / 16384 == 3
-        && u16_at(bytes, 4) as usize + 7 == size
+        && u16_at(bytes, 4) == (size - 7) as u16
 }
 
 /// The first fault of bytes that are no packet.

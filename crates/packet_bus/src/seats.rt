@@ -1,6 +1,6 @@
 //! Sets of seats.
 
-ghost use Rattle.std.specs.Prelude.{◌≡◌, ◌<◌, ◌==◌, true, false, length, replicate, slice_set, slice_index_or, count_by, Bool, IfSome, IfNone};
+ghost use Rattle.std.specs.Prelude.{◌≡◌, ◌<◌, ◌==◌, true, false, length, replicate, slice_set, slice_index_or, count_by, Bool, IfSome, IfNone, None, if◌then◌else◌};
 ghost use Rattle.std.specs.List.{list_any, position_from};
 ghost use Rattle.packet_bus.specs.Seats.{seats_in, is_in, meet, together};
 
@@ -59,6 +59,13 @@ impl SeatSet {
             return None;
         }
         Some(Seat::new(self.bits.trailing_zeros() as u8))
+    }
+
+    /// The seat, where there is one alone.
+    pub fn only(&self) -> Option<Seat>
+        ensures { result ≡ (if count_by is_in self.now == 1 then position_from is_in 0 self.now else None) }
+    {
+        if self.count() == 1 { self.least() } else { None }
     }
 
     /// The least seat, which leaves the set.

@@ -2,7 +2,7 @@ use Rattle.std.proofs.Common.{◌≡◌, ℕ, length, map, count_by}
 use Rattle.packet_bus.specs.Seats.{is_in}
 use Rattle.packet_bus.specs.Line.{is_long}
 use Rattle.packet_bus.specs.Inside.{delivered, HaveRoom}
-use Rattle.packet_bus.proofs.bus.deliver.Given as goal
+use Rattle.packet_bus.proofs.bus.deliver_to_each.Given as goal
 
 -- what is left to be done with what is done gives all
 abbrev pub invariant-loop-seat : goal.invariant-loop-seat
