@@ -47,6 +47,16 @@ same_is (false ∷ xs) [] e = cc
 same_is (true ∷ xs) (false ∷ ys) e = cc
 same_is (false ∷ xs) (true ∷ ys) e = cc
 
+abbrev is_equal : Bool → Bool → Bool
+is_equal true b = b
+is_equal false b = not b
+
+same_bool : (a b : Bool) → is_equal a b ≡ true → a ≡ b
+same_bool true true e = refl
+same_bool false false e = refl
+same_bool true false e = cc
+same_bool false true e = cc
+
 -- a seat more, and a seat less
 pub seats_with : (bits seat : ℕ) → bits < 256 → seat < 8 → seats_in (bit_or bits (1 * 2 ^ seat % 256)) ≡ slice_set (seats_in bits) seat true
 seats_with bits seat byte eight =
@@ -65,6 +75,9 @@ number_is m n e = grind (arith, e)
 pub seats_counted : (bits : ℕ) → bits < 256 → ones bits ≡ count_by is_in (seats_in bits)
 unfolding ones
 seats_counted bits byte = number_is _ _ (each_below (λ b. ones b == count_by is_in (seats_in b)) 256 refl bits byte)
+
+pub no_seats : (bits : ℕ) → bits < 256 → (bits == 0) ≡ (count_by is_in (seats_in bits) == 0)
+no_seats bits byte = same_bool _ _ (each_below (λ b. is_equal (b == 0) (count_by is_in (seats_in b) == 0)) 256 refl bits byte)
 
 -- the least seat
 abbrev is_place : ℕ → Option ℕ → Bool
@@ -90,16 +103,6 @@ unfolding count_trailing_zeros
 seats_without_least bits byte some =
     let p : ℕ → Bool = λ b. same (seats_in (bit_and b (b - 1))) (slice_set (seats_in b) (trailing_zeros w8 b) false) in
     same_is _ _ (seat_is bits (p bits) some (each_below (λ b. (b == 0) || p b) 256 refl bits byte))
-
-abbrev is_equal : Bool → Bool → Bool
-is_equal true b = b
-is_equal false b = not b
-
-same_bool : (a b : Bool) → is_equal a b ≡ true → a ≡ b
-same_bool true true e = refl
-same_bool false false e = refl
-same_bool true false e = cc
-same_bool false true e = cc
 
 -- whether a seat is in both of two sets
 abbrev either : List Bool → Bool

@@ -112,6 +112,9 @@ by_count seats k false is e = cc
 pub only_least : (k : ℕ) (seats : List Bool) → Some k ≡ (if count_by is_in seats == 1 then position_from is_in 0 seats else None) → position_from is_in 0 seats ≡ Some k
 only_least k seats e = (by_count seats k (count_by is_in seats == 1) refl e).1
 
+pub only_one : (k : ℕ) (seats : List Bool) → Some k ≡ (if count_by is_in seats == 1 then position_from is_in 0 seats else None) → count_by is_in seats ≡ 1
+only_one k seats e = (by_count seats k (count_by is_in seats == 1) refl e).0
+
 pub delivered_once : (slot k : ℕ) (seats : List Bool) (places : List (Option Line)) → Some k ≡ (if count_by is_in seats == 1 then position_from is_in 0 seats else None) →
     slice_set places k (option_map (with_slot slot) (place_at places k)) ≡ delivered slot seats places
 delivered_once slot k seats places e =

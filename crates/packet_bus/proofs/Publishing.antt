@@ -13,6 +13,13 @@ use Rattle.packet_bus.specs.Inside.{shown, place_at, nobody, HaveRoom, IsBus}
 use Rattle.packet_bus.proofs.Ready.{blocked_is, have_room, one_is_in, length_map}
 use Rattle.packet_bus.proofs.Counted.{slot_left}
 
+-- a count, by a test
+pub some_in : (n : ℕ) → (n == 0) ≡ false → 0 < n
+some_in n e = grind (arith, e)
+
+pub none_in : (n : ℕ) → (n == 0) ≡ true → n ≡ 0
+none_in n e = grind (arith, e)
+
 -- a packet has version 0
 second_test : (a b : Bool) (rest : Option ℕ) → None ≡ (if a then Some 1 else if b then Some 2 else rest) → b ≡ false
 second_test true b rest e = cc

@@ -1,6 +1,6 @@
 //! The bus (cFE user's guide, software bus services; the pool is this project's own).
 
-ghost use Rattle.std.specs.Prelude.{◌≡◌, ◌≤◌, ◌<◌, ◌+◌, ◌++◌, ℕ, true, false, length, drop, map, is_some, IfOk, IfErr, OnOk, OnErr, replicate, IfSome, IfNone, option_map, slice_set};
+ghost use Rattle.std.specs.Prelude.{◌≡◌, ◌≤◌, ◌<◌, ◌+◌, ◌++◌, ℕ, true, false, length, drop, map, is_some, IfOk, IfErr, OnOk, OnErr, replicate, IfSome, IfNone, option_map, slice_set, count_by};
 ghost use Rattle.lc_model.specs.Kept.Executive.{ready_seat};
 ghost use Rattle.lc_model.specs.Services.Bus as model;
 ghost use Rattle.lc_model.specs.Services.Bus.{after, refusal_of, seen, pipe_at, oldest_at, no_pipes, publish_refusal, IsPublished, free_publications};
@@ -9,6 +9,8 @@ ghost use Rattle.packet_bus.specs.declared.error.BusError.TheVariants.{Memory};
 ghost use Rattle.packet_bus.specs.Line.{behind_first, first_slot, has_slots, is_long, slots_in, with_slot};
 ghost use Rattle.packet_bus.specs.Inside.{changed, delivered, nobody, no_lines, place_at, without_packets, without_subscriptions, HaveRoom};
 ghost use Rattle.packet_bus.specs.Filled.{filled};
+ghost use Rattle.packet_bus.specs.Seats.{is_in};
+ghost use Rattle.packet_bus.specs.Slots.{slot_at, used_slots};
 
 use crate::BusError;
 use crate::header::checked_message_id;
@@ -87,42 +89,67 @@ fn deliver_to(seat: Seat, slot: u16, places: &mut Vec<Place>, full: &mut SeatSet
     }
 }
 
-/// The same on each of these seats.
+/// Keeps a packet for these seats, whose pipes have room, and puts its slot behind what waits there. Answers the slot.
 #[inline(never)]
-fn deliver_to_each(hearers: &SeatSet, slot: u16, places: &mut Vec<Place>, full: &mut SeatSet)
+fn deliver_to_each(
+    hearers: &SeatSet,
+    packet: &[u8],
+    pool: &mut Pool,
+    places: &mut Vec<Place>,
+    full: &mut SeatSet,
+) -> u16
     requires eight { length places.old.items ≡ 8 }
+    requires some { 0 < count_by is_in hearers.now }
     requires room { HaveRoom hearers.now places.old.items }
     requires full { full.old ≡ map is_long places.old.items }
-    ensures places { places.new.items ≡ delivered slot hearers.now places.old.items }
+    requires left { used_slots pool.old < 576 }
+    requires fits { length packet.now ≤ 2048 }
+    ensures within { result < length pool.old }
+    ensures free { (slot_at pool.old result).readers ≡ 0 }
+    ensures pool { pool.new ≡ slice_set pool.old result record { packet = packet.now; readers = count_by is_in hearers.now } }
+    ensures places { places.new.items ≡ delivered result hearers.now places.old.items }
     ensures full { full.new ≡ map is_long places.new.items }
 {
+    let slot = pool.reserve(hearers.count());
     let mut left = hearers.copy();
     while let Some(seat) = left.pop_least() {
         deliver_to(seat, slot, places, full);
     }
+    pool.put(slot, packet);
+    slot
 }
 
 /// The same, with what is ready. Most packets have one hearer.
 fn deliver(
     hearers: &SeatSet,
-    slot: u16,
+    packet: &[u8],
+    pool: &mut Pool,
     places: &mut Vec<Place>,
     ready: &mut SeatSet,
     full: &mut SeatSet,
-)
+) -> u16
     requires eight { length places.old.items ≡ 8 }
+    requires some { 0 < count_by is_in hearers.now }
     requires room { HaveRoom hearers.now places.old.items }
     requires ready { ready.old ≡ map has_slots places.old.items }
     requires full { full.old ≡ map is_long places.old.items }
-    ensures places { places.new.items ≡ delivered slot hearers.now places.old.items }
+    requires left { used_slots pool.old < 576 }
+    requires fits { length packet.now ≤ 2048 }
+    ensures within { result < length pool.old }
+    ensures free { (slot_at pool.old result).readers ≡ 0 }
+    ensures pool { pool.new ≡ slice_set pool.old result record { packet = packet.now; readers = count_by is_in hearers.now } }
+    ensures places { places.new.items ≡ delivered result hearers.now places.old.items }
     ensures ready { ready.new ≡ map has_slots places.new.items }
     ensures full { full.new ≡ map is_long places.new.items }
 {
     ready.add(hearers);
-    match hearers.only() {
-        Some(seat) => deliver_to(seat, slot, places, full),
-        None => deliver_to_each(hearers, slot, places, full),
-    }
+    let Some(seat) = hearers.only() else {
+        return deliver_to_each(hearers, packet, pool, places, full);
+    };
+    let slot = pool.reserve(1);
+    deliver_to(seat, slot, places, full);
+    pool.put(slot, packet);
+    slot
 }
 
 /// Takes the oldest slot that waits on a seat, if one does.
@@ -247,17 +274,15 @@ impl Bus {
         if hearers.meets(&self.full) {
             return Err(BusError::PipeFull);
         }
-        let readers = hearers.count();
-        if readers > 0 {
-            let slot = self.pool.reserve(readers);
+        if !hearers.is_empty() {
             deliver(
                 &hearers,
-                slot,
+                packet,
+                &mut self.pool,
                 &mut self.places,
                 &mut self.ready,
                 &mut self.full,
             );
-            self.pool.put(slot, packet);
         }
         Ok(())
     }

@@ -89,6 +89,12 @@ impl SeatSet {
         self.bits |= others.bits;
     }
 
+    pub fn is_empty(&self) -> bool
+        ensures { result ≡ (count_by is_in self.now == 0) }
+    {
+        self.bits == 0
+    }
+
     /// How many seats there are.
     pub fn count(&self) -> u8
         ensures { result ≡ count_by is_in self.now }

@@ -5,6 +5,7 @@ use Rattle.packet_bus.specs.Seats.{is_in}
 use Rattle.packet_bus.specs.Line.{Line, with_slot}
 use Rattle.packet_bus.specs.Inside.{place_at, delivered, HaveRoom}
 use Rattle.packet_bus.proofs.Delivered.{is_left, left_within, none_left, fewer_left, delivered_on, room_left}
+use Rattle.packet_bus.proofs.Published.{kept_then}
 use Rattle.packet_bus.proofs.bus.deliver_to_each.Goals as goal
 
 pub deliver_to-requires-clause-open : goal.deliver_to-requires-clause-open
@@ -30,9 +31,9 @@ loop-seat-preserved c =
     let places = c.loop-seat.places.items in
     let next : position_from is_in 0 left ≡ Some seat = sym c.pop_least.ensures.least ∙ c.in-Some.is in
     let there = is_left seat left next in
-    let new = option_map (with_slot c.args.slot) (place_at places seat) in
+    let new = option_map (with_slot c.reserve-slot.result) (place_at places seat) in
     record {
-      whole = ap₂ (delivered c.args.slot) c.in-Some.ensures.after c.deliver_to.ensures.places ∙ delivered_on c.args.slot seat left places there ∙ kept.whole;
+      whole = ap₂ (delivered c.reserve-slot.result) c.in-Some.ensures.after c.deliver_to.ensures.places ∙ delivered_on c.reserve-slot.result seat left places there ∙ kept.whole;
       eight = ap length c.deliver_to.ensures.places ∙ length-set places seat new ∙ kept.eight;
       seats = ap length c.in-Some.ensures.after ∙ length-set left seat false ∙ kept.seats;
       room = rw (c.in-Some.ensures.after, c.deliver_to.ensures.places) (room_left seat left places new (left_within seat left next) kept.room);
@@ -41,6 +42,11 @@ loop-seat-preserved c =
 
 pub returns-clause-places : goal.returns-clause-places
 returns-clause-places c =
-    sym (none_left c.args.slot c.loop-seat.left c.loop-seat.places.items (sym c.in_default.ensures.least))
+    sym (none_left c.reserve-slot.result c.loop-seat.left c.loop-seat.places.items (sym c.in_default.ensures.least))
     ∙ c.loop-seat.invariant.whole
-    ∙ ap (λ hearers. delivered c.args.slot hearers c.args.places.now.items) c.copy-left.ensures
+    ∙ ap (λ hearers. delivered c.reserve-slot.result hearers c.args.places.now.items) c.copy-left.ensures
+
+pub returns-clause-pool : goal.returns-clause-pool
+returns-clause-pool c =
+    kept_then _ _ _ _ _ c.args.packet.now c.reserve-slot.ensures.within c.reserve-slot.ensures.after c.put.ensures
+    ∙ ap (λ readers. slice_set c.args.pool.now c.reserve-slot.result (record { packet = c.args.packet.now; readers = readers })) c.count.ensures
