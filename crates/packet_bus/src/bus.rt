@@ -90,28 +90,29 @@ fn deliver_to(seat: Seat, slot: u16, places: &mut Vec<Place>, full: &mut SeatSet
 }
 
 /// Keeps a packet for these seats, whose pipes have room, and puts its slot behind what waits there. Answers the slot.
+#[cold]
 #[inline(never)]
 fn deliver_to_each(
-    hearers: &SeatSet,
+    hearers: SeatSet,
     packet: &[u8],
     pool: &mut Pool,
     places: &mut Vec<Place>,
     full: &mut SeatSet,
 ) -> u16
     requires eight { length places.old.items ≡ 8 }
-    requires some { 0 < count_by is_in hearers.now }
-    requires room { HaveRoom hearers.now places.old.items }
+    requires some { 0 < count_by is_in hearers }
+    requires room { HaveRoom hearers places.old.items }
     requires full { full.old ≡ map is_long places.old.items }
     requires left { used_slots pool.old < 576 }
     requires fits { length packet.now ≤ 2048 }
     ensures within { result < length pool.old }
     ensures free { (slot_at pool.old result).readers ≡ 0 }
-    ensures pool { pool.new ≡ slice_set pool.old result record { packet = packet.now; readers = count_by is_in hearers.now } }
-    ensures places { places.new.items ≡ delivered result hearers.now places.old.items }
+    ensures pool { pool.new ≡ slice_set pool.old result record { packet = packet.now; readers = count_by is_in hearers } }
+    ensures places { places.new.items ≡ delivered result hearers places.old.items }
     ensures full { full.new ≡ map is_long places.new.items }
 {
     let slot = pool.reserve(hearers.count());
-    let mut left = hearers.copy();
+    let mut left = hearers;
     while let Some(seat) = left.pop_least() {
         deliver_to(seat, slot, places, full);
     }
@@ -121,7 +122,7 @@ fn deliver_to_each(
 
 /// The same, with what is ready. Most packets have one hearer.
 fn deliver(
-    hearers: &SeatSet,
+    hearers: SeatSet,
     packet: &[u8],
     pool: &mut Pool,
     places: &mut Vec<Place>,
@@ -129,20 +130,20 @@ fn deliver(
     full: &mut SeatSet,
 ) -> u16
     requires eight { length places.old.items ≡ 8 }
-    requires some { 0 < count_by is_in hearers.now }
-    requires room { HaveRoom hearers.now places.old.items }
+    requires some { 0 < count_by is_in hearers }
+    requires room { HaveRoom hearers places.old.items }
     requires ready { ready.old ≡ map has_slots places.old.items }
     requires full { full.old ≡ map is_long places.old.items }
     requires left { used_slots pool.old < 576 }
     requires fits { length packet.now ≤ 2048 }
     ensures within { result < length pool.old }
     ensures free { (slot_at pool.old result).readers ≡ 0 }
-    ensures pool { pool.new ≡ slice_set pool.old result record { packet = packet.now; readers = count_by is_in hearers.now } }
-    ensures places { places.new.items ≡ delivered result hearers.now places.old.items }
+    ensures pool { pool.new ≡ slice_set pool.old result record { packet = packet.now; readers = count_by is_in hearers } }
+    ensures places { places.new.items ≡ delivered result hearers places.old.items }
     ensures ready { ready.new ≡ map has_slots places.new.items }
     ensures full { full.new ≡ map is_long places.new.items }
 {
-    ready.add(hearers);
+    ready.add(&hearers);
     let Some(seat) = hearers.only() else {
         return deliver_to_each(hearers, packet, pool, places, full);
     };
@@ -276,7 +277,7 @@ impl Bus {
         }
         if !hearers.is_empty() {
             deliver(
-                &hearers,
+                hearers,
                 packet,
                 &mut self.pool,
                 &mut self.places,

@@ -63,8 +63,9 @@ impl Slot {
         ensures size { result ≡ length self.now.packet }
         ensures buffer { buffer.new ≡ self.now.packet ++ drop (length self.now.packet) buffer.old }
     {
-        buffer[..self.size].copy_from_slice(&self.bytes[..self.size]);
-        self.size
+        let size = self.size;
+        buffer[..size].copy_from_slice(&self.bytes[..size]);
+        size
     }
 
     /// One pipe less waits for the packet. Answers whether none does.

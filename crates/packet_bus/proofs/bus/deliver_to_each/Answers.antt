@@ -44,7 +44,6 @@ pub returns-clause-places : goal.returns-clause-places
 returns-clause-places c =
     sym (none_left c.reserve-slot.result c.loop-seat.left c.loop-seat.places.items (sym c.in_default.ensures.least))
     ∙ c.loop-seat.invariant.whole
-    ∙ ap (λ hearers. delivered c.reserve-slot.result hearers c.args.places.now.items) c.copy-left.ensures
 
 pub returns-clause-pool : goal.returns-clause-pool
 returns-clause-pool c =
