@@ -196,7 +196,7 @@ module _ (places : List (Option Line)) (pool : List Kept) (audience : List (List
       short = rw are (each_place (λ place. length (slots_in place) ≤ 72) places seat behind in_places (omega (arith, shorter)) bus.short);
       rows = bus.rows;
       heard = λ mid less.
-      bus.heard mid less ∙ sym (map-set_same (hears_mid mid) places seat behind None (ap (list_any (λ other. mid == other)) mids_kept)) ∙ ap (map (hears_mid mid)) (sym are);
+          bus.heard mid less ∙ sym (map-set_same (hears_mid mid) places seat behind None (ap (list_any (λ other. mid == other)) mids_kept)) ∙ ap (map (hears_mid mid)) (sym are);
       waits = waits;
       is_full = long;
     }

@@ -1,7 +1,7 @@
 //! The headers of space packets (CCSDS 133.0-B; cFE user's guide, message headers).
 
-ghost use Rattle.std.specs.Prelude.{◌≡◌, false, is_none, Some, IfOk};
-ghost use Rattle.lc_model.specs.Packet.{header_fault, message_id};
+ghost use Rattle.std.specs.Prelude.{◌≡◌, ◌≤◌, ◌==◌, false, is_none, length, Some, IfOk};
+ghost use Rattle.lc_model.specs.Packet.{header_fault, message_id, sequence_flags};
 ghost use Rattle.packet_bus.specs.Header.{fault_number, fault_in, header_of, header_size};
 
 use lc_model::{packet, u16_at};
@@ -77,21 +77,30 @@ pub struct Header {
     pub kind: PacketKind,
 }
 
+/// Whether the sequence flags are 3: the packet is whole.
+#[inline]
+fn is_whole(bytes: &[u8]) -> bool
+    requires { 8 ≤ length bytes.now }
+    ensures { result ≡ (sequence_flags bytes.now == 3) }
+{
+    bytes[2] / 64 == 3
+}
+
 /// Whether the bytes are a packet of this profile.
 #[inline]
 fn is_packet(bytes: &[u8]) -> bool
     ensures { result ≡ is_none (header_fault bytes.now) }
 {
     let size = bytes.len();
-    let has_headers =
-        12 <= size && size <= 2048 || 8 <= size && size < 12 && u16_at(bytes, 0) / 4096 % 2 == 1;
+    let has_headers = 12 <= size && size <= 2048
+        || 8 <= size && size < 12 && u16_at(bytes, 0) / 4096 % 2 == 1;
     if !has_headers {
         return false;
     }
     let message_id = u16_at(bytes, 0);
     message_id / 8192 == 0
         && message_id / 2048 % 2 == 1
-        && u16_at(bytes, 2) / 16384 == 3
+        && is_whole(bytes)
         && u16_at(bytes, 4) == (size - 7) as u16
 }
 

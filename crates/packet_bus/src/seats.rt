@@ -65,7 +65,11 @@ impl SeatSet {
     pub fn only(&self) -> Option<Seat>
         ensures { result ≡ (if count_by is_in self.now == 1 then position_from is_in 0 self.now else None) }
     {
-        if self.count() == 1 { self.least() } else { None }
+        if self.count() == 1 {
+            self.least()
+        } else {
+            None
+        }
     }
 
     /// The least seat, which leaves the set.

@@ -13,13 +13,15 @@ returns-clause-ready c =
     let below : at < length places = omega (arith, c.index.ensures.below, c.requires.eight) in
     let old = c.index_mut-place.result.now in
     let place : old ≡ place_at places at = is_place_at places at old below c.index_mut-place.ensures.value in
-    elim c.if-not-is_ready.branch [ then-not-is_ready w ↦
-      w.ready-is
-      ∙ set_then has_slots places c.args.seat at c.args.ready.now w.remove.new.self c.pop.new.self false c.index.ensures.value c.requires.ready (sym w.if-not-is_ready.ensures) w.remove.ensures
-    | else-not-is_ready w ↦
-      w.ready-is
-      ∙ set_same has_slots places at c.args.ready.now c.pop.new.self c.requires.ready
-      (sym w.if-not-is_ready.ensures ∙ sym (has_first c.in_ok-slot.slot (place_at places at) (ap first_slot (sym place) ∙ sym c.pop.ensures.slot ∙ c.in_ok-slot.was))) ]
+    elim c.if-not-is_ready.branch [
+      | then-not-is_ready w ↦
+          w.ready-is
+          ∙ set_then has_slots places c.args.seat at c.args.ready.now w.remove.new.self c.pop.new.self false c.index.ensures.value c.requires.ready (sym w.if-not-is_ready.ensures) w.remove.ensures
+      | else-not-is_ready w ↦
+          w.ready-is
+          ∙ set_same has_slots places at c.args.ready.now c.pop.new.self c.requires.ready
+          (sym w.if-not-is_ready.ensures ∙ sym (has_first c.in_ok-slot.slot (place_at places at) (ap first_slot (sym place) ∙ sym c.pop.ensures.slot ∙ c.in_ok-slot.was)))
+    ]
 
 pub returns-clause-full : goal.returns-clause-full
 returns-clause-full c =
