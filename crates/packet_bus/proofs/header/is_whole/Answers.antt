@@ -1,4 +1,4 @@
-use Rattle.std.proofs.Common.{◌≡◌, ◌∙◌, ap, ℕ, ◌+◌, ◌*◌, ◌/◌, ◌<◌, ◌≤◌, ◌==◌, List, [], ◌∷◌, length, arith}
+use Rattle.std.proofs.Common.{◌≡◌, ◌∙◌, ap, ℕ, ◌+◌, ◌*◌, ◌/◌, ◌<◌, ◌≤◌, ◌==◌, List, [], ◌∷◌, length, arith, rules}
 use Rattle.std.specs.Prelude.{slice_index}
 use Rattle.lc_model.specs.Packet.{sequence_flags}
 use Rattle.packet_bus.proofs.header.is_whole.Goals as goal
@@ -15,4 +15,4 @@ flags_are (a ∷ b ∷ c ∷ []) long byte = absurd (omega arith)
 flags_are (a ∷ b ∷ c ∷ d ∷ bytes) long byte = high_bits c d byte
 
 pub returns : goal.returns
-returns c = ap (λ flags. flags == 3) (flags_are c.args.bytes.now (omega (arith, c.requires)) (c.type_inv.bytes 3))
+returns c = ap (λ flags. flags == 3) (flags_are c.args.bytes.now (omega (arith, c.requires)) (search rules))
