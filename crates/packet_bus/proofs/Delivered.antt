@@ -1,13 +1,12 @@
 -- How a slot is put behind what waits on several seats, one seat after the other.
-use Rattle.std.proofs.Common.{◌≡◌, ◌≢◌, ◌∙◌, ap, ap₂, sym, refl, ℕ, zero, suc, ◌+◌, ◌<◌, ◌≤◌, ◌==◌, Bool, true, false, not, ◌||◌, List, [], ◌∷◌, ◌++◌, length, map, arith, length-set, count_by}
+use Rattle.std.proofs.Common.{◌≡◌, ◌≢◌, ◌∙◌, ap, ap₂, sym, refl, ℕ, zero, suc, ◌+◌, ◌<◌, ◌==◌, Bool, true, false, not, ◌||◌, List, [], ◌∷◌, ◌++◌, length, map, arith, count_by}
 use Rattle.std.specs.Prelude.{Option, Some, None, option_map, slice_set, slice_index_or, is_some, if◌then◌else◌}
 use Rattle.std.specs.List.{position_from}
-use Rattle.std.proofs.lemmas.List.{map-set, get_or-set_same, get_or-set_other}
+use Rattle.std.proofs.lemmas.List.{get_or-set_same, get_or-set_other}
 use Rattle.std.proofs.lemmas.List.Sums.{sum_by-set}
-use Rattle.std.proofs.Math.Seq.{map-set_same}
 use Rattle.packet_bus.proofs.Places.{sum_by_cons}
 use Rattle.packet_bus.specs.Seats.{is_in, together}
-use Rattle.packet_bus.specs.Line.{Line, slots_in, with_slot, has_slots, is_long}
+use Rattle.packet_bus.specs.Line.{Line, with_slot, has_slots, is_long}
 use Rattle.packet_bus.specs.Inside.{place_at, delivered, HaveRoom}
 
 -- ---- the seats that are left

@@ -1,12 +1,12 @@
 -- The parts of the bus, where one place changes.
-use Rattle.std.proofs.Common.{◌≡◌, ◌≢◌, ◌∙◌, ap, ap₂, sym, refl, ℕ, suc, ◌+◌, ◌-◌, ◌<◌, ◌≤◌, ◌==◌, Bool, true, false, not, List, [], ◌∷◌, ◌++◌, length, map, drop, arith, length-set, length-drop, zero-add}
+use Rattle.std.proofs.Common.{◌≡◌, ◌≢◌, ◌∙◌, ap, ap₂, sym, refl, ℕ, suc, ◌+◌, ◌<◌, ◌≤◌, ◌==◌, Bool, true, false, not, List, [], ◌∷◌, ◌++◌, length, map, drop, arith, length-set, zero-add}
 use Rattle.std.specs.Prelude.{Option, Some, None, option_map, slice_set, slice_index_or, slice_get, if◌then◌else◌, is_some}
 use Rattle.std.specs.List.{sum_by, list_any}
 use Rattle.std.proofs.lemmas.List.{map-set, set-get_or, get_or-set_same, get_or-set_other, get_or-map, get_or_default}
 use Rattle.std.proofs.lemmas.List.Sums.{sum_by-append, sum_by-set}
 use Rattle.std.proofs.lemmas.Grind.{common_steps}
 use Rattle.std.proofs.Math.Seq.{map-set_same}
-use Rattle.lc_model.specs.Services.Bus.{Publication, Queue, Bus, pipe_at, without_oldest, parted}
+use Rattle.lc_model.specs.Services.Bus.{Publication, Queue, Bus, pipe_at, without_oldest}
 use Rattle.packet_bus.specs.Slots.{Kept, slot_at, no_packet, occurrences, released}
 use Rattle.packet_bus.specs.Line.{Line, slots_in, mids_in, first_slot, behind_first, has_slots, is_long, hears_mid}
 use Rattle.packet_bus.specs.Inside.{publication_in, queue_over, shown, place_at, waiting_slots, audience_of, IsBus, changed}

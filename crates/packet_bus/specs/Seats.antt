@@ -1,5 +1,5 @@
 -- Sets of seats, in the bits of a byte: seat 0 is the lowest bit.
-use Rattle.std.specs.Prelude.{ℕ, ◌==◌, Bool, true, false, ◌&&◌, ◌||◌, List, [], ◌∷◌, map}
+use Rattle.std.specs.Prelude.{ℕ, ◌==◌, Bool, false, ◌&&◌, ◌||◌, List, [], ◌∷◌, map}
 use Rattle.std.specs.Int.{bit_at}
 
 -- whether a seat is in a set, where that is said of each

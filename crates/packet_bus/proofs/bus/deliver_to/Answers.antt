@@ -1,6 +1,6 @@
-use Rattle.std.proofs.Common.{◌≡◌, ◌∙◌, ap, sym, ℕ, ◌<◌, arith, true, false, length}
-use Rattle.std.specs.Prelude.{Option, is_some, slice_set, option_map}
-use Rattle.packet_bus.specs.Line.{Line, is_long, with_slot}
+use Rattle.std.proofs.Common.{◌∙◌, ap, sym, ◌<◌, arith, true, length}
+use Rattle.std.specs.Prelude.{is_some}
+use Rattle.packet_bus.specs.Line.{is_long}
 use Rattle.packet_bus.specs.Inside.{place_at}
 use Rattle.packet_bus.proofs.Places.{is_place_at, set_then, set_same}
 use Rattle.packet_bus.proofs.bus.deliver_to.Goals as goal

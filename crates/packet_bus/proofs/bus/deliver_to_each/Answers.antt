@@ -1,9 +1,9 @@
-use Rattle.std.proofs.Common.{◌≡◌, ◌∙◌, ap, ap₂, sym, ℕ, List, Bool, false, length, length-set}
-use Rattle.std.specs.Prelude.{Option, Some, slice_set, option_map}
+use Rattle.std.proofs.Common.{◌≡◌, ◌∙◌, ap, ap₂, sym, false, length, length-set}
+use Rattle.std.specs.Prelude.{Some, slice_set, option_map}
 use Rattle.std.specs.List.{position_from}
 use Rattle.packet_bus.specs.Seats.{is_in}
-use Rattle.packet_bus.specs.Line.{Line, with_slot}
-use Rattle.packet_bus.specs.Inside.{place_at, delivered, HaveRoom}
+use Rattle.packet_bus.specs.Line.{with_slot}
+use Rattle.packet_bus.specs.Inside.{place_at, delivered}
 use Rattle.packet_bus.proofs.Delivered.{is_left, left_within, none_left, fewer_left, delivered_on, room_left}
 use Rattle.packet_bus.proofs.Published.{kept_then}
 use Rattle.packet_bus.proofs.bus.deliver_to_each.Goals as goal

@@ -1,4 +1,4 @@
-use Rattle.std.proofs.Common.{◌≡◌, ℕ, length, map, count_by}
+use Rattle.std.proofs.Common.{◌≡◌, length, map, count_by}
 use Rattle.packet_bus.specs.Seats.{is_in}
 use Rattle.packet_bus.specs.Line.{is_long}
 use Rattle.packet_bus.specs.Inside.{delivered, HaveRoom}

@@ -1,6 +1,5 @@
-use Rattle.std.proofs.Common.{◌≡◌, ◌∙◌, ap, sym, ℕ, ◌<◌, ◌≤◌, arith, true, false, length, not}
-use Rattle.std.specs.Prelude.{Option, Some}
-use Rattle.packet_bus.specs.Line.{Line, first_slot, behind_first, has_slots, is_long, slots_in}
+use Rattle.std.proofs.Common.{◌≡◌, ◌∙◌, ap, sym, ◌<◌, ◌≤◌, arith, false, length}
+use Rattle.packet_bus.specs.Line.{first_slot, has_slots, is_long, slots_in}
 use Rattle.packet_bus.specs.Inside.{place_at}
 use Rattle.packet_bus.proofs.Places.{is_place_at, set_then, set_same, has_first, has_room_behind}
 use Rattle.packet_bus.proofs.bus.take_oldest.Goals.{then-not-is_ready, else-not-is_ready}

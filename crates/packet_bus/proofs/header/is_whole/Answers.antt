@@ -1,4 +1,4 @@
-use Rattle.std.proofs.Common.{◌≡◌, ◌∙◌, ap, ℕ, ◌+◌, ◌*◌, ◌/◌, ◌<◌, ◌≤◌, ◌==◌, List, [], ◌∷◌, length, arith, rules}
+use Rattle.std.proofs.Common.{◌≡◌, ap, ℕ, ◌+◌, ◌*◌, ◌/◌, ◌<◌, ◌≤◌, ◌==◌, List, [], ◌∷◌, length, arith, rules}
 use Rattle.std.specs.Prelude.{slice_index}
 use Rattle.lc_model.specs.Packet.{sequence_flags}
 use Rattle.packet_bus.proofs.header.is_whole.Goals as goal

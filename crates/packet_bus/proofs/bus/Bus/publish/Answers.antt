@@ -1,8 +1,6 @@
-use Rattle.std.proofs.Common.{◌≡◌, ◌∙◌, ap, sym, ℕ, List, Bool, arith, count_by}
-use Rattle.lc_model.specs.Packet.{message_id}
+use Rattle.std.proofs.Common.{◌≡◌, ◌∙◌, ap, sym, List, Bool, count_by}
 use Rattle.packet_bus.specs.Seats.{is_in}
-use Rattle.packet_bus.specs.Line.{hears_mid}
-use Rattle.packet_bus.specs.Inside.{delivered, HaveRoom}
+use Rattle.packet_bus.specs.Inside.{delivered}
 use Rattle.packet_bus.proofs.Published.{published_together, is_published, unheard}
 use Rattle.packet_bus.proofs.Publishing.{some_in, none_in, answer_if, hearers_are, blocked, with_room, some_slot}
 use Rattle.packet_bus.proofs.bus.Bus.publish.Goals as goal

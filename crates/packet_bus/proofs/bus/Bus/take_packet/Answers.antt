@@ -1,9 +1,7 @@
-use Rattle.std.proofs.Common.{◌≡◌, ◌∙◌, ap, sym, ℕ, List}
-use Rattle.std.specs.Prelude.{Option, Some}
-use Rattle.lc_model.specs.Services.Bus.{Bus, without_oldest}
-use Rattle.packet_bus.specs.Line.{Line, first_slot}
-use Rattle.packet_bus.specs.Inside.{place_at, shown, changed}
-use Rattle.packet_bus.proofs.Places.{is_slot, waits_here, popped, shown_popped, untouched}
+use Rattle.std.proofs.Common.{◌∙◌, ap, sym}
+use Rattle.lc_model.specs.Services.Bus.{without_oldest}
+use Rattle.packet_bus.specs.Inside.{shown, changed}
+use Rattle.packet_bus.proofs.Places.{is_slot, waits_here, popped, shown_popped}
 use Rattle.packet_bus.proofs.bus.Bus.take_packet.Goals as goal
 
 pub take-requires-clause-within : goal.take-requires-clause-within

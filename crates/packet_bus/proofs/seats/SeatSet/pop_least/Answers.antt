@@ -1,4 +1,4 @@
-use Rattle.std.proofs.Common.{◌≡◌, ◌∙◌, ◌<◌, ap, ap₂, sym, arith, List, Bool, false}
+use Rattle.std.proofs.Common.{◌∙◌, ◌<◌, ap, ap₂, sym, arith, List, Bool, false}
 use Rattle.std.specs.Prelude.{Some, slice_set}
 use Rattle.std.specs.List.{position_from}
 use Rattle.packet_bus.specs.Seats.{is_in}
