@@ -77,13 +77,6 @@ pipe_is pool places bus seat at place below found index view =
     ∙ sym (shown_pipe pool places at below)
     ∙ ap₂ pipe_at index view
 
--- the place that was written
-pub is_written : (places : List (Option Line)) (seat : ℕ) (new place : Option Line) → seat < length places →
-    place ≡ slice_index_or (slice_set places seat new) seat place → place ≡ new
-is_written places seat new place below e =
-    let less : seat < length (slice_set places seat new) = omega (arith, length-set places seat new, below) in
-    is_place_at (slice_set places seat new) seat place less e ∙ get_or-set_same places seat new None below
-
 -- whether there is a pipe, on a place and in the view
 pub has_queue : (pool : List Kept) (place : Option Line) → is_some (option_map (queue_over pool) place) ≡ is_some place
 has_queue pool None = refl
