@@ -1,11 +1,11 @@
 -- The bits of a byte: what is said of sets of seats is computed for each of the 256 bytes.
-use Rattle.std.proofs.Common.{◌≡◌, ◌∙◌, ap, ap₂, sym, refl, subst, ℕ, zero, suc, ◌+◌, ◌*◌, ◌-◌, ◌<◌, ◌≤◌, ◌^◌, ◌%◌, ◌==◌, Bool, true, false, not, ◌&&◌, ◌||◌, List, [], ◌∷◌, arith, bit_and, bit_or, count_by, min}
-use Rattle.std.specs.Prelude.{nat_eq, slice_set, Option, Some, None}
+use Rattle.std.proofs.Common.{◌≡◌, ◌∙◌, ap, refl, ℕ, zero, suc, ◌*◌, ◌-◌, ◌<◌, ◌^◌, ◌%◌, ◌==◌, Bool, true, false, not, ◌&&◌, ◌||◌, List, [], ◌∷◌, arith, bit_and, bit_or, count_by, min, max}
+use Rattle.std.specs.Prelude.{slice_set, Option, Some, None}
 use Rattle.std.specs.List.{list_any, position_from}
 use Rattle.std.specs.Int.{bit_at, trailing_zeros, w8}
-use Rattle.std.proofs.lemmas.Nat.Bits.{bit_at_and, bit_at-lt}
+use Rattle.std.proofs.lemmas.Nat.Bits.{bit_at_and, bit_at_or, bit_at-lt}
 use Rattle.std.proofs.lemmas.Nat.{and_le_l}
-use Rattle.packet_bus.specs.Seats.{is_in, seats_in, meet}
+use Rattle.packet_bus.specs.Seats.{is_in, seats_in, meet, together}
 use lib.Count.{ones, count_trailing_zeros}
 
 -- a test holds of each number below a count
@@ -47,6 +47,16 @@ same_is (false ∷ xs) [] e = cc
 same_is (true ∷ xs) (false ∷ ys) e = cc
 same_is (false ∷ xs) (true ∷ ys) e = cc
 
+abbrev is_equal : Bool → Bool → Bool
+is_equal true b = b
+is_equal false b = not b
+
+same_bool : (a b : Bool) → is_equal a b ≡ true → a ≡ b
+same_bool true true e = refl
+same_bool false false e = refl
+same_bool true false e = cc
+same_bool false true e = cc
+
 -- a seat more, and a seat less
 pub seats_with : (bits seat : ℕ) → bits < 256 → seat < 8 → seats_in (bit_or bits (1 * 2 ^ seat % 256)) ≡ slice_set (seats_in bits) seat true
 seats_with bits seat byte eight =
@@ -66,6 +76,9 @@ pub seats_counted : (bits : ℕ) → bits < 256 → ones bits ≡ count_by is_in
 unfolding ones
 seats_counted bits byte = number_is _ _ (each_below (λ b. ones b == count_by is_in (seats_in b)) 256 refl bits byte)
 
+pub no_seats : (bits : ℕ) → bits < 256 → (bits == 0) ≡ (count_by is_in (seats_in bits) == 0)
+no_seats bits byte = same_bool _ _ (each_below (λ b. is_equal (b == 0) (count_by is_in (seats_in b) == 0)) 256 refl bits byte)
+
 -- the least seat
 abbrev is_place : ℕ → Option ℕ → Bool
 is_place n None = false
@@ -84,15 +97,12 @@ least_seat bits byte some =
     let p : ℕ → Bool = λ b. is_place (trailing_zeros w8 b) (position_from is_in 0 (seats_in b)) in
     place_is _ _ (seat_is bits (p bits) some (each_below (λ b. (b == 0) || p b) 256 refl bits byte))
 
-abbrev is_equal : Bool → Bool → Bool
-is_equal true b = b
-is_equal false b = not b
-
-same_bool : (a b : Bool) → is_equal a b ≡ true → a ≡ b
-same_bool true true e = refl
-same_bool false false e = refl
-same_bool true false e = cc
-same_bool false true e = cc
+-- and the others
+pub seats_without_least : (bits : ℕ) → bits < 256 → 0 < bits → seats_in (bit_and bits (bits - 1)) ≡ slice_set (seats_in bits) (trailing_zeros w8 bits) false
+unfolding count_trailing_zeros
+seats_without_least bits byte some =
+    let p : ℕ → Bool = λ b. same (seats_in (bit_and b (b - 1))) (slice_set (seats_in b) (trailing_zeros w8 b) false) in
+    same_is _ _ (seat_is bits (p bits) some (each_below (λ b. (b == 0) || p b) 256 refl bits byte))
 
 -- whether a seat is in both of two sets
 abbrev either : List Bool → Bool
@@ -117,3 +127,13 @@ some_seat bits byte = same_bool _ _ (each_below (λ b. is_equal (not (b == 0)) (
 
 pub sets_meet : (a b : ℕ) → a < 256 → not (bit_and a b == 0) ≡ meet (seats_in a) (seats_in b)
 sets_meet a b byte = let less : bit_and a b < 256 = omega (arith, and_le_l a b) in some_seat (bit_and a b) less ∙ any_in_both a b
+
+-- the seats of two sets
+bit_of_two : (m n : ℕ) → m < 2 → n < 2 → (max m n == 1) ≡ ((m == 1) || (n == 1))
+bit_of_two m n a b = grind (arith, a, b)
+
+in_either : (a b seat : ℕ) → (bit_at (bit_or a b) seat == 1) ≡ ((bit_at a seat == 1) || (bit_at b seat == 1))
+in_either a b seat = rw bit_at_or (bit_of_two (bit_at a seat) (bit_at b seat) (bit_at-lt a seat) (bit_at-lt b seat))
+
+pub seats_together : (a b : ℕ) → seats_in (bit_or a b) ≡ together (seats_in a) (seats_in b)
+seats_together a b = simp (in_either a b) refl

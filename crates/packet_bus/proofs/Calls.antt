@@ -1,8 +1,8 @@
 -- What the calls of the model come to, where it is known whether the seat has a pipe.
-use Rattle.std.proofs.Common.{◌≡◌, ◌∙◌, ap, refl, ℕ, ◌<◌, Bool, true, false, List, [], ◌∷◌, ◌++◌, length, arith}
-use Rattle.std.specs.Prelude.{Option, Some, None, is_some, option_map, slice_set, nat_lt}
-use Rattle.lc_model.specs.Services.Bus.{Queue, Bus, pipe_at, after, with_pipe, new_pipe, pipe_added, pipe_removed, is_subscribed, subscribed, unsubscribed, parted, received, without_oldest}
-use Rattle.packet_bus.specs.Inside.{changed, without_packets, without_subscriptions}
+use Rattle.std.proofs.Common.{◌≡◌, refl, ℕ, ◌<◌, Bool, true, false, List, [], ◌∷◌, ◌++◌, length, arith}
+use Rattle.std.specs.Prelude.{Option, Some, None, is_some, nat_lt}
+use Rattle.lc_model.specs.Services.Bus.{Queue, Bus, pipe_at, after, with_pipe, new_pipe, pipe_added, is_subscribed, subscribed, unsubscribed, parted, received, without_oldest}
+use Rattle.packet_bus.specs.Inside.{changed}
 
 -- a pipe that is new
 pub added_is : (seat : ℕ) (bus : Bus) → is_some (pipe_at seat bus) ≡ false → with_pipe seat bus new_pipe ≡ after bus (pipe_added seat bus)

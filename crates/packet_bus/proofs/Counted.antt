@@ -1,14 +1,13 @@
 -- How many slots are used: as many as there are different numbers that wait.
-use Rattle.std.proofs.Common.{◌≡◌, ◌≢◌, ◌∙◌, ap, ap₂, sym, refl, ℕ, zero, suc, ◌+◌, ◌-◌, ◌*◌, ◌<◌, ◌≤◌, ◌==◌, Bool, true, false, ◌||◌, List, [], ◌∷◌, ◌++◌, length, map, arith, count_by, length-append}
-use Rattle.std.specs.Prelude.{Option, Some, None, option_map, slice_set, slice_index_or, if◌then◌else◌, nat_lt}
-use Rattle.std.specs.List.{list_any, flat_map}
+use Rattle.std.proofs.Common.{◌≡◌, ◌≢◌, ◌∙◌, ap, ap₂, sym, refl, ℕ, zero, suc, ◌+◌, ◌*◌, ◌<◌, ◌≤◌, ◌==◌, Bool, true, false, ◌||◌, List, [], ◌∷◌, ◌++◌, length, map, arith, length-append}
+use Rattle.std.specs.Prelude.{Option, Some, None, slice_set, slice_index_or, if◌then◌else◌, nat_lt}
 use Rattle.std.proofs.lemmas.List.{get_or-set_same, get_or-set_other}
 use Rattle.std.proofs.lemmas.List.Sums.{sum_by-set}
 use Rattle.std.proofs.lemmas.Grind.{common_steps}
-use Rattle.lc_model.specs.Services.Bus.{Publication, Queue, Bus, numbers_in, waiting_numbers, is_among, distinct_count}
+use Rattle.lc_model.specs.Services.Bus.{Publication, waiting_numbers, is_among, distinct_count}
 use Rattle.packet_bus.specs.Slots.{Kept, slot_at, no_packet, occurrences, used_slots, is_used, released}
 use Rattle.packet_bus.specs.Line.{Line, slots_in}
-use Rattle.packet_bus.specs.Inside.{publication_in, queue_over, shown, waiting_slots}
+use Rattle.packet_bus.specs.Inside.{publication_in, shown, waiting_slots}
 use Rattle.packet_bus.proofs.Places.{occurs_cons, sum_by_cons}
 
 -- ---- the numbers that wait are the slots

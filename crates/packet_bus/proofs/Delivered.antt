@@ -1,12 +1,12 @@
 -- How a slot is put behind what waits on several seats, one seat after the other.
-use Rattle.std.proofs.Common.{◌≡◌, ◌≢◌, ◌∙◌, ap, sym, refl, ℕ, zero, suc, ◌+◌, ◌<◌, ◌≤◌, ◌==◌, Bool, true, false, not, List, [], ◌∷◌, ◌++◌, length, map, arith, length-set, count_by}
+use Rattle.std.proofs.Common.{◌≡◌, ◌≢◌, ◌∙◌, ap, ap₂, sym, refl, ℕ, zero, suc, ◌+◌, ◌<◌, ◌==◌, Bool, true, false, not, ◌||◌, List, [], ◌∷◌, ◌++◌, length, map, arith, count_by}
 use Rattle.std.specs.Prelude.{Option, Some, None, option_map, slice_set, slice_index_or, is_some, if◌then◌else◌}
 use Rattle.std.specs.List.{position_from}
-use Rattle.std.proofs.lemmas.List.{map-set, get_or-set_same, get_or-set_other}
+use Rattle.std.proofs.lemmas.List.{get_or-set_same, get_or-set_other}
 use Rattle.std.proofs.lemmas.List.Sums.{sum_by-set}
-use Rattle.std.proofs.Math.Seq.{map-set_same}
-use Rattle.packet_bus.specs.Seats.{is_in}
-use Rattle.packet_bus.specs.Line.{Line, slots_in, with_slot, has_slots, is_long}
+use Rattle.packet_bus.proofs.Places.{sum_by_cons}
+use Rattle.packet_bus.specs.Seats.{is_in, together}
+use Rattle.packet_bus.specs.Line.{Line, with_slot, has_slots, is_long}
 use Rattle.packet_bus.specs.Inside.{place_at, delivered, HaveRoom}
 
 -- ---- the seats that are left
@@ -76,14 +76,48 @@ has_one : (slot : ℕ) (place : Option Line) → is_some place ≡ true → has_
 has_one slot None e = cc
 has_one slot (Some line) e = longer line.slots slot
 
-pub ready_then : (slot k : ℕ) (places : List (Option Line)) → is_some (place_at places k) ≡ true →
-    slice_set (map has_slots places) k true ≡ map has_slots (slice_set places k (option_map (with_slot slot) (place_at places k)))
-ready_then slot k places some =
-    ap (slice_set (map has_slots places) k) (sym (has_one slot (place_at places k) some)) ∙ sym (map-set has_slots places k (option_map (with_slot slot) (place_at places k)))
+or_true : (b : Bool) → (b || true) ≡ true
+or_true true = refl
+or_true false = refl
 
-pub full_then : (k : ℕ) (places : List (Option Line)) (new : Option Line) → is_long new ≡ true → slice_set (map is_long places) k true ≡ map is_long (slice_set places k new)
-full_then k places new long = ap (slice_set (map is_long places) k) (sym long) ∙ sym (map-set is_long places k new)
+or_false : (b : Bool) → (b || false) ≡ b
+or_false true = refl
+or_false false = refl
 
-pub full_as_before : (k : ℕ) (places : List (Option Line)) (new : Option Line) → is_long new ≡ false → is_long (place_at places k) ≡ false →
-    map is_long places ≡ map is_long (slice_set places k new)
-full_as_before k places new long old = sym (map-set_same is_long places k new None (long ∙ sym old))
+pub ready_then : (slot : ℕ) (hearers : List Bool) (places : List (Option Line)) → HaveRoom hearers places →
+    together (map has_slots places) hearers ≡ map has_slots (delivered slot hearers places)
+ready_then slot hearers [] room = refl
+ready_then slot [] (place ∷ places) room = refl
+ready_then slot (true ∷ hearers) (place ∷ places) room =
+    ap₂ (λ b bs. b ∷ bs) (or_true (has_slots place) ∙ sym (has_one slot place (room 0 refl).0)) (ready_then slot hearers places (λ seat inside. room (suc seat) inside))
+ready_then slot (false ∷ hearers) (place ∷ places) room =
+    ap₂ (λ b bs. b ∷ bs) (or_false (has_slots place)) (ready_then slot hearers places (λ seat inside. room (suc seat) inside))
+
+-- ---- one seat alone
+
+nobody_from : (i : ℕ) (seats : List Bool) → count_by is_in seats ≡ 0 → position_from is_in i seats ≡ None
+nobody_from i [] none = refl
+nobody_from i (true ∷ seats) none = absurd (omega (arith, none, sum_by_cons (λ b. if is_in b then 1 else 0) true seats))
+nobody_from i (false ∷ seats) none =
+    let rest : count_by is_in seats ≡ 0 = omega (arith, none, sum_by_cons (λ b. if is_in b then 1 else 0) false seats) in
+    nobody_from (i + 1) seats rest
+
+by_count : (seats : List Bool) (k : ℕ) (b : Bool) → (count_by is_in seats == 1) ≡ b → Some k ≡ (if b then position_from is_in 0 seats else None) →
+    (count_by is_in seats ≡ 1) × (position_from is_in 0 seats ≡ Some k)
+by_count seats k true is e = (grind (arith, is), sym e)
+by_count seats k false is e = cc
+
+-- the only seat is the least, and the slot is put there alone
+pub only_least : (k : ℕ) (seats : List Bool) → Some k ≡ (if count_by is_in seats == 1 then position_from is_in 0 seats else None) → position_from is_in 0 seats ≡ Some k
+only_least k seats e = (by_count seats k (count_by is_in seats == 1) refl e).1
+
+pub only_one : (k : ℕ) (seats : List Bool) → Some k ≡ (if count_by is_in seats == 1 then position_from is_in 0 seats else None) → count_by is_in seats ≡ 1
+only_one k seats e = (by_count seats k (count_by is_in seats == 1) refl e).0
+
+pub delivered_once : (slot k : ℕ) (seats : List Bool) (places : List (Option Line)) → Some k ≡ (if count_by is_in seats == 1 then position_from is_in 0 seats else None) →
+    slice_set places k (option_map (with_slot slot) (place_at places k)) ≡ delivered slot seats places
+delivered_once slot k seats places e =
+    let one = by_count seats k (count_by is_in seats == 1) refl e in
+    let none : count_by is_in (slice_set seats k false) ≡ 0 = omega (arith, fewer_left k seats one.1, one.0) in
+    sym (none_left slot (slice_set seats k false) (slice_set places k (option_map (with_slot slot) (place_at places k))) (nobody_from 0 (slice_set seats k false) none))
+    ∙ delivered_on slot k seats places (is_left k seats one.1)

@@ -1,10 +1,10 @@
 -- A pipe that loses its packets and its subscriptions, one after the other.
-use Rattle.std.proofs.Common.{◌≡◌, ◌∙◌, ap, ap₂, sym, refl, ℕ, zero, suc, ◌<◌, ◌≤◌, ◌==◌, Bool, true, false, not, List, [], ◌∷◌, length, drop, filter, map, arith, length-set}
-use Rattle.std.specs.Prelude.{Option, Some, None, option_map, slice_set, slice_get, slice_index_or, is_some, cond}
+use Rattle.std.proofs.Common.{◌≡◌, ◌∙◌, ap, ap₂, sym, refl, ℕ, zero, suc, ◌<◌, ◌≤◌, ◌==◌, Bool, true, false, not, List, [], ◌∷◌, length, drop, filter, map, arith}
+use Rattle.std.specs.Prelude.{Option, Some, None, option_map, slice_set, slice_get, is_some, cond}
 use Rattle.std.proofs.lemmas.List.{get_or-set_same, set-get_or}
 use Rattle.lc_model.specs.Services.Bus.{Publication, Queue, Bus, new_pipe, pipe_at, oldest, oldest_at, without_oldest, parted, after, pipe_removed}
 use Rattle.packet_bus.specs.Slots.{Kept}
-use Rattle.packet_bus.specs.Line.{Line, new_line, first_mid, mids_in}
+use Rattle.packet_bus.specs.Line.{Line, new_line, mids_in}
 use Rattle.packet_bus.specs.Inside.{publication_in, queue_over, changed, without_packets, without_subscriptions}
 
 -- written twice

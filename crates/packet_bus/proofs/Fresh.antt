@@ -1,9 +1,9 @@
 -- A bus without pipes.
-use Rattle.std.proofs.Common.{◌≡◌, ◌∙◌, ap, sym, refl, ℕ, zero, suc, ◌+◌, ◌<◌, ◌≤◌, Bool, false, List, [], ◌∷◌, length, map, replicate, arith}
-use Rattle.std.specs.Prelude.{Option, Some, None, slice_index_or}
-use Rattle.packet_bus.specs.Slots.{Kept, slot_at, no_packet, no_slots, occurrences}
-use Rattle.packet_bus.specs.Line.{Line, slots_in, has_slots, is_long, hears_mid}
-use Rattle.packet_bus.specs.Inside.{no_lines, nobody, place_at, waiting_slots, audience_of, IsBus}
+use Rattle.std.proofs.Common.{◌≡◌, ◌∙◌, ap, sym, refl, ℕ, zero, suc, length, map, replicate, arith}
+use Rattle.std.specs.Prelude.{None, slice_index_or}
+use Rattle.packet_bus.specs.Slots.{Kept, slot_at, no_packet}
+use Rattle.packet_bus.specs.Line.{hears_mid}
+use Rattle.packet_bus.specs.Inside.{no_lines, nobody, place_at, audience_of, IsBus}
 
 -- what is the same everywhere is so at each place, and beyond
 same_at : {X : Type 0} (n k : ℕ) (x : X) → slice_index_or (replicate n x) k x ≡ x

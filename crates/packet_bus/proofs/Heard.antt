@@ -1,5 +1,5 @@
 -- Who hears a message id, where the subscriptions of one seat change.
-use Rattle.std.proofs.Common.{◌≡◌, ◌≢◌, ◌∙◌, ap, sym, refl, ℕ, ◌<◌, ◌≤◌, ◌==◌, Bool, true, false, not, ◌&&◌, ◌||◌, List, [], ◌∷◌, ◌++◌, length, map, filter, arith, length-set}
+use Rattle.std.proofs.Common.{◌≡◌, ◌≢◌, ◌∙◌, ap, sym, refl, ℕ, ◌<◌, ◌==◌, Bool, true, false, not, ◌&&◌, ◌||◌, List, [], ◌∷◌, ◌++◌, length, filter, arith, length-set}
 use Rattle.std.specs.Prelude.{Option, Some, None, option_map, slice_set, slice_index_or, is_some}
 use Rattle.std.specs.List.{list_any}
 use Rattle.std.proofs.lemmas.List.{map-set, get_or-set_same, get_or-set_other, get_or_default}
@@ -7,9 +7,9 @@ use Rattle.std.proofs.lemmas.List.Folds.{list_any-append}
 use Rattle.std.proofs.lemmas.Map.Views.{any-filter_same}
 use Rattle.std.proofs.Math.Seq.{map-set_same}
 use Rattle.packet_bus.specs.Slots.{Kept}
-use Rattle.packet_bus.specs.Line.{Line, slots_in, mids_in, hears_mid, with_subscription, without_subscription}
+use Rattle.packet_bus.specs.Line.{Line, slots_in, hears_mid, with_subscription, without_subscription}
 use Rattle.packet_bus.specs.Inside.{place_at, audience_of, nobody, IsBus}
-use Rattle.packet_bus.proofs.Places.{in_places, resubscribed}
+use Rattle.packet_bus.proofs.Places.{resubscribed}
 
 -- ---- one list of subscriptions
 

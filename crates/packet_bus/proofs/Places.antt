@@ -1,12 +1,12 @@
 -- The parts of the bus, where one place changes.
-use Rattle.std.proofs.Common.{◌≡◌, ◌≢◌, ◌∙◌, ap, ap₂, sym, refl, ℕ, suc, ◌+◌, ◌-◌, ◌<◌, ◌≤◌, ◌==◌, Bool, true, false, not, List, [], ◌∷◌, ◌++◌, length, map, drop, arith, length-set, length-drop, zero-add}
+use Rattle.std.proofs.Common.{◌≡◌, ◌≢◌, ◌∙◌, ap, ap₂, sym, refl, ℕ, suc, ◌+◌, ◌<◌, ◌≤◌, ◌==◌, Bool, true, false, not, List, [], ◌∷◌, ◌++◌, length, map, drop, arith, length-set, zero-add}
 use Rattle.std.specs.Prelude.{Option, Some, None, option_map, slice_set, slice_index_or, slice_get, if◌then◌else◌, is_some}
 use Rattle.std.specs.List.{sum_by, list_any}
-use Rattle.std.proofs.lemmas.List.{map-set, get_or-set_same, get_or-set_other, get_or-map, get_or_default}
+use Rattle.std.proofs.lemmas.List.{map-set, set-get_or, get_or-set_same, get_or-set_other, get_or-map, get_or_default}
 use Rattle.std.proofs.lemmas.List.Sums.{sum_by-append, sum_by-set}
 use Rattle.std.proofs.lemmas.Grind.{common_steps}
 use Rattle.std.proofs.Math.Seq.{map-set_same}
-use Rattle.lc_model.specs.Services.Bus.{Publication, Queue, Bus, pipe_at, without_oldest, parted}
+use Rattle.lc_model.specs.Services.Bus.{Publication, Queue, Bus, pipe_at, without_oldest}
 use Rattle.packet_bus.specs.Slots.{Kept, slot_at, no_packet, occurrences, released}
 use Rattle.packet_bus.specs.Line.{Line, slots_in, mids_in, first_slot, behind_first, has_slots, is_long, hears_mid}
 use Rattle.packet_bus.specs.Inside.{publication_in, queue_over, shown, place_at, waiting_slots, audience_of, IsBus, changed}
@@ -76,13 +76,6 @@ pipe_is pool places bus seat at place below found index view =
     ap (option_map (queue_over pool)) (is_place_at places at place below found)
     ∙ sym (shown_pipe pool places at below)
     ∙ ap₂ pipe_at index view
-
--- the place that was written
-pub is_written : (places : List (Option Line)) (seat : ℕ) (new place : Option Line) → seat < length places →
-    place ≡ slice_index_or (slice_set places seat new) seat place → place ≡ new
-is_written places seat new place below e =
-    let less : seat < length (slice_set places seat new) = omega (arith, length-set places seat new, below) in
-    is_place_at (slice_set places seat new) seat place less e ∙ get_or-set_same places seat new None below
 
 -- whether there is a pipe, on a place and in the view
 pub has_queue : (pool : List Kept) (place : Option Line) → is_some (option_map (queue_over pool) place) ≡ is_some place
@@ -188,23 +181,21 @@ module _ (places : List (Option Line)) (pool : List Kept) (audience : List (List
             rw at (grind (arith, another))
 
     -- the bus belongs together again
-    pub popped : (ready' full' : List Bool) → ready' ≡ slice_set ready seat (has_slots behind) → full' ≡ slice_set full seat false →
-        IsBus (slice_set places seat behind) pool_after audience ready' full'
-    popped ready' full' waits long = record {
-      eight = length-set places seat behind ∙ bus.eight;
-      readers = λ other. omega (arith, occurs_then other, readers_then other, bus.readers other);
-      short = each_place (λ place. length (slots_in place) ≤ 72) places seat behind in_places (omega (arith, shorter)) bus.short;
+    pub popped : (places' : List (Option Line)) (ready' full' : List Bool) → places' ≡ slice_set places seat behind → ready' ≡ map has_slots places' → full' ≡ map is_long places' →
+        IsBus places' pool_after audience ready' full'
+    popped places' ready' full' are waits long = record {
+      eight = ap length are ∙ length-set places seat behind ∙ bus.eight;
+      readers = λ other. omega (arith, ap (λ (ps : List (Option Line)). occurrences other (waiting_slots ps)) are, occurs_then other, readers_then other, bus.readers other);
+      short = rw are (each_place (λ place. length (slots_in place) ≤ 72) places seat behind in_places (omega (arith, shorter)) bus.short);
       rows = bus.rows;
-      heard = λ mid less. bus.heard mid less ∙ sym (map-set_same (hears_mid mid) places seat behind None (ap (list_any (λ other. mid == other)) mids_kept));
-      waits = waits ∙ ap (λ r. slice_set r seat (has_slots behind)) bus.waits ∙ sym (map-set has_slots places seat behind);
-      is_full = long ∙ ap₂ (λ r b. slice_set r seat b) bus.is_full (sym not_long) ∙ sym (map-set is_long places seat behind);
+      heard = λ mid less.
+          bus.heard mid less ∙ sym (map-set_same (hears_mid mid) places seat behind None (ap (list_any (λ other. mid == other)) mids_kept)) ∙ ap (map (hears_mid mid)) (sym are);
+      waits = waits;
+      is_full = long;
     }
       where
         shorter : length (slots_in behind) < 72
         shorter = let n : length (slots_in (place_at places seat)) ≡ suc (length (slots_in behind)) = ap length slots_are in omega (arith, n, bus.short seat)
-
-        not_long : is_long behind ≡ false
-        not_long = grind (arith, shorter)
 
         by_place : (place : Option Line) → mids_in (option_map behind_first place) ≡ mids_in place
         by_place None = refl
@@ -226,13 +217,61 @@ module _ (places : List (Option Line)) (pool : List Kept) (audience : List (List
         map_behind [] = refl
         map_behind (slot ∷ slots) = refl
 
-    -- a seat with more packets is ready still
-    pub ready_still : has_slots behind ≡ true → ready ≡ slice_set ready seat (has_slots behind)
-    ready_still more =
-        bus.waits
-        ∙ sym (map-set_same has_slots places seat behind None (more ∙ sym old))
-        ∙ map-set has_slots places seat behind
-        ∙ ap (λ r. slice_set r seat (has_slots behind)) (sym bus.waits)
+  -- no slot waits on a seat
+  module _ (none : first_slot (place_at places seat) ≡ None) where
+    same_place : option_map behind_first (place_at places seat) ≡ place_at places seat
+    same_place = by_place (place_at places seat) none
       where
-        old : has_slots (place_at places seat) ≡ true
-        old = let n : length (slots_in (place_at places seat)) ≡ suc (length (slots_in behind)) = ap length slots_are in grind (arith, n)
+        by_slots : (slots : List ℕ) → slice_get slots 0 ≡ None → drop 1 slots ≡ slots
+        by_slots [] e = refl
+        by_slots (slot ∷ slots) e = cc
+
+        by_place : (place : Option Line) → first_slot place ≡ None → option_map behind_first place ≡ place
+        by_place None e = refl
+        by_place (Some line) e = ap (λ slots. Some (record { subscriptions = line.subscriptions; slots = slots })) (by_slots line.slots e)
+
+    pub as_before : slice_set places seat (option_map behind_first (place_at places seat)) ≡ places
+    as_before = ap (slice_set places seat) same_place ∙ set-get_or places seat None
+
+    pub untouched : (places' : List (Option Line)) (ready' full' : List Bool) → places' ≡ slice_set places seat (option_map behind_first (place_at places seat)) →
+        ready' ≡ map has_slots places' → full' ≡ map is_long places' → IsBus places' pool audience ready' full'
+    untouched places' ready' full' are waits long =
+        let same : places' ≡ places = are ∙ as_before in
+        record {
+          eight = ap length same ∙ bus.eight;
+          readers = λ slot. ap (λ (ps : List (Option Line)). occurrences slot (waiting_slots ps)) same ∙ bus.readers slot;
+          short = rw same bus.short;
+          rows = bus.rows;
+          heard = λ mid less. bus.heard mid less ∙ ap (map (hears_mid mid)) (sym same);
+          waits = waits;
+          is_full = long;
+        }
+
+-- ---- sets of seats, where one place changes
+
+-- a set by a test of each place
+pub set_then : (test : Option Line → Bool) (places : List (Option Line)) (seat at : ℕ) (old new : List Bool) (place : Option Line) (b : Bool) → at ≡ seat → old ≡ map test places →
+    test place ≡ b → new ≡ slice_set old seat b → new ≡ map test (slice_set places at place)
+set_then test places seat at old new place b index was is now =
+    now ∙ ap₂ (λ bs k. slice_set bs k b) was (sym index) ∙ ap (slice_set (map test places) at) (sym is) ∙ sym (map-set test places at place)
+
+pub set_same : (test : Option Line → Bool) (places : List (Option Line)) (at : ℕ) (old : List Bool) (place : Option Line) → old ≡ map test places →
+    test place ≡ test (place_at places at) → old ≡ map test (slice_set places at place)
+set_same test places at old place was same = was ∙ sym (map-set_same test places at place None same)
+
+-- a place with a slot is ready, and has room without it
+pub has_first : (slot : ℕ) (place : Option Line) → first_slot place ≡ Some slot → has_slots place ≡ true
+has_first slot None e = cc
+has_first slot (Some line) e = by_slots line.slots e
+  where
+    by_slots : (slots : List ℕ) → slice_get slots 0 ≡ Some slot → not (length slots == 0) ≡ true
+    by_slots [] e = cc
+    by_slots (n ∷ slots) e = grind arith
+
+pub has_room_behind : (slot : ℕ) (place : Option Line) → first_slot place ≡ Some slot → length (slots_in place) ≤ 72 → is_long (option_map behind_first place) ≡ false
+has_room_behind slot None e short = cc
+has_room_behind slot (Some line) e short = by_slots line.slots e short
+  where
+    by_slots : (slots : List ℕ) → slice_get slots 0 ≡ Some slot → length slots ≤ 72 → (length (drop 1 slots) == 72) ≡ false
+    by_slots [] e short = cc
+    by_slots (n ∷ slots) e short = let less : length slots < 72 = omega (arith, short) in grind (arith, less)

@@ -1,15 +1,14 @@
 -- The bus after a publication.
-use Rattle.std.proofs.Common.{◌≡◌, ◌≢◌, ◌∙◌, ap, ap₂, sym, refl, ℕ, zero, suc, ◌+◌, ◌<◌, ◌≤◌, ◌==◌, Bool, true, false, not, ◌&&◌, ◌||◌, List, [], ◌∷◌, ◌++◌, length, map, arith, count_by, length-append}
-use Rattle.std.specs.Prelude.{Option, Some, None, option_map, slice_set, slice_index_or, is_some, if◌then◌else◌, nat_lt}
-use Rattle.std.specs.List.{list_any}
-use Rattle.std.proofs.lemmas.List.{get_or-set_same, get_or-set_other}
+use Rattle.std.proofs.Common.{◌≡◌, ◌≢◌, ◌∙◌, ap, ap₂, sym, refl, ℕ, zero, suc, ◌+◌, ◌<◌, ◌≤◌, ◌==◌, Bool, true, false, List, [], ◌∷◌, ◌++◌, length, map, arith, count_by, length-append}
+use Rattle.std.specs.Prelude.{Option, Some, None, option_map, slice_set, slice_index_or, if◌then◌else◌, nat_lt}
+use Rattle.std.proofs.lemmas.List.{set-set, get_or-set_same, get_or-set_other}
 use Rattle.std.proofs.Math.ListN.{get_or-eq_default}
 use Rattle.lc_model.specs.Packet.{message_id}
-use Rattle.lc_model.specs.Services.Bus.{Publication, Queue, Bus, waiting_numbers, is_among, is_subscribed, offered_as, published_as, IsPublished}
+use Rattle.lc_model.specs.Services.Bus.{Publication, Bus, waiting_numbers, is_among, offered_as, published_as, IsPublished}
 use Rattle.packet_bus.specs.Seats.{is_in}
-use Rattle.packet_bus.specs.Slots.{Kept, slot_at, no_packet, occurrences, used_slots}
-use Rattle.packet_bus.specs.Line.{Line, slots_in, mids_in, with_slot, has_slots, is_long, hears_mid}
-use Rattle.packet_bus.specs.Inside.{publication_in, queue_over, shown, place_at, waiting_slots, audience_of, delivered, HaveRoom, IsBus}
+use Rattle.packet_bus.specs.Slots.{Kept, slot_at, no_packet, occurrences}
+use Rattle.packet_bus.specs.Line.{Line, slots_in, with_slot, has_slots, is_long, hears_mid}
+use Rattle.packet_bus.specs.Inside.{publication_in, queue_over, shown, waiting_slots, delivered, HaveRoom, IsBus}
 use Rattle.packet_bus.proofs.Places.{sum_by_cons, occurs_cons, occurs_append}
 use Rattle.packet_bus.proofs.Counted.{waiting_are, among_occurs}
 
@@ -171,6 +170,19 @@ not_among places pool slot readers free =
 -- beyond the pool there is none either
 pub beyond : (pool : List Kept) → (slot_at pool (length pool)).readers ≡ 0
 beyond pool = ap (λ (it : Kept). it.readers) (get_or-eq_default pool no_packet (omega arith))
+
+-- a slot that is taken, and then filled
+pub kept_then : (pool taken filled : List Kept) (slot readers : ℕ) (packet : List ℕ) → slot < length pool →
+    taken ≡ slice_set pool slot (record { packet = (slot_at pool slot).packet; readers = readers }) →
+    filled ≡ slice_set taken slot (record { packet = packet; readers = (slot_at taken slot).readers }) →
+    filled ≡ slice_set pool slot (record { packet = packet; readers = readers })
+kept_then pool taken filled slot readers packet within first second =
+    let held : (slot_at taken slot).readers ≡ readers =
+    ap (λ (slots : List Kept). (slot_at slots slot).readers) first
+    ∙ ap (λ (kept : Kept). kept.readers) (get_or-set_same pool slot (record { packet = (slot_at pool slot).packet; readers = readers }) no_packet within) in
+    second
+    ∙ ap₂ (λ (slots : List Kept) count. slice_set slots slot (record { packet = packet; readers = count })) first held
+    ∙ set-set pool slot (record { packet = (slot_at pool slot).packet; readers = readers }) (record { packet = packet; readers = readers })
 
 module _ (places : List (Option Line)) (pool : List Kept) (audience : List (List Bool)) (ready full : List Bool) (bus : IsBus places pool audience ready full) (slot : ℕ) (packet : List ℕ)
     (readers : ℕ) (within : slot < length pool) (free : (slot_at pool slot).readers ≡ 0) where

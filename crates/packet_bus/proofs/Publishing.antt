@@ -1,5 +1,5 @@
 -- What a publication finds out before it keeps the packet.
-use Rattle.std.proofs.Common.{◌≡◌, ◌∙◌, ap, ap₂, sym, refl, ℕ, ◌+◌, ◌/◌, ◌<◌, ◌≤◌, ◌==◌, Bool, true, false, not, List, [], ◌∷◌, length, map, arith, count_by}
+use Rattle.std.proofs.Common.{◌≡◌, ◌∙◌, ap, ap₂, sym, refl, ℕ, ◌/◌, ◌<◌, ◌==◌, Bool, true, false, not, List, [], ◌∷◌, length, map, arith, count_by}
 use Rattle.std.specs.Prelude.{Option, Some, None, option_map, slice_index_or, if◌then◌else◌}
 use Rattle.std.specs.Option.{option_or}
 use Rattle.std.proofs.lemmas.List.{get_or_default}
@@ -12,6 +12,13 @@ use Rattle.packet_bus.specs.Line.{Line, slots_in, is_long, hears_mid}
 use Rattle.packet_bus.specs.Inside.{shown, place_at, nobody, HaveRoom, IsBus}
 use Rattle.packet_bus.proofs.Ready.{blocked_is, have_room, one_is_in, length_map}
 use Rattle.packet_bus.proofs.Counted.{slot_left}
+
+-- a count, by a test
+pub some_in : (n : ℕ) → (n == 0) ≡ false → 0 < n
+some_in n e = grind (arith, e)
+
+pub none_in : (n : ℕ) → (n == 0) ≡ true → n ≡ 0
+none_in n e = grind (arith, e)
 
 -- a packet has version 0
 second_test : (a b : Bool) (rest : Option ℕ) → None ≡ (if a then Some 1 else if b then Some 2 else rest) → b ≡ false

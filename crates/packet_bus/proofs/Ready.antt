@@ -1,14 +1,14 @@
 -- Which seats are ready, which hear a packet, and which have no room.
-use Rattle.std.proofs.Common.{◌≡◌, ◌≢◌, ◌∙◌, ap, ap₂, sym, refl, ℕ, zero, suc, ◌+◌, ◌<◌, ◌≤◌, ◌==◌, Bool, true, false, not, ◌&&◌, ◌||◌, List, [], ◌∷◌, ◌++◌, length, map, arith, count_by}
-use Rattle.std.specs.Prelude.{Option, Some, None, option_map, slice_index_or, nat_le, nat_lt, is_some, if◌then◌else◌}
-use Rattle.std.specs.List.{list_any, position_from}
+use Rattle.std.proofs.Common.{◌≡◌, ap, ap₂, refl, ℕ, zero, suc, ◌+◌, ◌<◌, ◌≤◌, ◌==◌, Bool, true, false, not, ◌&&◌, ◌||◌, List, [], ◌∷◌, length, map, arith, count_by}
+use Rattle.std.specs.Prelude.{Option, Some, None, option_map, slice_index_or, is_some, if◌then◌else◌}
+use Rattle.std.specs.List.{position_from}
 use Rattle.lc_model.specs.Packet.{message_id}
 use Rattle.lc_model.specs.Kept.Executive.{ready_seat, is_ready}
-use Rattle.lc_model.specs.Services.Bus.{Publication, Queue, Bus, seen, seen_pipe, hears_packet, is_blocked, is_full}
+use Rattle.lc_model.specs.Services.Bus.{seen, seen_pipe, hears_packet, is_blocked, is_full}
 use Rattle.packet_bus.specs.Seats.{is_in, meet}
 use Rattle.packet_bus.specs.Slots.{Kept}
 use Rattle.packet_bus.specs.Line.{Line, slots_in, has_slots, is_long, hears_mid}
-use Rattle.packet_bus.specs.Inside.{publication_in, queue_over, shown, place_at, HaveRoom}
+use Rattle.packet_bus.specs.Inside.{publication_in, queue_over, shown, HaveRoom}
 use Rattle.packet_bus.proofs.Places.{sum_by_cons}
 
 -- ---- the least seat with a packet

@@ -1,9 +1,9 @@
 -- How slots are taken from the pool.
-use Rattle.std.proofs.Common.{◌≡◌, ◌∙◌, ap, sym, refl, ℕ, ◌+◌, ◌<◌, ◌≤◌, ◌==◌, Bool, true, false, ◌&&◌, List, [], ◌∷◌, ◌++◌, length, arith, count_by, length-append}
-use Rattle.std.specs.Prelude.{nat_lt, if◌then◌else◌, slice_set, slice_index_or}
+use Rattle.std.proofs.Common.{◌≡◌, refl, ℕ, ◌+◌, ◌<◌, ◌==◌, Bool, true, false, ◌&&◌, List, [], ◌∷◌, ◌++◌, length, arith, length-append}
+use Rattle.std.specs.Prelude.{nat_lt, if◌then◌else◌, slice_set}
 use Rattle.std.proofs.lemmas.List.Sums.{sum_by-append, sum_by-set}
 use Rattle.std.proofs.lemmas.Grind.{common_steps}
-use Rattle.packet_bus.specs.Slots.{Kept, slot_at, no_packet, is_used, used_slots, occurrences, IsPool}
+use Rattle.packet_bus.specs.Slots.{Kept, slot_at, no_packet, is_used, occurrences, IsPool}
 
 -- the last of some numbers stands once more in them
 pub last_occurs : (numbers : List ℕ) (n : ℕ) → occurrences n (numbers ++ n ∷ []) ≡ occurrences n numbers + 1

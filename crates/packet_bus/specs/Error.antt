@@ -1,5 +1,5 @@
 -- The numbers of the bus's refusals (this project's own).
-use Rattle.std.specs.Prelude.{ℕ, List, [], ◌∷◌, Option, Some, None, Result, Ok, Err}
+use Rattle.std.specs.Prelude.{ℕ, [], ◌∷◌, Option, Some, None, Result, Ok, Err}
 use Rattle.lc_model.specs.Refusal.{Refusal}
 use Rattle.packet_bus.specs.declared.error.BusError.{BusError}
 use Rattle.packet_bus.specs.declared.error.BusError.TheVariants.{BadPacket, PipeFull, NoPipe, TooManyPipes, TooManySubscriptions, Memory}

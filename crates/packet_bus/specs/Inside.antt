@@ -1,5 +1,5 @@
 -- What the parts of the bus are together (this project's own).
-use Rattle.std.specs.Prelude.{◌≡◌, ℕ, ◌<◌, ◌≤◌, Bool, true, false, if◌then◌else◌, List, [], ◌∷◌, length, map, replicate, slice_index_or, slice_set, Option, Some, None, is_some, option_map}
+use Rattle.std.specs.Prelude.{◌≡◌, ℕ, ◌<◌, ◌≤◌, Bool, true, false, List, [], ◌∷◌, length, map, replicate, slice_index_or, slice_set, Option, None, is_some, option_map}
 use Rattle.std.specs.List.{flat_map}
 use Rattle.lc_model.specs.Services.Bus.{Publication, Queue, Bus, pipe_at}
 use Rattle.packet_bus.specs.Slots.{Kept, slot_at, occurrences}

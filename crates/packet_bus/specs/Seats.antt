@@ -1,5 +1,5 @@
 -- Sets of seats, in the bits of a byte: seat 0 is the lowest bit.
-use Rattle.std.specs.Prelude.{ℕ, ◌==◌, Bool, true, false, ◌&&◌, ◌||◌, List, [], ◌∷◌, map}
+use Rattle.std.specs.Prelude.{ℕ, ◌==◌, Bool, false, ◌&&◌, ◌||◌, List, [], ◌∷◌, map}
 use Rattle.std.specs.Int.{bit_at}
 
 -- whether a seat is in a set, where that is said of each
@@ -15,3 +15,9 @@ abbrev pub meet : List Bool → List Bool → Bool
 meet [] others = false
 meet (inside ∷ seats) [] = false
 meet (inside ∷ seats) (other ∷ others) = (inside && other) || meet seats others
+
+-- the seats of both
+abbrev pub together : List Bool → List Bool → List Bool
+together [] others = []
+together (inside ∷ seats) [] = inside ∷ seats
+together (inside ∷ seats) (other ∷ others) = (inside || other) ∷ together seats others

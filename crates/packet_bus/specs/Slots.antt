@@ -1,5 +1,5 @@
 -- The slots of the pool (this project's own).
-use Rattle.std.specs.Prelude.{◌≡◌, ℕ, ◌+◌, ◌-◌, ◌≤◌, ◌==◌, nat_lt, Bool, ◌&&◌, if◌then◌else◌, List, [], length, replicate, count_by, slice_index_or, slice_set}
+use Rattle.std.specs.Prelude.{◌≡◌, ℕ, ◌+◌, ◌-◌, ◌≤◌, ◌==◌, nat_lt, Bool, ◌&&◌, if◌then◌else◌, List, [], length, replicate, count_by, slice_index_or}
 
 -- a slot: the packet that was put into it, and how many pipes wait for it
 pub record Kept : Type 0 where

@@ -1,14 +1,16 @@
 //! The bus (cFE user's guide, software bus services; the pool is this project's own).
 
-ghost use Rattle.std.specs.Prelude.{◌≡◌, ◌<◌, ◌+◌, ◌++◌, true, false, length, drop, map, is_some, IfOk, IfErr, OnOk, OnErr, replicate, IfSome, IfNone, option_map, slice_set};
+ghost use Rattle.std.specs.Prelude.{◌≡◌, ◌≤◌, ◌<◌, ◌+◌, ◌++◌, ℕ, true, false, length, drop, map, is_some, IfOk, IfErr, OnOk, OnErr, replicate, IfSome, IfNone, option_map, slice_set, count_by};
 ghost use Rattle.lc_model.specs.Kept.Executive.{ready_seat};
 ghost use Rattle.lc_model.specs.Services.Bus as model;
 ghost use Rattle.lc_model.specs.Services.Bus.{after, refusal_of, seen, pipe_at, oldest_at, no_pipes, publish_refusal, IsPublished, free_publications};
 ghost use Rattle.packet_bus.specs.Error.{refusal_in};
 ghost use Rattle.packet_bus.specs.declared.error.BusError.TheVariants.{Memory};
-ghost use Rattle.packet_bus.specs.Line.{has_slots, is_long};
-ghost use Rattle.packet_bus.specs.Inside.{changed, delivered, nobody, no_lines, without_packets, without_subscriptions, HaveRoom};
+ghost use Rattle.packet_bus.specs.Line.{behind_first, first_slot, has_slots, is_long, slots_in, with_slot};
+ghost use Rattle.packet_bus.specs.Inside.{changed, delivered, nobody, no_lines, place_at, without_packets, without_subscriptions, HaveRoom};
 ghost use Rattle.packet_bus.specs.Filled.{filled};
+ghost use Rattle.packet_bus.specs.Seats.{is_in};
+ghost use Rattle.packet_bus.specs.Slots.{slot_at, used_slots};
 
 use crate::BusError;
 use crate::header::checked_message_id;
@@ -73,32 +75,108 @@ fn empty_places(alloc: Global) -> Result<Vec<Place>, AllocError>
     Ok(places)
 }
 
-/// Puts a slot behind what waits on these seats, whose pipes have room.
-fn deliver(
-    slot: u16,
+/// Puts a slot behind what waits on a seat, whose pipe has room.
+fn deliver_to(seat: Seat, slot: u16, places: &mut Vec<Place>, full: &mut SeatSet)
+    requires eight { length places.old.items ≡ 8 }
+    requires open { is_some (place_at places.old.items seat) ≡ true }
+    requires room { is_long (place_at places.old.items seat) ≡ false }
+    requires full { full.old ≡ map is_long places.old.items }
+    ensures places { places.new.items ≡ slice_set places.old.items seat (option_map (with_slot slot) (place_at places.old.items seat)) }
+    ensures full { full.new ≡ map is_long places.new.items }
+{
+    if places[seat.index()].push(slot) {
+        full.insert(seat);
+    }
+}
+
+/// Keeps a packet for these seats, whose pipes have room, and puts its slot behind what waits there. Answers the slot.
+#[cold]
+#[inline(never)]
+fn deliver_to_each(
     hearers: SeatSet,
+    packet: &[u8],
+    pool: &mut Pool,
+    places: &mut Vec<Place>,
+    full: &mut SeatSet,
+) -> u16
+    requires eight { length places.old.items ≡ 8 }
+    requires some { 0 < count_by is_in hearers }
+    requires room { HaveRoom hearers places.old.items }
+    requires full { full.old ≡ map is_long places.old.items }
+    requires left { used_slots pool.old < 576 }
+    requires fits { length packet.now ≤ 2048 }
+    ensures within { result < length pool.old }
+    ensures free { (slot_at pool.old result).readers ≡ 0 }
+    ensures pool { pool.new ≡ slice_set pool.old result record { packet = packet.now; readers = count_by is_in hearers } }
+    ensures places { places.new.items ≡ delivered result hearers places.old.items }
+    ensures full { full.new ≡ map is_long places.new.items }
+{
+    let slot = pool.reserve(hearers.count());
+    let mut left = hearers;
+    while let Some(seat) = left.pop_least() {
+        deliver_to(seat, slot, places, full);
+    }
+    pool.put(slot, packet);
+    slot
+}
+
+/// The same, with what is ready. Most packets have one hearer.
+fn deliver(
+    hearers: SeatSet,
+    packet: &[u8],
+    pool: &mut Pool,
     places: &mut Vec<Place>,
     ready: &mut SeatSet,
     full: &mut SeatSet,
-)
+) -> u16
     requires eight { length places.old.items ≡ 8 }
+    requires some { 0 < count_by is_in hearers }
     requires room { HaveRoom hearers places.old.items }
     requires ready { ready.old ≡ map has_slots places.old.items }
     requires full { full.old ≡ map is_long places.old.items }
-    ensures places { places.new.items ≡ delivered slot hearers places.old.items }
+    requires left { used_slots pool.old < 576 }
+    requires fits { length packet.now ≤ 2048 }
+    ensures within { result < length pool.old }
+    ensures free { (slot_at pool.old result).readers ≡ 0 }
+    ensures pool { pool.new ≡ slice_set pool.old result record { packet = packet.now; readers = count_by is_in hearers } }
+    ensures places { places.new.items ≡ delivered result hearers places.old.items }
     ensures ready { ready.new ≡ map has_slots places.new.items }
     ensures full { full.new ≡ map is_long places.new.items }
 {
-    let mut left = hearers;
-    while let Some(seat) = left.least() {
-        left.remove(seat);
-        let at = seat.index();
-        places[at].push(slot);
-        ready.insert(seat);
-        if places[at].is_full() {
-            full.insert(seat);
-        }
+    ready.add(&hearers);
+    let Some(seat) = hearers.only() else {
+        return deliver_to_each(hearers, packet, pool, places, full);
+    };
+    let slot = pool.reserve(1);
+    deliver_to(seat, slot, places, full);
+    pool.put(slot, packet);
+    slot
+}
+
+/// Takes the oldest slot that waits on a seat, if one does.
+fn take_oldest(
+    seat: Seat,
+    places: &mut Vec<Place>,
+    ready: &mut SeatSet,
+    full: &mut SeatSet,
+) -> Option<u16>
+    requires eight { length places.old.items ≡ 8 }
+    requires short { (seat : ℕ) → length (slots_in (place_at places.old.items seat)) ≤ 72 }
+    requires ready { ready.old ≡ map has_slots places.old.items }
+    requires full { full.old ≡ map is_long places.old.items }
+    ensures slot { result ≡ first_slot (place_at places.old.items seat) }
+    ensures places { places.new.items ≡ slice_set places.old.items seat (option_map behind_first (place_at places.old.items seat)) }
+    ensures ready { ready.new ≡ map has_slots places.new.items }
+    ensures full { full.new ≡ map is_long places.new.items }
+    ensures below { seat < 8 }
+{
+    let place = &mut places[seat.index()];
+    let slot = place.pop()?;
+    if !place.is_ready() {
+        ready.remove(seat);
     }
+    full.remove(seat);
+    Some(slot)
 }
 
 impl Bus {
@@ -197,12 +275,11 @@ impl Bus {
         if hearers.meets(&self.full) {
             return Err(BusError::PipeFull);
         }
-        let readers = hearers.count();
-        if readers > 0 {
-            let slot = self.pool.keep(packet, readers);
+        if !hearers.is_empty() {
             deliver(
-                slot,
                 hearers,
+                packet,
+                &mut self.pool,
                 &mut self.places,
                 &mut self.ready,
                 &mut self.full,
@@ -224,11 +301,10 @@ impl Bus {
         ensures buffer { buffer.new ≡ filled (oldest_at seat self.old) buffer.old }
         ensures eight { length self.old ≡ 8 }
     {
-        if !self.has_pipe(seat) {
+        let size = self.take_packet(seat, buffer);
+        if size.is_none() && !self.has_pipe(seat) {
             return Err(BusError::NoPipe);
         }
-        let size = self.read_oldest(seat, buffer);
-        self.discard_oldest(seat);
         Ok(size)
     }
 
@@ -254,13 +330,15 @@ impl Bus {
         self.places[seat.index()].is_open()
     }
 
-    /// Copies the oldest packet of a seat to the front of a buffer, and answers how many bytes it has.
-    fn read_oldest(&self, seat: Seat, buffer: &mut [u8; PACKET_SIZE]) -> Option<usize>
-        ensures size { result ≡ option_map length (oldest_at seat self.now) }
-        ensures buffer { buffer.new ≡ filled (oldest_at seat self.now) buffer.old }
+    /// Takes the oldest packet of a seat into the front of a buffer, and answers how many bytes it has.
+    fn take_packet(&mut self, seat: Seat, buffer: &mut [u8; PACKET_SIZE]) -> Option<usize>
+        ensures after { self.new ≡ changed seat model.without_oldest self.old }
+        ensures size { result ≡ option_map length (oldest_at seat self.old) }
+        ensures buffer { buffer.new ≡ filled (oldest_at seat self.old) buffer.old }
+        ensures eight { length self.old ≡ 8 }
     {
-        let slot = self.places[seat.index()].first()?;
-        Some(self.pool.read(slot, buffer))
+        let slot = take_oldest(seat, &mut self.places, &mut self.ready, &mut self.full)?;
+        Some(self.pool.take(slot, buffer))
     }
 
     /// The oldest packet of a seat is taken, and its slot released. Answers whether there was one.
@@ -269,15 +347,11 @@ impl Bus {
         ensures some { result ≡ is_some (oldest_at seat self.old) }
         ensures eight { length self.old ≡ 8 }
     {
-        let at = seat.index();
-        let Some(slot) = self.places[at].pop() else {
+        let oldest = take_oldest(seat, &mut self.places, &mut self.ready, &mut self.full);
+        let Some(slot) = oldest else {
             return false;
         };
         self.pool.release(slot);
-        self.full.remove(seat);
-        if !self.places[at].is_ready() {
-            self.ready.remove(seat);
-        }
         true
     }
 

@@ -1,11 +1,10 @@
 //! The headers of space packets (CCSDS 133.0-B; cFE user's guide, message headers).
 
-ghost use Rattle.std.specs.Prelude.{◌≡◌, ◌≤◌, ◌+◌, ◌==◌, length, IfOk};
-ghost use Rattle.lc_model.specs.Bytes as model;
-ghost use Rattle.lc_model.specs.Packet.{header_fault, message_id};
+ghost use Rattle.std.specs.Prelude.{◌≡◌, ◌≤◌, ◌==◌, false, is_none, length, Some, IfOk};
+ghost use Rattle.lc_model.specs.Packet.{header_fault, message_id, sequence_flags};
 ghost use Rattle.packet_bus.specs.Header.{fault_number, fault_in, header_of, header_size};
 
-use byteorder::{BigEndian, ByteOrder};
+use lc_model::{packet, u16_at};
 use thiserror::Error;
 
 /// Why bytes are no packet of this profile: the first reason that they give.
@@ -78,12 +77,48 @@ pub struct Header {
     pub kind: PacketKind,
 }
 
-/// The number in the two bytes at a place.
-fn u16_at(bytes: &[u8], at: usize) -> u16
-    requires { at + 2 ≤ length bytes.now }
-    ensures { result ≡ model.u16_at bytes.now at }
+/// Whether the sequence flags are 3: the packet is whole.
+#[inline]
+fn is_whole(bytes: &[u8]) -> bool
+    requires { 8 ≤ length bytes.now }
+    ensures { result ≡ (sequence_flags bytes.now == 3) }
 {
-    BigEndian::read_u16(&bytes[at..])
+    bytes[2] / 64 == 3
+}
+
+/// Whether the bytes are a packet of this profile.
+#[inline]
+fn is_packet(bytes: &[u8]) -> bool
+    ensures { result ≡ is_none (header_fault bytes.now) }
+{
+    let size = bytes.len();
+    let has_headers = 12 <= size && size <= 2048
+        || 8 <= size && size < 12 && u16_at(bytes, 0) / 4096 % 2 == 1;
+    if !has_headers {
+        return false;
+    }
+    let message_id = u16_at(bytes, 0);
+    message_id / 8192 == 0
+        && message_id / 2048 % 2 == 1
+        && is_whole(bytes)
+        && u16_at(bytes, 4) == (size - 7) as u16
+}
+
+/// The first fault of bytes that are no packet.
+#[cold]
+#[inline(never)]
+fn fault_of(bytes: &[u8]) -> HeaderFault
+    requires { is_none (header_fault bytes.now) ≡ false }
+    ensures { Some (fault_number result) ≡ header_fault bytes.now }
+{
+    match packet::header_fault(bytes) {
+        Some(1) => HeaderFault::TooShort,
+        Some(2) => HeaderFault::WrongVersion,
+        Some(3) => HeaderFault::NoSecondaryHeader,
+        Some(4) => HeaderFault::Segment,
+        Some(5) => HeaderFault::WrongLength,
+        _ => HeaderFault::TooLong,
+    }
 }
 
 /// The bytes' first fault, or their message id.
@@ -92,26 +127,10 @@ pub(crate) fn checked_message_id(bytes: &[u8]) -> Result<u16, HeaderFault>
     ensures exact { fault_in result ≡ header_fault bytes.now }
     ensures value { IfOk result (λ mid. mid ≡ message_id bytes.now) }
 {
-    let size = bytes.len();
-    if size < 8 {
-        return Err(HeaderFault::TooShort);
-    }
-    let message_id = u16_at(bytes, 0);
-    let is_command = message_id / 4096 % 2 == 1;
-    if !is_command && size < 12 {
-        Err(HeaderFault::TooShort)
-    } else if message_id / 8192 != 0 {
-        Err(HeaderFault::WrongVersion)
-    } else if message_id / 2048 % 2 != 1 {
-        Err(HeaderFault::NoSecondaryHeader)
-    } else if u16_at(bytes, 2) / 16384 != 3 {
-        Err(HeaderFault::Segment)
-    } else if u16_at(bytes, 4) as usize + 7 != size {
-        Err(HeaderFault::WrongLength)
-    } else if size > 2048 {
-        Err(HeaderFault::TooLong)
+    if is_packet(bytes) {
+        Ok(u16_at(bytes, 0))
     } else {
-        Ok(message_id)
+        Err(fault_of(bytes))
     }
 }
 

@@ -66,13 +66,16 @@ impl Place {
         self.is_open = false;
     }
 
-    /// A slot more waits. There is room.
-    pub fn push(&mut self, slot: u16)
+    /// A slot more waits. There is room. Answers whether there is none behind it.
+    pub fn push(&mut self, slot: u16) -> bool
         requires open { is_some self.old ≡ true }
         requires room { is_long self.old ≡ false }
-        ensures { self.new ≡ option_map (with_slot slot) self.old }
+        ensures after { self.new ≡ option_map (with_slot slot) self.old }
+        ensures full { result ≡ is_long self.new }
     {
-        self.waiting.push_back(slot);
+        let is_last = self.waiting.len() == PIPE_DEPTH - 1;
+        let _ = self.waiting.try_push_back(slot);
+        is_last
     }
 
     /// Takes the oldest slot, if one waits.
@@ -83,25 +86,11 @@ impl Place {
         self.waiting.pop_front()
     }
 
-    /// Whether the pipe has as many slots as it can.
-    pub fn is_full(&self) -> bool
-        ensures { result ≡ is_long self.now }
-    {
-        self.waiting.is_full()
-    }
-
     /// Whether a slot waits.
     pub fn is_ready(&self) -> bool
         ensures { result ≡ has_slots self.now }
     {
         !self.waiting.is_empty()
-    }
-
-    /// The oldest slot, if one waits.
-    pub fn first(&self) -> Option<u16>
-        ensures { result ≡ first_slot self.now }
-    {
-        self.waiting.front().copied()
     }
 
     /// Whether the pipe is subscribed to a message id.

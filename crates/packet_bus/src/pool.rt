@@ -42,15 +42,20 @@ impl Slot {
         }
     }
 
-    /// Takes the packet, for so many pipes.
-    fn put(&mut self, packet: &[u8], readers: u8)
-        requires { length packet.now ≤ 2048 }
-        ensures { self.new ≡ record { packet = packet.now; readers = readers } }
+    /// So many pipes wait for the packet.
+    fn reserve(&mut self, readers: u8)
+        ensures { self.new ≡ record { packet = self.old.packet; readers = readers } }
     {
-        let size = packet.len();
-        self.bytes[..size].copy_from_slice(packet);
-        self.size = size;
         self.readers = readers;
+    }
+
+    /// Takes the packet.
+    fn put(&mut self, packet: &[u8])
+        requires { length packet.now ≤ 2048 }
+        ensures { self.new ≡ record { packet = packet.now; readers = self.old.readers } }
+    {
+        self.size = packet.len();
+        self.bytes[..packet.len()].copy_from_slice(packet);
     }
 
     /// Copies the packet to the front of a buffer, and answers how many bytes it has.
@@ -58,8 +63,9 @@ impl Slot {
         ensures size { result ≡ length self.now.packet }
         ensures buffer { buffer.new ≡ self.now.packet ++ drop (length self.now.packet) buffer.old }
     {
-        buffer[..self.size].copy_from_slice(&self.bytes[..self.size]);
-        self.size
+        let size = self.size;
+        buffer[..size].copy_from_slice(&self.bytes[..size]);
+        size
     }
 
     /// One pipe less waits for the packet. Answers whether none does.
@@ -112,27 +118,26 @@ impl Pool {
         self.free.len()
     }
 
-    /// Keeps a packet in a free slot, for so many pipes, and answers the slot's number.
-    pub fn keep(&mut self, packet: &[u8], readers: u8) -> u16
-        requires fits { length packet.now ≤ 2048 }
+    /// Takes a free slot for a packet that so many pipes are to wait for, and answers its number.
+    pub fn reserve(&mut self, readers: u8) -> u16
         requires room { used_slots self.old < 576 }
         requires read { 0 < readers }
         ensures within { result < length self.old }
         ensures free { (slot_at self.old result).readers ≡ 0 }
-        ensures after { self.new ≡ slice_set self.old result record { packet = packet.now; readers = readers } }
+        ensures after { self.new ≡ slice_set self.old result record { packet = (slot_at self.old result).packet; readers = readers } }
     {
         let number = self.free.pop().unwrap();
-        self.slots[number as usize].put(packet, readers);
+        self.slots[number as usize].reserve(readers);
         number
     }
 
-    /// Copies the packet of a slot to the front of a buffer, and answers how many bytes it has.
-    pub fn read(&self, number: u16, buffer: &mut [u8; PACKET_SIZE]) -> usize
-        requires { number < length self.now }
-        ensures size { result ≡ length (slot_at self.now number).packet }
-        ensures buffer { buffer.new ≡ (slot_at self.now number).packet ++ drop (length (slot_at self.now number).packet) buffer.old }
+    /// Puts the packet into a slot that was taken for it.
+    pub fn put(&mut self, number: u16, packet: &[u8])
+        requires within { number < length self.old }
+        requires fits { length packet.now ≤ 2048 }
+        ensures { self.new ≡ slice_set self.old number record { packet = packet.now; readers = (slot_at self.old number).readers } }
     {
-        self.slots[number as usize].read(buffer)
+        self.slots[number as usize].put(packet);
     }
 
     /// One pipe less waits for the packet of a slot. With the last the slot is free.
@@ -144,5 +149,20 @@ impl Pool {
         if self.slots[number as usize].release() {
             self.free.push_reserved(number);
         }
+    }
+
+    /// The same, and the packet is copied to the front of a buffer. Answers how many bytes it has.
+    pub fn take(&mut self, number: u16, buffer: &mut [u8; PACKET_SIZE]) -> usize
+        requires within { number < length self.old }
+        requires waiting { 0 < (slot_at self.old number).readers }
+        ensures after { self.new ≡ slice_set self.old number (released (slot_at self.old number)) }
+        ensures size { result ≡ length (slot_at self.old number).packet }
+        ensures buffer { buffer.new ≡ (slot_at self.old number).packet ++ drop (length (slot_at self.old number).packet) buffer.old }
+    {
+        let slot = &mut self.slots[number as usize];
+        if slot.release() {
+            self.free.push_reserved(number);
+        }
+        slot.read(buffer)
     }
 }

@@ -1,8 +1,8 @@
 //! Sets of seats.
 
-ghost use Rattle.std.specs.Prelude.{◌≡◌, ◌<◌, ◌==◌, true, false, length, replicate, slice_set, slice_index_or, count_by, Bool};
+ghost use Rattle.std.specs.Prelude.{◌≡◌, ◌<◌, ◌==◌, true, false, length, replicate, slice_set, slice_index_or, count_by, Bool, IfSome, IfNone, None, if◌then◌else◌};
 ghost use Rattle.std.specs.List.{list_any, position_from};
-ghost use Rattle.packet_bus.specs.Seats.{seats_in, is_in, meet};
+ghost use Rattle.packet_bus.specs.Seats.{seats_in, is_in, meet, together};
 
 use lc_model::Seat;
 use std::marker::Model;
@@ -59,6 +59,44 @@ impl SeatSet {
             return None;
         }
         Some(Seat::new(self.bits.trailing_zeros() as u8))
+    }
+
+    /// The seat, where there is one alone.
+    pub fn only(&self) -> Option<Seat>
+        ensures { result ≡ (if count_by is_in self.now == 1 then position_from is_in 0 self.now else None) }
+    {
+        if self.count() == 1 {
+            self.least()
+        } else {
+            None
+        }
+    }
+
+    /// The least seat, which leaves the set.
+    pub fn pop_least(&mut self) -> Option<Seat>
+        ensures least { result ≡ position_from is_in 0 self.old }
+        ensures after { IfSome result (λ seat. self.new ≡ slice_set self.old seat false) }
+        ensures none { IfNone result (self.new ≡ self.old) }
+    {
+        if self.bits == 0 {
+            return None;
+        }
+        let number = self.bits.trailing_zeros() as u8;
+        self.bits &= self.bits - 1;
+        Some(Seat::new(number))
+    }
+
+    /// These seats too.
+    pub fn add(&mut self, others: &SeatSet)
+        ensures { self.new ≡ together self.old others.now }
+    {
+        self.bits |= others.bits;
+    }
+
+    pub fn is_empty(&self) -> bool
+        ensures { result ≡ (count_by is_in self.now == 0) }
+    {
+        self.bits == 0
     }
 
     /// How many seats there are.

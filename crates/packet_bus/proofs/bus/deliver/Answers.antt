@@ -1,124 +1,40 @@
-use Rattle.std.proofs.Common.{◌≡◌, ◌∙◌, ap, ap₂, sym, ℕ, ◌<◌, arith, List, Bool, true, false, length, length-set, map, count_by}
-use Rattle.std.specs.Prelude.{option_map, Option, Some, None, slice_set, is_some, slice_index_or}
-use Rattle.std.specs.List.{position_from}
-use Rattle.packet_bus.specs.Seats.{is_in}
-use Rattle.packet_bus.specs.Line.{Line, with_slot, has_slots, is_long}
-use Rattle.packet_bus.specs.Inside.{place_at, delivered, HaveRoom}
-use Rattle.packet_bus.proofs.Places.{is_place_at, is_written}
-use Rattle.packet_bus.proofs.Delivered.{is_left, left_within, none_left, fewer_left, delivered_on, room_left, ready_then, full_then, full_as_before}
+use Rattle.std.proofs.Common.{◌∙◌, ap, sym, map}
+use Rattle.std.specs.Prelude.{slice_set}
+use Rattle.packet_bus.specs.Seats.{together}
+use Rattle.packet_bus.specs.Line.{has_slots}
+use Rattle.packet_bus.proofs.Delivered.{is_left, only_least, only_one, delivered_once, ready_then}
+use Rattle.packet_bus.proofs.Published.{kept_then}
 use Rattle.packet_bus.proofs.bus.deliver.Goals as goal
 
--- what is known of the seat that is next
-module _ (slot seat at : ℕ) (left : List Bool) (places : List (Option Line)) (index : at ≡ seat) (least : position_from is_in 0 left ≡ Some seat) (room : HaveRoom left places)
-    (old new : Option Line) (below : at < length places) (found : old ≡ slice_index_or places at old) where
-  next : position_from is_in 0 left ≡ Some at
-  next = least ∙ ap Some (sym index)
-
-  open_there : is_some (place_at places at) ≡ true
-  open_there = (room at (is_left at left next)).0
-
-  room_there : is_long (place_at places at) ≡ false
-  room_there = (room at (is_left at left next)).1
-
-  is_open : is_some old ≡ true
-  is_open = ap is_some (is_place_at places at old below found) ∙ open_there
-
-  has_room : is_long old ≡ false
-  has_room = ap is_long (is_place_at places at old below found) ∙ room_there
-
-  removed : (left' : List Bool) → left' ≡ slice_set left seat false → left' ≡ slice_set left at false
-  removed left' e = e ∙ ap (λ k. slice_set left k false) (sym index)
-
-  smaller : (left' : List Bool) → left' ≡ slice_set left seat false → count_by is_in left' < count_by is_in left
-  smaller left' e = rw (removed left' e) (fewer_left at left next)
-
-  module _ (pushed : new ≡ option_map (with_slot slot) old) where
-    written : new ≡ option_map (with_slot slot) (place_at places at)
-    written = pushed ∙ ap (option_map (with_slot slot)) (is_place_at places at old below found)
-
-    whole : (left' : List Bool) → left' ≡ slice_set left seat false → delivered slot left' (slice_set places at new) ≡ delivered slot left places
-    whole left' e = ap₂ (delivered slot) (removed left' e) (ap (slice_set places at) written) ∙ delivered_on slot at left places (is_left at left next)
-
-    room_still : (left' : List Bool) → left' ≡ slice_set left seat false → HaveRoom left' (slice_set places at new)
-    room_still left' e = rw (removed left' e) (room_left at left places new (left_within at left next) room)
-
-    ready_now : (ready ready' : List Bool) → ready ≡ map has_slots places → ready' ≡ slice_set ready seat true → ready' ≡ map has_slots (slice_set places at new)
-    ready_now ready ready' old_ready e =
-        e ∙ ap₂ (λ r k. slice_set r k true) old_ready (sym index) ∙ ready_then slot at places open_there ∙ ap (λ place. map has_slots (slice_set places at place)) (sym written)
-
-pub push-requires-clause-open : goal.push-requires-clause-open
-push-requires-clause-open c =
-    let below : c.index-at.result < length c.loop-seat.places.items = omega (arith, c.index-at.ensures.below, c.loop-seat.invariant.eight) in
-    is_open 0 c.in-Some.seat c.index-at.result c.loop-seat.left c.loop-seat.places.items c.index-at.ensures.value (sym c.least.ensures ∙ c.in-Some.is) c.loop-seat.invariant.room
-    c.index_mut.result.now None below c.index_mut.ensures.value
-
-pub push-requires-clause-room : goal.push-requires-clause-room
-push-requires-clause-room c =
-    let below : c.index-at.result < length c.loop-seat.places.items = omega (arith, c.index-at.ensures.below, c.loop-seat.invariant.eight) in
-    has_room 0 c.in-Some.seat c.index-at.result c.loop-seat.left c.loop-seat.places.items c.index-at.ensures.value (sym c.least.ensures ∙ c.in-Some.is) c.loop-seat.invariant.room
-    c.index_mut.result.now None below c.index_mut.ensures.value
-
-pub loop-seat-smaller-then-is_full : goal.loop-seat-smaller-then-is_full
-loop-seat-smaller-then-is_full c =
-    let below : c.index-at.result < length c.loop-seat.places.items = omega (arith, c.index-at.ensures.below, c.loop-seat.invariant.eight) in
-    smaller 0 c.in-Some.seat c.index-at.result c.loop-seat.left c.loop-seat.places.items c.index-at.ensures.value (sym c.least.ensures ∙ c.in-Some.is) c.loop-seat.invariant.room
-    c.index_mut.result.now None below c.index_mut.ensures.value _ c.remove.ensures
-
-pub loop-seat-smaller : goal.loop-seat-smaller
-loop-seat-smaller c =
-    let below : c.index-at.result < length c.loop-seat.places.items = omega (arith, c.index-at.ensures.below, c.loop-seat.invariant.eight) in
-    smaller 0 c.in-Some.seat c.index-at.result c.loop-seat.left c.loop-seat.places.items c.index-at.ensures.value (sym c.least.ensures ∙ c.in-Some.is) c.loop-seat.invariant.room
-    c.index_mut.result.now None below c.index_mut.ensures.value _ c.remove.ensures
-
-pub loop-seat-preserved : goal.loop-seat-preserved
-loop-seat-preserved c =
-    let kept = c.loop-seat.invariant in
-    let at = c.index-at.result in
+pub deliver_to-requires-clause-open : goal.deliver_to-requires-clause-open
+deliver_to-requires-clause-open c =
     let seat = c.in-Some.seat in
-    let left = c.loop-seat.left in
-    let places = c.loop-seat.places.items in
-    let below : at < length places = omega (arith, c.index-at.ensures.below, kept.eight) in
-    let least : position_from is_in 0 left ≡ Some seat = sym c.least.ensures ∙ c.in-Some.is in
-    let index = c.index-at.ensures.value in
-    let old = c.index_mut.result.now in
-    let new = c.push.new.self in
-    let found = c.index_mut.ensures.value in
-    record {
-      whole = whole c.args.slot seat at left places index least kept.room old new below found c.push.ensures _ c.remove.ensures ∙ kept.whole;
-      eight = length-set places at new ∙ kept.eight;
-      seats = ap length c.remove.ensures ∙ length-set left seat false ∙ kept.seats;
-      room = room_still c.args.slot seat at left places index least kept.room old new below found c.push.ensures _ c.remove.ensures;
-      ready = ready_now c.args.slot seat at left places index least kept.room old new below found c.push.ensures _ _ kept.ready c.insert.ensures;
-      full =
-          kept.full
-          ∙ full_as_before at places new (ap is_long (sym (is_written places at new c.index.result.now below c.index.ensures)) ∙ sym c.if-is_full.ensures)
-          (room_there c.args.slot seat at left places index least kept.room old new below found);
-    }
+    (c.requires.room seat (is_left seat c.args.hearers (only_least seat c.args.hearers (sym c.in-Some.is ∙ c.only.ensures)))).0
 
-pub loop-seat-preserved-then-is_full : goal.loop-seat-preserved-then-is_full
-loop-seat-preserved-then-is_full c =
-    let kept = c.loop-seat.invariant in
-    let at = c.index-at.result in
+pub deliver_to-requires-clause-room : goal.deliver_to-requires-clause-room
+deliver_to-requires-clause-room c =
     let seat = c.in-Some.seat in
-    let left = c.loop-seat.left in
-    let places = c.loop-seat.places.items in
-    let below : at < length places = omega (arith, c.index-at.ensures.below, kept.eight) in
-    let least : position_from is_in 0 left ≡ Some seat = sym c.least.ensures ∙ c.in-Some.is in
-    let index = c.index-at.ensures.value in
-    let old = c.index_mut.result.now in
-    let new = c.push.new.self in
-    let found = c.index_mut.ensures.value in
-    record {
-      whole = whole c.args.slot seat at left places index least kept.room old new below found c.push.ensures _ c.remove.ensures ∙ kept.whole;
-      eight = length-set places at new ∙ kept.eight;
-      seats = ap length c.remove.ensures ∙ length-set left seat false ∙ kept.seats;
-      room = room_still c.args.slot seat at left places index least kept.room old new below found c.push.ensures _ c.remove.ensures;
-      ready = ready_now c.args.slot seat at left places index least kept.room old new below found c.push.ensures _ _ kept.ready c.insert.ensures;
-      full =
-          c.insert-then-is_full.ensures
-          ∙ ap₂ (λ f k. slice_set f k true) kept.full (sym index)
-          ∙ full_then at places new (ap is_long (sym (is_written places at new c.index.result.now below c.index.ensures)) ∙ sym c.if-is_full.ensures);
-    }
+    (c.requires.room seat (is_left seat c.args.hearers (only_least seat c.args.hearers (sym c.in-Some.is ∙ c.only.ensures)))).1
 
 pub returns-clause-places : goal.returns-clause-places
-returns-clause-places c = sym (none_left c.args.slot c.loop-seat.left c.loop-seat.places.items (sym c.in_default.ensures)) ∙ c.loop-seat.invariant.whole
+returns-clause-places c =
+    c.deliver_to.ensures.places ∙ delivered_once c.reserve-slot.result c.in-Some.seat c.args.hearers c.args.places.now.items (sym c.in-Some.is ∙ c.only.ensures)
+
+pub returns-clause-ready : goal.returns-clause-ready
+returns-clause-ready c =
+    c.add.ensures
+    ∙ ap (λ ready. together ready c.args.hearers) c.requires.ready
+    ∙ ready_then c.reserve-slot.result c.args.hearers c.args.places.now.items c.requires.room
+    ∙ ap (map has_slots) (sym (returns-clause-places c))
+
+pub returns-clause-pool : goal.returns-clause-pool
+returns-clause-pool c =
+    kept_then _ _ _ _ 1 c.args.packet.now c.reserve-slot.ensures.within c.reserve-slot.ensures.after c.put.ensures
+    ∙ ap (λ readers. slice_set c.args.pool.now c.reserve-slot.result (record { packet = c.args.packet.now; readers = readers })) (sym (only_one c.in-Some.seat c.args.hearers (sym c.in-Some.is ∙ c.only.ensures)))
+
+pub returns-in_default-clause-ready : goal.returns-in_default-clause-ready
+returns-in_default-clause-ready c =
+    c.add.ensures
+    ∙ ap (λ ready. together ready c.args.hearers) c.requires.ready
+    ∙ ready_then c.deliver_to_each.result c.args.hearers c.args.places.now.items c.requires.room
+    ∙ ap (map has_slots) (sym c.deliver_to_each.ensures.places)

@@ -1,6 +1,5 @@
-use Rattle.std.proofs.Common.{◌≡◌, ◌∙◌, ap, sym, refl, ℕ, ◌<◌, false}
+use Rattle.std.proofs.Common.{◌≡◌, ◌∙◌, ap, sym, refl, ℕ}
 use Rattle.std.specs.Prelude.{Option, Some, None, is_some, option_map, slice_set}
-use Rattle.lc_model.specs.Services.Bus.{Bus, Queue, pipe_at}
 use Rattle.packet_bus.specs.Line.{Line, new_line, slots_in, hears_mid}
 use Rattle.packet_bus.specs.Inside.{place_at, queue_over}
 use Rattle.packet_bus.proofs.Places.{in_places, is_place_at, shown_set, pipe_is, has_queue, no_place}

@@ -1,9 +1,8 @@
-use Rattle.std.proofs.Common.{◌≡◌, ◌∙◌, ap, ap₂, sym, refl, ℕ, ◌<◌, ◌≤◌, ◌≢◌, arith, length, List, false}
+use Rattle.std.proofs.Common.{◌≡◌, ◌∙◌, ap, sym, refl, ℕ, ◌≢◌, arith, List, false}
 use Rattle.std.specs.Prelude.{option_map, Option, Some, None, slice_set}
-use Rattle.lc_model.specs.Services.Bus.{Queue, Bus, parted}
-use Rattle.packet_bus.specs.Slots.{Kept}
+use Rattle.lc_model.specs.Services.Bus.{parted}
 use Rattle.packet_bus.specs.Line.{Line, slots_in, hears_mid, without_subscription}
-use Rattle.packet_bus.specs.Inside.{place_at, queue_over, shown, changed, IsBus}
+use Rattle.packet_bus.specs.Inside.{place_at}
 use Rattle.packet_bus.proofs.Places.{in_places, is_place_at, shown_new}
 use Rattle.packet_bus.proofs.Heard.{hears_less, hears_others_still, heard_anew, heard_as_before}
 use Rattle.packet_bus.proofs.bus.Bus.forget.Goals as goal

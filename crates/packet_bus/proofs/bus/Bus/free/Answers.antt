@@ -1,5 +1,5 @@
-use Rattle.std.proofs.Common.{◌≡◌, ◌∙◌, ap, sym, ◌-◌, ◌+◌, arith}
-use Rattle.lc_model.specs.Services.Bus.{Bus, free_publications, waiting_numbers, distinct_count}
+use Rattle.std.proofs.Common.{◌≡◌, ◌∙◌, ap, sym, arith}
+use Rattle.lc_model.specs.Services.Bus.{waiting_numbers, distinct_count}
 use Rattle.packet_bus.specs.Slots.{used_slots}
 use Rattle.packet_bus.specs.Inside.{waiting_slots}
 use Rattle.packet_bus.proofs.Counted.{waiting_are, used_are}

@@ -1,4 +1,4 @@
-use Rattle.std.proofs.Common.{◌≡◌, ◌∙◌, ap, sym}
+use Rattle.std.proofs.Common.{◌∙◌, ap, sym}
 use Rattle.std.specs.Prelude.{is_some}
 use Rattle.packet_bus.proofs.Places.{in_places, pipe_is, has_queue}
 use Rattle.packet_bus.proofs.bus.Bus.has_pipe.Goals as goal

@@ -1,10 +1,8 @@
-use Rattle.std.proofs.Common.{◌≡◌, ◌∙◌, ap, sym, ℕ, List, Bool, arith, count_by}
-use Rattle.lc_model.specs.Packet.{message_id}
+use Rattle.std.proofs.Common.{◌≡◌, ◌∙◌, ap, sym, List, Bool, count_by}
 use Rattle.packet_bus.specs.Seats.{is_in}
-use Rattle.packet_bus.specs.Line.{hears_mid}
-use Rattle.packet_bus.specs.Inside.{delivered, HaveRoom}
+use Rattle.packet_bus.specs.Inside.{delivered}
 use Rattle.packet_bus.proofs.Published.{published_together, is_published, unheard}
-use Rattle.packet_bus.proofs.Publishing.{answer_if, hearers_are, blocked, with_room, some_slot}
+use Rattle.packet_bus.proofs.Publishing.{some_in, none_in, answer_if, hearers_are, blocked, with_room, some_slot}
 use Rattle.packet_bus.proofs.bus.Bus.publish.Goals as goal
 
 pub returns-then-meets-clause-answer : goal.returns-then-meets-clause-answer
@@ -15,10 +13,10 @@ returns-then-meets-clause-answer c =
     c.copy-hearers.ensures c.args.self.now c.self.view_is)
     ∙ sym c.if-meets.ensures))
 
-pub keep-slot-requires-clause-room : goal.keep-slot-requires-clause-room
-keep-slot-requires-clause-room c =
+pub deliver-requires-clause-left : goal.deliver-requires-clause-left
+deliver-requires-clause-left c =
     some_slot _ _ _ _ _ c.self.invariant c.args.packet.now c.in-Ok.mid c.index.result.now c.copy-hearers.result c.in-Ok.ensures.exact c.in-Ok.ensures.value c.index.ensures c.copy-hearers.ensures
-    (sym c.if-meets.ensures) (omega (arith, c.if-readers-gt0.true, c.count-readers.ensures))
+    (sym c.if-meets.ensures) (some_in _ (sym c.if-not-is_empty.ensures))
 
 pub deliver-requires-clause-room : goal.deliver-requires-clause-room
 deliver-requires-clause-room c =
@@ -31,36 +29,36 @@ pub invariant_of-self : goal.invariant_of-self
 invariant_of-self c =
     let hearers = hearers_are _ _ _ _ _ c.self.invariant c.args.packet.now c.in-Ok.mid c.index.result.now c.copy-hearers.result c.in-Ok.ensures.exact c.in-Ok.ensures.value c.index.ensures c.copy-hearers.ensures in
     let room = with_room _ _ _ _ _ c.self.invariant c.args.packet.now c.in-Ok.mid c.index.result.now c.copy-hearers.result c.in-Ok.ensures.exact c.in-Ok.ensures.value c.index.ensures c.copy-hearers.ensures (sym c.if-meets.ensures) in
-    rw c.keep-slot.ensures.after
-    (published_together _ _ _ _ _ c.self.invariant c.keep-slot.result c.args.packet.now c.count-readers.result c.keep-slot.ensures.within c.keep-slot.ensures.free c.deliver.new.places.items
-    c.deliver.new.ready c.deliver.new.full (c.deliver.ensures.places ∙ ap (λ (seats : List Bool). delivered c.keep-slot.result seats c.self.inside.places.items) hearers)
-    (c.count-readers.ensures ∙ ap (count_by is_in) hearers) room c.deliver.ensures.ready c.deliver.ensures.full)
+    rw c.deliver.ensures.pool
+    (published_together _ _ _ _ _ c.self.invariant c.deliver.result c.args.packet.now (count_by is_in c.copy-hearers.result) c.deliver.ensures.within c.deliver.ensures.free c.deliver.new.places.items
+    c.deliver.new.ready c.deliver.new.full (c.deliver.ensures.places ∙ ap (λ (seats : List Bool). delivered c.deliver.result seats c.self.inside.places.items) hearers)
+    (ap (count_by is_in) hearers) room c.deliver.ensures.ready c.deliver.ensures.full)
 
-pub returns-then-readers-gt0-clause-answer : goal.returns-then-readers-gt0-clause-answer
-returns-then-readers-gt0-clause-answer c =
+pub returns-then-not-is_empty-clause-answer : goal.returns-then-not-is_empty-clause-answer
+returns-then-not-is_empty-clause-answer c =
     sym
     (answer_if c.args.packet.now c.args.self.now _ c.in-Ok.ensures.exact
     (sym (blocked _ _ _ _ _ c.self.invariant c.args.packet.now c.in-Ok.mid c.index.result.now c.copy-hearers.result c.in-Ok.ensures.exact c.in-Ok.ensures.value c.index.ensures
     c.copy-hearers.ensures c.args.self.now c.self.view_is)
     ∙ sym c.if-meets.ensures))
 
-pub returns-then-readers-gt0-clause-published : goal.returns-then-readers-gt0-clause-published
-returns-then-readers-gt0-clause-published c =
+pub returns-then-not-is_empty-clause-published : goal.returns-then-not-is_empty-clause-published
+returns-then-not-is_empty-clause-published c =
     let hearers = hearers_are _ _ _ _ _ c.self.invariant c.args.packet.now c.in-Ok.mid c.index.result.now c.copy-hearers.result c.in-Ok.ensures.exact c.in-Ok.ensures.value c.index.ensures c.copy-hearers.ensures in
-    rw c.keep-slot.ensures.after
-    (is_published _ _ _ _ _ c.self.invariant c.keep-slot.result c.args.packet.now c.count-readers.result c.keep-slot.ensures.within c.keep-slot.ensures.free c.deliver.new.places.items
-    c.args.self.now (c.deliver.ensures.places ∙ ap (λ (seats : List Bool). delivered c.keep-slot.result seats c.self.inside.places.items) hearers) c.self.view_is)
+    rw c.deliver.ensures.pool
+    (is_published _ _ _ _ _ c.self.invariant c.deliver.result c.args.packet.now (count_by is_in c.copy-hearers.result) c.deliver.ensures.within c.deliver.ensures.free c.deliver.new.places.items
+    c.args.self.now (c.deliver.ensures.places ∙ ap (λ (seats : List Bool). delivered c.deliver.result seats c.self.inside.places.items) hearers) c.self.view_is)
 
-pub returns-else-readers-gt0-clause-answer : goal.returns-else-readers-gt0-clause-answer
-returns-else-readers-gt0-clause-answer c =
+pub returns-else-not-is_empty-clause-answer : goal.returns-else-not-is_empty-clause-answer
+returns-else-not-is_empty-clause-answer c =
     sym
     (answer_if c.args.packet.now c.args.self.now _ c.in-Ok.ensures.exact
     (sym (blocked _ _ _ _ _ c.self.invariant c.args.packet.now c.in-Ok.mid c.index.result.now c.copy-hearers.result c.in-Ok.ensures.exact c.in-Ok.ensures.value c.index.ensures
     c.copy-hearers.ensures c.args.self.now c.self.view_is)
     ∙ sym c.if-meets.ensures))
 
-pub returns-else-readers-gt0-clause-published : goal.returns-else-readers-gt0-clause-published
-returns-else-readers-gt0-clause-published c =
+pub returns-else-not-is_empty-clause-published : goal.returns-else-not-is_empty-clause-published
+returns-else-not-is_empty-clause-published c =
     let hearers = hearers_are _ _ _ _ _ c.self.invariant c.args.packet.now c.in-Ok.mid c.index.result.now c.copy-hearers.result c.in-Ok.ensures.exact c.in-Ok.ensures.value c.index.ensures c.copy-hearers.ensures in
-    let none : count_by is_in c.copy-hearers.result ≡ 0 = omega (arith, c.if-readers-gt0.false, c.count-readers.ensures) in
+    let none : count_by is_in c.copy-hearers.result ≡ 0 = none_in _ (sym c.if-not-is_empty.ensures) in
     unheard c.self.inside.places.items c.self.inside.pool c.args.packet.now c.args.self.now c.self.invariant.readers (ap (count_by is_in) (sym hearers) ∙ none) c.self.view_is

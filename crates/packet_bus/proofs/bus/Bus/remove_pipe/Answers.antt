@@ -1,8 +1,8 @@
 use Rattle.std.proofs.Common.{◌≡◌, ◌∙◌, ◌<◌, ap, sym, refl, ℕ, arith, length}
 use Rattle.std.specs.Prelude.{Option, Some, None, slice_set, option_map}
-use Rattle.lc_model.specs.Services.Bus.{Queue, Bus, pipe_at}
+use Rattle.lc_model.specs.Services.Bus.{Bus, pipe_at}
 use Rattle.packet_bus.specs.Line.{Line, new_line, slots_in, hears_mid}
-use Rattle.packet_bus.specs.Inside.{place_at, queue_over, changed, without_packets, without_subscriptions}
+use Rattle.packet_bus.specs.Inside.{place_at, queue_over, changed, without_subscriptions}
 use Rattle.packet_bus.proofs.Places.{in_places, is_place_at, shown_set, pipe_is}
 use Rattle.packet_bus.proofs.Heard.{heard_as_before}
 use Rattle.packet_bus.proofs.Emptied.{nothing_left, place_is_new, removed_is}

@@ -1,6 +1,6 @@
-use Rattle.std.proofs.Common.{◌≡◌, ◌∙◌, ap, sym, refl, ℕ, ◌<◌, ◌≤◌, ◌≢◌, arith, length, List, true, false}
+use Rattle.std.proofs.Common.{◌≡◌, ◌∙◌, ap, sym, refl, ℕ, ◌≢◌, arith, length, List, true}
 use Rattle.std.specs.Prelude.{option_map, Option, Some, None, slice_set, is_some}
-use Rattle.lc_model.specs.Services.Bus.{Queue, Bus, pipe_at}
+use Rattle.lc_model.specs.Services.Bus.{Queue, pipe_at}
 use Rattle.packet_bus.specs.Slots.{Kept}
 use Rattle.packet_bus.specs.Line.{Line, slots_in, mids_in, hears_mid, with_subscription}
 use Rattle.packet_bus.specs.Inside.{place_at, queue_over}

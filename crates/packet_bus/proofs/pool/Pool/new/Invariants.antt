@@ -1,4 +1,4 @@
-use Rattle.std.proofs.Common.{◌≡◌, ℕ, ◌≤◌, length, replicate}
+use Rattle.std.proofs.Common.{◌≡◌, ℕ, ◌≤◌, replicate}
 use Rattle.std.specs.Prelude.{nat_lt, if◌then◌else◌, vec_capacity, vec_len}
 use Rattle.packet_bus.specs.Slots.{no_packet, occurrences}
 use Rattle.packet_bus.proofs.pool.Pool.new.Given as goal

@@ -1,8 +1,8 @@
-use Rattle.std.proofs.Common.{◌≡◌, ℕ, length, map, count_by}
+use Rattle.std.proofs.Common.{◌≡◌, length, map, count_by}
 use Rattle.packet_bus.specs.Seats.{is_in}
-use Rattle.packet_bus.specs.Line.{has_slots, is_long}
+use Rattle.packet_bus.specs.Line.{is_long}
 use Rattle.packet_bus.specs.Inside.{delivered, HaveRoom}
-use Rattle.packet_bus.proofs.bus.deliver.Given as goal
+use Rattle.packet_bus.proofs.bus.deliver_to_each.Given as goal
 
 -- what is left to be done with what is done gives all
 abbrev pub invariant-loop-seat : goal.invariant-loop-seat
@@ -11,7 +11,6 @@ invariant-loop-seat l = record {
   eight : length l.places.items ≡ 8;
   seats : length l.left ≡ 8;
   room : HaveRoom l.left l.places.items;
-  ready : l.ready ≡ map has_slots l.places.items;
   full : l.full ≡ map is_long l.places.items;
 }
 
