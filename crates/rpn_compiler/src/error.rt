@@ -30,8 +30,8 @@ pub enum CompileError {
     /// Over 176 rules: 41.
     #[error("there are over 176 rules")]
     TooManyRules,
-    /// The first rule, counted from 0, that has over 20 words, EQUAL included: 42.
-    #[error("the equation of rule {rule} has over 20 words")]
+    /// The first rule, counted from 0, that has over 32 words, EQUAL included: 42.
+    #[error("the equation of rule {rule}, counted from 0, has over 32 words")]
     EquationTooLong { rule: usize },
     /// No memory for what is compiled.
     #[error("out of memory")]
