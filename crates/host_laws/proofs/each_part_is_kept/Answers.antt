@@ -41,4 +41,3 @@ returns-clause-spares c layouts schedule = part_kept layouts schedule (HasSpares
 
 pub returns-clause-pipes : goal.returns-clause-pipes
 returns-clause-pipes c layouts schedule = part_kept layouts schedule (PipesAreEmpty (as_bytes layouts) schedule) (parts.pipes (as_bytes layouts) schedule)
-
