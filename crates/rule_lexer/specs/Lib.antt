@@ -6,3 +6,4 @@ pub mod Digits
 pub mod Front
 pub mod Step
 pub mod Laws
+pub mod Reason

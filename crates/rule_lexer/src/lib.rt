@@ -9,6 +9,7 @@ pub mod laws;
 mod lexeme;
 mod lexer;
 mod number;
+mod reason;
 mod scanner;
 mod sign;
 mod text;
@@ -17,4 +18,5 @@ mod word;
 
 pub use error::LexError;
 pub use lexer::lex;
+pub use reason::LexReason;
 pub use token::{Token, TokenKind};

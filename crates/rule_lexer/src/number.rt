@@ -16,7 +16,7 @@ fn is_negative(text: &[u8]) -> bool
 }
 
 /// The text without the `-` in front.
-fn unsigned<'a>(text: &'a [u8]) -> &'a [u8]
+pub fn unsigned<'a>(text: &'a [u8]) -> &'a [u8]
     ensures { result.now ≡ magnitude_text text.now }
 {
     if is_negative(text) { &text[1..] } else { text }

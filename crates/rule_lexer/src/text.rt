@@ -12,7 +12,7 @@ use lc_model::is_text_byte;
 const LONGEST_STRING: usize = 31;
 
 /// The number of bytes in front that may stand between quotes.
-fn inner_length(rest: &[u8]) -> usize
+pub fn inner_length(rest: &[u8]) -> usize
     ensures value { result ≡ prefix_len is_text_byte rest.now }
     ensures within { result ≤ length rest.now }
 {

@@ -1,0 +1,36 @@
+-- What a person is told of a text's fault. This project's own.
+use Rattle.std.specs.Prelude.{ℕ, ◌+◌, ◌==◌, List, take, drop, slice_get, Option, Some, None, is_some, if◌then◌else◌}
+use Rattle.std.specs.List.{prefix_len}
+use Rattle.lc_model.specs.Text.Token.{is_text_byte, is_word_byte, line_feed, magnitude, magnitude_text, quote}
+use Rattle.rule_lexer.specs.declared.error.LexError.{LexError}
+use Rattle.rule_lexer.specs.declared.error.LexError.TheVariants as error
+use Rattle.rule_lexer.specs.declared.reason.LexReason.{LexReason}
+use Rattle.rule_lexer.specs.declared.reason.LexReason.TheVariants.{NoToken, NotANumber, NumberTooLarge, NameTooLong, Unclosed, StringTooLong, ForbiddenByte, TextTooLong, Memory}
+
+-- the letters and digits of what begins as a number at a place
+abbrev pub digits_at : List ℕ → ℕ → List ℕ
+digits_at text at =
+    let digits : List ℕ = magnitude_text (drop at text) in take (prefix_len is_word_byte digits) digits
+
+-- it has another form than a number, or it is too large
+abbrev pub number_reason : List ℕ → ℕ → LexReason
+number_reason text at = if is_some (magnitude (digits_at text at)) then NumberTooLarge at else NotANumber at
+
+-- a string whose quote is at this place, by what stands behind so many bytes that it may have
+abbrev pub string_reason : (at inside : ℕ) → Option ℕ → LexReason
+string_reason at inside None = Unclosed at
+string_reason at inside (Some byte) =
+    if byte == quote then StringTooLong at else if byte == line_feed then Unclosed at else ForbiddenByte (at + 1 + inside)
+
+abbrev pub string_reason_at : List ℕ → ℕ → LexReason
+string_reason_at text at =
+    let rest : List ℕ = drop (at + 1) text in string_reason at (prefix_len is_text_byte rest) (slice_get rest (prefix_len is_text_byte rest))
+
+-- what is wrong
+abbrev pub reason_of : LexError → List ℕ → LexReason
+reason_of (error.BadByte at) text = NoToken at
+reason_of (error.BadNumber at) text = number_reason text at
+reason_of (error.NameTooLong at) text = NameTooLong at
+reason_of (error.BadString at) text = string_reason_at text at
+reason_of error.TextTooLong text = TextTooLong
+reason_of error.Memory text = Memory
