@@ -92,17 +92,17 @@ first_seen f None false x = refl
 first_seen f (Some y) b x = refl
 
 -- the places with this name's
-abbrev pub PlaceTaken : (old new : BTreeMap (Bor (List ℕ)) ℕ) → Token → Type 0
+abbrev pub PlaceTaken : (old new : BTreeMap (ℕ × Bor (List ℕ)) ℕ) → Token → Type 0
 PlaceTaken old new name = (text : List ℕ) (at : ℕ) →
     is_before (at_name new text) at ≡ (is_before (at_name old text) at || (bytes_eq name.text text && nat_lt name.at at))
 
 -- the packets, and the fields, with this item's
-abbrev pub PacketTaken : (old new : BTreeMap (Bor (List ℕ)) (Bor PacketItem)) → model.Item → Type 0
+abbrev pub PacketTaken : (old new : BTreeMap (ℕ × Bor (List ℕ)) (Bor PacketItem)) → model.Item → Type 0
 PacketTaken old new item = (text : List ℕ) (at : ℕ) →
     option_map (λ p. syntax.packet_of p.now) (at_name new text)
     ≡ option_or (option_map (λ p. syntax.packet_of p.now) (at_name old text)) (packet_named (item ∷ []) (record { at = at; text = text }))
 
-abbrev pub FieldTaken : (old new : BTreeMap (Bor (List ℕ)) (Bor FieldItem)) → model.Item → Type 0
+abbrev pub FieldTaken : (old new : BTreeMap (ℕ × Bor (List ℕ)) (Bor FieldItem)) → model.Item → Type 0
 FieldTaken old new item = (text : List ℕ) (at : ℕ) →
     option_map (λ f. syntax.field_of f.now) (at_name new text)
     ≡ option_or (option_map (λ f. syntax.field_of f.now) (at_name old text)) (field_named (item ∷ []) (record { at = at; text = text }))
@@ -122,21 +122,21 @@ declared old new items item index place packet field = record {
 }
 
 -- a packet, a field and a rule more
-pub packet_declared : (old : Index) {places : BTreeMap (Bor (List ℕ)) ℕ} {packets : BTreeMap (Bor (List ℕ)) (Bor PacketItem)} (items : List model.Item)
+pub packet_declared : (old : Index) {places : BTreeMap (ℕ × Bor (List ℕ)) ℕ} {packets : BTreeMap (ℕ × Bor (List ℕ)) (Bor PacketItem)} (items : List model.Item)
     (item : model.Item) (p : model.PacketItem) → item ≡ model.Packet p → IsIndexOf old items → PlaceTaken old.places places (name_of item) →
     PacketTaken old.packets packets (model.Packet p) → IsIndexOf (record { places = places; packets = packets; fields = old.fields }) (items ++ item ∷ [])
 packet_declared old {places} {packets} items item p e index place packet =
     declared old (record { places = places; packets = packets; fields = old.fields }) items item index place
     (subst (PacketTaken old.packets packets) (sym e) packet) (subst (FieldTaken old.fields old.fields) (sym e) (λ text at. or_none _))
 
-pub field_declared : (old : Index) {places : BTreeMap (Bor (List ℕ)) ℕ} {fields : BTreeMap (Bor (List ℕ)) (Bor FieldItem)} (items : List model.Item)
+pub field_declared : (old : Index) {places : BTreeMap (ℕ × Bor (List ℕ)) ℕ} {fields : BTreeMap (ℕ × Bor (List ℕ)) (Bor FieldItem)} (items : List model.Item)
     (item : model.Item) (f : model.FieldItem) → item ≡ model.Field f → IsIndexOf old items → PlaceTaken old.places places (name_of item) →
     FieldTaken old.fields fields (model.Field f) → IsIndexOf (record { places = places; packets = old.packets; fields = fields }) (items ++ item ∷ [])
 field_declared old {places} {fields} items item f e index place field =
     declared old (record { places = places; packets = old.packets; fields = fields }) items item index place
     (subst (PacketTaken old.packets old.packets) (sym e) (λ text at. or_none _)) (subst (FieldTaken old.fields fields) (sym e) field)
 
-pub rule_declared : (old : Index) {places : BTreeMap (Bor (List ℕ)) ℕ} (items : List model.Item) (item : model.Item) (r : model.RuleItem) → item ≡ model.Rule r →
+pub rule_declared : (old : Index) {places : BTreeMap (ℕ × Bor (List ℕ)) ℕ} (items : List model.Item) (item : model.Item) (r : model.RuleItem) → item ≡ model.Rule r →
     IsIndexOf old items → PlaceTaken old.places places (name_of item) →
     IsIndexOf (record { places = places; packets = old.packets; fields = old.fields }) (items ++ item ∷ [])
 rule_declared old {places} items item r e index place =

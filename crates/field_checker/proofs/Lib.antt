@@ -1,6 +1,7 @@
 -- Lemmas of the checker's proofs.
 mod Accepted
 mod After
+mod Keys
 mod Indexing
 mod Meant
 mod Verdicts

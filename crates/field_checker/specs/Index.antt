@@ -1,8 +1,9 @@
 -- What an index of names is. This project's own.
-use Rattle.std.specs.Prelude.{◌≡◌, ℕ, Bool, false, List, Option, option_map, nat_lt}
+use Rattle.std.specs.Prelude.{◌≡◌, ℕ, ◌*◌, ◌%◌, ◌^◌, Bool, false, List, fold, Option, option_map, nat_lt, bit_xor}
 use Rattle.std.specs.Option.{option_map_or}
 use Rattle.std.specs.List.{list_any}
-use Rattle.std.specs.Ordering.{nat_cmp}
+use Rattle.std.specs.declared.cmp.Ordering.{Ordering}
+use Rattle.std.specs.Ordering.{nat_cmp, ordering_then}
 use Rattle.std.specs.Cmp.Lexicographic.{slice_cmp}
 use Rattle.std.specs.BTreeMap.{BTreeMap, get_by}
 use Rattle.lc_model.specs.Text.Syntax as model
@@ -12,9 +13,24 @@ use Rattle.rule_parser.specs.Syntax.{field_of, packet_of}
 use Rattle.field_checker.specs.declared.index.Index.{Index}
 use denote.Ref.{Bor}
 
+-- the number of no bytes, and that of one byte more
+abbrev pub begin : ℕ
+begin = 0xCBF29CE484222325
+
+abbrev pub spread_with : ℕ → ℕ → ℕ
+spread_with number byte = (bit_xor number byte * 0x00000100000001B3) % 2 ^ 64
+
+-- the number of a name, in which nearly any two names differ
+unfoldable pub spread : List ℕ → ℕ
+spread text = fold spread_with begin text
+
+-- how a name compares with a key
+abbrev pub compared : List ℕ → ℕ × Bor (List ℕ) → Ordering
+compared text key = ordering_then (nat_cmp (spread text) key.0) (slice_cmp nat_cmp text key.1.now)
+
 -- what stands at a name
-abbrev pub at_name : {X : Type 0} → BTreeMap (Bor (List ℕ)) X → List ℕ → Option X
-at_name map text = get_by (λ key. slice_cmp nat_cmp text key.now) map
+abbrev pub at_name : {X : Type 0} → BTreeMap (ℕ × Bor (List ℕ)) X → List ℕ → Option X
+at_name map text = get_by (compared text) map
 
 -- a place that is less, if any
 abbrev pub is_before : Option ℕ → ℕ → Bool

@@ -7,41 +7,47 @@ ghost use Rattle.lc_model.specs.Text.Meaning as meaning;
 ghost use Rattle.rule_parser.specs.Syntax.{item_of, name_of};
 ghost use Rattle.field_checker.specs.Index.{at_name, is_before, IsIndexOf};
 
+use crate::key::key;
 use rule_parser::{FieldItem, Item, Name, PacketItem};
 use std::alloc::{AllocError, Global};
 use std::collections::BTreeMap;
 
-/// What some items declare, by name.
+/// What some items declare, by the keys of names.
 #[derive(Drop)]
 pub(crate) struct Index<'f, 'a> {
     /// The least place at which an item declares the name.
-    pub places: BTreeMap<&'a [u8], usize>,
+    pub places: BTreeMap<(u64, &'a [u8]), usize>,
     /// The first packet of the name.
-    pub packets: BTreeMap<&'a [u8], &'f PacketItem<'a>>,
+    pub packets: BTreeMap<(u64, &'a [u8]), &'f PacketItem<'a>>,
     /// The first field of the name.
-    pub fields: BTreeMap<&'a [u8], &'f FieldItem<'a>>,
+    pub fields: BTreeMap<(u64, &'a [u8]), &'f FieldItem<'a>>,
 }
 
 /// Puts the value at the name, where none stands there yet.
 fn insert_first<'f, 'a, T>(
-    map: &mut BTreeMap<&'a [u8], &'f T>,
+    map: &mut BTreeMap<(u64, &'a [u8]), &'f T>,
     name: &'a [u8],
     value: &'f T,
 ) -> Result<(), AllocError>
     ensures { OnOk result ((text : List ℕ) → at_name map.new text ≡ option_or (at_name map.old text) (cond (bytes_eq name.now text) (Some value.entry) None)) }
 {
-    if !map.contains_key(&name) {
-        map.insert(name, value)?;
+    let key = key(name);
+    if !map.contains_key(&key) {
+        map.insert(key, value)?;
     }
     Ok(())
 }
 
 /// Puts the place at the name, where no lesser place stands there yet.
-fn insert_least<'a>(map: &mut BTreeMap<&'a [u8], usize>, name: Name<'a>) -> Result<(), AllocError>
+fn insert_least<'a>(
+    map: &mut BTreeMap<(u64, &'a [u8]), usize>,
+    name: Name<'a>,
+) -> Result<(), AllocError>
     ensures { OnOk result ((text : List ℕ) (at : ℕ) → is_before (at_name map.new text) at ≡ (is_before (at_name map.old text) at || (bytes_eq name.entry.text.now text && nat_lt name.entry.at at))) }
 {
-    if map.get(&name.text).is_none_or(|least| name.at < *least) {
-        map.insert(name.text, name.at)?;
+    let key = key(name.text);
+    if map.get(&key).is_none_or(|least| name.at < *least) {
+        map.insert(key, name.at)?;
     }
     Ok(())
 }

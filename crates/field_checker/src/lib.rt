@@ -9,6 +9,7 @@ mod faults;
 mod field;
 mod index;
 mod item;
+mod key;
 mod meaning;
 mod names;
 mod packet;

@@ -8,6 +8,7 @@ ghost use Rattle.rule_parser.specs.Syntax.{field_of, items_of, name_of, packet_o
 ghost use Rattle.field_checker.specs.Index.{IsIndexOf};
 
 use crate::index::Index;
+use crate::key::key;
 use rule_parser::{FieldItem, Item, Name, PacketItem};
 use std::alloc::{AllocError, Global};
 
@@ -36,7 +37,7 @@ impl<'f, 'a> Names<'f, 'a> {
     pub fn is_declared_before(&self, name: Name<'a>) -> bool
         ensures { result ≡ list_any (λ other. is_earlier (meaning.name_of other) (name_of name.entry)) (items_of self.now.items.now) }
     {
-        match self.index.places.get(&name.text) {
+        match self.index.places.get(&key(name.text)) {
             Some(least) => *least < name.at,
             None => false,
         }
@@ -46,13 +47,13 @@ impl<'f, 'a> Names<'f, 'a> {
     pub fn packet(&self, name: Name<'a>) -> Option<&'f PacketItem<'a>>
         ensures { option_map (λ p. packet_of p.now) result ≡ packet_named (items_of self.now.items.now) (name_of name.entry) }
     {
-        self.index.packets.get(&name.text).copied()
+        self.index.packets.get(&key(name.text)).copied()
     }
 
     /// The first field of the name.
     pub fn field(&self, name: Name<'a>) -> Option<&'f FieldItem<'a>>
         ensures { option_map (λ f. field_of f.now) result ≡ field_named (items_of self.now.items.now) (name_of name.entry) }
     {
-        self.index.fields.get(&name.text).copied()
+        self.index.fields.get(&key(name.text)).copied()
     }
 }

@@ -3,6 +3,7 @@
 mod faults;
 mod kinds;
 mod memory;
+mod reasons;
 mod texts;
 
 use crate::shared::{accepted, same};

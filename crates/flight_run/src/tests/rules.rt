@@ -139,7 +139,7 @@ fn disabled_and_passive_rules_request_nothing(rt: HostRuntime) -> Result<(), Fai
 fn a_text_beyond_the_limits_reads_nothing(rt: HostRuntime) -> Result<(), Fail> {
     let text = "packet P = mid 0x0883 length 16; field V = P u16be at 12; \
         rule R active fails 1 sequence 7 event info 1001 \"\" when not (V < 0 and V < 1 and V < 2 and V < 3 and V < 4 \
-        and V < 5 and V < 6 and V < 7 and V < 8 and V < 9);";
+        and V < 5 and V < 6 and V < 7 and V < 8 and V < 9 and V < 10 and V < 11 and V < 12 and V < 13 and V < 14 and V < 15);";
     let stream = stream_of(rt.alloc(), &[volts(2399), sample()])?;
     let error = CompileError::EquationTooLong { rule: 0 };
     let expected = Err(RunError::Compile { text: 0, error });
