@@ -18,9 +18,10 @@ use std::alloc::Global;
 /// The rules that the items of a rule text mean, in the text's order, with each name replaced by what it names. A name
 /// may be used before its declaration; where one is declared twice, the first packet or field of that name counts.
 ///
-/// Work: at most five look-ups for each name of the text, declared or used, in maps that are ordered by the names' bytes:
-/// for `n` names in the order of `n log n` comparisons of names, whatever the names are. Memory: the maps, which go at the
-/// end, and the rules. The stack grows with the depth of the conditions.
+/// Work: at most five look-ups for each name of the text, declared or used, in ordered maps: for `n`
+/// names in the order of `n log n` comparisons, whatever the names are. A comparison is mostly one of two numbers, which are
+/// spread from the names' bytes. Memory: the maps, which go at the end, and the rules. The stack grows with the depth of the
+/// conditions.
 ///
 /// Errors: of all faults of all items the one at the least place, at one place the one with the least number; `Memory`
 /// where the names or the rules find no room.

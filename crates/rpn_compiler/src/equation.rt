@@ -1,5 +1,5 @@
-//! The words of rules' conditions, operands first and the heavier of two before the other (cFS Limit Checker user's guide, actionpoint definitions; the words are
-//! this project's own).
+//! The words of rules' conditions, operands first and the heavier of two before the other (cFS Limit Checker user's guide,
+//! actionpoint definitions; the words are this project's own).
 
 ghost use Rattle.std.specs.Prelude.{◌≡◌, ◌≤◌, ◌<◌, ◌+◌, ◌^◌, ◌++◌, List, ℕ, if◌then◌else◌, length, map, max, nat_lt, IfOk, OnOk};
 ghost use Rattle.lc_model.specs.Condition.{condition_of};
