@@ -13,7 +13,7 @@ use Rattle.rule_parser.specs.Syntax.{field_of, packet_of}
 use Rattle.field_checker.specs.declared.index.Index.{Index}
 use denote.Ref.{Bor}
 
--- the number of no bytes, and that of one byte more
+-- the number of no bytes, and that of one byte more (the FNV-1a hash, of 64 bits)
 abbrev pub begin : ℕ
 begin = 0xCBF29CE484222325
 
