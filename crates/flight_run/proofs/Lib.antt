@@ -15,3 +15,4 @@ pub mod Headline
 pub mod EitherOrder
 pub mod Started
 pub mod Loaded
+pub mod Watchers

@@ -18,6 +18,7 @@ pub struct Flight {
 
 impl Flight {
     ghost use Rattle.std.specs.Prelude.{◌+◌, ◌++◌, [], Ok};
+    ghost use Rattle.limit_checker.specs.Engine.{watcher_of};
     ghost use Rattle.limit_checker.specs.Watcher.{after_sample};
     ghost use Rattle.flight_run.specs.Flight.{handled, sampled, with_requests};
     ghost use Rattle.flight_run.specs.Kept.{kept_of};
@@ -26,8 +27,8 @@ impl Flight {
     fn sample_rule(&mut self, rule: usize, outgoing: &mut Outgoing)
         requires within { rule < length self.old.checker.rules }
         requires room { length outgoing.old + REQUEST_SIZE ≤ MOST_BYTES }
-        ensures kept { kept_of self.new ≡ (with_requests self.old.count (after_sample rule self.old.checker)).0 }
-        ensures bytes { outgoing.new ≡ outgoing.old ++ (with_requests self.old.count (after_sample rule self.old.checker)).1 }
+        ensures kept { kept_of self.new ≡ (with_requests self.old.count (after_sample rule (watcher_of self.old.checker))).0 }
+        ensures bytes { outgoing.new ≡ outgoing.old ++ (with_requests self.old.count (after_sample rule (watcher_of self.old.checker))).1 }
         ensures few { length outgoing.new ≤ length outgoing.old + REQUEST_SIZE }
         ensures rules { self.new.checker.rules ≡ self.old.checker.rules }
     {
@@ -40,8 +41,8 @@ impl Flight {
     /// Samples the rules that the request takes, in order; then, if it is asked for, all watchpoints age.
     fn sample(&mut self, request: &SampleRequest, outgoing: &mut Outgoing)
         requires { outgoing.old ≡ [] }
-        ensures kept { kept_of self.new ≡ (with_requests self.old.count (sampled self.old.checker (Ok request.now))).0 }
-        ensures bytes { outgoing.new ≡ (with_requests self.old.count (sampled self.old.checker (Ok request.now))).1 }
+        ensures kept { kept_of self.new ≡ (with_requests self.old.count (sampled (watcher_of self.old.checker) (Ok request.now))).0 }
+        ensures bytes { outgoing.new ≡ (with_requests self.old.count (sampled (watcher_of self.old.checker) (Ok request.now))).1 }
         ensures fits { length outgoing.new ≤ MOST_BYTES }
     {
         let rules = self.checker.rule_count();
@@ -63,7 +64,9 @@ impl Flight {
         ensures fits { length outgoing.new ≤ MOST_BYTES }
     {
         match arrival_of(packet) {
-            Arrival::Telemetry => self.checker.telemetry(packet),
+            Arrival::Telemetry => {
+                self.checker.telemetry(packet);
+            }
             Arrival::Sample(request) => self.sample(&request, outgoing),
             Arrival::Nothing => {}
         }

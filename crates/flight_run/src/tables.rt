@@ -38,6 +38,6 @@ pub fn flight_with(alloc: Global, pair: &TablePair) -> Result<Flight, AllocError
     let mut checker = LimitChecker::new(alloc)?;
     let wdt = image_in(Kind::Wdt, pair.wdt.as_slice());
     let adt = image_in(Kind::Adt, pair.adt.as_slice());
-    checker.set(&wdt, &adt);
+    checker.adopt(&wdt, &adt);
     Ok(Flight { checker, count: 0 })
 }

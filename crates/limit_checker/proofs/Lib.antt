@@ -1,7 +1,14 @@
+pub mod Ascending
+pub mod Halves
+pub mod Grouping
+pub mod Reacting
 pub mod Results
 pub mod OperandsWaiting
 pub mod Running
 pub mod Tables
 pub mod Laying
 pub mod Setting
-pub mod Sampling
+pub mod OneSample
+pub mod SampledRules
+pub mod CountedWords
+pub mod Whole

@@ -27,6 +27,7 @@ use Rattle.limit_checker.specs.Entry.{rule_with, rule_in, no_condition, IsRunnab
 use Rattle.limit_checker.specs.Layout.{entry_for, point_for, words_for, entries_below, points_below, words_below}
 use Rattle.limit_checker.specs.Tables.{AreTables, watcher}
 use Rattle.limit_checker.specs.Watcher.{Watcher, fresh, fresh_point}
+use Rattle.limit_checker.proofs.Laying.{has_place}
 
 -- ---- lists
 
@@ -44,7 +45,7 @@ one_each g h (suc k) same =
     ∙ (λ i. one_each g h k (λ n below. same n (omega (arith, below))) i ++ (append-nil (g k) ∙ same k (omega arith)) i)
     ∙ sym (map-append h (numbers_below k) (k ∷ []))
 
-each : {A : Type 0} (P : A → Type 0) (xs : List A) → AllByRecursion P xs → All P xs
+pub each : {A : Type 0} (P : A → Type 0) (xs : List A) → AllByRecursion P xs → All P xs
 each P [] all k d inside = absurd (omega (arith, inside))
 each P (x ∷ xs) all zero d inside = all.0
 each P (x ∷ xs) all (suc k) d inside = each P xs all.1 k d (omega (arith, inside))
@@ -79,28 +80,31 @@ module _ (l : Layout) (terms : List Term) (adt : List ℕ) where
       ∙ (λ i. rules_laid k (ws ++ after) i ++ entry_says k after i ∷ [])
       ∙ sym (map-append rule_at (numbers_below k) (k ∷ []))
 
-  entry_runs : (n : ℕ) (after : List ℕ) → IsSoundEquation (length terms) (words_for (entry_at l adt n)) →
+  entry_runs : (n : ℕ) (after : List ℕ) → length (words_for (entry_at l adt n)) ≤ 32 → IsSoundEquation (length terms) (words_for (entry_at l adt n)) →
       IsRunnable terms (words_below l adt n ++ (words_for (entry_at l adt n) ++ after)) (entry n)
   unfolding entry
-  entry_runs n after sound =
+  entry_runs n after few sound =
       let before : List ℕ = words_below l adt n in
       let ws : List ℕ = words_for (entry_at l adt n) in
       record {
         from = omega arith;
         to = omega (arith, length-append before (ws ++ after), length-append ws after);
+        short = omega (arith, few);
         sound = rw (between before ws after) sound;
       }
 
-  entries_run : (k : ℕ) (after : List ℕ) → ((n : ℕ) → n < k → IsSoundEquation (length terms) (words_for (entry_at l adt n))) →
+  entries_run : (k : ℕ) (after : List ℕ) → ((n : ℕ) → n < k → length (words_for (entry_at l adt n)) ≤ 32) →
+      ((n : ℕ) → n < k → IsSoundEquation (length terms) (words_for (entry_at l adt n))) →
       AllByRecursion (IsRunnable terms (words_below l adt k ++ after)) (entries_below l adt k)
   unfolding entry
-  entries_run zero after all = tt
-  entries_run (suc k) after all =
+  entries_run zero after few all = tt
+  entries_run (suc k) after few all =
       let before : List ℕ = words_below l adt k in
       let ws : List ℕ = words_for (entry_at l adt k) in
       rw (append_assoc before ws after)
       (all_append (IsRunnable terms (before ++ (ws ++ after))) (entries_below l adt k) (entry k ∷ [])
-      (entries_run k (ws ++ after) (λ n below. all n (omega (arith, below)))) (entry_runs k after (all k (omega arith)), tt))
+      (entries_run k (ws ++ after) (λ n below. few n (omega (arith, below))) (λ n below. all n (omega (arith, below))))
+      (entry_runs k after (few k (omega arith)) (all k (omega arith)), tt))
 
   points_laid : (k : ℕ) → points_below l adt k ≡ map fresh_point (map rule_at (numbers_below k))
   unfolding rule_at
@@ -140,11 +144,14 @@ module _ (wdt adt : List ℕ) (watches : HasSoundWatchpoints wdt) (actions : Has
   many : length (spelled_terms wdt) ≡ watchpoint_count adt
   many = length_listed _ (own_count wdt) ∙ sym watches.same ∙ match.watchpoints
 
-  few : length (spelled_terms wdt) ≤ 176
+  pub few : length (spelled_terms wdt) ≤ 176
   few = omega (arith, many, actions.watchpoints)
 
   equations : (n : ℕ) → n < own_count adt → IsSoundEquation (length (spelled_terms wdt)) (words_for (entry_at (adt_layout adt) adt n))
   equations n used = rw many (actions.each n used).equation
+
+  short : (n : ℕ) → n < own_count adt → length (words_for (entry_at (adt_layout adt) adt n)) ≤ 32
+  short n used = (has_place adt (entry_at (adt_layout adt) adt n) n actions used refl).words
 
   pub tables_set : AreTables (spelled_terms wdt) (by_counts.unseen (spelled_terms wdt)) (entries_below (adt_layout adt) adt (own_count adt)) (points_below (adt_layout adt) adt (own_count adt)) (words_below (adt_layout adt) adt (own_count adt))
   tables_set = record {
@@ -155,26 +162,19 @@ module _ (wdt adt : List ℕ) (watches : HasSoundWatchpoints wdt) (actions : Has
     shared = λ j k t at_j at_k.
         slice_get-map (λ (u : Term). unseen_result) (spelled_terms wdt) j ∙ ap (option_map (λ (u : Term). unseen_result)) (at_j ∙ sym at_k)
         ∙ sym (slice_get-map (λ (u : Term). unseen_result) (spelled_terms wdt) k);
-    runnable = each _ _ (rw (append-nil (words_below (adt_layout adt) adt (own_count adt))) at (entries_run (adt_layout adt) (spelled_terms wdt) adt (own_count adt) [] equations));
+    runnable = each _ _ (rw (append-nil (words_below (adt_layout adt) adt (own_count adt))) at (entries_run (adt_layout adt) (spelled_terms wdt) adt (own_count adt) [] short equations));
   }
 
-  rules_set : map (rule_in (spelled_terms wdt) (words_below (adt_layout adt) adt (own_count adt))) (entries_below (adt_layout adt) adt (own_count adt)) ≡ spelled_rules layouts wdt adt
+  pub rules_set : map (rule_in (spelled_terms wdt) (words_below (adt_layout adt) adt (own_count adt))) (entries_below (adt_layout adt) adt (own_count adt)) ≡ spelled_rules layouts wdt adt
   rules_set =
       ap (λ words. map (rule_in (spelled_terms wdt) words) (entries_below (adt_layout adt) adt (own_count adt))) (sym (append-nil (words_below (adt_layout adt) adt (own_count adt))))
       ∙ rules_laid (adt_layout adt) (spelled_terms wdt) adt (own_count adt) []
       ∙ sym (rules_spelled (adt_layout adt) (spelled_terms wdt) adt few (own_count adt) equations)
       ∙ ap (λ (l : Option Layout). spelled_by_layout l (spelled_terms wdt) adt) (sym actions.layout)
 
-  points_set : points_below (adt_layout adt) adt (own_count adt) ≡ map fresh_point (spelled_rules layouts wdt adt)
+  pub points_set : points_below (adt_layout adt) adt (own_count adt) ≡ map fresh_point (spelled_rules layouts wdt adt)
   points_set =
       points_laid (adt_layout adt) (spelled_terms wdt) adt (own_count adt)
       ∙ ap (map fresh_point)
       (sym (rules_spelled (adt_layout adt) (spelled_terms wdt) adt few (own_count adt) equations)
       ∙ ap (λ (l : Option Layout). spelled_by_layout l (spelled_terms wdt) adt) (sym actions.layout))
-
-  pub watcher_set : watcher Active (spelled_terms wdt) (by_counts.unseen (spelled_terms wdt)) (entries_below (adt_layout adt) adt (own_count adt)) (points_below (adt_layout adt) adt (own_count adt)) (words_below (adt_layout adt) adt (own_count adt))
-      ≡ fresh (spelled_terms wdt) (spelled_rules layouts wdt adt)
-  watcher_set =
-      ap₂ (λ (said : List Actionpoint) (points : List (Point Tally)).
-      let w : Watcher = record { mode = Active; terms = spelled_terms wdt; rules = said; watch = by_counts.unseen (spelled_terms wdt); points = points } in w)
-      rules_set points_set

@@ -1,5 +1,5 @@
 -- The entries of the actionpoint table.
-use Rattle.std.specs.Prelude.{ℕ, ◌≤◌, List, length, slice_range, unwrap_or, pos}
+use Rattle.std.specs.Prelude.{ℕ, ◌+◌, ◌≤◌, List, length, slice_range, unwrap_or, pos}
 use Rattle.lc_model.specs.declared.field.Term.{Term}
 use Rattle.lc_model.specs.declared.field.FieldType.TheVariants.{U8}
 use Rattle.lc_model.specs.declared.field.CmpOp.TheVariants.{Less}
@@ -42,4 +42,5 @@ rule_in terms words entry = rule_with entry (condition_in terms words entry)
 pub record IsRunnable (terms : List Term) (words : List ℕ) (entry : Entry) : Type 0 where
   pub from : entry.start ≤ entry.end
   pub to : entry.end ≤ length words
+  pub short : entry.end ≤ entry.start + 32
   pub sound : IsSoundEquation (length terms) (words_of words entry)

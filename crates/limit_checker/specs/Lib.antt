@@ -1,4 +1,10 @@
 pub mod Watcher
+pub mod Ids
+pub mod Judged
+pub mod Grouped
+pub mod Reactions
+pub mod Engine
+pub mod States
 pub mod Sampling
 pub mod Running
 pub mod Shared

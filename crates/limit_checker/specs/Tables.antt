@@ -4,12 +4,23 @@ use Rattle.lc_model.specs.declared.field.Term.{Term}
 use Rattle.lc_model.specs.declared.mode.LcMode.{LcMode}
 use Rattle.lc_model.specs.Codes.{table_entries}
 use Rattle.lc_model.specs.LimitChecker.Steps.{Point}
-use Rattle.lc_model.specs.Kept.Summary.{WatchResult, Tally}
+use Rattle.lc_model.specs.Kept.Summary.{WatchResult, Tally, LcOwn}
 use Rattle.lc_model.specs.Tables.Image.{WideActionpoints, words_in}
 use Rattle.limit_checker.specs.declared.actionpoint.Entry.{Entry}
 use Rattle.limit_checker.specs.Entry.{rule_in, IsRunnable}
 use Rattle.limit_checker.specs.Shared.{AreShared}
 use Rattle.limit_checker.specs.Watcher.{Watcher}
+
+-- the object in numbers, with what it tells of its own work
+abbrev pub own_of : LcMode → List Term → List WatchResult → List Entry → List (Point Tally) → List ℕ → (steps probes : ℕ) → LcOwn
+own_of mode terms watch entries points words steps probes = record {
+  mode = mode;
+  terms = terms;
+  rules = map (rule_in terms words) entries;
+  watch = watch;
+  points = points;
+  effort = record { steps = steps; probes = probes };
+}
 
 -- what the tables are as watchpoints and rules
 abbrev pub watcher : LcMode → List Term → List WatchResult → List Entry → List (Point Tally) → List ℕ → Watcher
@@ -26,9 +37,8 @@ pub record AreTables (terms : List Term) (watch : List WatchResult) (entries : L
   pub shared : AreShared terms watch
   pub runnable : All (IsRunnable terms words) entries
 
--- there is room for the largest tables: watchpoints, actionpoints, and the words of each
-pub record HasRoom (terms watch entries points words : ℕ) : Type 0 where
-  pub for_terms : table_entries ≤ terms
+-- there is room for the largest tables: results, actionpoints, and the words of each
+pub record HasRoom (watch entries points words : ℕ) : Type 0 where
   pub for_watch : table_entries ≤ watch
   pub for_entries : table_entries ≤ entries
   pub for_points : table_entries ≤ points

@@ -1,16 +1,18 @@
 //! Actionpoints: the entries of their table, what is counted of each, and what a sample leads to (cFS Limit Checker
 //! user's guide, actionpoint definitions, statistics and evaluation; what is counted is this project's own).
 
-ghost use Rattle.std.specs.Prelude.{◌≡◌, ℕ};
+ghost use Rattle.std.specs.Prelude.{◌≡◌, ℕ, if◌then◌else◌};
 ghost use Rattle.lc_model.specs.Condition.{Condition};
 ghost use Rattle.lc_model.specs.LimitChecker.Past.{is_result, is_passive as in_passive};
-ghost use Rattle.lc_model.specs.LimitChecker.Steps.{is_sampled as is_on};
+ghost use Rattle.lc_model.specs.LimitChecker.Steps.{is_sampled as is_on, is_permanently_off as is_off, is_state_disabled};
 ghost use Rattle.lc_model.specs.LimitChecker.Watch.{result_of_truth as result_of};
-ghost use Rattle.lc_model.specs.Kept.Next.{by_counts, is_last, counted_if as one_more_if, tally_after, next_on_failure};
-ghost use Rattle.limit_checker.specs.Watcher.{sequence_in};
+ghost use Rattle.lc_model.specs.Kept.Next.{by_counts, is_last, counted_if as one_more_if, tally_after, next_on_failure, next_turn_reports};
+ghost use Rattle.limit_checker.specs.Reactions.{turn_requests, failure_requests, requests_of};
 ghost use Rattle.limit_checker.specs.Sampling.{point_with};
+ghost use Rattle.limit_checker.specs.Watcher.{sequence_in};
 ghost use Rattle.limit_checker.specs.Entry.{rule_with};
 
+use crate::reaction::{Failure, Reactions, Turn};
 use arrayvec::ArrayVec;
 use lc_model::{ApMode, ApResult, EventKind, LcMode, ReportMaxima, Truth};
 use std::marker::Model;
@@ -88,6 +90,51 @@ impl Point {
         }
     }
 
+    pub(crate) fn state(&self) -> ApMode
+        ensures { result ≡ self.now.state }
+    {
+        self.state
+    }
+
+    /// The newest result.
+    pub(crate) fn last(&self) -> Option<ApResult>
+        ensures { result ≡ self.now.past.last }
+    {
+        self.last
+    }
+
+    pub(crate) fn set(&mut self, state: ApMode)
+        ensures { self.new ≡ record self.old { state = state } }
+    {
+        self.state = state;
+    }
+
+    pub(crate) fn set_unless_off(&mut self, state: ApMode)
+        ensures { self.new ≡ (if is_off self.old.state then self.old else record self.old { state = state }) }
+    {
+        if !self.is_permanently_off() {
+            self.state = state;
+        }
+    }
+
+    pub(crate) fn is_permanently_off(&self) -> bool
+        ensures { result ≡ is_off self.now.state }
+    {
+        match self.state {
+            ApMode::PermOff => true,
+            ApMode::Active | ApMode::Passive | ApMode::Disabled => false,
+        }
+    }
+
+    pub(crate) fn is_disabled(&self) -> bool
+        ensures { result ≡ is_state_disabled self.now.state }
+    {
+        match self.state {
+            ApMode::Disabled => true,
+            ApMode::Active | ApMode::Passive | ApMode::PermOff => false,
+        }
+    }
+
     /// Rules that are disabled or off are not sampled.
     pub(crate) fn is_sampled(&self) -> bool
         ensures { result ≡ is_on self.now.state }
@@ -98,17 +145,44 @@ impl Point {
         }
     }
 
-    /// Counts a sample, and answers the sequence that it requests, if it requests one.
-    pub(crate) fn sample(&mut self, rule: &Entry, mode: LcMode, outcome: ApResult) -> Option<u16>
+    /// Counts a sample, and answers what it leads to.
+    pub(crate) fn sample(&mut self, rule: &Entry, mode: LcMode, outcome: ApResult) -> Reactions
         // Whatever the rule's number and condition.
         ensures point { (n : ℕ) (c : Condition) → self.new ≡ (point_with (rule_with rule.now c) n mode outcome self.old).0 }
-        ensures request { (n : ℕ) (c : Condition) → result ≡ sequence_in (point_with (rule_with rule.now c) n mode outcome self.old).1 }
+        ensures requests { (n : ℕ) (c : Condition) → requests_of (rule_with rule.now c) n result ≡ (point_with (rule_with rule.now c) n mode outcome self.old).1 }
     {
+        let before = self.last;
         self.count(rule.fails, outcome);
+        let turn = self.turn(rule, before, outcome);
         if self.run < rule.fails {
-            return None;
+            return Reactions {
+                turn,
+                failure: None,
+            };
         }
-        self.fail(rule, mode)
+        Reactions {
+            turn,
+            failure: self.fail(rule, mode),
+        }
+    }
+
+    /// The turn that is reported of the newest result, with the counts up to it.
+    fn turn(&self, rule: &Entry, before: Option<ApResult>, outcome: ApResult) -> Option<Turn>
+        ensures { (n : ℕ) (c : Condition) → turn_requests n result ≡ next_turn_reports (rule_with rule.now c) n before outcome self.now.past }
+    {
+        if was(ApResult::Pass, before)
+            && is_same(ApResult::Fail, outcome)
+            && self.to_fail <= rule.report.pass_to_fail
+        {
+            return Some(Turn::ToFail);
+        }
+        if was(ApResult::Fail, before)
+            && is_same(ApResult::Pass, outcome)
+            && self.to_pass <= rule.report.fail_to_pass
+        {
+            return Some(Turn::ToPass);
+        }
+        None
     }
 
     /// One sample more.
@@ -130,21 +204,28 @@ impl Point {
     }
 
     /// Enough failures in a row: an active rule becomes passive, and requests its sequence where the Limit Checker is
-    /// active.
-    fn fail(&mut self, rule: &Entry, mode: LcMode) -> Option<u16>
+    /// active. Of a rule that is passive already so many reports are made as it says.
+    fn fail(&mut self, rule: &Entry, mode: LcMode) -> Option<Failure>
         ensures past { self.new.past ≡ self.old.past }
         ensures state { (n : ℕ) (c : Condition) → self.new.state ≡ (next_on_failure (rule_with rule.now c) n mode self.old.state self.old.past).state }
-        ensures request { (n : ℕ) (c : Condition) → result ≡ sequence_in (next_on_failure (rule_with rule.now c) n mode self.old.state self.old.past).requests }
+        ensures requests { (n : ℕ) (c : Condition) → failure_requests (rule_with rule.now c) n result ≡ (next_on_failure (rule_with rule.now c) n mode self.old.state self.old.past).requests }
     {
         match (self.state, mode) {
             (ApMode::Active, LcMode::Active) => {
                 self.state = ApMode::Passive;
-                Some(rule.sequence)
+                Some(Failure::Requested(self.run))
             }
-            (ApMode::Active, LcMode::Passive | LcMode::Disabled) => {
+            (ApMode::Active, LcMode::Passive) => {
+                self.state = ApMode::Passive;
+                Some(Failure::LcPassive)
+            }
+            (ApMode::Active, LcMode::Disabled) => {
                 self.state = ApMode::Passive;
                 None
             }
+            (ApMode::Passive, _) if self.quiet <= u16::from(rule.report.passive) => Some(
+                Failure::Passive,
+            ),
             (ApMode::Passive | ApMode::Disabled | ApMode::PermOff, _) => None,
         }
     }
@@ -159,6 +240,16 @@ pub(crate) fn result_of_truth(truth: Truth) -> ApResult
         Truth::False => ApResult::Pass,
         Truth::Stale => ApResult::Stale,
         Truth::Error => ApResult::Error,
+    }
+}
+
+/// The sequence that is requested, if one is.
+pub(crate) fn sequence_of(rule: &Entry, reactions: Reactions) -> Option<u16>
+    ensures { (n : ℕ) (c : Condition) → result ≡ sequence_in (requests_of (rule_with rule.now c) n reactions) }
+{
+    match reactions.failure {
+        Some(Failure::Requested(_)) => Some(rule.sequence),
+        Some(Failure::LcPassive | Failure::Passive) | None => None,
     }
 }
 

@@ -1,12 +1,19 @@
 //! The Limit Checker application of the core Flight System: it watches telemetry, ages what it has seen, samples the
-//! rules of its tables, and requests command sequences (cFS Limit Checker user's guide).
+//! rules of its tables, and tells what they ask for (cFS Limit Checker user's guide).
 #![tactic(auto)]
 
 mod actionpoint;
 mod checker;
 mod equation;
 mod field;
+mod groups;
+mod ids;
 mod layout;
+mod reaction;
+mod sampling;
+mod states;
 mod watchpoint;
 
-pub use checker::LimitChecker;
+pub use checker::{LimitChecker, RuleEvent, Standing};
+pub use reaction::{Asked, Failure, Reactions, Turn};
+pub use states::StateRefusal;

@@ -1,10 +1,12 @@
 //! Watchpoints: what each was found to be, and how that ages (cFS Limit Checker user's guide, watchpoint results).
 
-ghost use Rattle.std.specs.Prelude.{◌≡◌, length, map};
-ghost use Rattle.lc_model.specs.Packet.{message_id as id_of};
+ghost use Rattle.std.specs.Prelude.{◌≡◌, ◌<◌, length, map, fold, is_none, All};
+ghost use Rattle.std.specs.List.{list_any};
 ghost use Rattle.lc_model.specs.Field.{value_of};
 ghost use Rattle.lc_model.specs.LimitChecker.Watch.{judgement};
-ghost use Rattle.lc_model.specs.Kept.Next.{unseen_result, seen_result, aged_result, results_by};
+ghost use Rattle.lc_model.specs.Kept.Next.{unseen_result, aged_result};
+ghost use Rattle.limit_checker.specs.Judged.{is_error};
+ghost use Rattle.limit_checker.specs.Grouped.{watch_for, watch_seen, lacks_field};
 
 use crate::field;
 use lc_model::{Term, Truth};
@@ -44,15 +46,6 @@ impl WatchResult {
         self.truth
     }
 
-    /// A packet of the watchpoint's message id: what it says stands until it is stale.
-    fn see(&mut self, term: &Term, packet: &[u8])
-        requires { id_of packet.now ≡ term.now.mid }
-        ensures { self.new ≡ seen_result packet.now term.now self.old }
-    {
-        self.truth = judged(term, packet);
-        self.countdown = term.stale;
-    }
-
     /// After an aging: a countdown that comes to 0 makes the watchpoint stale.
     fn age(&mut self)
         ensures { self.new ≡ aged_result self.old }
@@ -64,28 +57,62 @@ impl WatchResult {
     }
 }
 
-/// What a packet says of the watchpoint: an error where the field is not in it.
-fn judged(term: &Term, packet: &[u8]) -> Truth
-    ensures { result ≡ judgement term.now (value_of term.now packet.now) }
-{
-    match field::value_in(term, packet) {
-        None => Truth::Error,
-        Some(value) if field::compares(term.op, value, term.value) => Truth::True,
-        Some(_) => Truth::False,
+/// A watchpoint among those of its message id.
+#[derive(Clone, Copy, Debug)]
+pub(crate) struct Watch {
+    /// Its number in the table.
+    pub(crate) number: usize,
+    pub(crate) term: Term,
+}
+
+impl Watch {
+    pub(crate) fn of(number: usize, term: &Term) -> Watch
+        ensures { result ≡ watch_for number term.now }
+    {
+        Watch {
+            number,
+            term: *term,
+        }
+    }
+
+    /// What a packet of its message id says of it: an error where the field is not in it.
+    fn judged(&self, packet: &[u8]) -> Truth
+        ensures truth { result ≡ judgement self.now.term (value_of self.now.term packet.now) }
+    {
+        match field::value_in(&self.term, packet) {
+            None => Truth::Error,
+            Some(value) if field::compares(self.term.op, value, self.term.value) => Truth::True,
+            Some(_) => Truth::False,
+        }
     }
 }
 
-/// A packet: all watchpoints of its message id are found anew.
-pub(crate) fn see_all(terms: &[Term], results: &mut [WatchResult], packet: &[u8])
-    requires { length terms.now ≡ length results.old }
-    ensures { results.new ≡ results_by (seen_result packet.now) terms.now results.old }
+fn is_error(truth: Truth) -> bool
+    ensures { result ≡ is_error truth }
 {
-    let mid = field::message_id(packet);
-    for (i, term) in terms.iter().enumerate() {
-        if term.mid == mid {
-            results[i].see(term, packet);
-        }
+    match truth {
+        Truth::Error => true,
+        Truth::True | Truth::False | Truth::Stale => false,
     }
+}
+
+/// A packet: all watchpoints of its message id, the group, are found anew, and what each says stands until it is stale.
+/// Answers whether some field was not in the packet.
+pub(crate) fn see_group(group: &[Watch], results: &mut [WatchResult], packet: &[u8]) -> bool
+    requires { All (λ w. w.number < length results.old) group.now }
+    ensures results { results.new ≡ fold (watch_seen packet.now) results.old group.now }
+    ensures short { result ≡ list_any (lacks_field packet.now) group.now }
+{
+    let mut short = false;
+    for watch in group {
+        let truth = watch.judged(packet);
+        results[watch.number] = WatchResult {
+            truth,
+            countdown: watch.term.stale,
+        };
+        short = short || is_error(truth);
+    }
+    short
 }
 
 /// An aging of all watchpoints.

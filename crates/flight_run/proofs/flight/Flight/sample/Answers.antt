@@ -1,7 +1,9 @@
 use Rattle.std.proofs.Common.{rules, refl, sym, ◌∙◌, ap, subst, if◌then◌else◌, List, length, ℕ, arith}
 use Rattle.limit_checker.specs.Watcher.{after_aging}
 use Rattle.flight_run.specs.declared.flight.Flight.{Flight}
+use Rattle.limit_checker.specs.Engine.{watcher_of}
 use Rattle.flight_run.specs.Flight.{Kept}
+use Rattle.flight_run.proofs.Watchers.{watcher_aged}
 use Rattle.flight_run.specs.Kept.{kept_of}
 use Rattle.flight_run.proofs.Sampled.{Sampling, begins, next_taken, next_skipped, sampled_whole}
 use Rattle.flight_run.proofs.flight.Flight.sample.Goals as goal
@@ -33,8 +35,8 @@ loop-rule-preserved c = elim c.if-takes.branch [
 pub returns-then-request-clause-kept : goal.returns-then-request-clause-kept
 returns-then-request-clause-kept c =
     let whole = sampled_whole _ _ _ _ _ _ c.rule_count-rules.ensures.count c.loop-rule-test.false c.loop-rule.invariant.2 in
-    (λ i. record { watcher = c.age.ensures i; count = c.loop-rule.self.count })
-    ∙ (λ i. record { watcher = if sym c.if-request.true i then after_aging c.loop-rule.self.checker else c.loop-rule.self.checker; count = c.loop-rule.self.count })
+    (λ i. record { watcher = watcher_aged c.loop-rule.self.checker _ c.age.ensures i; count = c.loop-rule.self.count })
+    ∙ (λ i. record { watcher = if sym c.if-request.true i then after_aging (watcher_of c.loop-rule.self.checker) else watcher_of c.loop-rule.self.checker; count = c.loop-rule.self.count })
     ∙ sym (ap (λ (k : Kept × List ℕ). k.0) whole)
 
 pub returns-then-request-clause-bytes : goal.returns-then-request-clause-bytes
@@ -45,7 +47,7 @@ returns-then-request-clause-bytes c =
 pub returns-else-request-clause-kept : goal.returns-else-request-clause-kept
 returns-else-request-clause-kept c =
     let whole = sampled_whole _ _ _ _ _ _ c.rule_count-rules.ensures.count c.loop-rule-test.false c.loop-rule.invariant.2 in
-    (λ i. record { watcher = if sym c.if-request.false i then after_aging c.loop-rule.self.checker else c.loop-rule.self.checker; count = c.loop-rule.self.count })
+    (λ i. record { watcher = if sym c.if-request.false i then after_aging (watcher_of c.loop-rule.self.checker) else watcher_of c.loop-rule.self.checker; count = c.loop-rule.self.count })
     ∙ sym (ap (λ (k : Kept × List ℕ). k.0) whole)
 
 pub returns-else-request-clause-bytes : goal.returns-else-request-clause-bytes
