@@ -12,3 +12,4 @@ pub mod OneSample
 pub mod SampledRules
 pub mod CountedWords
 pub mod Whole
+pub mod Packing

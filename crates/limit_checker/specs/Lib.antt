@@ -11,3 +11,4 @@ pub mod Shared
 pub mod Entry
 pub mod Layout
 pub mod Tables
+pub mod Packed

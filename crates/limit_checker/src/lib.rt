@@ -9,6 +9,7 @@ mod field;
 mod groups;
 mod ids;
 mod layout;
+mod operands;
 mod reaction;
 mod sampling;
 mod states;

@@ -29,4 +29,4 @@ returns c = λ rules are.
     begins rules _ are _ _
     (c.image_in-wdt.ensures are.tables.wdt.0 are.tables.wdt.2 (c.as_slice.ensures.value ∙ are.tables.wdt.1))
     (c.image_in-adt.ensures are.tables.adt.0 are.tables.adt.2 (c.as_slice-2.ensures.value ∙ are.tables.adt.1))
-    c.halves_spell_the_text.ensures _ (watcher_begins _ _ _ _ c.in_ok-new-checker.ensures c.adopt.ensures)
+    c.halves_spell_the_text.ensures _ (watcher_begins _ _ _ _ c.in_ok-checker.ensures c.adopt.ensures)
