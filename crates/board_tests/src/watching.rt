@@ -1,5 +1,6 @@
 //! A Limit Checker that is set from images, driven through packets, samples and agings.
 
+mod engine;
 mod one_rule;
 mod sound_tables;
 mod versions;
@@ -114,7 +115,7 @@ fn set<R: Abort>(rt: &R, checker: &mut LimitChecker, tables: &Images) {
         && preamble::watchpoint_count(wdt.image()) == preamble::watchpoint_count(adt.image());
     holds(rt, "the images belong together", is_match);
     if is_match {
-        checker.set(&wdt, &adt);
+        checker.adopt(&wdt, &adt);
     }
 }
 
@@ -132,7 +133,9 @@ enum Step {
 fn drive<R: Abort>(rt: &R, checker: &mut LimitChecker, steps: &[Step]) {
     for (at, step) in steps.iter().enumerate() {
         match step {
-            Step::Packet(bytes) => checker.telemetry(bytes),
+            Step::Packet(bytes) => {
+                checker.telemetry(bytes);
+            }
             Step::Age => checker.age(),
             Step::Sample(want) => same(rt, ("step", at), sample(checker, 0), *want),
             Step::SampleOf(number, want) => {
