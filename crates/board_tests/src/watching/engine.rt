@@ -286,11 +286,9 @@ fn two_fields_of_one_id_and_another_id(rt: HostRuntime) {
 /// 176 watchpoints of one message id each, every second one from 0x0900 on.
 fn many_ids<R: Abort + AllocGlobal>(rt: &R) -> Images {
     let mut bytes = wdt(rt, 176);
-    let mut place = 40;
     for number in 0..176u16 {
         let mid = (0x0900 + 2 * number).to_be_bytes();
-        put(bytes.as_mut_slice(), place + 2, &mid);
-        place += 24;
+        put(bytes.as_mut_slice(), 42 + 24 * usize::from(number), &mid);
     }
     Images {
         wdt: bytes,
