@@ -53,11 +53,9 @@ impl Faults {
         match condition {
             Expression::Compare(comparison) => self.check_comparison(names, comparison),
             Expression::Not(operand) => self.check_condition(names, operand),
-            Expression::And(left, right)
-            | Expression::Or(left, right)
-            | Expression::Xor(left, right) => {
-                self.check_condition(names, left);
-                self.check_condition(names, right);
+            Expression::And(operands) | Expression::Or(operands) | Expression::Xor(operands) => {
+                self.check_condition(names, &operands.0);
+                self.check_condition(names, &operands.1);
             }
         }
     }
