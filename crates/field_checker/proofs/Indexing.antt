@@ -1,7 +1,7 @@
 -- How an index takes in one more item.
 use Rattle.std.proofs.Common.{◌≡◌, refl, sym, ◌∙◌, ap, subst, ℕ, Bool, true, false, cond, ◌&&◌, ◌||◌, List, [], ◌∷◌, ◌++◌, Option, Some, None, bytes_eq, nat_lt, arith}
-use Rattle.std.specs.Prelude.{is_some, option_map, find, filter_map}
-use Rattle.std.specs.Option.{option_or, option_map_or}
+use Rattle.std.specs.Prelude.{min, option_map, find, filter_map}
+use Rattle.std.specs.Option.{option_or}
 use Rattle.std.specs.List.{list_any}
 use Rattle.std.specs.BTreeMap.{BTreeMap}
 use denote.Ref.{Bor}
@@ -18,41 +18,74 @@ use Rattle.rule_parser.specs.Syntax as syntax
 use Rattle.field_checker.specs.declared.index.Index.{Index}
 use Rattle.field_checker.specs.Index.{at_name, is_before, IsIndexOf}
 
+or_none : {A : Type 0} (a : Option A) → a ≡ option_or a None
+or_none None = refl
+or_none (Some x) = refl
+
+or_false : (b : Bool) → (b || false) ≡ b
+or_false true = refl
+or_false false = refl
+
 -- ---- one name
 
 -- a name where nothing stood
-pub first_put : {X : Type 0} (old : List ℕ → Option X) (name text : List ℕ) (value : X) → is_some (old name) ≡ false →
+pub first_put : {X : Type 0} (old : List ℕ → Option X) (name text : List ℕ) (value : X) → old name ≡ None →
     cond (bytes_eq name text) (Some value) (old text) ≡ option_or (old text) (cond (bytes_eq name text) (Some value) None)
 first_put {X} old name text value none = by_test (bytes_eq name text) refl
   where
-    empty : (o : Option X) → is_some o ≡ false → Some value ≡ option_or o (Some value)
+    empty : (o : Option X) → o ≡ None → Some value ≡ option_or o (Some value)
     empty None e = refl
     empty (Some x) e = absurd (cc e)
 
-    kept : (o : Option X) → o ≡ option_or o None
-    kept None = refl
-    kept (Some x) = refl
-
     by_test : (b : Bool) → bytes_eq name text ≡ b → cond b (Some value) (old text) ≡ option_or (old text) (cond b (Some value) None)
-    by_test true e = empty (old text) (ap (λ t. is_some (old t)) (sym ((bytes_eq-Decides name text).0 e)) ∙ none)
-    by_test false e = kept (old text)
+    by_test true e = empty (old text) (ap old (sym ((bytes_eq-Decides name text).0 e)) ∙ none)
+    by_test false e = or_none (old text)
 
--- a place that is less than the one before, if any
-pub least_put : (old : List ℕ → Option ℕ) (name text : List ℕ) (place at : ℕ) → option_map_or (λ least. nat_lt place least) (old name) true ≡ true →
-    is_before (cond (bytes_eq name text) (Some place) (old text)) at ≡ (is_before (old text) at || (bytes_eq name text && nat_lt place at))
-least_put old name text place at less = by_test (bytes_eq name text) refl
+-- a value in the place of the one that stood at its name, which is put back
+pub first_kept : {X : Type 0} (old middle new : List ℕ → Option X) (name text : List ℕ) (value first : X) → old name ≡ Some first →
+    middle text ≡ cond (bytes_eq name text) (Some value) (old text) → new text ≡ cond (bytes_eq name text) (Some first) (middle text) →
+    new text ≡ option_or (old text) (cond (bytes_eq name text) (Some value) None)
+first_kept {X} old middle new name text value first was put back = back ∙ (ap (cond (bytes_eq name text) (Some first)) put ∙ by_test (bytes_eq name text) refl)
   where
-    lesser : (o : Option ℕ) → option_map_or (λ least. nat_lt place least) o true ≡ true → nat_lt place at ≡ (is_before o at || nat_lt place at)
-    lesser None e = refl
-    lesser (Some least) e = grind (arith, nat_tests, e)
+    stood : (o : Option X) → o ≡ Some first → Some first ≡ option_or o (Some value)
+    stood None e = absurd (cc e)
+    stood (Some x) e = sym e
 
-    or_false : (b : Bool) → b ≡ (b || false)
-    or_false true = refl
-    or_false false = refl
+    by_test : (b : Bool) → bytes_eq name text ≡ b → cond b (Some first) (cond b (Some value) (old text)) ≡ option_or (old text) (cond b (Some value) None)
+    by_test true e = stood (old text) (ap old (sym ((bytes_eq-Decides name text).0 e)) ∙ was)
+    by_test false e = or_none (old text)
+
+-- a place at a name where none stood
+pub least_put : (old : List ℕ → Option ℕ) (name text : List ℕ) (place at : ℕ) → old name ≡ None →
+    is_before (cond (bytes_eq name text) (Some place) (old text)) at ≡ (is_before (old text) at || (bytes_eq name text && nat_lt place at))
+least_put old name text place at none = by_test (bytes_eq name text) refl
+  where
+    empty : (o : Option ℕ) → o ≡ None → nat_lt place at ≡ (is_before o at || nat_lt place at)
+    empty None e = refl
+    empty (Some least) e = absurd (cc e)
 
     by_test : (b : Bool) → bytes_eq name text ≡ b → is_before (cond b (Some place) (old text)) at ≡ (is_before (old text) at || (b && nat_lt place at))
-    by_test true e = lesser (old text) (ap (λ t. option_map_or (λ least. nat_lt place least) (old t) true) (sym ((bytes_eq-Decides name text).0 e)) ∙ less)
-    by_test false e = or_false (is_before (old text) at)
+    by_test true e = empty (old text) (ap old (sym ((bytes_eq-Decides name text).0 e)) ∙ none)
+    by_test false e = sym (or_false (is_before (old text) at))
+
+-- the lesser of the place and the one that stood at its name
+pub least_kept : (old middle new : List ℕ → Option ℕ) (name text : List ℕ) (place least lesser at : ℕ) → old name ≡ Some least → lesser ≡ min least place →
+    middle text ≡ cond (bytes_eq name text) (Some place) (old text) → new text ≡ cond (bytes_eq name text) (Some lesser) (middle text) →
+    is_before (new text) at ≡ (is_before (old text) at || (bytes_eq name text && nat_lt place at))
+least_kept old middle new name text place least lesser at was is put back =
+    ap (λ o. is_before o at) (back ∙ ap (cond (bytes_eq name text) (Some lesser)) put) ∙ by_test (bytes_eq name text) refl
+  where
+    below : nat_lt lesser at ≡ (nat_lt least at || nat_lt place at)
+    below = grind (arith, nat_tests, is)
+
+    stood : (o : Option ℕ) → o ≡ Some least → nat_lt lesser at ≡ (is_before o at || nat_lt place at)
+    stood None e = absurd (cc e)
+    stood (Some x) e = below ∙ ap (λ o. is_before o at || nat_lt place at) (sym e)
+
+    by_test : (b : Bool) → bytes_eq name text ≡ b →
+        is_before (cond b (Some lesser) (cond b (Some place) (old text))) at ≡ (is_before (old text) at || (b && nat_lt place at))
+    by_test true e = stood (old text) (ap old (sym ((bytes_eq-Decides name text).0 e)) ∙ was)
+    by_test false e = sym (or_false (is_before (old text) at))
 
 -- ---- one item
 
@@ -75,14 +108,6 @@ earlier_more : (items : List model.Item) (item : model.Item) (name : Token) →
 earlier_more items item name =
     list_any-append (λ other. is_earlier (name_of other) name) items (item ∷ [])
     ∙ ap (λ b. list_any (λ other. is_earlier (name_of other) name) items || b) (or_false (is_earlier (name_of item) name))
-  where
-    or_false : (b : Bool) → (b || false) ≡ b
-    or_false true = refl
-    or_false false = refl
-
-or_none : {A : Type 0} (a : Option A) → a ≡ option_or a None
-or_none None = refl
-or_none (Some x) = refl
 
 -- what stands first, seen by a function
 pub first_seen : {A B : Type 0} (f : A → B) (old : Option A) (b : Bool) (x : A) →

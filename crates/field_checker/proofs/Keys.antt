@@ -5,7 +5,7 @@ use Rattle.std.specs.declared.cmp.Ordering.TheVariants.{Less, Equal, Greater}
 use Rattle.std.specs.Ordering.{is_eq, nat_cmp, ordering_then, eq_by_cmp}
 use Rattle.std.specs.Cmp.{IsTotalOrder, nat_cmp_total, on_total, then_total, eq_by_cmp_equiv}
 use Rattle.std.specs.Cmp.Lexicographic.{slice_cmp, nat_list_cmp_total}
-use Rattle.std.specs.BTreeMap.{BTreeMap, UpdatesBy}
+use Rattle.std.specs.BTreeMap.{BTreeMap, UpdatesBy, get_by}
 use Rattle.std.specs.Map.{KeepsOthers, IsKeyTest, AreApart, lookup}
 use Rattle.std.proofs.lemmas.Map.Text.{is_eq-slice_cmp}
 use Rattle.std.proofs.lemmas.Slice.Eq.{bytes_eq-Decides}
@@ -64,3 +64,8 @@ pub updated_at : {X : Type 0} (name : List ℕ) (key : ℕ × Bor (List ℕ)) (o
     UpdatesBy keys_compared (keys_compared key) old new value → (text : List ℕ) → at_name new text ≡ cond (bytes_eq name text) value (at_name old text)
 updated_at {X} name key old new value number bytes updates =
     updated name old new value (subst (λ compare. UpdatesBy keys_compared compare old new value) (compares_as name key number bytes) updates)
+
+-- what stood at the name of a key
+pub stood_at : {X : Type 0} (name : List ℕ) (key : ℕ × Bor (List ℕ)) (map : BTreeMap (ℕ × Bor (List ℕ)) X) (found : Option X) → key.0 ≡ spread name → key.1.now ≡ name →
+    found ≡ get_by (keys_compared key) map → at_name map name ≡ found
+stood_at name key map found number bytes is = sym (is ∙ ap (λ compare. get_by compare map) (compares_as name key number bytes))

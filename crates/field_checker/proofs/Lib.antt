@@ -4,4 +4,5 @@ mod After
 mod Keys
 mod Indexing
 mod Meant
+mod Named
 mod Verdicts

@@ -1,7 +1,10 @@
 -- The first fault so far. This project's own.
-use Rattle.std.specs.Prelude.{List, [], ◌∷◌, Option, Some, option_map}
+use Rattle.std.specs.Prelude.{⊤, List, [], ◌∷◌, Option, Some, None, option_map}
+use Rattle.lc_model.specs.Text.Syntax.{Item}
 use Rattle.lc_model.specs.Text.Meaning.{TextFault, earlier_of}
-use Rattle.field_checker.specs.Fault.{fault_of}
+use Rattle.field_checker.specs.Fault.{error_of, fault_of}
+use Rattle.field_checker.specs.Number.{NamesItsNumber}
+use Rattle.field_checker.specs.declared.fault.Fault.{Fault}
 use Rattle.field_checker.specs.declared.faults.Faults.{Faults}
 
 -- the first fault that was met
@@ -12,3 +15,8 @@ first_of f = option_map fault_of f.first
 unfoldable pub after : Option TextFault → List TextFault → Option TextFault
 after first [] = first
 after first (f ∷ fs) = after (Some (earlier_of f first)) fs
+
+-- the fault that was met, if any, names the number that it is of
+abbrev pub NamesItsFault : List Item → Option Fault → Type 0
+NamesItsFault items None = ⊤
+NamesItsFault items (Some fault) = NamesItsNumber items (error_of fault)

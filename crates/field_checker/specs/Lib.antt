@@ -2,3 +2,4 @@
 pub mod Fault
 pub mod Faults
 pub mod Index
+pub mod Number

@@ -6,6 +6,7 @@ ghost use Rattle.lc_model.specs.Text.Meaning.{Means, TextFault, faults, first_fa
 ghost use Rattle.rule_parser.specs.Syntax.{items_of};
 ghost use Rattle.field_checker.specs.declared.error.CheckError.TheVariants.{Memory};
 ghost use Rattle.field_checker.specs.Fault.{IsFaultUnlessMemory};
+ghost use Rattle.field_checker.specs.Number.{NamesItsNumber};
 
 use crate::error::CheckError;
 use crate::faults::Faults;
@@ -18,16 +19,17 @@ use std::alloc::Global;
 /// The rules that the items of a rule text mean, in the text's order, with each name replaced by what it names. A name
 /// may be used before its declaration; where one is declared twice, the first packet or field of that name counts.
 ///
-/// Work: at most five look-ups for each name of the text, declared or used, in ordered maps: for `n`
+/// Work: at most three look-ups for each name of the text, declared or used, and five for one declared again, in ordered maps: for `n`
 /// names in the order of `n log n` comparisons, whatever the names are. A comparison is mostly one of two numbers, which are
 /// spread from the names' bytes. Memory: the maps, which go at the end, and the rules. The stack grows with the depth of the
 /// conditions.
 ///
-/// Errors: of all faults of all items the one at the least place, at one place the one with the least number; `Memory`
-/// where the names or the rules find no room.
+/// Errors: of all faults of all items the one at the least place, at one place the one with the least number, and where
+/// that is a number out of its range, which number is meant; `Memory` where the names or the rules find no room.
 pub fn check(alloc: Global, file: &RuleFile) -> Result<RuleSet, CheckError>
     ensures means { IfOk result (λ set. Means (items_of file.now.items.items) set.rules) }
     ensures refused { IfErr result (λ error. IsFaultUnlessMemory (first_fault (faults (items_of file.now.items.items))) error) }
+    ensures named { IfErr result (NamesItsNumber (items_of file.now.items.items)) }
     ensures accepts { (meant : List NamedRule) → Means (items_of file.now.items.items) meant → MatchResult result (λ set. set.rules ≡ meant) (λ error. error ≡ Memory) }
     ensures refuses { (fault : TextFault) → first_fault (faults (items_of file.now.items.items)) ≡ Some fault → MatchResult result (λ set. ⊥) (λ error. IsFaultUnlessMemory (Some fault) error) }
 {

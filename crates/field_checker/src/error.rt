@@ -5,6 +5,7 @@ ghost use Rattle.field_checker.specs.declared.error.CheckError.TheVariants.{Memo
 ghost use Rattle.field_checker.specs.Fault.{error_code, error_of};
 
 use crate::fault::{Check, Fault};
+use crate::number::RuleNumber;
 use std::alloc::AllocError;
 use thiserror::Error;
 
@@ -18,25 +19,25 @@ pub enum CheckError {
     #[error("nothing of that kind has the name at {at}")]
     UnknownName { at: usize },
     /// A message id outside 0x0800 to 0x0FFF, those of telemetry (CCSDS 133.0-B).
-    #[error("no telemetry message id at {at}")]
+    #[error("the message id at {at} isn't one of telemetry, 0x0800 to 0x0FFF")]
     MidRange { at: usize },
     /// The message id of event packets or of the Limit Checker's housekeeping, 0x0808 or 0x08A7.
-    #[error("a reserved message id at {at}")]
+    #[error("the message id at {at} is one of the host's own, 0x0808 and 0x08A7")]
     ReservedMid { at: usize },
     /// A field's first byte is before its packet's first, or its last one behind the packet's declared length.
     #[error("the field at {at} isn't inside its packet")]
     FieldOutside { at: usize },
     /// A mask without a bit, or with one outside the field's type.
-    #[error("a mask outside the field's type at {at}")]
+    #[error("the mask at {at} isn't in the field's type: 1 to 0xFF in 8 bits, to 0xFFFF in 16, to 0xFFFFFFFF in 32")]
     MaskRange { at: usize },
     /// A comparison's number that the field's type doesn't have.
-    #[error("no number of the field's type at {at}")]
+    #[error("the number at {at} isn't in the field's type: u8 0 to 255, i8 -128 to 127, u16 0 to 65,535, i16 -32,768 to 32,767, u32 0 to 4,294,967,295, i32 -2,147,483,648 to 2,147,483,647")]
     ConstRange { at: usize },
-    /// A rule's number, or a stale age, outside the range of its place in a table.
-    #[error("a number out of range at {at}")]
-    NumberRange { at: usize },
+    /// This number of a rule, or a stale age, outside the range of its place in a table.
+    #[error("the number at {at} is out of range: {number}")]
+    NumberRange { at: usize, number: RuleNumber },
     /// A packet's length outside 12 to 2,048 bytes.
-    #[error("no packet has the length at {at}")]
+    #[error("the packet length at {at} isn't from 12 to 2,048")]
     LengthRange { at: usize },
     /// No memory for the names or the rules.
     #[error("out of memory")]
@@ -64,7 +65,7 @@ impl From<Fault> for CheckError {
             Check::FieldOutside => CheckError::FieldOutside { at },
             Check::MaskRange => CheckError::MaskRange { at },
             Check::ConstRange => CheckError::ConstRange { at },
-            Check::NumberRange => CheckError::NumberRange { at },
+            Check::NumberRange(number) => CheckError::NumberRange { at, number },
             Check::LengthRange => CheckError::LengthRange { at },
         }
     }

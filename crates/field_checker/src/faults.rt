@@ -1,13 +1,23 @@
 //! The fault that comes first of those that the checks met so far.
 
-ghost use Rattle.std.specs.Prelude.{◌≡◌, None, [], ◌∷◌};
+ghost use Rattle.std.specs.Prelude.{◌≡◌, ◌||◌, List, None, Some, [], ◌∷◌, int_lt, pos, true};
+ghost use Rattle.lc_model.specs.Text.Syntax.{Item};
 ghost use Rattle.lc_model.specs.Text.Meaning.{fault_if, fault_outside};
 ghost use Rattle.rule_parser.specs.Syntax.{number_of};
-ghost use Rattle.field_checker.specs.Fault.{fault_of, number_of_check};
-ghost use Rattle.field_checker.specs.Faults.{after, first_of};
+ghost use Rattle.field_checker.specs.Fault.{error_of, fault_of, number_of_check};
+ghost use Rattle.field_checker.specs.Faults.{NamesItsFault, after, first_of};
+ghost use Rattle.field_checker.specs.Number.{NamesItsNumber, StandsOutside, is_out_of_range, least_of, most_of};
 
 use crate::fault::{Check, Fault};
+use crate::number::RuleNumber;
 use rule_parser::Number;
+
+/// Whether the number isn't `low`, `high` or between them.
+fn is_outside(number: Number, low: u32, high: u32) -> bool
+    ensures { result ≡ (int_lt number.value (pos low) || int_lt (pos high) number.value) }
+{
+    number.value < i64::from(low) || i64::from(high) < number.value
+}
 
 /// What the checks met: of all faults the first alone.
 #[derive(Clone, Copy)]
@@ -17,7 +27,7 @@ pub(crate) struct Faults {
 
 impl Faults {
     pub fn none() -> Faults
-        ensures { first_of result ≡ None }
+        ensures { result.first ≡ None }
     {
         Faults { first: None }
     }
@@ -25,7 +35,8 @@ impl Faults {
     /// Meets a fault.
     #[tactic(auto, unfolding(crate::specs::Faults::after))]
     fn meet(&mut self, fault: Fault)
-        ensures { first_of self.new ≡ after (first_of self.old) (fault_of fault ∷ []) }
+        ensures faults { first_of self.new ≡ after (first_of self.old) (fault_of fault ∷ []) }
+        ensures names { (items : List Item) → NamesItsFault items self.old.first → NamesItsFault items (Some fault) → NamesItsFault items self.new.first }
     {
         if self.first.is_none_or(|first| fault.precedes(first)) {
             self.first = Some(fault);
@@ -35,7 +46,9 @@ impl Faults {
     /// Meets this fault, where the test holds.
     #[tactic(auto, unfolding(crate::specs::Faults::after))]
     pub fn refuse_if(&mut self, refused: bool, check: Check, at: usize)
-        ensures { first_of self.new ≡ after (first_of self.old) (fault_if refused (number_of_check check) at) }
+        ensures faults { first_of self.new ≡ after (first_of self.old) (fault_if refused (number_of_check check) at) }
+        ensures names { (items : List Item) → NamesItsFault items self.old.first
+            → (refused ≡ true → NamesItsNumber items (error_of (record { check = check; at = at }))) → NamesItsFault items self.new.first }
     {
         if refused {
             self.meet(Fault { check, at });
@@ -44,9 +57,21 @@ impl Faults {
 
     /// Meets this fault, where the number isn't `low`, `high` or between them.
     pub fn refuse_outside(&mut self, number: Number, low: u32, high: u32, check: Check)
-        ensures { first_of self.new ≡ after (first_of self.old) (fault_outside low high (number_of_check check) (number_of number)) }
+        ensures faults { first_of self.new ≡ after (first_of self.old) (fault_outside low high (number_of_check check) (number_of number)) }
+        ensures names { (items : List Item) → NamesItsFault items self.old.first
+            → ((int_lt number.value (pos low) || int_lt (pos high) number.value) ≡ true → NamesItsNumber items (error_of (record { check = check; at = number.at })))
+            → NamesItsFault items self.new.first }
     {
-        let outside = number.value < i64::from(low) || i64::from(high) < number.value;
-        self.refuse_if(outside, check, number.at);
+        self.refuse_if(is_outside(number, low, high), check, number.at);
+    }
+
+    /// Meets the fault that this number is out of its range.
+    pub fn refuse_number(&mut self, number: Number, kind: RuleNumber)
+        ensures faults { first_of self.new ≡ after (first_of self.old) (fault_outside (least_of kind) (most_of kind) 28 (number_of number)) }
+        ensures names { (items : List Item) → NamesItsFault items self.old.first
+            → (is_out_of_range kind (number_of number) ≡ true → StandsOutside items kind number.at) → NamesItsFault items self.new.first }
+    {
+        let check = Check::NumberRange(kind);
+        self.refuse_outside(number, kind.least(), kind.most(), check);
     }
 }

@@ -1,16 +1,18 @@
 //! Checks of fields.
 
-ghost use Rattle.std.specs.Prelude.{◌≡◌, [], pos, int_lt, is_none, option_map};
+ghost use Rattle.std.specs.Prelude.{◌≡◌, List, [], pos, int_lt, is_none, option_map};
+ghost use Rattle.std.specs.List.{Contains};
 ghost use Rattle.std.specs.Option.{option_map_or};
 ghost use Rattle.lc_model.specs.Field.{full_mask};
 ghost use Rattle.lc_model.specs.Text.Syntax as model;
 ghost use Rattle.lc_model.specs.Text.Meaning.{fault_if, fault_outside, field_faults, is_outside};
 ghost use Rattle.rule_parser.specs.Syntax.{field_of, items_of, number_of, packet_of};
-ghost use Rattle.field_checker.specs.Faults.{after, first_of};
+ghost use Rattle.field_checker.specs.Faults.{NamesItsFault, after, first_of};
 
 use crate::fault::Check;
 use crate::faults::Faults;
 use crate::names::Names;
+use crate::number::RuleNumber;
 use lc_model::FieldType;
 use rule_parser::{FieldItem, Number, PacketItem};
 
@@ -25,11 +27,19 @@ fn is_outside(field: &FieldItem, packet: Option<&PacketItem>) -> bool
     }
 }
 
+/// Whether the number is below 0.
+fn is_negative(number: Number) -> bool
+    ensures { result ≡ int_lt number.value (pos 0) }
+{
+    number.value < 0
+}
+
 impl Faults {
     /// Meets the fault of a mask, where one is written.
     #[tactic(auto, using(crate::proofs::After::both_met, crate::proofs::After::nothing_met))]
     fn check_mask(&mut self, kind: FieldType, mask: Option<Number>)
-        ensures { first_of self.new ≡ after (first_of self.old) (option_map_or (fault_outside 1 (full_mask kind) 26) (option_map number_of mask) []) }
+        ensures faults { first_of self.new ≡ after (first_of self.old) (option_map_or (fault_outside 1 (full_mask kind) 26) (option_map number_of mask) []) }
+        ensures names { (items : List model.Item) → NamesItsFault items self.old.first → NamesItsFault items self.new.first }
     {
         if let Some(mask) = mask {
             self.refuse_outside(mask, 1, kind.full_mask(), Check::MaskRange);
@@ -39,17 +49,21 @@ impl Faults {
     /// Meets the fault of a stale age, where one is written.
     #[tactic(auto, using(crate::proofs::After::both_met, crate::proofs::After::nothing_met))]
     fn check_stale(&mut self, stale: Option<Number>)
-        ensures { first_of self.new ≡ after (first_of self.old) (option_map_or (λ (n : model.Number). fault_if (int_lt n.value (pos 0)) 28 n.at) (option_map number_of stale) []) }
+        ensures faults { first_of self.new ≡ after (first_of self.old) (option_map_or (λ (n : model.Number). fault_if (int_lt n.value (pos 0)) 28 n.at) (option_map number_of stale) []) }
+        ensures names { (items : List model.Item) (field : model.FieldItem) → Contains items (model.Field field) → field.stale ≡ option_map number_of stale
+            → NamesItsFault items self.old.first → NamesItsFault items self.new.first }
     {
         if let Some(age) = stale {
-            self.refuse_if(age.value < 0, Check::NumberRange, age.at);
+            let check = Check::NumberRange(RuleNumber::Stale);
+            self.refuse_if(is_negative(age), check, age.at);
         }
     }
 
     /// Meets the faults of a field's packet, place, mask and stale age.
     #[tactic(auto, using(crate::proofs::After::both_met, crate::proofs::After::nothing_met))]
     pub fn check_field<'a>(&mut self, names: &Names<'_, 'a>, field: &FieldItem<'a>)
-        ensures { first_of self.new ≡ after (first_of self.old) (field_faults (items_of names.now.items.now) (field_of field.now)) }
+        ensures faults { first_of self.new ≡ after (first_of self.old) (field_faults (items_of names.now.items.now) (field_of field.now)) }
+        ensures names { (items : List model.Item) → Contains items (model.Field (field_of field.now)) → NamesItsFault items self.old.first → NamesItsFault items self.new.first }
     {
         let packet = names.packet(field.packet);
         self.refuse_if(packet.is_none(), Check::UnknownName, field.packet.at);

@@ -5,7 +5,7 @@ ghost use Rattle.std.specs.Option.{option_or};
 ghost use Rattle.lc_model.specs.Text.Syntax as model;
 ghost use Rattle.lc_model.specs.Text.Meaning as meaning;
 ghost use Rattle.rule_parser.specs.Syntax.{item_of, name_of};
-ghost use Rattle.field_checker.specs.Index.{at_name, is_before, IsIndexOf};
+ghost use Rattle.field_checker.specs.Index.{at_name, is_before, spread, IsIndexOf};
 
 use crate::key::key;
 use rule_parser::{FieldItem, Item, Name, PacketItem};
@@ -23,31 +23,32 @@ pub(crate) struct Index<'f, 'a> {
     pub fields: BTreeMap<(u64, &'a [u8]), &'f FieldItem<'a>>,
 }
 
-/// Puts the value at the name, where none stands there yet.
+/// Puts the value at the name with this key, where none stands there yet. A name that is new costs one search.
 fn insert_first<'f, 'a, T>(
     map: &mut BTreeMap<(u64, &'a [u8]), &'f T>,
-    name: &'a [u8],
+    key: (u64, &'a [u8]),
     value: &'f T,
 ) -> Result<(), AllocError>
-    ensures { OnOk result ((text : List ℕ) → at_name map.new text ≡ option_or (at_name map.old text) (cond (bytes_eq name.now text) (Some value.entry) None)) }
+    requires { key.0 ≡ spread key.1.now }
+    ensures { OnOk result ((text : List ℕ) → at_name map.new text ≡ option_or (at_name map.old text) (cond (bytes_eq key.entry.1.now text) (Some value.entry) None)) }
 {
-    let key = key(name);
-    if !map.contains_key(&key) {
-        map.insert(key, value)?;
+    if let Some(first) = map.insert(key, value)? {
+        map.insert(key, first)?;
     }
     Ok(())
 }
 
-/// Puts the place at the name, where no lesser place stands there yet.
+/// Puts the place at the name with this key, where no lesser place stands there yet. A name that is new costs one search.
 fn insert_least<'a>(
     map: &mut BTreeMap<(u64, &'a [u8]), usize>,
-    name: Name<'a>,
+    key: (u64, &'a [u8]),
+    place: usize,
 ) -> Result<(), AllocError>
-    ensures { OnOk result ((text : List ℕ) (at : ℕ) → is_before (at_name map.new text) at ≡ (is_before (at_name map.old text) at || (bytes_eq name.entry.text.now text && nat_lt name.entry.at at))) }
+    requires { key.0 ≡ spread key.1.now }
+    ensures { OnOk result ((text : List ℕ) (at : ℕ) → is_before (at_name map.new text) at ≡ (is_before (at_name map.old text) at || (bytes_eq key.entry.1.now text && nat_lt place at))) }
 {
-    let key = key(name.text);
-    if map.get(&key).is_none_or(|least| name.at < *least) {
-        map.insert(key, name.at)?;
+    if let Some(least) = map.insert(key, place)? {
+        map.insert(key, least.min(place))?;
     }
     Ok(())
 }
@@ -79,10 +80,12 @@ impl<'f, 'a> Index<'f, 'a> {
     pub fn declare(&mut self, item: &'f Item<'a>) -> Result<(), AllocError>
         ensures { (items : List model.Item) → IsIndexOf self.old items → OnOk result (IsIndexOf self.new (items ++ item_of item.now ∷ [])) }
     {
-        insert_least(&mut self.places, declared_name(item))?;
+        let name = declared_name(item);
+        let key = key(name.text);
+        insert_least(&mut self.places, key, name.at)?;
         match item {
-            Item::Packet(packet) => insert_first(&mut self.packets, packet.name.text, packet)?,
-            Item::Field(field) => insert_first(&mut self.fields, field.name.text, field)?,
+            Item::Packet(packet) => insert_first(&mut self.packets, key, packet)?,
+            Item::Field(field) => insert_first(&mut self.fields, key, field)?,
             Item::Rule(_) => {}
         }
         Ok(())

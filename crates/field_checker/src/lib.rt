@@ -12,8 +12,10 @@ mod item;
 mod key;
 mod meaning;
 mod names;
+mod number;
 mod packet;
 mod rule;
 
 pub use checker::check;
 pub use error::CheckError;
+pub use number::RuleNumber;

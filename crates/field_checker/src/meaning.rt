@@ -82,20 +82,20 @@ fn condition<'a>(
             let operand = condition(alloc, names, operand)?;
             Cond::Not(Box::new(alloc, operand)?)
         }
-        Expression::And(left, right) => {
-            let left = condition(alloc, names, left)?;
-            let right = condition(alloc, names, right)?;
-            Cond::And(Box::new(alloc, left)?, Box::new(alloc, right)?)
+        Expression::And(operands) => {
+            let left = condition(alloc, names, &operands.0)?;
+            let right = condition(alloc, names, &operands.1)?;
+            Cond::And(Box::new(alloc, (left, right))?)
         }
-        Expression::Or(left, right) => {
-            let left = condition(alloc, names, left)?;
-            let right = condition(alloc, names, right)?;
-            Cond::Or(Box::new(alloc, left)?, Box::new(alloc, right)?)
+        Expression::Or(operands) => {
+            let left = condition(alloc, names, &operands.0)?;
+            let right = condition(alloc, names, &operands.1)?;
+            Cond::Or(Box::new(alloc, (left, right))?)
         }
-        Expression::Xor(left, right) => {
-            let left = condition(alloc, names, left)?;
-            let right = condition(alloc, names, right)?;
-            Cond::Xor(Box::new(alloc, left)?, Box::new(alloc, right)?)
+        Expression::Xor(operands) => {
+            let left = condition(alloc, names, &operands.0)?;
+            let right = condition(alloc, names, &operands.1)?;
+            Cond::Xor(Box::new(alloc, (left, right))?)
         }
     })
 }

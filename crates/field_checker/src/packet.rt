@@ -1,12 +1,13 @@
 //! Checks of packets.
 
-ghost use Rattle.std.specs.Prelude.{◌≡◌, pos};
+ghost use Rattle.std.specs.Prelude.{◌≡◌, List, pos};
 ghost use Rattle.std.specs.List.{list_any};
 ghost use Rattle.std.specs.Ordering.{int_eq};
 ghost use Rattle.lc_model.specs.Packet.{reserved_mids};
+ghost use Rattle.lc_model.specs.Text.Syntax as model;
 ghost use Rattle.lc_model.specs.Text.Meaning.{packet_faults};
 ghost use Rattle.rule_parser.specs.Syntax.{packet_of};
-ghost use Rattle.field_checker.specs.Faults.{after, first_of};
+ghost use Rattle.field_checker.specs.Faults.{NamesItsFault, after, first_of};
 
 use crate::fault::Check;
 use crate::faults::Faults;
@@ -29,7 +30,8 @@ impl Faults {
     /// Meets the faults of a packet's message id and length.
     #[tactic(auto, using(crate::proofs::After::both_met, crate::proofs::After::nothing_met))]
     pub fn check_packet(&mut self, packet: &PacketItem)
-        ensures { first_of self.new ≡ after (first_of self.old) (packet_faults (packet_of packet.now)) }
+        ensures faults { first_of self.new ≡ after (first_of self.old) (packet_faults (packet_of packet.now)) }
+        ensures names { (items : List model.Item) → NamesItsFault items self.old.first → NamesItsFault items self.new.first }
     {
         self.refuse_outside(
             packet.mid,

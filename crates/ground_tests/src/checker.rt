@@ -3,6 +3,7 @@
 mod borders;
 mod meanings;
 mod memory;
+mod messages;
 mod names;
 
 use crate::shared::{accepted, joined, replaced, same};

@@ -1,6 +1,6 @@
 //! How a ground team judges a file from anywhere before it goes up, without memory, in the same way as on board.
 
-ghost use Rattle.std.specs.Prelude.{◌≡◌, Ok, IfOk};
+ghost use Rattle.std.specs.Prelude.{◌≡◌, Ok, IfOk, IsOk};
 ghost use Rattle.lc_model.specs.Tables.File as model;
 ghost use Rattle.lc_model.specs.Tables.File.{opened};
 ghost use Rattle.lc_model.specs.Tables.Image.{IsSound};
@@ -20,6 +20,7 @@ pub enum Unfit {
 /// Whether a file may go up as the table of this kind.
 pub fn judge(kind: Kind, file: &[u8]) -> Result<(), Unfit>
     ensures sound { IfOk result (λ _. (table : model.TableFile) × (opened file.now ≡ Ok table) × IsSound layouts kind table.image) }
+    ensures accepts { (table : model.TableFile) → opened file.now ≡ Ok table → IsSound layouts kind table.image → IsOk result }
 {
     let file = table_file::open(file).map_err(Unfit::File)?;
     table_validator::validate(kind, file.image()).map_err(Unfit::Table)?;

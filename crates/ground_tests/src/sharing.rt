@@ -63,15 +63,10 @@ fn shared_among_numbers(alloc: Global, count: i64) -> Result<Shared, ShareError>
     shared_among(alloc, terms.as_slice())
 }
 
-/// A comparison with this number, in a box.
-fn watch(alloc: Global, value: i64) -> Result<Box<Cond>, ShareError> {
-    Ok(Box::new(alloc, Cond::Watch(below(value)))?)
-}
-
 /// `V < 2400 or V < 2399`
 fn either(alloc: Global) -> Result<Cond, ShareError> {
-    let left = watch(alloc, 2_400)?;
-    Ok(Cond::Or(left, watch(alloc, 2_399)?))
+    let operands = (Cond::Watch(below(2_400)), Cond::Watch(below(2_399)));
+    Ok(Cond::Or(Box::new(alloc, operands)?))
 }
 
 /// The rule `V < 2400`, and another `V < 2400 or V < 2399`.

@@ -97,9 +97,9 @@ fn push_words<'n>(
             words.push(NOT)?;
             Ok(pushed)
         }
-        Cond::And(first, second) => push_operands(first, second, AND, numbers, words),
-        Cond::Or(first, second) => push_operands(first, second, OR, numbers, words),
-        Cond::Xor(first, second) => push_operands(first, second, XOR, numbers, words),
+        Cond::And(operands) => push_operands(&operands.0, &operands.1, AND, numbers, words),
+        Cond::Or(operands) => push_operands(&operands.0, &operands.1, OR, numbers, words),
+        Cond::Xor(operands) => push_operands(&operands.0, &operands.1, XOR, numbers, words),
     }
 }
 

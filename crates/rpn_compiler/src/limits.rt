@@ -19,8 +19,8 @@ fn size(cond: &Cond) -> usize
     match cond {
         Cond::Watch(_) => 1,
         Cond::Not(operand) => size(operand).saturating_add(1),
-        Cond::And(first, second) | Cond::Or(first, second) | Cond::Xor(first, second) => size(first)
-            .saturating_add(size(second))
+        Cond::And(operands) | Cond::Or(operands) | Cond::Xor(operands) => size(&operands.0)
+            .saturating_add(size(&operands.1))
             .saturating_add(1),
     }
 }

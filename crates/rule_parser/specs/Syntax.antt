@@ -46,9 +46,9 @@ comparison_of c = model.Compare (name_of c.field) c.op (number_of c.value)
 abbrev pub expression_of : Expression → model.Expression
 expression_of (tree.Compare c) = comparison_of c
 expression_of (tree.Not' p e) = model.Not (expression_of e)
-expression_of (tree.And' p a q b) = model.Join And (expression_of a) (expression_of b)
-expression_of (tree.Or' p a q b) = model.Join Or (expression_of a) (expression_of b)
-expression_of (tree.Xor' p a q b) = model.Join Xor (expression_of a) (expression_of b)
+expression_of (tree.And' p a b) = model.Join And (expression_of a) (expression_of b)
+expression_of (tree.Or' p a b) = model.Join Or (expression_of a) (expression_of b)
+expression_of (tree.Xor' p a b) = model.Join Xor (expression_of a) (expression_of b)
 
 -- the most reports of each kind
 abbrev pub report_of : ReportItem → model.ReportItem

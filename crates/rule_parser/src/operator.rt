@@ -38,12 +38,11 @@ impl Operator {
     ) -> Result<Expression<'a>, AllocError>
         ensures { IfOk result (λ joined. expression_of joined ≡ Join (operator_of self) (expression_of left.entry) (expression_of right.entry)) }
     {
-        let left = Box::new(alloc, left)?;
-        let right = Box::new(alloc, right)?;
+        let operands = Box::new(alloc, (left, right))?;
         Ok(match self {
-            Operator::Or => Expression::Or(left, right),
-            Operator::Xor => Expression::Xor(left, right),
-            Operator::And => Expression::And(left, right),
+            Operator::Or => Expression::Or(operands),
+            Operator::Xor => Expression::Xor(operands),
+            Operator::And => Expression::And(operands),
         })
     }
 }

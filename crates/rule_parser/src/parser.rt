@@ -28,7 +28,7 @@ fn read<'a>(alloc: Global, tokens: &[Token<'a>], end: usize) -> Result<RuleFile<
 }
 
 /// Parses the tokens of a rule text: any number of packets, fields and rules. One pass from left to right, with one token
-/// of look-ahead; only the list of items is allocated, and a box for each operand of `not`, `and`, `or` and `xor`. Nothing is
+/// of look-ahead; only the list of items is allocated, and a box for each `not`, `and`, `or` and `xor`. Nothing is
 /// judged but which token follows which: what the items mean is checked later.
 ///
 /// Errors: `Expected` at the first token that continues no text, or at the text's length where the tokens end too early; what

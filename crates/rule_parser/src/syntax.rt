@@ -54,14 +54,14 @@ pub struct ReportItem {
     pub fail_to_pass: Number,
 }
 
-/// A condition over fields that are named.
+/// A condition over fields that are named. The operands of `and`, `or` and `xor` lie in one box, so that each costs one allocation.
 #[derive(Debug, Drop)]
 pub enum Expression<'a> {
     Compare(Comparison<'a>),
     Not(Box<Expression<'a>>),
-    And(Box<Expression<'a>>, Box<Expression<'a>>),
-    Or(Box<Expression<'a>>, Box<Expression<'a>>),
-    Xor(Box<Expression<'a>>, Box<Expression<'a>>),
+    And(Box<(Expression<'a>, Expression<'a>)>),
+    Or(Box<(Expression<'a>, Expression<'a>)>),
+    Xor(Box<(Expression<'a>, Expression<'a>)>),
 }
 
 /// `rule NAME STATE fails NUMBER sequence NUMBER event LEVEL NUMBER STRING [report NUMBER NUMBER NUMBER] when CONDITION ;`

@@ -12,8 +12,11 @@ ghost use Rattle.watch_sharing.specs.Numbering.{added, added_all, all_mentions, 
 use crate::error::ShareError;
 use crate::shared::Shared;
 use indexmap::IndexSet;
-use lc_model::{Cond, Rule, RuleSet, TABLE_ENTRIES, Term};
+use lc_model::{Cond, EQUATION_WORDS, Rule, RuleSet, TABLE_ENTRIES, Term};
 use std::alloc::Global;
+
+/// The most mentions of an equation that fits its words, since there is an operator or EQUAL for each. Others get more room.
+const MENTIONS: usize = EQUATION_WORDS / 2;
 
 /// The number of the watchpoint among those so far, to which it is added where it's new.
 fn number(terms: &mut IndexSet<Term>, term: Term) -> Result<u16, ShareError>
@@ -46,9 +49,9 @@ fn number_mentions(
     match cond {
         Cond::Watch(term) => numbers.push(number(terms, *term)?)?,
         Cond::Not(operand) => number_mentions(terms, operand, numbers)?,
-        Cond::And(first, second) | Cond::Or(first, second) | Cond::Xor(first, second) => {
-            number_mentions(terms, first, numbers)?;
-            number_mentions(terms, second, numbers)?;
+        Cond::And(operands) | Cond::Or(operands) | Cond::Xor(operands) => {
+            number_mentions(terms, &operands.0, numbers)?;
+            number_mentions(terms, &operands.1, numbers)?;
         }
     }
     Ok(())
@@ -66,9 +69,9 @@ fn number_rules(
     ensures few { OnOk result (length terms.new.keys ≤ table_entries) }
     ensures refused { IfErr result (IsTooManyUnlessMemory (added_all terms.old.keys (all_mentions (rules_of rules.now)))) }
 {
-    let mut mentions = Vec::new(alloc);
+    let mut mentions = Vec::with_capacity(alloc, rules.len())?;
     for rule in rules {
-        let mut numbers = Vec::new(alloc);
+        let mut numbers = Vec::with_capacity(alloc, MENTIONS)?;
         number_mentions(terms, &rule.cond, &mut numbers)?;
         mentions.push(numbers)?;
     }

@@ -2,7 +2,7 @@
 
 use super::{LOW_VOLTS, all_answer_with, answers, answers_with, checked};
 use crate::shared::same;
-use field_checker::CheckError;
+use field_checker::{CheckError, RuleNumber};
 use std::process::Abort;
 
 #[test]
@@ -105,7 +105,10 @@ fn places_masks_and_stale_ages(rt: HostRuntime) {
         (
             "stale 2",
             "stale -1",
-            Some(CheckError::NumberRange { at: 75 }),
+            Some(CheckError::NumberRange {
+                at: 75,
+                number: RuleNumber::Stale,
+            }),
         ),
         ("stale 2", "stale 4294967295", None),
     ];
@@ -119,74 +122,113 @@ fn numbers_of_rules(rt: HostRuntime) {
         (
             "fails 2",
             "fails 0",
-            Some(CheckError::NumberRange { at: 100 }),
+            Some(CheckError::NumberRange {
+                at: 100,
+                number: RuleNumber::Fails,
+            }),
         ),
         (
             "fails 2",
             "fails -1",
-            Some(CheckError::NumberRange { at: 100 }),
+            Some(CheckError::NumberRange {
+                at: 100,
+                number: RuleNumber::Fails,
+            }),
         ),
         ("fails 2", "fails 65535", None),
         (
             "fails 2",
             "fails 65536",
-            Some(CheckError::NumberRange { at: 100 }),
+            Some(CheckError::NumberRange {
+                at: 100,
+                number: RuleNumber::Fails,
+            }),
         ),
         ("sequence 7", "sequence 1", None),
         (
             "sequence 7",
             "sequence 0",
-            Some(CheckError::NumberRange { at: 111 }),
+            Some(CheckError::NumberRange {
+                at: 111,
+                number: RuleNumber::Sequence,
+            }),
         ),
         ("sequence 7", "sequence 65535", None),
         (
             "sequence 7",
             "sequence 65536",
-            Some(CheckError::NumberRange { at: 111 }),
+            Some(CheckError::NumberRange {
+                at: 111,
+                number: RuleNumber::Sequence,
+            }),
         ),
         ("error 1001", "error 1000", None),
         (
             "error 1001",
             "error 999",
-            Some(CheckError::NumberRange { at: 125 }),
+            Some(CheckError::NumberRange {
+                at: 125,
+                number: RuleNumber::EventId,
+            }),
         ),
         ("error 1001", "error 65535", None),
         (
             "error 1001",
             "error 65536",
-            Some(CheckError::NumberRange { at: 125 }),
+            Some(CheckError::NumberRange {
+                at: 125,
+                number: RuleNumber::EventId,
+            }),
         ),
         ("report 1 2 3", "report 0 0 0", None),
         ("report 1 2 3", "report 255 65535 65535", None),
         (
             "report 1 2 3",
             "report 256 2 3",
-            Some(CheckError::NumberRange { at: 149 }),
+            Some(CheckError::NumberRange {
+                at: 149,
+                number: RuleNumber::ReportPassive,
+            }),
         ),
         (
             "report 1 2 3",
             "report -1 2 3",
-            Some(CheckError::NumberRange { at: 149 }),
+            Some(CheckError::NumberRange {
+                at: 149,
+                number: RuleNumber::ReportPassive,
+            }),
         ),
         (
             "report 1 2 3",
             "report 1 65536 3",
-            Some(CheckError::NumberRange { at: 151 }),
+            Some(CheckError::NumberRange {
+                at: 151,
+                number: RuleNumber::ReportPassToFail,
+            }),
         ),
         (
             "report 1 2 3",
             "report 1 -1 3",
-            Some(CheckError::NumberRange { at: 151 }),
+            Some(CheckError::NumberRange {
+                at: 151,
+                number: RuleNumber::ReportPassToFail,
+            }),
         ),
         (
             "report 1 2 3",
             "report 1 2 65536",
-            Some(CheckError::NumberRange { at: 153 }),
+            Some(CheckError::NumberRange {
+                at: 153,
+                number: RuleNumber::ReportFailToPass,
+            }),
         ),
         (
             "report 1 2 3",
             "report 1 2 -1",
-            Some(CheckError::NumberRange { at: 153 }),
+            Some(CheckError::NumberRange {
+                at: 153,
+                number: RuleNumber::ReportFailToPass,
+            }),
         ),
     ];
     all_answer_with(&rt, rows);

@@ -153,9 +153,9 @@ fn watches_not<R: Abort>(rt: &R, cond: &Cond, expected: Term) {
 fn not_and(rt: HostRuntime) {
     let set = condition(&rt, "not V < 1 and W > -1");
     match &rule(&rt, &set, 0).cond {
-        Cond::And(left, right) => {
-            watches_not(&rt, left, of_v(CmpOp::Less, 1));
-            watches(&rt, right, of_w(CmpOp::Greater, -1));
+        Cond::And(operands) => {
+            watches_not(&rt, &operands.0, of_v(CmpOp::Less, 1));
+            watches(&rt, &operands.1, of_w(CmpOp::Greater, -1));
         }
         _ => panic!(rt; "no and"),
     }
@@ -165,9 +165,9 @@ fn not_and(rt: HostRuntime) {
 fn or(rt: HostRuntime) {
     let set = condition(&rt, "V == 1 or W != 2");
     match &rule(&rt, &set, 0).cond {
-        Cond::Or(left, right) => {
-            watches(&rt, left, of_v(CmpOp::Equal, 1));
-            watches(&rt, right, of_w(CmpOp::NotEqual, 2));
+        Cond::Or(operands) => {
+            watches(&rt, &operands.0, of_v(CmpOp::Equal, 1));
+            watches(&rt, &operands.1, of_w(CmpOp::NotEqual, 2));
         }
         _ => panic!(rt; "no or"),
     }
@@ -177,9 +177,9 @@ fn or(rt: HostRuntime) {
 fn xor(rt: HostRuntime) {
     let set = condition(&rt, "V <= 1 xor V >= 2");
     match &rule(&rt, &set, 0).cond {
-        Cond::Xor(left, right) => {
-            watches(&rt, left, of_v(CmpOp::LessOrEqual, 1));
-            watches(&rt, right, of_v(CmpOp::GreaterOrEqual, 2));
+        Cond::Xor(operands) => {
+            watches(&rt, &operands.0, of_v(CmpOp::LessOrEqual, 1));
+            watches(&rt, &operands.1, of_v(CmpOp::GreaterOrEqual, 2));
         }
         _ => panic!(rt; "no xor"),
     }

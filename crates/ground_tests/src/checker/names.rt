@@ -2,7 +2,7 @@
 
 use super::{all_fail, answers};
 use crate::shared::same;
-use field_checker::CheckError;
+use field_checker::{CheckError, RuleNumber};
 
 const RULE: &str =
     "rule LOW active fails 2 sequence 7 event error 1001 \"low volts\" when V < 2400; ";
@@ -212,7 +212,13 @@ fn codes(rt: HostRuntime) {
         (CheckError::FieldOutside { at: 1 }, Some(25)),
         (CheckError::MaskRange { at: 1 }, Some(26)),
         (CheckError::ConstRange { at: 1 }, Some(27)),
-        (CheckError::NumberRange { at: 1 }, Some(28)),
+        (
+            CheckError::NumberRange {
+                at: 1,
+                number: RuleNumber::Stale,
+            },
+            Some(28),
+        ),
         (CheckError::LengthRange { at: 1 }, Some(29)),
         (CheckError::Memory, None),
     ];

@@ -2,7 +2,7 @@
 
 use super::is_refused;
 use crate::shared::{joined, repeated, same};
-use field_checker::CheckError;
+use field_checker::{CheckError, RuleNumber};
 use rpn_compiler::CompileError;
 use rule_lexer::LexError;
 use rule_parser::{ParseError, What};
@@ -108,7 +108,10 @@ fn first_refusals_by_place(rt: HostRuntime) {
         ),
         (
             "packet P = mid 0x0883 length 16; field V = P i8 at 0; rule R active fails 0 sequence 1 event info 1000 \"\" when V < -129;",
-            CompileError::Check(CheckError::NumberRange { at: 74 }),
+            CompileError::Check(CheckError::NumberRange {
+                at: 74,
+                number: RuleNumber::Fails,
+            }),
             28,
         ),
         (

@@ -10,9 +10,19 @@ fn tree<R: Abort + AllocGlobal>(rt: &R, e: &Expression) -> String {
     match e {
         Expression::Compare(c) => name(rt, c.field.text),
         Expression::Not(e) => negated(rt, tree(rt, e)),
-        Expression::And(a, b) => both(rt, tree(rt, a), " and ", tree(rt, b)),
-        Expression::Or(a, b) => both(rt, tree(rt, a), " or ", tree(rt, b)),
-        Expression::Xor(a, b) => both(rt, tree(rt, a), " xor ", tree(rt, b)),
+        Expression::And(operands) => both(
+            rt,
+            tree(rt, &operands.0),
+            " and ",
+            tree(rt, &operands.1),
+        ),
+        Expression::Or(operands) => both(rt, tree(rt, &operands.0), " or ", tree(rt, &operands.1)),
+        Expression::Xor(operands) => both(
+            rt,
+            tree(rt, &operands.0),
+            " xor ",
+            tree(rt, &operands.1),
+        ),
     }
 }
 

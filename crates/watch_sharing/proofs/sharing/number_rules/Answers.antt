@@ -13,7 +13,7 @@ use Rattle.watch_sharing.proofs.sharing.number_rules.Goals as goal
 
 pub loop-rule-init : goal.loop-rule-init
 unfolding added_all numbers_by_rule
-loop-rule-init c = record { numbers = ap numbers_of c.new-mentions.ensures.items; added = refl; few = c.requires }
+loop-rule-init c = record { numbers = ap numbers_of c.in_ok-mentions.ensures.items; added = refl; few = c.requires }
 
 pub returns-in_err-number_mentions-clause-refused : goal.returns-in_err-number_mentions-clause-refused
 returns-in_err-number_mentions-clause-refused c =
@@ -26,7 +26,7 @@ returns-in_err-number_mentions-clause-refused c =
     let fault : IsTooManyUnlessMemory (added_all (added_all keys before) here) error =
     subst (λ ts. IsTooManyUnlessMemory (added_all ts here) error) c.loop-rule.invariant.added c.in_err-number_mentions.ensures.refused in
     let so_far = subst (λ ts. IsTooManyUnlessMemory ts error) (sym (added_all_append keys before here)) fault in
-    passed_on (IsTooManyUnlessMemory _) _ error c.from_residual.ensures.1
+    passed_on (IsTooManyUnlessMemory _) _ error c.from_residual-in_err-number_mentions.ensures.1
     (subst (λ ts. IsTooManyUnlessMemory (added_all keys ts) error) (sym (all_go_on rules i c.rule-item.result c.loop-rule-test.true c.rule-item.is))
     (more_too_many keys (before ++ here) (all_mentions (rules_of (drop (i + 1) rules))) error so_far))
 
@@ -40,7 +40,7 @@ loop-rule-preserved c =
     let more = rules_more rules i r c.loop-rule-test.true c.rule-item.is in
     let numbers : c.number_mentions.new.numbers.items ≡ numbers_among (added_all keys (all_mentions (rules_of (take i rules)))) here =
     c.in_ok-number_mentions.ensures.numbers
-    ∙ ap₂ (λ (ns : List ℕ) (ts : List Term). ns ++ numbers_among ts here) c.new-numbers.ensures.items c.loop-rule.invariant.added in
+    ∙ ap₂ (λ (ns : List ℕ) (ts : List Term). ns ++ numbers_among ts here) c.in_ok-numbers.ensures.items c.loop-rule.invariant.added in
     record {
       numbers =
           ap numbers_of c.in_ok-push.ensures.items
