@@ -1,10 +1,10 @@
 -- What stands in front of a stream whose header is there.
 use Rattle.std.proofs.Common.{◌≡◌, refl, sym, ◌∙◌, ap, subst, ℕ, ◌+◌, ◌-◌, ◌≤◌, true, false, nat_lt, get_or, List, [], ◌∷◌, ◌++◌, length, take, drop, Some, None, arith, length-take-le, length-drop}
 use Rattle.std.proofs.lemmas.List.{drop-take, take-append-drop}
-use Rattle.lc_model.specs.Host.Stream.{Front, Record, NoRecord, header_size, all_kinds, body_size, contents_of, fits_body, front, moment_of, record_of}
+use Rattle.lc_model.specs.Host.Stream.{Record, NoRecord, header_size, all_kinds, body_size, contents_of, fits_body, front, moment_of, record_of}
 use Rattle.lc_model.proofs.Facts.{test_not_less}
 use Rattle.flight_core.specs.declared.front.Shape.{Shape}
-use Rattle.flight_core.specs.Front.{contents_by, entry_by, HasName, IsOfText, IsWhole}
+use Rattle.flight_core.specs.Front.{contents_by, HasName, IsOfText, IsWhole}
 
 -- ---- the moment is in the header
 

@@ -1,8 +1,7 @@
 -- What is taken off a stream, as the definitions have it.
-use Rattle.std.specs.Prelude.{ℕ, Option, Some, None, option_map}
+use Rattle.std.specs.Prelude.{ℕ, ◌<◌, Option, option_map, ⊤}
 use Rattle.lc_model.specs.Host.Stream.{Contents, StreamEntry}
 use Rattle.lc_model.specs.Host.Stream as stream
-use Rattle.lc_model.specs.declared.record.Record.{Record as ModelRecord}
 use Rattle.lc_model.specs.declared.record.Body.{Body}
 use Rattle.lc_model.specs.declared.record.Body.TheVariants as body
 use Rattle.flight_core.specs.Answer.{Answer}
@@ -25,3 +24,9 @@ answer_of (Bad number) = answer.Bad number
 -- the same where something was
 abbrev pub answer_in : Option Found → Option Answer
 answer_in found = option_map answer_of found
+
+-- a half is one of a text that there is, among so many
+abbrev pub NamesText : ℕ → Found → Type 0
+NamesText texts (Half moment name kind text) = text < texts
+NamesText texts (Record entry) = ⊤
+NamesText texts (Bad number) = ⊤

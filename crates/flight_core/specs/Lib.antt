@@ -4,3 +4,4 @@ pub mod Front
 pub mod Answer
 pub mod Found
 pub mod Records
+pub mod Cutting

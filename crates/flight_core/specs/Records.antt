@@ -1,5 +1,5 @@
 -- Records of a stream that comes in pieces, by what is held of it. This project's own.
-use Rattle.std.specs.Prelude.{◌≡◌, ℕ, ◌+◌, ◌-◌, ◌<◌, min, Bool, true, false, List, [], ◌++◌, length, take, if◌then◌else◌, Option, Some, None, ⊤}
+use Rattle.std.specs.Prelude.{ℕ, ◌+◌, ◌-◌, min, Bool, true, false, List, [], ◌++◌, length, take, if◌then◌else◌, Option, Some, None, ⊤}
 use Rattle.lc_model.specs.Host.Stream.{Front, EndOfStream, Record, NoRecord, CutRecord, all_kinds, front}
 use Rattle.flight_core.specs.Answer.{Answer, Entry, Bad}
 
@@ -64,3 +64,9 @@ next_answer held = answer_by held (front_of held)
 -- what is held behind it
 abbrev pub after_next : Held → Held
 after_next held = after_by held (front_of held)
+
+-- a record comes next
+abbrev pub IsRecord : Option Answer → Type 0
+IsRecord (Some (Entry entry)) = ⊤
+IsRecord (Some (Bad number)) = ⊥
+IsRecord None = ⊥

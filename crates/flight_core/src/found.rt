@@ -1,11 +1,11 @@
 //! What is taken off a stream.
 
-ghost use Rattle.std.specs.Prelude.{◌≡◌, ◌==◌, ◌-◌, ◌≤◌, length, take, Some};
+ghost use Rattle.std.specs.Prelude.{◌≡◌, ℕ, ◌==◌, ◌-◌, ◌≤◌, length, take, Some};
 ghost use Rattle.std.specs.List.{position_or_len};
 ghost use Rattle.lc_model.specs.Name.{name_in};
 ghost use Rattle.lc_model.specs.Host.Stream.{header_size};
-ghost use Rattle.flight_core.specs.Front.{entry_by, HasName};
-ghost use Rattle.flight_core.specs.Found.{answer_of};
+ghost use Rattle.flight_core.specs.Front.{entry_by, HasName, IsOfText};
+ghost use Rattle.flight_core.specs.Found.{answer_of, NamesText};
 ghost use Rattle.flight_core.specs.Answer.{Entry};
 
 use crate::front::{HEADER, NAME, Shape};
@@ -51,7 +51,8 @@ fn name_in(body: &[u8]) -> &[u8]
 pub(crate) fn read_off(shape: Shape, bytes: &[u8]) -> Found<'_>
     requires long { header_size ≤ length bytes.now }
     requires named { HasName shape (length bytes.now - header_size) }
-    ensures { answer_of result ≡ Entry (entry_by shape bytes.now) }
+    ensures entry { answer_of result ≡ Entry (entry_by shape bytes.now) }
+    ensures text { (texts : ℕ) → IsOfText texts shape → NamesText texts result }
 {
     let moment = Moment {
         seconds: u32_at(bytes, 1),

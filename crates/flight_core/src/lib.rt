@@ -3,6 +3,7 @@
 
 mod found;
 mod front;
+pub mod laws;
 mod records;
 mod window;
 

@@ -1,10 +1,10 @@
 //! Records of a stream that comes in pieces.
 
-ghost use Rattle.std.specs.Prelude.{◌≡◌, ◌≤◌, ◌<◌, length, IfOk, IsNone};
+ghost use Rattle.std.specs.Prelude.{◌≡◌, ◌≤◌, ◌<◌, length, IfOk, IfSome, IsNone};
 ghost use Rattle.std.specs.Borrow.{sem};
 ghost use Rattle.std.specs.Io.BufRead.{Rests};
-ghost use Rattle.flight_core.specs.Found.{answer_in};
-ghost use Rattle.flight_core.specs.Records.{nothing_held, taken_of, fed, next_answer, after_next};
+ghost use Rattle.flight_core.specs.Found.{answer_in, NamesText};
+ghost use Rattle.flight_core.specs.Records.{nothing_held, taken_of, fed, next_answer, after_next, IsRecord};
 ghost use Rattle.flight_core.specs.contracts.records.Records.{the_row};
 
 use crate::found::{Found, read_off};
@@ -68,6 +68,8 @@ impl Records {
     /// whole record nor what is none is held.
     pub fn next(&mut self) -> Option<Found<'_>>
         ensures found { answer_in result ≡ next_answer self.old }
+        ensures text { IfSome result (NamesText self.old.texts) }
+        ensures shorter { IsRecord (next_answer self.old) → length (after_next self.old).bytes < length self.old.bytes }
         ensures part { IsNone result → length self.old.bytes < 65547 }
         ensures* after { sem 𝓛 (Rests the_row self.entry (λ new. new ≡ after_next self.old)) }
     {

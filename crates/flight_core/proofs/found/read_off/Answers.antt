@@ -1,5 +1,5 @@
 -- A file's name and bytes, and a half's name, are the parts of the body.
-use Rattle.std.proofs.Common.{◌≡◌, ◌∙◌, sym, ap, ℕ, ◌-◌, List, length, take, drop}
+use Rattle.std.proofs.Common.{◌≡◌, ◌∙◌, sym, ℕ, ◌-◌, List, length, take, drop}
 use Rattle.lc_model.specs.Host.Stream as stream
 use Rattle.lc_model.specs.Name.{name_in}
 use Rattle.flight_core.specs.Answer.{Entry}
@@ -11,8 +11,8 @@ use Rattle.flight_core.proofs.found.read_off.Goals as goal
 body : (bytes : List ℕ) → take (length bytes - 11) (drop 11 bytes) ≡ drop 11 bytes
 body bytes = take-rest 11 bytes
 
-pub returns-in-File : goal.returns-in-File
-returns-in-File c =
+pub returns-in-File-clause-entry : goal.returns-in-File-clause-entry
+returns-in-File-clause-entry c =
     let bytes = c.args.bytes.now in
     (λ i. Entry (record {
       moment = record { seconds = c.u32_at.ensures i; subseconds = c.u16_at.ensures i };
@@ -24,8 +24,8 @@ returns-in-File c =
     }))
     ∙ (λ i. Entry (entry_by (sym c.in-File.is i) bytes))
 
-pub returns-in-Half : goal.returns-in-Half
-returns-in-Half c =
+pub returns-in-Half-clause-entry : goal.returns-in-Half-clause-entry
+returns-in-Half-clause-entry c =
     let bytes = c.args.bytes.now in
     (λ i. Entry (record {
       moment = record { seconds = c.u32_at.ensures i; subseconds = c.u16_at.ensures i };
