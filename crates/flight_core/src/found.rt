@@ -24,10 +24,10 @@ pub enum Found<'a> {
         kind: Kind,
         text: usize,
     },
-    /// What comes next is no record: another kind, a length that doesn't fit, another half, or a text that isn't there. Its
-    /// number counts from 1, and stops at 2^64 - 1.
+    /// Record `n` is none: another kind, a length that doesn't fit, another half, or a text that isn't there. Records count from
+    /// 1, and `n` stops at 2^64 - 1.
     Bad {
-        number: u64,
+        n: u64,
     },
 }
 

@@ -4,7 +4,7 @@ ghost use Rattle.std.specs.Prelude.{◌≡◌, ◌≤◌, ◌<◌, length, IfOk,
 ghost use Rattle.std.specs.Borrow.{sem};
 ghost use Rattle.std.specs.Io.BufRead.{Rests};
 ghost use Rattle.flight_core.specs.Found.{answer_in, NamesText};
-ghost use Rattle.flight_core.specs.Records.{nothing_held, taken_of, fed, next_answer, after_next, IsRecord};
+ghost use Rattle.flight_core.specs.Records.{nothing_held, taken_of, fed, next_answer, after_next, most_held, IsRecord};
 ghost use Rattle.flight_core.specs.contracts.records.Records.{the_row};
 
 use crate::found::{Found, read_off};
@@ -53,7 +53,7 @@ impl Records {
     pub fn feed(&mut self, piece: &[u8]) -> usize
         ensures taken { result ≡ length (taken_of self.old piece.now) }
         ensures fed { self.new ≡ fed self.old piece.now }
-        ensures few { length self.new.bytes ≤ MOST_HELD }
+        ensures few { length self.new.bytes ≤ most_held }
     {
         let room = MOST_HELD - self.window.held().len();
         if self.is_bad {
@@ -78,7 +78,7 @@ impl Records {
             Front::NoRecord => {
                 self.is_bad = true;
                 Some(Found::Bad {
-                    number: self.count.saturating_add(1),
+                    n: self.count.saturating_add(1),
                 })
             }
             Front::Record { shape, size } => {
