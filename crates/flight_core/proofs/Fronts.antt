@@ -1,10 +1,10 @@
 -- What stands in front of a stream whose header is there.
-use Rattle.std.proofs.Common.{◌≡◌, refl, sym, ◌∙◌, ap, subst, ℕ, ◌+◌, ◌-◌, ◌≤◌, true, false, nat_lt, get_or, List, [], ◌∷◌, ◌++◌, length, take, drop, Some, None, arith, length-take-le, length-drop}
+use Rattle.std.proofs.Common.{◌≡◌, refl, sym, ◌∙◌, ap, subst, ℕ, ◌+◌, ◌-◌, ◌≤◌, true, false, nat_lt, get_or, List, [], ◌∷◌, ◌++◌, length, take, drop, Some, None, arith, length-take-le, length-drop, ◌<◌}
 use Rattle.std.proofs.lemmas.List.{drop-take, take-append-drop}
-use Rattle.lc_model.specs.Host.Stream.{Record, NoRecord, header_size, all_kinds, body_size, contents_of, fits_body, front, moment_of, record_of}
-use Rattle.lc_model.proofs.Facts.{test_not_less}
+use Rattle.lc_model.specs.Host.Stream.{Record, NoRecord, header_size, all_kinds, body_size, contents_of, fits_body, front, moment_of, record_of, CutRecord}
+use Rattle.lc_model.proofs.Facts.{test_less, test_not_less}
 use Rattle.flight_core.specs.declared.front.Shape.{Shape}
-use Rattle.flight_core.specs.Front.{contents_by, HasName, IsOfText, IsWhole}
+use Rattle.flight_core.specs.Front.{contents_by, HasName, IsOfText, IsWhole, part_of}
 
 -- ---- the moment is in the header
 
@@ -56,6 +56,26 @@ by_contents texts (kind ∷ bytes) size there =
     (test_not_less _ _ (subst (λ (n : ℕ). 11 + n ≤ length (kind ∷ bytes)) there.same there.whole))
     ∙ (λ i. record_of (contents_of texts kind (drop 11 (take (11 + sym there.same i) (kind ∷ bytes)))) (moment_of (kind ∷ bytes)) (drop (11 + sym there.same i) (kind ∷ bytes)))
     ∙ (λ i. record_of (contents_of texts kind (body_is (kind ∷ bytes) size i)) (moment_of (kind ∷ bytes)) (drop (11 + size) (kind ∷ bytes)))
+
+-- ---- less than a record
+
+pub short_in_front : (texts : ℕ) (bytes : List ℕ) → length bytes < 11 → front all_kinds texts bytes ≡ part_of bytes
+short_in_front texts [] few = refl
+short_in_front texts (kind ∷ bytes) few =
+    let short : nat_lt (length (kind ∷ bytes)) header_size ≡ true = test_less _ _ few in rw short refl
+
+cut_by_tests : (texts kind : ℕ) (bytes : List ℕ) → nat_lt (length (kind ∷ bytes)) header_size ≡ false → fits_body all_kinds kind (body_size (kind ∷ bytes)) ≡ true →
+    nat_lt (length (kind ∷ bytes)) (header_size + body_size (kind ∷ bytes)) ≡ true → front all_kinds texts (kind ∷ bytes) ≡ CutRecord
+cut_by_tests texts kind bytes long fits cut = rw (long, fits, cut) refl
+
+pub cut_in_front : (texts : ℕ) (bytes : List ℕ) (size : ℕ) → 11 ≤ length bytes → size ≡ body_size bytes → fits_body all_kinds (get_or bytes 0 0) size ≡ true →
+    length bytes < 11 + size → front all_kinds texts bytes ≡ part_of bytes
+cut_in_front texts [] size long same fits cut = absurd (omega (arith, long))
+cut_in_front texts (kind ∷ bytes) size long same fits cut =
+    cut_by_tests texts kind bytes (test_not_less _ _ long) (subst (λ n. fits_body all_kinds kind n ≡ true) same fits)
+    (test_less _ _ (subst (λ (n : ℕ). length (kind ∷ bytes) < 11 + n) same cut))
+
+-- ---- a whole record
 
 length_of_body : (bytes : List ℕ) (size : ℕ) → 11 + size ≤ length bytes → length (body_in size bytes) ≡ 11 + size - 11
 length_of_body bytes size whole = length-take-le (11 + size - 11) (drop 11 bytes) (omega (arith, whole, length-drop 11 bytes))

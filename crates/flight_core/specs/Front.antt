@@ -1,5 +1,5 @@
 -- What is judged of the front of a stream. The format of streams is this project's own.
-use Rattle.std.specs.Prelude.{◌≡◌, ℕ, ◌-◌, ◌<◌, ◌≤◌, List, length, take, drop, ⊤}
+use Rattle.std.specs.Prelude.{◌≡◌, ℕ, ◌-◌, ◌<◌, ◌≤◌, List, [], ◌∷◌, length, take, drop, ⊤}
 use Rattle.lc_model.specs.Name.{name_in}
 use Rattle.lc_model.specs.Host.Stream.{Contents, StreamEntry, header_size, name_size, all_kinds, moment_of, front}
 use Rattle.lc_model.specs.Host.Stream as stream
@@ -31,12 +31,10 @@ IsOfText texts other = ⊤
 abbrev pub entry_by : Shape → List ℕ → StreamEntry
 entry_by shape bytes = record { moment = moment_of bytes; contents = contents_by (drop header_size bytes) shape }
 
--- nothing, or less than a record
-abbrev pub IsPart : stream.Front → Type 0
-IsPart stream.EndOfStream = ⊤
-IsPart stream.CutRecord = ⊤
-IsPart stream.NoRecord = ⊥
-IsPart (stream.Record entry rest) = ⊥
+-- less than a record: nothing, or the beginning of one
+abbrev pub part_of : List ℕ → stream.Front
+part_of [] = stream.EndOfStream
+part_of (byte ∷ bytes) = stream.CutRecord
 
 -- a whole record of this shape and size stands in front
 pub record IsWhole (texts : ℕ) (bytes : List ℕ) (shape : Shape) (size : ℕ) : Type 0 where
@@ -48,6 +46,6 @@ pub record IsWhole (texts : ℕ) (bytes : List ℕ) (shape : Shape) (size : ℕ)
 
 -- what was judged is what stands in front
 abbrev pub IsFront : ℕ → List ℕ → Front → Type 0
-IsFront texts bytes Part = IsPart (front all_kinds texts bytes) × (length bytes < 65547)
+IsFront texts bytes Part = (front all_kinds texts bytes ≡ part_of bytes) × (length bytes < 65547)
 IsFront texts bytes NoRecord = front all_kinds texts bytes ≡ stream.NoRecord
 IsFront texts bytes (Record shape size) = IsWhole texts bytes shape size

@@ -1,6 +1,6 @@
 //! What stands at the front of a stream: kind, seconds, subseconds, length and body of a record (this project's own format).
 
-ghost use Rattle.std.specs.Prelude.{◌≡◌, true, length, take, slice_index, option_map, IfSome};
+ghost use Rattle.std.specs.Prelude.{◌≡◌, ◌≤◌, true, length, take, slice_index, option_map, IfSome};
 ghost use Rattle.lc_model.specs.Bytes.{u16_at};
 ghost use Rattle.lc_model.specs.Name.{name_in};
 ghost use Rattle.lc_model.specs.Host.Stream.{all_kinds, contents_of, fits_body, half_contents};
@@ -43,7 +43,8 @@ pub(crate) enum Front {
 
 /// Whether a record of this kind may have a body of so many bytes.
 fn fits(kind: u8, size: usize) -> bool
-    ensures { result ≡ fits_body all_kinds kind size }
+    ensures exact { result ≡ fits_body all_kinds kind size }
+    ensures longest { result ≡ true → size ≤ LONGEST_BODY }
 {
     match kind {
         1 => size <= LONGEST_BODY,

@@ -1,10 +1,11 @@
 //! Records of a stream that comes in pieces.
 
-ghost use Rattle.std.specs.Prelude.{◌≡◌, ◌≤◌, ◌<◌, length, IfOk, IfSome, IsNone};
+ghost use Rattle.std.specs.Prelude.{◌≡◌, ◌≤◌, ◌<◌, ◌+◌, false, length, IfOk, IfSome, IsNone};
 ghost use Rattle.std.specs.Borrow.{sem};
 ghost use Rattle.std.specs.Io.BufRead.{Rests};
+ghost use Rattle.flight_core.specs.Front.{part_of};
 ghost use Rattle.flight_core.specs.Found.{answer_in, NamesText};
-ghost use Rattle.flight_core.specs.Records.{nothing_held, taken_of, fed, next_answer, after_next, most_held, IsRecord};
+ghost use Rattle.flight_core.specs.Records.{nothing_held, taken_of, fed, next_answer, after_next, front_of, most_held, IsRecord};
 ghost use Rattle.flight_core.specs.contracts.records.Records.{the_row};
 
 use crate::found::{Found, read_off};
@@ -54,6 +55,7 @@ impl Records {
         ensures taken { result ≡ length (taken_of self.old piece.now) }
         ensures fed { self.new ≡ fed self.old piece.now }
         ensures few { length self.new.bytes ≤ most_held }
+        ensures whole { self.old.is_bad ≡ false → length self.old.bytes + length piece.now ≤ most_held → taken_of self.old piece.now ≡ piece.now }
     {
         let room = MOST_HELD - self.window.held().len();
         if self.is_bad {
@@ -70,7 +72,8 @@ impl Records {
         ensures found { answer_in result ≡ next_answer self.old }
         ensures text { IfSome result (NamesText self.old.texts) }
         ensures shorter { IsRecord (next_answer self.old) → length (after_next self.old).bytes < length self.old.bytes }
-        ensures part { IsNone result → length self.old.bytes < 65547 }
+        ensures part { IsNone result → front_of self.old ≡ part_of self.old.bytes }
+        ensures few { IsNone result → length self.old.bytes < 65547 }
         ensures* after { sem 𝓛 (Rests the_row self.entry (λ new. new ≡ after_next self.old)) }
     {
         match front_of(self.texts, self.window.held()) {
