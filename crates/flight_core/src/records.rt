@@ -66,8 +66,8 @@ impl Records {
         taken
     }
 
-    /// Takes off the record at the front, or answers that there is none, then and at each further call. None where neither a
-    /// whole record nor what is none is held.
+    /// Takes off the record at the front and lends it from where it lies; or answers that what stands there is no record, now
+    /// and at each further call. None where no whole record is held, and what is held may yet become one.
     pub fn next(&mut self) -> Option<Found<'_>>
         ensures found { answer_in result ≡ next_answer self.old }
         ensures text { IfSome result (NamesText self.old.texts) }
