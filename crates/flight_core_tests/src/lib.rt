@@ -13,3 +13,5 @@ mod pieces;
 mod room;
 #[cfg(test)]
 mod shared;
+#[cfg(test)]
+mod speed;
