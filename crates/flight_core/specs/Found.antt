@@ -1,0 +1,32 @@
+-- What is taken off a stream, as the definitions have it.
+use Rattle.std.specs.Prelude.{ℕ, ◌<◌, Option, option_map, ⊤}
+use Rattle.lc_model.specs.Host.Stream.{Contents, StreamEntry}
+use Rattle.lc_model.specs.Host.Stream as stream
+use Rattle.lc_model.specs.declared.record.Body.{Body}
+use Rattle.lc_model.specs.declared.record.Body.TheVariants as body
+use Rattle.flight_core.specs.Answer.{Answer}
+use Rattle.flight_core.specs.Answer as answer
+use Rattle.flight_core.specs.declared.found.Found.{Found}
+use Rattle.flight_core.specs.declared.found.Found.TheVariants.{Record, Half, Bad}
+
+-- what a record brings
+abbrev pub contents_in : Body → Contents
+contents_in (body.Packet bytes) = stream.Packet bytes.now
+contents_in body.Tick = stream.Tick
+contents_in (body.File name bytes) = stream.File name.now bytes.now
+
+-- what was found
+abbrev pub answer_of : Found → Answer
+answer_of (Record entry) = answer.Entry (record { moment = entry.moment; contents = contents_in entry.body })
+answer_of (Half moment name kind text) = answer.Entry (record { moment = moment; contents = stream.Half name.now kind text })
+answer_of (Bad number) = answer.Bad number
+
+-- the same where something was
+abbrev pub answer_in : Option Found → Option Answer
+answer_in found = option_map answer_of found
+
+-- a half is one of a text that there is, among so many
+abbrev pub NamesText : ℕ → Found → Type 0
+NamesText texts (Half moment name kind text) = text < texts
+NamesText texts (Record entry) = ⊤
+NamesText texts (Bad number) = ⊤

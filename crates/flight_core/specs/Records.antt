@@ -1,0 +1,72 @@
+-- Records of a stream that comes in pieces, by what is held of it. This project's own.
+use Rattle.std.specs.Prelude.{ℕ, ◌+◌, ◌-◌, min, Bool, true, false, List, [], ◌++◌, length, take, if◌then◌else◌, Option, Some, None, ⊤}
+use Rattle.lc_model.specs.Host.Stream.{Front, EndOfStream, Record, NoRecord, CutRecord, all_kinds, front}
+use Rattle.flight_core.specs.Answer.{Answer, Entry, Bad}
+
+-- the bytes held; how many records were handed out, up to 2^64 - 1; whether what comes next was found to be none; and how
+-- many rule texts there are
+pub record Held : Type 0 where
+  pub bytes : List ℕ
+  pub count : ℕ
+  pub is_bad : Bool
+  pub texts : ℕ
+
+-- the most bytes held: a longest record, and a piece of 8,192
+abbrev pub most_held : ℕ
+most_held = 73739
+
+-- counts stop here
+abbrev pub most_counted : ℕ
+most_counted = 18446744073709551615
+
+-- nothing has come
+abbrev pub nothing_held : ℕ → Held
+nothing_held texts = record { bytes = []; count = 0; is_bad = false; texts = texts }
+
+-- ---- what comes
+
+-- what is taken of a piece: as much as there is room for, and behind what is no record nothing
+abbrev pub taken_of : Held → List ℕ → List ℕ
+taken_of held piece = if held.is_bad then [] else take (most_held - length held.bytes) piece
+
+-- with what is taken of the piece at the end
+abbrev pub fed : Held → List ℕ → Held
+fed held piece = record held { bytes = held.bytes ++ taken_of held piece }
+
+-- ---- what goes
+
+-- what stands in front
+abbrev pub front_of : Held → Front
+front_of held = front all_kinds held.texts held.bytes
+
+-- the number of the next record
+abbrev pub next_number : Held → ℕ
+next_number held = min (held.count + 1) most_counted
+
+-- what is answered by what stands in front
+abbrev pub answer_by : Held → Front → Option Answer
+answer_by held (Record entry rest) = Some (Entry entry)
+answer_by held NoRecord = Some (Bad (next_number held))
+answer_by held EndOfStream = None
+answer_by held CutRecord = None
+
+-- what is held afterwards
+abbrev pub after_by : Held → Front → Held
+after_by held (Record entry rest) = record held { bytes = rest; count = next_number held }
+after_by held NoRecord = record held { is_bad = true }
+after_by held EndOfStream = held
+after_by held CutRecord = held
+
+-- what comes next, where a whole record is held or what is none
+abbrev pub next_answer : Held → Option Answer
+next_answer held = answer_by held (front_of held)
+
+-- what is held behind it
+abbrev pub after_next : Held → Held
+after_next held = after_by held (front_of held)
+
+-- a record comes next
+abbrev pub IsRecord : Option Answer → Type 0
+IsRecord (Some (Entry entry)) = ⊤
+IsRecord (Some (Bad number)) = ⊥
+IsRecord None = ⊥

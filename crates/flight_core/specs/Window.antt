@@ -1,0 +1,18 @@
+-- The bytes that wait in a buffer. This project's own.
+use Rattle.std.specs.Prelude.{ℕ, ◌+◌, ◌≤◌, List, []}
+
+-- what is held, and behind it what went last
+pub record Shown : Type 0 where
+  pub last : List ℕ
+  pub held : List ℕ
+
+-- nothing was there yet
+abbrev pub empty_window : Shown
+empty_window = record { last = []; held = [] }
+
+-- what went last begins here and what is held there, in so many bytes of a buffer with so much room
+pub record IsWindow (last start size capacity : ℕ) : Type 0 where
+  pub ordered : last ≤ start
+  pub inside : start ≤ size
+  pub few : size ≤ start + 73739
+  pub room : 147478 ≤ capacity

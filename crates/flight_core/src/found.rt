@@ -1,0 +1,85 @@
+//! What is taken off a stream.
+
+ghost use Rattle.std.specs.Prelude.{◌≡◌, ℕ, ◌==◌, ◌-◌, ◌≤◌, length, take, Some};
+ghost use Rattle.std.specs.List.{position_or_len};
+ghost use Rattle.lc_model.specs.Name.{name_in};
+ghost use Rattle.lc_model.specs.Host.Stream.{header_size};
+ghost use Rattle.flight_core.specs.Front.{entry_by, HasName, IsOfText};
+ghost use Rattle.flight_core.specs.Found.{answer_of, NamesText};
+ghost use Rattle.flight_core.specs.Answer.{Entry};
+
+use crate::front::{HEADER, NAME, Shape};
+use lc_model::{Body, Kind, Moment, Record, u16_at, u32_at};
+
+/// The next record of a stream, or the number of what is none. Bytes and names lie where they came in.
+#[derive(Clone, Copy, Debug, PartialEq, Eq)]
+pub enum Found<'a> {
+    /// A packet, a tick or a file, with its moment.
+    Record(Record<'a>),
+    /// At this moment the table file of this half of the rule text with this number, from 0, is to be stored under this name.
+    Half {
+        moment: Moment,
+        /// The bytes before the first zero byte of the 40 that stand for a name.
+        name: &'a [u8],
+        kind: Kind,
+        text: usize,
+    },
+    /// Record `n` is none: another kind, a length that doesn't fit, another half, or a text that isn't there. Records count from
+    /// 1, and `n` stops at 2^64 - 1.
+    Bad {
+        n: u64,
+    },
+}
+
+/// How many bytes come before the first zero byte, or all of them.
+fn name_length(field: &[u8]) -> usize
+    ensures { result ≡ position_or_len (λ b. b == 0) field.now }
+{
+    field.iter().take_while(|byte| **byte != 0).count()
+}
+
+/// The name in a body's first 40 bytes: those before the first zero byte, or all of them.
+fn name_in(body: &[u8]) -> &[u8]
+    requires { NAME ≤ length body.now }
+    ensures { result.now ≡ name_in (take NAME body.now) }
+{
+    let field = &body[..NAME];
+    &field[..name_length(field)]
+}
+
+/// What a whole record of this shape brings.
+pub(crate) fn read_off(shape: Shape, bytes: &[u8]) -> Found<'_>
+    requires long { header_size ≤ length bytes.now }
+    requires named { HasName shape (length bytes.now - header_size) }
+    ensures entry { answer_of result ≡ Entry (entry_by shape bytes.now) }
+    ensures text { (texts : ℕ) → IsOfText texts shape → NamesText texts result }
+{
+    let moment = Moment {
+        seconds: u32_at(bytes, 1),
+        subseconds: u16_at(bytes, 5),
+    };
+    let body = &bytes[HEADER..];
+    match shape {
+        Shape::Packet => Found::Record(Record {
+            moment,
+            body: Body::Packet(body),
+        }),
+        Shape::Tick => Found::Record(Record {
+            moment,
+            body: Body::Tick,
+        }),
+        Shape::File => Found::Record(Record {
+            moment,
+            body: Body::File {
+                name: name_in(body),
+                bytes: &body[NAME..],
+            },
+        }),
+        Shape::Half { kind, text } => Found::Half {
+            moment,
+            name: name_in(body),
+            kind,
+            text,
+        },
+    }
+}

@@ -1,0 +1,118 @@
+//! What stands at the front of a stream: kind, seconds, subseconds, length and body of a record (this project's own format).
+
+ghost use Rattle.std.specs.Prelude.{◌≡◌, ◌≤◌, true, length, take, slice_index, option_map, IfSome};
+ghost use Rattle.lc_model.specs.Bytes.{u16_at};
+ghost use Rattle.lc_model.specs.Name.{name_in};
+ghost use Rattle.lc_model.specs.Host.Stream.{all_kinds, contents_of, fits_body, half_contents};
+ghost use Rattle.flight_core.specs.Front.{contents_by, HasName, IsFront, IsOfText};
+
+use lc_model::{Kind, u16_at, u32_at};
+
+/// The bytes of a record before its body: kind, seconds, subseconds and length.
+pub(crate) const HEADER: usize = 11;
+
+/// The bytes of a file's name.
+pub(crate) const NAME: usize = 40;
+
+/// The bytes of a body that names a half of a rule text: the file's name, the half and the text's number.
+const HALF: usize = 43;
+
+/// The most bytes of a body.
+const LONGEST_BODY: usize = 65_536;
+
+/// What a whole record brings.
+#[derive(Clone, Copy, Debug, PartialEq, Eq)]
+pub(crate) enum Shape {
+    Packet,
+    Tick,
+    File,
+    /// The file of this table of the rule text with this number.
+    Half { kind: Kind, text: usize },
+}
+
+/// What stands at the front of some bytes.
+#[derive(Clone, Copy, Debug, PartialEq, Eq)]
+pub(crate) enum Front {
+    /// Nothing, or the beginning of a record.
+    Part,
+    /// No record, whatever follows.
+    NoRecord,
+    /// A whole record of so many bytes.
+    Record { shape: Shape, size: usize },
+}
+
+/// Whether a record of this kind may have a body of so many bytes.
+fn fits(kind: u8, size: usize) -> bool
+    ensures exact { result ≡ fits_body all_kinds kind size }
+    ensures longest { result ≡ true → size ≤ LONGEST_BODY }
+{
+    match kind {
+        1 => size <= LONGEST_BODY,
+        2 => size == 0,
+        3 => (NAME..=LONGEST_BODY).contains(&size),
+        4 => size == HALF,
+        _ => false,
+    }
+}
+
+/// The half that a body names, where there is such a half, and a text of this number among so many.
+fn half(texts: usize, body: &[u8]) -> Option<Shape>
+    requires { length body.now ≡ HALF }
+    ensures text { IfSome result (IsOfText texts) }
+    ensures named { IfSome result (λ shape. HasName shape (length body.now)) }
+    ensures brings { option_map (contents_by body.now) result ≡ half_contents texts (name_in (take NAME body.now)) (slice_index body.now 40) (u16_at body.now 41) }
+{
+    let text = usize::from(u16_at(body, 41));
+    if text >= texts {
+        return None;
+    }
+    match body[NAME] {
+        1 => Some(Shape::Half {
+            kind: Kind::Wdt,
+            text,
+        }),
+        2 => Some(Shape::Half {
+            kind: Kind::Adt,
+            text,
+        }),
+        _ => None,
+    }
+}
+
+/// What a record of this kind brings by its body, where there are so many texts.
+fn shape_of(texts: usize, kind: u8, body: &[u8]) -> Option<Shape>
+    requires { fits_body all_kinds kind (length body.now) ≡ true }
+    ensures text { IfSome result (IsOfText texts) }
+    ensures named { IfSome result (λ shape. HasName shape (length body.now)) }
+    ensures brings { option_map (contents_by body.now) result ≡ contents_of texts kind body.now }
+{
+    match kind {
+        1 => Some(Shape::Packet),
+        2 => Some(Shape::Tick),
+        3 => Some(Shape::File),
+        _ => half(texts, body),
+    }
+}
+
+/// What stands at the front of the bytes, where there are so many texts.
+pub(crate) fn front_of(texts: usize, bytes: &[u8]) -> Front
+    ensures { IsFront texts bytes.now result }
+{
+    if bytes.len() < HEADER {
+        return Front::Part;
+    }
+    let size = u32_at(bytes, 7) as usize;
+    if !fits(bytes[0], size) {
+        return Front::NoRecord;
+    }
+    if bytes.len() < HEADER + size {
+        return Front::Part;
+    }
+    match shape_of(texts, bytes[0], &bytes[HEADER..HEADER + size]) {
+        Some(shape) => Front::Record {
+            shape,
+            size: HEADER + size,
+        },
+        None => Front::NoRecord,
+    }
+}

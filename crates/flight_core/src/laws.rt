@@ -1,0 +1,24 @@
+//! However a stream is cut into pieces, the records that are taken off it are those of the whole.
+
+ghost use Rattle.flight_core.specs.Cutting.{Begins, Comes, EndsBadly, EndsCut, EndsWhole, EveryCutting, Goes};
+
+/// Bytes come and records are handed out, one after the other: whatever follows, the records of it all are those handed out,
+/// and then those of what is held and what follows.
+pub fn records_are_handed_out()
+    ensures begins { Begins }
+    ensures comes { Comes }
+    ensures goes { Goes }
+{}
+
+/// What stands in front of what is held when no more comes says how the records of all that has come end; what is no record
+/// ends them whatever follows.
+pub fn the_rest_says_the_end()
+    ensures bad { EndsBadly }
+    ensures whole { EndsWhole }
+    ensures cut { EndsCut }
+{}
+
+/// So it is over every list of calls.
+pub fn every_cutting_has_the_records_of_the_whole()
+    ensures { EveryCutting }
+{}

@@ -1,0 +1,101 @@
+//! Records of a stream that comes in pieces.
+
+ghost use Rattle.std.specs.Prelude.{◌≡◌, ◌≤◌, ◌<◌, ◌+◌, false, length, IfOk, IfSome, IsNone};
+ghost use Rattle.std.specs.Borrow.{sem};
+ghost use Rattle.std.specs.Io.BufRead.{Rests};
+ghost use Rattle.flight_core.specs.Front.{part_of};
+ghost use Rattle.flight_core.specs.Found.{answer_in, NamesText};
+ghost use Rattle.flight_core.specs.Records.{nothing_held, taken_of, fed, next_answer, after_next, front_of, most_held, IsRecord};
+ghost use Rattle.flight_core.specs.contracts.records.Records.{the_row};
+
+use crate::found::{Found, read_off};
+use crate::front::{Front, front_of};
+use crate::window::{MOST_HELD, Window};
+use std::alloc::{AllocError, Global};
+use std::marker::Model;
+
+/// The records of a stream, whatever the pieces in which it comes.
+///
+/// A piece is taken to the end of what is held, and each record is judged and handed out where it lies. The time of all
+/// calls is a constant for each byte and each call. Contracts see what is held (`Held`): its bytes, how many records were
+/// handed out, whether what comes next was found to be none, and how many rule texts there are.
+#[derive(Drop)]
+pub struct Records {
+    window: Window,
+    texts: usize,
+    count: u64,
+    is_bad: bool,
+}
+
+impl Model for Records {
+    ghost use Rattle.flight_core.specs.Records.{Held};
+
+    ghost Value = { Held };
+
+    ghost view = { λ r. record { bytes = r.window.held; count = r.count; is_bad = r.is_bad; texts = r.texts } };
+}
+
+impl Records {
+    /// Nothing held of a stream, in which there may be halves of so many rule texts, numbered from 0. It takes all the
+    /// memory there will ever be; out of memory is the only error.
+    pub fn new(alloc: Global, texts: usize) -> Result<Records, AllocError>
+        ensures { IfOk result (λ records. records ≡ nothing_held texts) }
+    {
+        Ok(Records {
+            window: Window::new(alloc)?,
+            texts,
+            count: 0,
+            is_bad: false,
+        })
+    }
+
+    /// Takes a piece of the stream behind what is held, as much of it as leaves at most 73,739 bytes held, which are a longest
+    /// record and a piece of 8,192 bytes; and answers how much. Behind what is no record it takes nothing.
+    pub fn feed(&mut self, piece: &[u8]) -> usize
+        ensures taken { result ≡ length (taken_of self.old piece.now) }
+        ensures fed { self.new ≡ fed self.old piece.now }
+        ensures few { length self.new.bytes ≤ most_held }
+        ensures whole { self.old.is_bad ≡ false → length self.old.bytes + length piece.now ≤ most_held → taken_of self.old piece.now ≡ piece.now }
+    {
+        let room = MOST_HELD - self.window.held().len();
+        if self.is_bad {
+            return 0;
+        }
+        let taken = piece.len().min(room);
+        self.window.add(&piece[..taken]);
+        taken
+    }
+
+    /// Takes off the record at the front and lends it from where it lies; or answers that what stands there is no record, now
+    /// and at each further call. None where no whole record is held, and what is held may yet become one.
+    pub fn next(&mut self) -> Option<Found<'_>>
+        ensures found { answer_in result ≡ next_answer self.old }
+        ensures text { IfSome result (NamesText self.old.texts) }
+        ensures shorter { IsRecord (next_answer self.old) → length (after_next self.old).bytes < length self.old.bytes }
+        ensures part { IsNone result → front_of self.old ≡ part_of self.old.bytes }
+        ensures few { IsNone result → length self.old.bytes < 65547 }
+        ensures* after { sem 𝓛 (Rests the_row self.entry (λ new. new ≡ after_next self.old)) }
+    {
+        match front_of(self.texts, self.window.held()) {
+            Front::Part => None,
+            Front::NoRecord => {
+                self.is_bad = true;
+                Some(Found::Bad {
+                    n: self.count.saturating_add(1),
+                })
+            }
+            Front::Record { shape, size } => {
+                self.count = self.count.saturating_add(1);
+                self.window.take(size);
+                Some(read_off(shape, self.window.last()))
+            }
+        }
+    }
+
+    /// How many bytes are held.
+    pub fn held(&self) -> usize
+        ensures { result ≡ length self.now.bytes }
+    {
+        self.window.held().len()
+    }
+}

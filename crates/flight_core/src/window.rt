@@ -1,0 +1,98 @@
+//! Bytes that come at the end and go at the front, in one buffer.
+
+ghost use Rattle.std.specs.Prelude.{◌≡◌, ◌≤◌, ◌+◌, ◌++◌, [], length, take, drop, IfOk, vec_len, vec_capacity};
+ghost use Rattle.flight_core.specs.Window.{empty_window};
+
+use std::alloc::{AllocError, Global};
+use std::marker::Model;
+
+/// The most bytes held: a longest record of 11 + 65,536 bytes, and a piece of 8,192.
+pub(crate) const MOST_HELD: usize = 73_739;
+
+/// The bytes of the buffer. Held bytes are moved to its front only where none are left at its end; then at least as many
+/// went at the front since the last move, so that moving costs a constant time a byte.
+const ROOM: usize = 2 * MOST_HELD;
+
+/// What is held, and behind it what went last. Contracts see both as lists.
+#[derive(Drop)]
+pub(crate) struct Window {
+    room: Vec<u8>,
+    /// Where in the buffer what went last begins.
+    last: usize,
+    /// Where what is held begins.
+    start: usize,
+}
+
+impl Model for Window {
+    ghost use Rattle.std.specs.Prelude.{take, drop, vec_capacity, vec_len};
+    ghost use Rattle.flight_core.specs.Window.{Shown, IsWindow};
+
+    ghost Value = { Shown };
+
+    ghost view = { λ w. record { last = drop w.last (take w.start w.room.items); held = drop w.start w.room.items } };
+
+    ghost invariant = { λ w. IsWindow w.last w.start (vec_len w.room) (vec_capacity w.room) };
+}
+
+/// The first bytes go, so many, and the others move to the front.
+#[cold]
+#[inline(never)]
+fn drop_front(bytes: &mut Vec<u8>, count: usize)
+    requires { count ≤ vec_len bytes.old }
+    ensures items { bytes.new.items ≡ drop count bytes.old.items }
+    ensures room { vec_capacity bytes.new ≡ vec_capacity bytes.old }
+{
+    let left = bytes.len() - count;
+    bytes.copy_within(count.., 0);
+    bytes.truncate(left);
+}
+
+impl Window {
+    /// Nothing held. It takes all the memory there will ever be; out of memory is the only error.
+    pub fn new(alloc: Global) -> Result<Window, AllocError>
+        ensures { IfOk result (λ window. window ≡ empty_window) }
+    {
+        Ok(Window {
+            room: Vec::with_capacity(alloc, ROOM)?,
+            last: 0,
+            start: 0,
+        })
+    }
+
+    /// What is held.
+    pub fn held(&self) -> &[u8]
+        ensures held { result.now ≡ self.now.held }
+        ensures few { length self.now.held ≤ MOST_HELD }
+    {
+        &self.room[self.start..]
+    }
+
+    /// What went last.
+    pub fn last(&self) -> &[u8]
+        ensures { result.now ≡ self.now.last }
+    {
+        &self.room[self.last..self.start]
+    }
+
+    /// The first bytes held go, so many.
+    pub fn take(&mut self, size: usize)
+        requires { size ≤ length self.old.held }
+        ensures { self.new ≡ record { last = take size self.old.held; held = drop size self.old.held } }
+    {
+        self.last = self.start;
+        self.start += size;
+    }
+
+    /// Bytes come, for which there is room.
+    pub fn add(&mut self, bytes: &[u8])
+        requires { length self.old.held + length bytes.now ≤ MOST_HELD }
+        ensures { self.new ≡ record { last = []; held = self.old.held ++ bytes.now } }
+    {
+        if self.room.len() + bytes.len() > ROOM {
+            drop_front(&mut self.room, self.start);
+            self.start = 0;
+        }
+        self.last = self.start;
+        self.room.extend_from_slice(bytes).unwrap();
+    }
+}
