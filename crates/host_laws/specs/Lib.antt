@@ -1,3 +1,5 @@
+pub mod Seen
+pub mod Settled
 pub mod Keeping
 pub mod Statements
 pub mod Calls

@@ -1,0 +1,4 @@
+pub mod Shared
+pub mod Telling
+pub mod Calls
+pub mod Seating
