@@ -1,2 +1,3 @@
 pub mod Told
 pub mod Seats
+pub mod Rules

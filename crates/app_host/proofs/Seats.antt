@@ -179,13 +179,14 @@ may_register seat name service own free unused =
     ap (λ (p : Option Sender). if is_some p || is_some (origin_named name service) then refused 103 else Ok (with_new seat name service)) free
     ∙ ap (λ (o : Option (Option ℕ)). if is_some o then refused 103 else Ok (with_new seat name service)) no_origin
 
-pub opened : (seat : ℕ) (name : Name) (mids : List ℕ) (before after : Services) → RegisteringByName → IsEventService before.events → seat < seat_count →
+pub opened : (seat : ℕ) (name : Name) (mids : List ℕ) (before after : Services) → RegisteringByName → IsEventService before.events → seat < seat_count → seat < length before.bus →
     registered_at seat name before.events ≡ Ok (with_new seat name before.events) →
     after.bus ≡ with_pipe seat before.bus (record { subscriptions = mids; waiting = [] }) →
     after.events ≡ with_new seat name before.events →
     after.tables ≡ before.tables → after.counts ≡ before.counts → after.moment ≡ before.moment → after.outgoing ≡ before.outgoing →
     IsOpened seat name mids before after
-opened seat name mids before after law sound inside registers bus events tables counts moment outgoing = record {
+unfolding shared
+opened seat name mids before after law sound inside on_the_bus registers bus events tables counts moment outgoing = record {
   bus = bus;
   events = events;
   shared = (λ i. services_seen (events i) (tables i) (counts i))
@@ -196,6 +197,8 @@ opened seat name mids before after law sound inside registers bus events tables 
   tables = tables;
   moment = moment;
   outgoing = outgoing;
+  on_the_bus = on_the_bus;
+  among_senders = let eight = sound.seats in omega (arith, eight, inside);
 }
 
 -- ---- a seat that is given back

@@ -60,6 +60,7 @@ module _ (moment : Moment) (id : ℕ) (kind : EventKind) (text : List ℕ) where
       after.outgoing ≡ before.outgoing ++ concat (option_to_list (event_asked origin moment id kind text before.events).1) →
       after.bus ≡ before.bus → after.tables ≡ before.tables → after.counts ≡ before.counts → after.moment ≡ before.moment →
       Tells origin sender.name (Event sender.name id kind text ∷ []) before after
+  unfolding shared
   told origin sender before after law sound now there events outgoing bus tables counts moment_is =
       let step : EventService × Option (List ℕ) = event_asked origin moment id kind text before.events in
       let sent = subst (λ m. sent_by m sender.name (Event sender.name id kind text ∷ []) (shared before)

@@ -14,7 +14,7 @@ use Rattle.app_host.specs.Shared.{on_board, held_by, shared}
 
 -- an object at any time: it has an application's name, its kind's if the kind is known, and could be started
 pub record IsObject (state : AppState) (name : Name) : Type 0 where
-  pub name : IsApplicationName name
+  pub application : IsApplicationName name
   pub kind : IsNamedAs state name
   pub may_start : MayStart state
 
@@ -33,7 +33,7 @@ pub record Leaves (seat : ℕ) (state : AppState) (before after : Services) (cal
       ≡ all_published_to (slice_set (seen before.bus) seat (Some (record { subscriptions = called.mids; waiting = waiting_in (seen_at seat (held_by before)) }))) called.published
 
 -- a retirement leaves an empty seat, and writes nothing
-pub record LeavesEmpty (seat : ℕ) (before after : Services) (services : ServicesNow (List ℕ)) : Type 0 where
-  pub services : shared after ≡ services
+pub record LeavesEmpty (seat : ℕ) (before after : Services) (left : ServicesNow (List ℕ)) : Type 0 where
+  pub services : shared after ≡ left
   pub outgoing : after.outgoing ≡ []
   pub pipes : seen after.bus ≡ slice_set (seen before.bus) seat None

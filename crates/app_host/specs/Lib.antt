@@ -2,3 +2,4 @@ pub mod Shared
 pub mod Telling
 pub mod Calls
 pub mod Seating
+pub mod Statements

@@ -1,5 +1,5 @@
 -- What there is when an application took a seat, and when it gave it back.
-use Rattle.std.specs.Prelude.{◌≡◌, ℕ, List, [], Some, None, slice_set, IfSome, IsTrue, is_some}
+use Rattle.std.specs.Prelude.{◌≡◌, ℕ, ◌<◌, List, [], length, Some, None, slice_set, IfSome, IsTrue, is_some}
 use Rattle.lc_model.specs.Name.{Name}
 use Rattle.lc_model.specs.Kept.Call.{new_sender, registered, with_at}
 use Rattle.lc_model.specs.Services.Bus.{pipe_at, with_pipe}
@@ -17,6 +17,8 @@ pub record IsOpened (seat : ℕ) (name : Name) (mids : List ℕ) (before after :
   pub tables : after.tables ≡ before.tables
   pub moment : after.moment ≡ before.moment
   pub outgoing : after.outgoing ≡ before.outgoing
+  pub on_the_bus : seat < length before.bus
+  pub among_senders : seat < length before.events.places
 
 -- a seat has a pipe and a sender
 pub record HasPipeAndSender (seat : ℕ) (held : Held) : Type 0 where

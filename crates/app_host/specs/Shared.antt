@@ -9,7 +9,7 @@ use Rattle.host_laws.specs.Seen.{services_seen}
 use Rattle.app_host.specs.declared.services.Services.{Services}
 
 -- on board, images are bytes
-abbrev pub on_board : Interpretation (List ℕ)
+unfoldable pub on_board : Interpretation (List ℕ)
 on_board = as_bytes layouts
 
 -- what the services hold, by seats
@@ -17,5 +17,5 @@ abbrev pub held_by : Services → Held
 held_by s = record { bus = s.bus; events = s.events; tables = s.tables; moment = s.moment; outgoing = s.outgoing }
 
 -- and what applications see of it, under names
-abbrev pub shared : Services → ServicesNow (List ℕ)
+unfoldable pub shared : Services → ServicesNow (List ℕ)
 shared s = services_seen s.events s.tables s.counts

@@ -4,6 +4,7 @@
 
 mod app;
 mod counts;
+pub mod laws;
 mod outgoing;
 mod seat;
 mod services;

@@ -1,0 +1,20 @@
+//! What follows of the services' contracts for every application.
+
+ghost use Rattle.app_host.specs.Statements.{OpeningStarts, OpeningLeaves, OpeningSettles, TellingIsByName, TellingAnswers, TellingLeaves, TellingSettles, SilenceAnswers, SilenceLeaves, ClosingRetires, ClosingLeaves, NoTablesGo};
+
+/// Taking a seat, telling of events, doing nothing, and giving the seat back keep the rules of the interface, and are what the
+/// definitions say.
+pub fn seats_are_kept_by_the_rules()
+    ensures opening_starts { OpeningStarts }
+    ensures opening_leaves { OpeningLeaves }
+    ensures opening_settles { OpeningSettles }
+    ensures telling_is_by_name { TellingIsByName }
+    ensures telling_answers { TellingAnswers }
+    ensures telling_leaves { TellingLeaves }
+    ensures telling_settles { TellingSettles }
+    ensures silence_answers { SilenceAnswers }
+    ensures silence_leaves { SilenceLeaves }
+    ensures closing_retires { ClosingRetires }
+    ensures closing_leaves { ClosingLeaves }
+    ensures no_tables_go { NoTablesGo }
+{}

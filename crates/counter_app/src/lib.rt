@@ -1,0 +1,6 @@
+//! The counter.
+#![tactic(auto)]
+
+mod counter;
+
+pub use counter::Counter;
