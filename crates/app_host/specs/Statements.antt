@@ -2,21 +2,21 @@
 use Rattle.std.specs.Prelude.{◌≡◌, ℕ, ◌≤◌, IfSome, List, [], length, Option, Some, None, option_map}
 use Rattle.lc_model.specs.Name.{Name}
 use Rattle.lc_model.specs.Events.Request.{Request}
-use Rattle.lc_model.specs.Kept.Summary.{AppState}
-use Rattle.lc_model.specs.Kept.Call.{Called, with_at, registered, silent, told}
+use Rattle.lc_model.specs.Kept.Summary.{AppState, Other}
+use Rattle.lc_model.specs.Kept.Call.{Called, with_at, registered, silent, told, next_start, next_on_packet}
 use Rattle.lc_model.specs.Kept.Executive.{Pipe}
 use Rattle.lc_model.specs.Tables.Slot.{Slot}
 use Rattle.lc_model.specs.Services.Events.{Origin, Sender, sender_at}
 use Rattle.lc_model.specs.Services.Tables.{TableService, tables_at, tables_unregistered}
 use Rattle.lc_model.specs.Kept.GoesWith.{own_name, subscriptions_of}
-use Rattle.host_laws.specs.Settled.{IsSettled, own_forms}
+use Rattle.host_laws.specs.Settled.{IsSettled, Settled, own_forms}
 use Rattle.host_laws.specs.Seen.{slot_among}
 use Rattle.lc_model.specs.Services.Interface.{MayBeStarted, IsStarted, IsGiven, IsRetired, BelongsTo, seen_at}
 use Rattle.app_host.specs.declared.services.Services.{Services}
-use Rattle.app_host.specs.Shared.{held_by, shared}
+use Rattle.app_host.specs.Shared.{on_board, held_by, shared}
 use Rattle.app_host.specs.Telling.{Tells, name_of}
 use Rattle.app_host.specs.Seating.{IsOpened, IsClosed}
-use Rattle.app_host.specs.Calls.{Leaves, LeavesEmpty}
+use Rattle.app_host.specs.Calls.{IsObject, IsAtHome, Leaves, LeavesEmpty}
 
 -- an object that opens its seat, and does no more, is started
 abbrev pub OpeningStarts : Type 0
@@ -78,3 +78,17 @@ ClosingLeaves = (seat : ℕ) (name : Name) (before after : Services) → IsClose
 -- a seat without tables has none to give back
 abbrev pub NoTablesGo : Type 0
 NoTablesGo = (seat : ℕ) (s : Services) → tables_at seat s.tables.places ≡ [] → slot_among (tables_unregistered seat s.tables).places ≡ (shared s).slots
+
+-- ---- at home
+
+-- an object that started is at home on its seat
+abbrev pub StartedIsHome : Type 0
+StartedIsHome = (seat : ℕ) (name : Name) (old state : AppState) (before after : Services) → IsObject old name →
+    IsStarted seat name (held_by before) (held_by after) → IfSome (next_start on_board before.moment old (shared before)) (Leaves seat state before after) →
+    Settled state seat (held_by after) → (old ≡ Other → state ≡ Other) → IsAtHome state name seat after
+
+-- and so is one that had a packet
+abbrev pub GivenIsHome : Type 0
+GivenIsHome = (seat : ℕ) (name : Name) (packet : List ℕ) (old state : AppState) (before after : Services) → IsAtHome old name seat before →
+    IsGiven seat name packet (held_by before) (held_by after) → IfSome (next_on_packet on_board before.moment old packet (shared before)) (Leaves seat state before after) →
+    Settled state seat (held_by after) → (old ≡ Other → state ≡ Other) → IsAtHome state name seat after
