@@ -10,7 +10,7 @@ use Rattle.lc_model.specs.Kept.Call.{ServicesNow, Called, next_start, next_on_pa
 use Rattle.lc_model.specs.Kept.GoesWith.{GoesWith, MayStart}
 use Rattle.lc_model.specs.Services.Interface.{IsStarted, IsGiven}
 use Rattle.host_laws.specs.Calls.{StartsGoWith, PacketsKeep}
-use Rattle.host_laws.specs.Settled.{Settled}
+use Rattle.lc_model.specs.Services.Settled.{Settled}
 use Rattle.app_host.specs.declared.services.Services.{Services}
 use Rattle.app_host.specs.Shared.{on_board, held_by, shared}
 use Rattle.app_host.specs.Calls.{IsObject, IsAtHome, Leaves}

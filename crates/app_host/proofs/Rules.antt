@@ -17,8 +17,8 @@ use Rattle.lc_model.specs.Services.Tables.{Table, TableService, tables_at, table
 use Rattle.lc_model.specs.Services.Interface.{Held, LeavesOthersAlone, PipesHear, IsCallOf, MayBeStarted, IsStarted, MayPublish, IsOwnPipe, IsGiven, IsRetired, BelongsTo, IsFreeSeat, seen_at, waiting_in, is_table_of}
 use Rattle.lc_model.proofs.Facts.{some_same}
 use Rattle.lc_model.specs.Kept.GoesWith.{own_name, subscriptions_of}
-use Rattle.host_laws.specs.Settled.{IsSettled, form_of, own_forms}
-use Rattle.host_laws.specs.Seen.{files_seen, slot_among, count_among}
+use Rattle.lc_model.specs.Services.Settled.{IsSettled, form_of, own_forms}
+use Rattle.lc_model.specs.Services.Seen.{files_seen, slot_among, count_among}
 use Rattle.app_host.specs.declared.services.Services.{Services}
 use Rattle.app_host.specs.Shared.{held_by, shared}
 use Rattle.app_host.specs.Telling.{Tells, name_of}

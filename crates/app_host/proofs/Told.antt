@@ -10,7 +10,7 @@ use Rattle.lc_model.specs.Events.Request.{Event}
 use Rattle.lc_model.specs.Kept.Call.{ServicesNow, sent_by}
 use Rattle.lc_model.specs.Laws.Senders.{EventsByName, counts_with}
 use Rattle.lc_model.specs.Services.Events.{Sender, EventService, Origin, IsEventService, Asked, sender_at, sender_named, asked_by, accounted_at, event_asked}
-use Rattle.host_laws.specs.Seen.{services_seen, count_among, files_seen, slot_among}
+use Rattle.lc_model.specs.Services.Seen.{services_seen, count_among, files_seen, slot_among}
 use Rattle.app_host.specs.declared.services.Services.{Services}
 use Rattle.app_host.specs.Shared.{shared}
 use Rattle.app_host.specs.Telling.{Tells, name_of}

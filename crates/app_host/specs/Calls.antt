@@ -8,7 +8,7 @@ use Rattle.lc_model.specs.Kept.Executive.{all_published_to}
 use Rattle.lc_model.specs.Kept.GoesWith.{GoesWith, MayStart}
 use Rattle.lc_model.specs.Services.Bus.{seen}
 use Rattle.lc_model.specs.Services.Interface.{IsApplicationName, BelongsTo, seen_at, waiting_in}
-use Rattle.host_laws.specs.Settled.{Settled, IsNamedAs}
+use Rattle.lc_model.specs.Services.Settled.{Settled, IsNamedAs}
 use Rattle.app_host.specs.declared.services.Services.{Services}
 use Rattle.app_host.specs.Shared.{on_board, held_by, shared}
 

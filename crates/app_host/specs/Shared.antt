@@ -5,7 +5,7 @@ use Rattle.lc_model.specs.Tables.HalvesAndBytes.{as_bytes}
 use Rattle.lc_model.specs.Tables.InForce.{layouts}
 use Rattle.lc_model.specs.Kept.Call.{ServicesNow}
 use Rattle.lc_model.specs.Services.Interface.{Held}
-use Rattle.host_laws.specs.Seen.{services_seen}
+use Rattle.lc_model.specs.Services.Seen.{services_seen}
 use Rattle.app_host.specs.declared.services.Services.{Services}
 
 -- on board, images are bytes

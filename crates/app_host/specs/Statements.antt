@@ -9,8 +9,8 @@ use Rattle.lc_model.specs.Tables.Slot.{Slot}
 use Rattle.lc_model.specs.Services.Events.{Origin, Sender, sender_at}
 use Rattle.lc_model.specs.Services.Tables.{TableService, tables_at, tables_unregistered}
 use Rattle.lc_model.specs.Kept.GoesWith.{own_name, subscriptions_of}
-use Rattle.host_laws.specs.Settled.{IsSettled, Settled, own_forms}
-use Rattle.host_laws.specs.Seen.{slot_among}
+use Rattle.lc_model.specs.Services.Settled.{IsSettled, Settled, own_forms}
+use Rattle.lc_model.specs.Services.Seen.{slot_among}
 use Rattle.lc_model.specs.Services.Interface.{MayBeStarted, IsStarted, IsGiven, IsRetired, BelongsTo, seen_at}
 use Rattle.app_host.specs.declared.services.Services.{Services}
 use Rattle.app_host.specs.Shared.{on_board, held_by, shared}

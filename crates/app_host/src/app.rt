@@ -4,7 +4,7 @@ ghost use Rattle.std.specs.Prelude.{◌≡◌, ℕ, List, [], Option, Some, None
 ghost use Rattle.lc_model.specs.Kept.Summary.{AppState, Other};
 ghost use Rattle.lc_model.specs.Kept.Call.{next_start, next_on_packet, next_retire};
 ghost use Rattle.lc_model.specs.Services.Interface.{MayBeStarted, MayBeGiven, IsStarted, IsGiven, IsRetired};
-ghost use Rattle.host_laws.specs.Settled.{Settled};
+ghost use Rattle.lc_model.specs.Services.Settled.{Settled};
 ghost use Rattle.app_host.specs.Shared.{on_board, held_by, shared};
 ghost use Rattle.app_host.specs.Calls.{IsObject, IsAtHome, Leaves, LeavesEmpty};
 

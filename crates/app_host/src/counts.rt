@@ -1,7 +1,7 @@
 //! The sequence counts of outgoing packets (CCSDS 133.0-B, packet sequence count).
 
 ghost use Rattle.std.specs.Prelude.{◌≡◌, ◌+◌, ◌%◌, ◌<◌, replicate, slice_set, IfOk};
-ghost use Rattle.host_laws.specs.Seen.{count_among};
+ghost use Rattle.lc_model.specs.Services.Seen.{count_among};
 
 use lc_model::packet::next_count;
 use std::alloc::{AllocError, Global};

@@ -11,7 +11,7 @@ use Rattle.lc_model.specs.Services.Tables.{TableService, first_tables}
 use Rattle.lc_model.specs.Services.Interface.{IsApplicationName, MayBeStarted, MayBeGiven, IsStarted, IsGiven}
 use Rattle.app_host.specs.declared.services.Services.{Services}
 use Rattle.lc_model.specs.Kept.GoesWith.{GoesWith}
-use Rattle.host_laws.specs.Settled.{Settled}
+use Rattle.lc_model.specs.Services.Settled.{Settled}
 use Rattle.app_host.specs.Shared.{on_board, held_by, shared}
 use Rattle.app_host.specs.Calls.{IsObject, IsAtHome, Leaves}
 use Rattle.app_host.specs.Statements.{StartedIsHome, GivenIsHome}

@@ -23,15 +23,35 @@ fn counts_accepted_commands_since_its_start(rt: HostRuntime) {
     begin(&mut counter, &mut services);
     same(&rt, "the start", services.outgoing.as_slice(), b"");
     give(&mut counter, &mut services, COUNT);
-    same(&rt, "one", event(services.outgoing.as_slice()), (1, 2, &b"count 1"[..]));
+    same(
+        &rt,
+        "one",
+        event(services.outgoing.as_slice()),
+        (1, 2, &b"count 1"[..]),
+    );
     give(&mut counter, &mut services, ANOTHER_CODE);
-    same(&rt, "another code", event(services.outgoing.as_slice()), (2, 3, &b"command refused 151"[..]));
+    same(
+        &rt,
+        "another code",
+        event(services.outgoing.as_slice()),
+        (2, 3, &b"command refused 151"[..]),
+    );
     give(&mut counter, &mut services, ANOTHER_LENGTH);
-    same(&rt, "another length", event(services.outgoing.as_slice()), (2, 3, &b"command refused 152"[..]));
+    same(
+        &rt,
+        "another length",
+        event(services.outgoing.as_slice()),
+        (2, 3, &b"command refused 152"[..]),
+    );
     give(&mut counter, &mut services, ANOTHER_ID);
     same(&rt, "another id", services.outgoing.as_slice(), b"");
     give(&mut counter, &mut services, COUNT);
-    same(&rt, "two", event(services.outgoing.as_slice()), (1, 2, &b"count 2"[..]));
+    same(
+        &rt,
+        "two",
+        event(services.outgoing.as_slice()),
+        (1, 2, &b"count 2"[..]),
+    );
     end(&mut counter, &mut services);
     same(&rt, "the retirement", services.outgoing.as_slice(), b"");
 }

@@ -39,7 +39,12 @@ fn bytes_wait_in_order(rt: HostRuntime) {
 fn host_tells_of_itself(rt: HostRuntime) {
     let mut services = fresh(&rt);
     services.tell(None, 2, EventKind::Information, b"file stored");
-    same(&rt, "sent", event(services.outgoing.as_slice()), (2, 2, &b"file stored"[..]));
+    same(
+        &rt,
+        "sent",
+        event(services.outgoing.as_slice()),
+        (2, 2, &b"file stored"[..]),
+    );
     services.outgoing.clear();
     services.tell(None, 2, EventKind::Debug, b"not sent");
     same(&rt, "a type that is off", services.outgoing.as_slice(), b"");

@@ -15,7 +15,7 @@ use Rattle.lc_model.specs.Services.Events.{Sender, sender_at}
 use Rattle.lc_model.specs.Services.Tables.{Table, tables_at}
 use Rattle.lc_model.specs.Services.Interface.{MayBeStarted, MayBeGiven, IsStarted, IsGiven, IsRetired}
 use Rattle.lc_model.proofs.Facts.{tested_equal}
-use Rattle.host_laws.specs.Settled.{IsSettled, form_of}
+use Rattle.lc_model.specs.Services.Settled.{IsSettled, form_of}
 use Rattle.app_host.specs.declared.services.Services.{Services}
 use Rattle.app_host.specs.Shared.{on_board, held_by, shared}
 use Rattle.app_host.specs.Telling.{Tells}
@@ -34,7 +34,7 @@ pub starts : OpeningLeaves → (seat : ℕ) (before after : Services) → IsOpen
     IfSome (next_start on_board before.moment (CounterState count) (shared before)) (Leaves seat (CounterState 0) before after)
 starts law seat before after o may count =
     law seat counter_name (with_mids (counter_mid ∷ []) []) before after o may (CounterState 0) (silent (CounterState 0) counter_subscriptions [] (registered counter_name (shared before)))
-        refl (sym own_id) refl refl refl
+    refl (sym own_id) refl refl refl
 
 -- ---- a packet
 
@@ -68,8 +68,8 @@ pub silent_exact : SilenceLeaves → (place : Option ℕ) (count : ℕ) (s : Ser
 silent_exact law None count s packet other home given = tt
 silent_exact law (Some seat) count s packet other home given =
     subst (Leaves seat (CounterState count) s s)
-        (sym (ap (λ b. if b then counter_told s.moment (next_count packet count) (shared s) else silent (CounterState count) counter_subscriptions [] (shared s)) other))
-        (law seat s (CounterState count) counter_subscriptions given.idle home.settled.pipe)
+    (sym (ap (λ b. if b then counter_told s.moment (next_count packet count) (shared s) else silent (CounterState count) counter_subscriptions [] (shared s)) other))
+    (law seat s (CounterState count) counter_subscriptions given.idle home.settled.pipe)
 
 -- ---- an answer
 
@@ -103,9 +103,9 @@ module _ (place : Option ℕ) (old new : ℕ) (packet : List ℕ) (id : ℕ) (ki
       by_place None e home given = tt
       by_place (Some seat) e home given =
           subst (Leaves seat (CounterState new) before after)
-              (sym (ap (λ b. if b then counter_told before.moment (next_count packet old) (shared before) else silent (CounterState old) counter_subscriptions [] (shared before)) own
-                  ∙ ap (λ answer. counter_told before.moment answer (shared before)) counts))
-              (law seat counter_name (Event counter_name id kind text ∷ []) before after (tells seat e home) (CounterState new) counter_subscriptions given.idle home.settled.pipe)
+          (sym (ap (λ b. if b then counter_told before.moment (next_count packet old) (shared before) else silent (CounterState old) counter_subscriptions [] (shared before)) own
+          ∙ ap (λ answer. counter_told before.moment answer (shared before)) counts))
+          (law seat counter_name (Event counter_name id kind text ∷ []) before after (tells seat e home) (CounterState new) counter_subscriptions given.idle home.settled.pipe)
 
 -- the count and its event
 pub is_counted : (packet : List ℕ) (old new : ℕ) (event : Request) → Ok tt ≡ bare_request 1 (function_code packet) (payload packet) →

@@ -46,7 +46,9 @@ impl App for Counter {
     ghost use Rattle.lc_model.specs.Kept.Summary.{CounterState};
 
     ghost state = { λ c. CounterState c.count };
+
     ghost called = { λ c. counter_name };
+
     ghost held = { λ c. c.seat };
 
     fn name(&self) -> &[u8] {

@@ -33,4 +33,3 @@ mod StationsWrite
 mod FilesStay
 mod NamesStay
 mod Examples
-mod TableNames

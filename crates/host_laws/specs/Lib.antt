@@ -1,6 +1,3 @@
-pub mod Seen
-pub mod Settled
-pub mod TablesByName
 pub mod Keeping
 pub mod Statements
 pub mod Calls

@@ -9,7 +9,6 @@ ghost use Rattle.lc_model.specs.Tables.Image.{Layout};
 ghost use Rattle.host_laws.specs.Calls.{CallsKeepOthers, CopiesServe, PacketsKeep, PublishesFew, StartsGoWith, StartsWriteLittle, TheHostKeeps, WritesLittle};
 ghost use Rattle.host_laws.specs.Invariants.{FilesStayAMap, NamesStayOwn, PipesFollowStates};
 ghost use Rattle.host_laws.specs.Parts.{HasSpares, HasStates, HoldsCounts, HoldsFiles, HoldsFilters, HoldsTables, IsKept, PipesAreEmpty, RunsOnOneSeat};
-ghost use Rattle.host_laws.specs.TablesByName.{TablesAreFound, RegisteringTables, UnregisteringTables, ChangingTables, StoringFiles};
 ghost use Rattle.host_laws.specs.Writes.{CallsAreBounded, OpenHostsTake, WritesAreTheSteps};
 ghost use Rattle.host_laws.specs.Statements.{AreBytes, BeginsSo, EachRecordKeeps, RecordsAreFine, RunsGoOn, SchedulesFit, SeatsGoWith, StreamsBring, WritesByBytes, WritesByTexts, WritesWhatIsCalledFor, WritesWithFixedTables};
 
@@ -112,13 +111,4 @@ pub fn steps_keep_their_order()
     ensures files { (layouts : List Layout) → FilesStayAMap (as_bytes layouts) }
     ensures names { (layouts : List Layout) → NamesStayOwn (as_bytes layouts) }
     ensures pipes { (layouts : List Layout) → PipesFollowStates (as_bytes layouts) }
-{}
-
-/// What the table services hold under names changes as the host in numbers says.
-pub fn table_services_go_by_names()
-    ensures found { TablesAreFound }
-    ensures registering { RegisteringTables }
-    ensures unregistering { UnregisteringTables }
-    ensures changes { ChangingTables }
-    ensures files { StoringFiles }
 {}

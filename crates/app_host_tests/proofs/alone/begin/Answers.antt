@@ -8,4 +8,4 @@ start-requires-clause-free g c =
 pub returns : goal.returns
 returns g c =
     comes_home c.objects_are_at_home.ensures.started c.new.result (g.A.App.held c.start.new.self) (g.A.App.called c.args.app.now) _ (g.A.App.state c.args.app.now) _ c.args.services.now c.start.new.services
-      c.start.ensures.seat c.start.ensures.name c.name-name.ensures.object c.start.ensures.rules c.start.ensures.exact c.start.ensures.settled c.start.ensures.other
+    c.start.ensures.seat c.start.ensures.name c.name-name.ensures.object c.start.ensures.rules c.start.ensures.exact c.start.ensures.settled c.start.ensures.other

@@ -13,8 +13,8 @@ use Rattle.lc_model.specs.Kept.Call.{with_at}
 use Rattle.lc_model.specs.Services.Tables.{Table, TableService, Places, Handle, tables_a_seat, tables_at, table_at, number_named, handle_from, handle_named, new_table, with_slot, times_in, times_among, IsTableService}
 use Rattle.lc_model.proofs.Facts.{or_first, or_second}
 use Rattle.lc_model.proofs.SenderNames.{same_name, is_itself}
-use Rattle.host_laws.specs.Seen.{files_seen, meaning_of, slot_in, slot_among}
-use Rattle.host_laws.specs.TablesByName.{TablesAreFound, RegisteringTables, UnregisteringTables, ChangingTables, StoringFiles, withdrawn}
+use Rattle.lc_model.specs.Services.Seen.{files_seen, meaning_of, slot_in, slot_among}
+use Rattle.lc_model.specs.Laws.TablesByName.{TablesAreFound, RegisteringTables, UnregisteringTables, ChangingTables, StoringFiles, withdrawn}
 
 -- ---- how often a name stands
 
@@ -284,7 +284,7 @@ registering_tables seat name size other service inside is = by_tests (nat_le tab
 
     by_tests : (full : Bool) → (o : Option Handle) → handle_named name service.places ≡ o →
         IfOk (let r : Result TableService Refusal = if full || is_some o then refused 120 else Ok (record service { places = slice_set service.places seat (tables ++ new ∷ []) }) in r)
-          (λ (after : TableService). slot_among after.places ≡ with_at name (Some no_images) (slot_among service.places))
+        (λ (after : TableService). slot_among after.places ≡ with_at name (Some no_images) (slot_among service.places))
     by_tests true o named = tt
     by_tests false (Some handle) named = tt
     by_tests false None named = λ i. λ n. added_among n service.places seat new (let eight = is.seats in omega (arith, eight, inside)) (no_handle name 0 service.places named) i
@@ -333,7 +333,7 @@ storing_files name bytes service = by_length (nat_lt max_file_size (length bytes
 
     by_length : (test : Bool) → seen_after (if test then refused 119 else if nat_le max_files (length service.files) && is_none (held name service.files) then refused 118 else Ok (put name bytes service.files))
         ≡ (let r : Stored = if test then refused 119 else if nat_le max_files (length (files_seen service.files)) && is_none (held name (files_seen service.files)) then refused 118
-            else Ok (put name (meaning_of bytes) (files_seen service.files)) in r)
+        else Ok (put name (meaning_of bytes) (files_seen service.files)) in r)
     by_length true = refl
     by_length false = by_room (nat_le max_files (length service.files) && is_none (held name service.files))
         ∙ (let P : Bool → Stored = λ b. if b then refused 118 else Ok (put name (meaning_of bytes) (files_seen service.files)) in ap P (sym counted))

@@ -1,5 +1,5 @@
-use Rattle.host_laws.proofs.TableNames.{tables_are_found, registering_tables, unregistering_tables, changing_tables, storing_files}
-use Rattle.host_laws.proofs.table_services_go_by_names.Goals as goal
+use Rattle.lc_model.proofs.TableNames.{tables_are_found, registering_tables, unregistering_tables, changing_tables, storing_files}
+use Rattle.lc_model.proofs.laws.table_services.table_services_go_by_names.Goals as goal
 
 pub returns-clause-found : goal.returns-clause-found
 returns-clause-found c = tables_are_found

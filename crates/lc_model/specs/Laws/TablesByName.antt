@@ -7,7 +7,7 @@ use Rattle.lc_model.specs.Host.React.{stored}
 use Rattle.lc_model.specs.Kept.Call.{with_at}
 use Rattle.lc_model.specs.Kept.Executive.{seat_count}
 use Rattle.lc_model.specs.Services.Tables.{Table, TableService, Handle, IsTableService, tables_at, table_at, file_put, table_registered, tables_unregistered, slot_changed}
-use Rattle.host_laws.specs.Seen.{files_seen, meaning_of, slot_among}
+use Rattle.lc_model.specs.Services.Seen.{files_seen, meaning_of, slot_among}
 
 -- under each of these names nothing is held any more
 abbrev pub withdrawn : {X : Type 0} → List Name → (Name → Option X) → Name → Option X
