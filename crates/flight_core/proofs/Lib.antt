@@ -1,3 +1,4 @@
 pub mod Fronts
 pub mod Slices
 pub mod Cutting
+mod Counting

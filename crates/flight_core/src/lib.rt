@@ -1,11 +1,14 @@
-//! What a run of the host is made of, below its program: the records of a stream that comes in pieces.
+//! What a run of the host is made of, below its program: the records of a stream that comes in pieces, and the
+//! counter.
 #![tactic(auto)]
 
+mod counter;
 mod found;
 mod front;
 pub mod laws;
 mod records;
 mod window;
 
+pub use counter::Counter;
 pub use found::Found;
 pub use records::Records;

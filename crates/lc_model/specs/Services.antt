@@ -3,4 +3,6 @@ pub mod Bus
 pub mod Events
 pub mod EventCalls
 pub mod Tables
+pub mod Seen
 pub mod Interface
+pub mod Settled

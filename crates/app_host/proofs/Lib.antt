@@ -1,0 +1,4 @@
+pub mod Told
+pub mod Seats
+pub mod Rules
+pub mod AtHome

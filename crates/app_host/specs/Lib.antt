@@ -1,0 +1,5 @@
+pub mod Shared
+pub mod Telling
+pub mod Calls
+pub mod Seating
+pub mod Statements

@@ -1,0 +1,55 @@
+//! The sequence counts of outgoing packets (CCSDS 133.0-B, packet sequence count).
+
+ghost use Rattle.std.specs.Prelude.{◌≡◌, ◌+◌, ◌%◌, ◌<◌, replicate, slice_set, IfOk};
+ghost use Rattle.lc_model.specs.Services.Seen.{count_among};
+
+use lc_model::packet::next_count;
+use std::alloc::{AllocError, Global};
+use std::marker::Model;
+
+/// The message ids of packet version 0. No packet has another.
+const MESSAGE_IDS: usize = 8192;
+
+/// For each message id the number of packets sent so far, modulo 16,384. Those of event packets are counted by `Events`.
+/// Contracts see the numbers as a list.
+#[derive(Debug, Drop)]
+pub struct Counts {
+    counts: Vec<u16>,
+}
+
+impl Model for Counts {
+    ghost use Rattle.std.specs.Prelude.{◌≡◌, ◌<◌, ℕ, List, length, All};
+
+    ghost Value = { List ℕ };
+
+    ghost view = { λ c. c.counts.items };
+
+    ghost invariant = { λ c. (length c.counts.items ≡ 8192) × All (λ (count : ℕ). count < 16384) c.counts.items };
+}
+
+impl Counts {
+    /// Nothing sent. It takes all the memory there will ever be; out of memory is the only error.
+    pub fn new(alloc: Global) -> Result<Counts, AllocError>
+        ensures { IfOk result (λ counts. counts ≡ replicate 8192 0) }
+    {
+        let mut counts = Vec::with_capacity(alloc, MESSAGE_IDS)?;
+        for _ in 0..MESSAGE_IDS {
+            counts.push_reserved(0);
+        }
+        Ok(Counts { counts })
+    }
+
+    /// The sequence count of the next packet of a message id, which is counted from now on. Condition: an id of packet
+    /// version 0.
+    pub fn advance(&mut self, message_id: u16) -> u16
+        requires { message_id < 8192 }
+        ensures count { result ≡ count_among self.old message_id }
+        ensures below { result < 16384 }
+        ensures after { self.new ≡ slice_set self.old message_id ((count_among self.old message_id + 1) % 16384) }
+    {
+        let place = &mut self.counts[usize::from(message_id)];
+        let count = *place;
+        *place = next_count(count);
+        count
+    }
+}

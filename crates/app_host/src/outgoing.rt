@@ -1,0 +1,57 @@
+//! The bytes that wait to be written.
+
+ghost use Rattle.std.specs.Prelude.{◌≡◌, ◌+◌, ◌≤◌, ◌++◌, [], length, IfOk};
+
+use std::alloc::{AllocError, Global};
+use std::marker::Model;
+
+/// The most bytes that one call of an application puts there.
+pub const OUTGOING_ROOM: usize = 65_536;
+
+/// The packets that a call asks to be written, one behind the other, with room for 65,536 bytes. Contracts see the bytes.
+#[derive(Debug, Drop)]
+pub struct Outgoing {
+    bytes: Vec<u8>,
+}
+
+impl Model for Outgoing {
+    ghost use Rattle.std.specs.Prelude.{List, ℕ, ◌≤◌, vec_capacity};
+
+    ghost Value = { List ℕ };
+
+    ghost view = { λ o. o.bytes.items };
+
+    ghost invariant = { λ o. 65536 ≤ vec_capacity o.bytes };
+}
+
+impl Outgoing {
+    /// None. It takes all the memory there will ever be; out of memory is the only error.
+    pub fn new(alloc: Global) -> Result<Outgoing, AllocError>
+        ensures { IfOk result (λ outgoing. outgoing ≡ []) }
+    {
+        Ok(Outgoing {
+            bytes: Vec::with_capacity(alloc, OUTGOING_ROOM)?,
+        })
+    }
+
+    pub fn as_slice(&self) -> &[u8]
+        ensures { result.now ≡ self.now }
+    {
+        self.bytes.as_slice()
+    }
+
+    /// Adds bytes behind those that wait. There is room for them.
+    pub fn append(&mut self, bytes: &[u8])
+        requires { length self.old + length bytes.now ≤ 65536 }
+        ensures { self.new ≡ self.old ++ bytes.now }
+    {
+        self.bytes.extend_from_slice(bytes).unwrap();
+    }
+
+    /// Nothing waits from now on.
+    pub fn clear(&mut self)
+        ensures { self.new ≡ [] }
+    {
+        self.bytes.clear();
+    }
+}

@@ -1,0 +1,56 @@
+//! What every application does as it takes a seat and gives it back (cFE user's guide: software bus pipes, event services
+//! registration).
+
+ghost use Rattle.std.specs.Prelude.{◌≡◌, ◌+◌, ◌<◌, ◌≤◌, IfSome, IsSomeAnd, length, []};
+ghost use Rattle.lc_model.specs.Kept.Call.{with_mids};
+ghost use Rattle.lc_model.specs.Kept.Executive.{seat_count};
+ghost use Rattle.lc_model.specs.Services.Bus.{Queue, pipe_at, with_pipe};
+ghost use Rattle.lc_model.specs.Services.Interface.{IsApplicationName, IsFreeSeat, IsUnusedName};
+ghost use Rattle.app_host.specs.Shared.{held_by};
+ghost use Rattle.app_host.specs.Seating.{IsOpened, IsClosed, HasPipeAndSender};
+
+use crate::services::Services;
+use lc_model::Seat;
+use lc_model::laws::senders::event_services_go_by_names;
+use packet_bus::Bus;
+
+impl Services {
+    /// The seat has a pipe that is subscribed to these message ids, and is registered under a name for events. Conditions: the
+    /// seat is free, the name is unused, and at most 256 ids.
+    pub fn open(&mut self, seat: Seat, name: &[u8], message_ids: &[u16])
+        requires seat { seat < seat_count }
+        requires name { IsApplicationName name.now }
+        requires free { IsFreeSeat seat (held_by self.old) }
+        requires unused { IsUnusedName name.now (held_by self.old) }
+        requires few { length message_ids.now ≤ 256 }
+        ensures { IsOpened seat name.now (with_mids message_ids.now []) self.old self.new }
+    {
+        event_services_go_by_names();
+        self.events.is_service();
+        self.bus.add_pipe(seat).unwrap();
+        subscribe(&mut self.bus, seat, message_ids);
+        self.events.register(seat, name).unwrap();
+    }
+
+    /// The seat has no pipe, no sender of events and no table from now on. Condition: it has a pipe and a sender.
+    pub fn close(&mut self, seat: Seat)
+        requires { HasPipeAndSender seat (held_by self.old) }
+        ensures { IsClosed seat self.old self.new }
+    {
+        event_services_go_by_names();
+        self.events.is_service();
+        self.bus.remove_pipe(seat).unwrap();
+        self.events.unregister(seat).unwrap();
+        self.tables.unregister(seat);
+    }
+}
+
+/// The seat's pipe hears these message ids, too. Condition: the seat has a pipe, with room for as many subscriptions more.
+pub fn subscribe(bus: &mut Bus, seat: Seat, message_ids: &[u16])
+    requires { IsSomeAnd (pipe_at seat bus.old) (λ (queue : Queue). length queue.subscriptions + length message_ids.now ≤ 256) }
+    ensures { IfSome (pipe_at seat bus.old) (λ (queue : Queue). bus.new ≡ with_pipe seat bus.old (record queue { subscriptions = with_mids message_ids.now queue.subscriptions })) }
+{
+    for message_id in message_ids {
+        bus.subscribe(seat, *message_id).unwrap();
+    }
+}

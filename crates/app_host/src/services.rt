@@ -1,0 +1,68 @@
+//! What the host's applications share (cFE user's guide: software bus, event and table services).
+
+ghost use Rattle.std.specs.Prelude.{◌≡◌, ◌+◌, ◌<◌, ◌≤◌, ◌++◌, [], ◌∷◌, length, replicate, IfOk, IfSome};
+ghost use Rattle.lc_model.specs.Events.Request.{Event, Sequence, Housekeeping};
+ghost use Rattle.lc_model.specs.Services.Bus.{no_pipes};
+ghost use Rattle.lc_model.specs.Services.Events.{Sender, first_events, sender_at};
+ghost use Rattle.lc_model.specs.Services.Tables.{first_tables};
+ghost use Rattle.app_host.specs.Telling.{Tells};
+
+use crate::counts::Counts;
+use crate::outgoing::Outgoing;
+use event_service::Events;
+use lc_model::laws::senders::event_services_go_by_names;
+use lc_model::{EventKind, Moment, Seat};
+use packet_bus::Bus;
+use std::alloc::{AllocError, Global};
+use tbl_service::Tables;
+
+/// The services of the host: the bus, events, tables, the sequence counts of all packets but events, the moment of the record
+/// that is handled, and the bytes that wait to be written.
+#[derive(Drop)]
+pub struct Services {
+    pub bus: Bus,
+    pub events: Events,
+    pub tables: Tables,
+    pub counts: Counts,
+    pub moment: Moment,
+    pub outgoing: Outgoing,
+}
+
+impl Services {
+    /// Nothing registered, stored or sent. It takes all the memory there will ever be; out of memory is the only error.
+    pub fn new(alloc: Global) -> Result<Services, AllocError>
+        ensures bus { IfOk result (λ s. s.bus ≡ no_pipes) }
+        ensures events { IfOk result (λ s. s.events ≡ first_events) }
+        ensures tables { IfOk result (λ s. s.tables ≡ first_tables) }
+        ensures counts { IfOk result (λ s. s.counts ≡ replicate 8192 0) }
+        ensures outgoing { IfOk result (λ s. s.outgoing ≡ []) }
+    {
+        Ok(Services {
+            bus: Bus::new(alloc).map_err(|_| AllocError)?,
+            events: Events::new(alloc).map_err(|_| AllocError)?,
+            tables: Tables::new(alloc).map_err(|_| AllocError)?,
+            counts: Counts::new(alloc)?,
+            moment: Moment {
+                seconds: 0,
+                subseconds: 0,
+            },
+            outgoing: Outgoing::new(alloc)?,
+        })
+    }
+
+    /// An event of the seat's application, or of `HOST` where `from` is none: its packet waits to be written, where types and
+    /// filters let it through. Conditions: somebody is registered there, a text of at most 121 bytes, and room for a packet of
+    /// 168 bytes.
+    pub fn tell(&mut self, from: Option<Seat>, id: u16, kind: EventKind, text: &[u8])
+        requires text { length text.now ≤ 121 }
+        requires room { length self.old.outgoing + 168 ≤ 65536 }
+        ensures told { IfSome (sender_at from self.old.events) (λ (sender : Sender). Tells from sender.name (Event sender.name id kind text.now ∷ []) self.old self.new) }
+        ensures size { length self.new.outgoing ≤ length self.old.outgoing + 168 }
+    {
+        event_services_go_by_names();
+        self.events.is_service();
+        if let Some(packet) = self.events.send(from, self.moment, id, kind, text) {
+            self.outgoing.append(packet.as_bytes());
+        }
+    }
+}

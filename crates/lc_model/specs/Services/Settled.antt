@@ -1,0 +1,50 @@
+-- What the objects of this profile's applications have at their seats, from their start to their retirement. The tables are
+-- those of the cFS Limit Checker user's guide; names, sizes and seats are this project's own.
+use Rattle.std.specs.Prelude.{◌≡◌, ℕ, ⊤, List, [], ◌∷◌, map, Option, Some, None, option_map}
+use Rattle.lc_model.specs.declared.kind.Kind.TheVariants.{Wdt, Adt}
+use Rattle.lc_model.specs.Name.{Name}
+use Rattle.lc_model.specs.Tables.File.{table_name}
+use Rattle.lc_model.specs.Kept.Summary.{AppState, LcState, SchState, CounterState, Other}
+use Rattle.lc_model.specs.Kept.Executive.{Pipe}
+use Rattle.lc_model.specs.Kept.GoesWith.{own_name, subscriptions_of}
+use Rattle.lc_model.specs.Services.Bus.{seen}
+use Rattle.lc_model.specs.Services.Events.{Sender, sender_at}
+use Rattle.lc_model.specs.Services.Tables.{Table, Places, tables_at}
+use Rattle.lc_model.specs.Services.Interface.{Held, seen_at}
+
+-- how a table is registered: its name, and the one or two sizes of its images, in bytes
+pub record Form : Type 0 where
+  pub name : Name
+  pub size : ℕ
+  pub other : Option ℕ
+
+abbrev pub form_of : Table → Form
+form_of table = record { name = table.name; size = table.size; other = table.other }
+
+-- the Limit Checker's two tables: watchpoints, and actionpoints in either version
+abbrev pub wdt_form : Form
+wdt_form = record { name = table_name Wdt; size = 4264; other = None }
+
+abbrev pub adt_form : Form
+adt_form = record { name = table_name Adt; size = 15176; other = Some 19400 }
+
+-- an application's tables, in the order in which it registers them
+abbrev pub own_forms : AppState → List Form
+own_forms (LcState own) = wdt_form ∷ adt_form ∷ []
+own_forms other = []
+
+-- at its seat an application has a sender of its name, its tables, and a pipe that is subscribed to what its state says
+pub record IsSettled (state : AppState) (seat : ℕ) (held : Held) : Type 0 where
+  pub sender : option_map (λ (sender : Sender). sender.name) (sender_at (Some seat) held.events) ≡ Some (own_name state)
+  pub tables : map form_of (tables_at seat held.tables.places) ≡ own_forms state
+  pub pipe : option_map (λ (pipe : Pipe). pipe.subscriptions) (seen_at seat held) ≡ Some (subscriptions_of state)
+
+-- of another object than these three nothing is said
+abbrev pub Settled : AppState → ℕ → Held → Type 0
+Settled Other seat held = ⊤
+Settled state seat held = IsSettled state seat held
+
+-- a known kind has its kind's name
+abbrev pub IsNamedAs : AppState → Name → Type 0
+IsNamedAs Other name = ⊤
+IsNamedAs state name = name ≡ own_name state
