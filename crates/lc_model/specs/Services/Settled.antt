@@ -31,7 +31,9 @@ adt_form = record { name = table_name Adt; size = 15176; other = Some 19400 }
 -- an application's tables, in the order in which it registers them
 abbrev pub own_forms : AppState → List Form
 own_forms (LcState own) = wdt_form ∷ adt_form ∷ []
-own_forms other = []
+own_forms (SchState schedule slot) = []
+own_forms (CounterState count) = []
+own_forms Other = []
 
 -- at its seat an application has a sender of its name, its tables, and a pipe that is subscribed to what its state says
 pub record IsSettled (state : AppState) (seat : ℕ) (held : Held) : Type 0 where
