@@ -1,10 +1,9 @@
-//! How fast the crates are: those on the ground, and the Limit Checker's engine.
+//! How fast the crates are: today those on the ground.
 //!
 //! A word names what is measured: `lexer`, `checker`, or `compiler` with the text that is compiled (`tables`, `declarations`
-//! or `longest`), or `engine`. A run of one text tells its peak memory, too, to the shell that measures the process.
+//! or `longest`). A run of one text tells its peak memory, too, to the shell that measures the process.
 #![tactic(auto)]
 
-mod engine;
 mod texts;
 
 use crate::texts::{SHORT_NAME, TEXT_SIZE};
@@ -104,10 +103,9 @@ fn main(rt: HostRuntime) -> anyhow::Result<()> {
             &texts::declarations(rt.alloc(), SHORT_NAME, TEXT_SIZE)?,
         ),
         (Some("compiler"), Some("longest")) => measure_compiler(&rt, &texts::longest(rt.alloc())?),
-        (Some("engine"), None) => engine::measure(&rt),
         _ => {
             println!(rt;
-                "usage: flight_bench lexer | checker | compiler tables | compiler declarations | compiler longest | engine"
+                "usage: flight_bench lexer | checker | compiler tables | compiler declarations | compiler longest"
             )?;
             Ok(())
         }
