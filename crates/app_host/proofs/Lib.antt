@@ -2,3 +2,15 @@ pub mod Told
 pub mod Seats
 pub mod Rules
 pub mod AtHome
+pub mod Found
+pub mod Home
+pub mod Frames
+pub mod Loads
+pub mod Fresh
+pub mod Delivery
+pub mod Answered
+pub mod Flushed
+pub mod Course
+pub mod Draining
+pub mod Deliver
+pub mod OwnEvents

@@ -4,13 +4,22 @@
 
 mod app;
 mod counts;
+
+mod deliveries;
+mod error;
+mod host;
 pub mod laws;
+mod objects;
 mod outgoing;
+mod own_events;
+mod places;
 mod seat;
 mod services;
 
 pub use app::App;
 pub use counts::Counts;
+pub use error::{HostError, WriteFault};
+pub use host::Host;
 pub use outgoing::Outgoing;
 pub use seat::subscribe;
 pub use services::Services;
