@@ -49,7 +49,7 @@ answers moment (CounterState count) packet services known = by_test (message_id 
 answers moment Other packet services known = absurd (known refl)
 
 -- the member of a seat
-seated_is : (seats : List (Option Object)) (seat : ℕ) (o : Object) → seat < length seats → object_at seat seats ≡ Some o → seated (map (option_map member_of) seats) seat ≡ member_of o
+pub seated_is : (seats : List (Option Object)) (seat : ℕ) (o : Object) → seat < length seats → object_at seat seats ≡ Some o → seated (map (option_map member_of) seats) seat ≡ member_of o
 seated_is seats seat o inside at =
     ap (λ (m : Option Member). unwrap_or m no_member) (shown_in (option_map member_of) seats seat None None inside ∙ ap (option_map member_of) at)
 

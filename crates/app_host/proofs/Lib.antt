@@ -14,3 +14,6 @@ pub mod Course
 pub mod Draining
 pub mod Deliver
 pub mod OwnEvents
+pub mod Publishing
+pub mod PassedOn
+pub mod Departed

@@ -11,3 +11,4 @@ pub mod Load
 pub mod Delivered
 pub mod Writing
 pub mod Told
+pub mod Left

@@ -3,8 +3,8 @@ use Rattle.std.specs.Prelude.{◌≡◌, ℕ, ◌+◌, ◌<◌, ◌≤◌, Bool,
 use Rattle.std.specs.List.{concat}
 use Rattle.std.specs.Io.KnownBytes.{Appends}
 use Rattle.lc_model.specs.Device.{Sink, IsCutShort}
-use Rattle.lc_model.specs.Kept.Executive.{Executive, Written, most_deliveries, drained}
-use Rattle.lc_model.specs.Kept.Stations.{Station, stop_at, delivery_stations, last_calls}
+use Rattle.lc_model.specs.Kept.Executive.{Executive, Written, most_deliveries, drained, passed_on}
+use Rattle.lc_model.specs.Kept.Stations.{Station, stop_at, delivery_stations, passing_stations, last_calls}
 use Rattle.app_host.specs.declared.services.Services.{Services}
 use Rattle.app_host.specs.declared.error.WriteFault.{WriteFault}
 use Rattle.app_host.specs.Shared.{on_board}
@@ -95,3 +95,9 @@ abbrev pub Drains : Hosted → Hosted → Sink → Sink → Result (Unit {0}) Wr
 Drains old new before now result =
     let stations : List (Station (List ℕ)) = delivery_stations on_board old.services.moment 0 most_deliveries (executive_in old) in
     Handles stations (drained on_board old.services.moment most_deliveries (executive_in old)) (last_calls on_board old.services.moment stations) old new before now result
+
+-- a packet is published, and all deliveries are made
+abbrev pub PassesOn : List ℕ → Hosted → Hosted → Sink → Sink → Result (Unit {0}) WriteFault → Type 0
+PassesOn packet old new before now result =
+    let stations : List (Station (List ℕ)) = passing_stations on_board old.services.moment packet (executive_in old) in
+    Handles stations (passed_on on_board old.services.moment packet (executive_in old)) (last_calls on_board old.services.moment stations) old new before now result

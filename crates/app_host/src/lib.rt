@@ -6,6 +6,7 @@ mod app;
 mod counts;
 
 mod deliveries;
+mod departure;
 mod error;
 mod host;
 pub mod laws;
@@ -13,6 +14,7 @@ mod objects;
 mod outgoing;
 mod own_events;
 mod places;
+mod publication;
 mod seat;
 mod services;
 

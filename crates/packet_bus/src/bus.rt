@@ -267,6 +267,7 @@ impl Bus {
         ensures answer { refusal_in result ≡ publish_refusal packet.now self.old }
         ensures published { OnOk result (IsPublished packet.now self.old self.new) }
         ensures refused { OnErr result (self.new ≡ self.old) }
+        ensures eight { OnOk result (length self.old ≡ 8) }
     {
         let mid = match checked_message_id(packet) {
             Ok(mid) => mid,
