@@ -17,3 +17,4 @@ pub mod OwnEvents
 pub mod Publishing
 pub mod PassedOn
 pub mod Departed
+pub mod Filed

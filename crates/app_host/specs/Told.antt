@@ -3,8 +3,11 @@ use Rattle.std.specs.Prelude.{◌≡◌, ℕ, ◌≤◌, List, [], ◌∷◌, le
 use Rattle.std.specs.List.{concat}
 use Rattle.lc_model.specs.declared.record.Moment.{Moment}
 use Rattle.lc_model.specs.Device.{Sink}
+use Rattle.lc_model.specs.Name.{Name}
+use Rattle.lc_model.specs.Host.React.{stored}
+use Rattle.lc_model.specs.Services.Seen.{meaning_of}
 use Rattle.lc_model.specs.Events.Request.{Request}
-use Rattle.lc_model.specs.Kept.Executive.{Written, told_by_host}
+use Rattle.lc_model.specs.Kept.Executive.{Executive, Written, told_by_host, filed_now}
 use Rattle.lc_model.specs.Kept.Stations.{written_once}
 use Rattle.lc_model.specs.Services.Bus.{seen}
 use Rattle.app_host.specs.declared.error.WriteFault.{WriteFault}
@@ -32,3 +35,10 @@ pub record HasTold (request : Request) (old new : Hosted) : Type 0 where
 -- the event is written, and that is all
 abbrev pub TellsAlone : Request → Hosted → Hosted → Sink → Sink → Result (Unit {0}) WriteFault → Type 0
 TellsAlone request old new before now result = Handles (written_once (telling request old)) (telling request old) 0 old new before now result
+
+-- a file is stored or refused, and that is written
+abbrev pub Files : Name → List ℕ → Hosted → Hosted → Sink → Sink → Result (Unit {0}) WriteFault → Type 0
+Files name bytes old new before now result =
+    let e : Executive (List ℕ) = executive_in old in
+    let step : Written (List ℕ) = filed_now old.services.moment e (stored name (length bytes) (meaning_of bytes) e.services.files) in
+    Handles (written_once step) step 0 old new before now result
