@@ -1,7 +1,6 @@
 -- What there is when the object of a seat had its packet.
-use Rattle.std.proofs.Common.{◌≡◌, ◌≢◌, refl, ap, ap₂, sym, ◌∙◌, subst, ℕ, zero, suc, ◌+◌, ◌<◌, ◌==◌, Bool, true, false, List, [], ◌∷◌, ◌++◌, length, map, filter, arith, if◌then◌else◌, Option, Some, None}
+use Rattle.std.proofs.Common.{◌≡◌, ◌≢◌, refl, ap, ap₂, sym, ◌∙◌, subst, ℕ, ◌+◌, ◌<◌, ◌==◌, Bool, true, false, List, [], ◌∷◌, ◌++◌, length, map, filter, arith, if◌then◌else◌, Option, Some, None}
 use Rattle.std.specs.Prelude.{IfSome, option_map, unwrap_or, slice_index_or, slice_set}
-use Rattle.std.specs.List.{concat}
 use Rattle.std.specs.Option.{option_map_or}
 use Rattle.std.proofs.lemmas.List.{get_or-set_same, length-map, map-set, set-set}
 use Rattle.lc_model.specs.declared.record.Moment.{Moment}
@@ -9,17 +8,17 @@ use Rattle.lc_model.specs.Packet.{message_id, tick_mid, counter_mid}
 use Rattle.lc_model.specs.Kept.Summary.{AppState, LcState, SchState, CounterState, Other}
 use Rattle.lc_model.specs.Kept.Next.{next_tick, next_count}
 use Rattle.lc_model.specs.Kept.Call.{ServicesNow, Called, silent, sch_told, counter_told, sch_subscriptions, counter_subscriptions, next_on_packet}
-use Rattle.lc_model.specs.Kept.Executive.{Pipe, Member, Executive, Written, no_member, seated, hears, all_published_to, after_call, after_taking, handed, delivered_at}
+use Rattle.lc_model.specs.Kept.Executive.{Pipe, Member, Executive, no_member, seated, hears, all_published_to, after_call, after_taking, handed, delivered_at}
 use Rattle.lc_model.specs.Laws.TablesByName.{TablesAreFound}
 use Rattle.lc_model.specs.Services.Bus.{seen, seen_pipe, received, after}
-use Rattle.lc_model.specs.Services.Tables.{TableService, IsTableService}
+use Rattle.lc_model.specs.Services.Tables.{IsTableService}
 use Rattle.lc_model.specs.Services.Interface.{MayPublish, IsOwnPipe, seen_at, waiting_in}
 use Rattle.app_host.specs.declared.services.Services.{Services}
 use Rattle.app_host.specs.Shared.{on_board, held_by, shared}
-use Rattle.app_host.specs.Calls.{IsAtHome, Leaves}
+use Rattle.app_host.specs.Calls.{Leaves}
 use Rattle.app_host.specs.Hosted.{Object, Hosted, object_at, member_of}
 use Rattle.app_host.specs.Objects.{HasAnswered}
-use Rattle.app_host.specs.Whole.{IsRunning, AreSeated, IsWhole, AreKnown}
+use Rattle.app_host.specs.Whole.{IsRunning, AreSeated, AreKnown}
 use Rattle.app_host.specs.Load.{load, IsLight}
 use Rattle.app_host.specs.Delivered.{executive_in, Becomes, HasDelivered}
 use Rattle.app_host.proofs.Found.{shown_in}

@@ -1,5 +1,5 @@
 -- A delivery and a write, by the answers of what is called.
-use Rattle.std.proofs.Common.{◌≡◌, refl, ap, sym, ◌∙◌, subst, ℕ, ◌+◌, ◌<◌, List, [], ◌++◌, length, take, drop, arith, Option, Some, None, Result, Ok, Err}
+use Rattle.std.proofs.Common.{◌≡◌, refl, ap, sym, ◌∙◌, subst, ℕ, ◌+◌, ◌<◌, List, [], length, take, drop, Option, Some, None, Result, Ok, Err}
 use Rattle.std.specs.Prelude.{IfSome, IfOk, IsOk, IsSome, option_map, slice_set}
 use Rattle.lc_model.specs.Packet.{header_fault}
 use Rattle.lc_model.specs.Refusal as refusal
@@ -7,7 +7,6 @@ use Rattle.lc_model.specs.Refusal.{◌>>=◌}
 use Rattle.lc_model.specs.Laws.TablesByName.{TablesAreFound}
 use Rattle.lc_model.specs.Services.Bus.{Bus, Queue, pipe_at, oldest_at, with_pipe, without_oldest, received, after, refusal_of, seen}
 use Rattle.lc_model.specs.Services.Tables.{IsTableService}
-use Rattle.lc_model.specs.Services.Interface.{IsFreeSeat}
 use Rattle.packet_bus.specs.declared.error.BusError.{BusError}
 use Rattle.packet_bus.specs.Error.{refusal_in}
 use Rattle.packet_bus.specs.Filled.{filled}
@@ -17,10 +16,10 @@ use Rattle.app_host.specs.Objects.{IfBoth, MayAnswer, HasAnswered}
 use Rattle.app_host.specs.Whole.{IsRunning, AreSeated}
 use Rattle.app_host.specs.Load.{IsLight}
 use Rattle.app_host.specs.Delivered.{HasDelivered}
-use Rattle.app_host.specs.Writing.{written_off, IsFlushed}
+use Rattle.app_host.specs.Writing.{IsFlushed}
 use Rattle.app_host.proofs.Delivery.{HasFirst, first_packet, oldest_is, may_answer, read_back}
 use Rattle.app_host.proofs.Answered.{has_delivered}
-use Rattle.app_host.proofs.Flushed.{HoldTheSame, same_seated}
+use Rattle.app_host.proofs.Flushed.{same_seated}
 
 -- ---- what the bus answers
 

@@ -1,39 +1,30 @@
 -- One delivery.
-use Rattle.std.proofs.Common.{◌≡◌, ◌≢◌, refl, ap, ap₂, sym, ◌∙◌, subst, ℕ, zero, suc, ◌+◌, ◌*◌, ◌<◌, ◌≤◌, ◌==◌, Bool, true, false, List, [], ◌∷◌, ◌++◌, length, map, filter, take, drop, arith, Option, Some, None, cond, length-append, Result, Ok, Err}
-use Rattle.std.specs.Prelude.{IfSome, option_map, slice_index_or, slice_set, slice_get, All}
-use Rattle.std.specs.List.{AllByRecursion, concat, position_from}
-use Rattle.std.specs.Option.{option_map_or}
+use Rattle.std.proofs.Common.{◌≡◌, refl, ap, sym, ◌∙◌, subst, ℕ, suc, ◌+◌, ◌<◌, ◌≤◌, true, false, List, [], ◌∷◌, ◌++◌, length, map, take, drop, arith, Option, Some, None, Result, Ok}
+use Rattle.std.specs.Prelude.{IfSome, option_map, slice_index_or, slice_set, slice_get}
+use Rattle.std.specs.List.{AllByRecursion}
 use Rattle.std.proofs.Math.Seq.{take-append_seam}
-use Rattle.std.proofs.lemmas.List.{get_or-set_same, get_or-set_other, length-set, length-map, map-set, set-set}
-use Rattle.lc_model.specs.declared.record.Moment.{Moment}
-use Rattle.lc_model.specs.Packet.{header_fault, message_id, tick_mid}
-use Rattle.lc_model.specs.Name.{Name}
+use Rattle.std.proofs.lemmas.List.{length-map}
+use Rattle.lc_model.specs.Packet.{header_fault}
 use Rattle.lc_model.specs.Refusal as refusal
 use Rattle.lc_model.specs.Refusal.{Refusal, ◌>>=◌}
-use Rattle.lc_model.specs.Kept.Summary.{AppState, LcState, SchState, CounterState, Other}
-use Rattle.lc_model.specs.Kept.Call.{Called, next_on_packet}
-use Rattle.lc_model.specs.Kept.Executive.{Pipe, Member, Executive, Written, no_member, seated, hears, has_some, is_ready, ready_seat, published_to, all_published_to, after_call, after_taking, handed, delivered_at}
+use Rattle.lc_model.specs.Kept.Executive.{Pipe, has_some, is_ready, ready_seat}
 use Rattle.lc_model.specs.Laws.TablesByName.{TablesAreFound}
 use Rattle.lc_model.specs.Services.Bus.{Bus, Queue, Publication, seen, seen_pipe, pipe_at, oldest, oldest_at, with_pipe, without_oldest, received, after}
 use Rattle.lc_model.specs.Services.Events.{EventService, sender_at}
 use Rattle.lc_model.specs.Services.Tables.{TableService, IsTableService, tables_at}
-use Rattle.lc_model.specs.Services.Interface.{MayBeGiven, IsGiven, IsCallOf, seen_at, waiting_in}
+use Rattle.lc_model.specs.Services.Interface.{seen_at}
 use Rattle.lc_model.specs.Services.Seen.{services_seen}
-use Rattle.lc_model.proofs.Facts.{some_same}
 use Rattle.app_host.specs.declared.services.Services.{Services}
-use Rattle.app_host.specs.Shared.{on_board, held_by, shared}
+use Rattle.app_host.specs.Shared.{held_by, shared}
 use Rattle.app_host.specs.Telling.{name_of}
-use Rattle.app_host.specs.Calls.{IsAtHome, Leaves}
-use Rattle.app_host.specs.Hosted.{Object, Hosted, no_object, object_at, member_of, executive_of}
-use Rattle.app_host.specs.Objects.{IfBoth, MayAnswer, HasAnswered}
-use Rattle.app_host.specs.Whole.{IsRunning, AreSeated, IsWhole, AreKnown}
-use Rattle.app_host.specs.Load.{packets_in, load, IsLight}
-use Rattle.app_host.specs.Delivered.{executive_in, Becomes, HasDelivered}
+use Rattle.app_host.specs.Hosted.{Object}
+use Rattle.app_host.specs.Objects.{MayAnswer}
+use Rattle.app_host.specs.Whole.{IsRunning}
+use Rattle.app_host.specs.Load.{packets_in, IsLight}
 use Rattle.app_host.proofs.Rules.{seen_of_place, seen_with}
-use Rattle.app_host.proofs.Home.{home_still}
-use Rattle.app_host.proofs.Frames.{fact_at_set, StaysAt, others_stay, stays_running, seated_with, alone_still}
+use Rattle.app_host.proofs.Frames.{fact_at_set, StaysAt, stays_running}
 use Rattle.app_host.proofs.Found.{found}
-use Rattle.app_host.proofs.Loads.{room_for_tick, falls, still_light}
+use Rattle.app_host.proofs.Loads.{room_for_tick}
 
 -- ---- the pipe of a ready seat
 

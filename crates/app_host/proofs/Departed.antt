@@ -1,22 +1,21 @@
 -- An object gave its seat back.
-use Rattle.std.proofs.Common.{◌≡◌, ◌≢◌, refl, ap, sym, ◌∙◌, subst, ℕ, ◌<◌, ◌≤◌, List, [], length, map, arith, Option, Some, None, get_or, set}
+use Rattle.std.proofs.Common.{◌≡◌, ◌≢◌, refl, ap, sym, ◌∙◌, subst, ℕ, ◌<◌, List, [], length, map, arith, Option, Some, None, get_or, set}
 use Rattle.std.specs.Prelude.{IfSome, option_map, unwrap_or, slice_set}
 use Rattle.std.proofs.lemmas.List.{map-set, set-get_or}
 use Rattle.lc_model.specs.Kept.Summary.{AppState, LcState, SchState, CounterState, Other}
 use Rattle.lc_model.specs.Kept.Call.{ServicesNow, next_retire}
-use Rattle.lc_model.specs.Kept.Executive.{Member, Executive, seated, left_from}
+use Rattle.lc_model.specs.Kept.Executive.{Member, left_from}
 use Rattle.lc_model.specs.Laws.TablesByName.{TablesAreFound}
-use Rattle.lc_model.specs.Services.Bus.{seen}
 use Rattle.lc_model.specs.Services.Tables.{IsTableService}
 use Rattle.app_host.specs.declared.services.Services.{Services}
-use Rattle.app_host.specs.Shared.{held_by, shared}
+use Rattle.app_host.specs.Shared.{shared}
 use Rattle.app_host.specs.Calls.{LeavesEmpty}
 use Rattle.app_host.specs.Hosted.{Object, Hosted, object_at, member_of}
 use Rattle.app_host.specs.Objects.{MayRetire}
 use Rattle.app_host.specs.Whole.{IsRunning, AreSeated}
 use Rattle.app_host.specs.Delivered.{executive_in}
 use Rattle.app_host.specs.Left.{HasLeft, LeftBy, LeavesExactly, HasVacated}
-use Rattle.app_host.proofs.Found.{shown_in, placed}
+use Rattle.app_host.proofs.Found.{shown_in}
 use Rattle.app_host.proofs.Frames.{others_stay, seated_without}
 use Rattle.app_host.proofs.Answered.{seated_is}
 

@@ -1,6 +1,6 @@
 -- A service of the host changes, and HOST tells of it.
-use Rattle.std.proofs.Common.{◌≡◌, refl, ap, ap₂, sym, ◌∙◌, subst, ℕ, List, [], ◌∷◌, length, map, arith, Option, Some, None, Result, Ok, Err}
-use Rattle.std.specs.Prelude.{OnErr, option_map, slice_index_or}
+use Rattle.std.proofs.Common.{◌≡◌, refl, ap, ap₂, sym, ◌∙◌, subst, ℕ, List, [], ◌∷◌, length, map, Some, None, Result, Ok, Err}
+use Rattle.std.specs.Prelude.{option_map, slice_index_or}
 use Rattle.lc_model.specs.declared.record.Moment.{Moment}
 use Rattle.lc_model.specs.Device.{Sink}
 use Rattle.lc_model.specs.Name.{Name}
@@ -15,18 +15,15 @@ use Rattle.lc_model.specs.Laws.TablesByName.{TablesAreFound, StoringFiles}
 use Rattle.lc_model.specs.Services.Bus.{Bus, seen}
 use Rattle.lc_model.specs.Services.Events.{EventService, sender_at, sender_named}
 use Rattle.lc_model.specs.Services.Tables.{TableService, IsTableService, tables_at, files_with, file_put}
-use Rattle.lc_model.specs.Services.Interface.{seen_at}
 use Rattle.lc_model.specs.Services.Seen.{files_seen, meaning_of, slot_among, count_among}
-use Rattle.tbl_service.specs.declared.error.TableError.{TableError}
-use Rattle.tbl_service.specs.Error.{answered, refusal_of}
 use Rattle.app_host.specs.declared.services.Services.{Services}
 use Rattle.app_host.specs.declared.error.WriteFault.{WriteFault}
-use Rattle.app_host.specs.Shared.{held_by, shared}
+use Rattle.app_host.specs.Shared.{shared}
 use Rattle.app_host.specs.Telling.{name_of}
 use Rattle.app_host.specs.Hosted.{Hosted, member_of}
-use Rattle.app_host.specs.Whole.{AreSeated, AreKnown, IsWhole, IsQuiet}
+use Rattle.app_host.specs.Whole.{AreKnown, IsWhole, IsQuiet}
 use Rattle.app_host.specs.Delivered.{executive_in}
-use Rattle.app_host.specs.Writing.{IsDone, IsCut, HandlesAll, HandlesPart, Handles}
+use Rattle.app_host.specs.Writing.{IsDone, IsCut, Handles}
 use Rattle.app_host.specs.Told.{TellsAlone, Files}
 use Rattle.app_host.proofs.Flushed.{same_shared}
 use Rattle.app_host.proofs.Frames.{StaysAt, seated_still}
@@ -58,9 +55,6 @@ module _ (old mid new : Hosted) (e : Executive (List ℕ)) (is : executive_in mi
   }
 
 -- ---- files
-
-
-
 
 -- what is stored, by what files mean
 stored_as : StoringFiles → (name : Name) (bytes : List ℕ) (before after : TableService) → Ok after ≡ file_put name bytes before →

@@ -1,15 +1,14 @@
 -- Where neither seats nor what is at them changes.
-use Rattle.std.proofs.Common.{◌≡◌, refl, ap, sym, ◌∙◌, subst, ℕ, List, [], Option, Some, None}
+use Rattle.std.proofs.Common.{◌≡◌, ap, sym, subst, ℕ, List, Option, Some, None}
 use Rattle.std.specs.Prelude.{option_map, slice_index_or}
 use Rattle.lc_model.specs.Kept.Executive.{Pipe}
 use Rattle.lc_model.specs.Laws.TablesByName.{TablesAreFound}
 use Rattle.lc_model.specs.Services.Bus.{Bus, seen}
 use Rattle.lc_model.specs.Services.Events.{EventService, sender_at}
 use Rattle.lc_model.specs.Services.Tables.{TableService, IsTableService, tables_at}
-use Rattle.lc_model.specs.Services.Interface.{seen_at}
 use Rattle.lc_model.specs.Services.Seen.{services_seen}
 use Rattle.app_host.specs.declared.services.Services.{Services}
-use Rattle.app_host.specs.Shared.{held_by, shared}
+use Rattle.app_host.specs.Shared.{shared}
 use Rattle.app_host.specs.Telling.{name_of}
 use Rattle.app_host.specs.Hosted.{Object}
 use Rattle.app_host.specs.Whole.{AreSeated}

@@ -1,19 +1,17 @@
 -- What is seated, where one place changes.
-use Rattle.std.proofs.Common.{◌≡◌, ◌≢◌, refl, ap, sym, ◌∙◌, subst, ℕ, zero, suc, ◌<◌, ◌==◌, Bool, true, false, List, [], ◌∷◌, ◌++◌, length, map, filter, arith, Option, Some, None}
+use Rattle.std.proofs.Common.{◌≡◌, ◌≢◌, refl, ap, sym, ◌∙◌, ℕ, ◌<◌, ◌==◌, Bool, true, false, List, ◌++◌, length, filter, arith, Option, Some, None}
 use Rattle.std.specs.Prelude.{IfSome, option_map, slice_index_or, slice_set}
 use Rattle.std.proofs.lemmas.List.{get_or-set_same, get_or-set_other, length-set}
 use Rattle.lc_model.specs.Name.{Name}
 use Rattle.lc_model.specs.Kept.Executive.{Pipe, hears}
-use Rattle.lc_model.specs.Services.Bus.{Bus, Queue, seen, seen_pipe, pipe_at}
+use Rattle.lc_model.specs.Services.Bus.{Queue, seen_pipe, pipe_at}
 use Rattle.lc_model.specs.Services.Events.{Sender, sender_at}
 use Rattle.lc_model.specs.Laws.TablesByName.{TablesAreFound}
 use Rattle.lc_model.specs.Services.Tables.{IsTableService, tables_at}
 use Rattle.lc_model.specs.Services.Interface.{IsFreeSeat, LeavesOthersAlone, PipesHear, seen_at}
-use Rattle.lc_model.proofs.Facts.{some_same}
 use Rattle.app_host.specs.declared.services.Services.{Services}
 use Rattle.app_host.specs.Shared.{held_by}
 use Rattle.app_host.specs.Telling.{name_of}
-use Rattle.app_host.specs.Calls.{IsAtHome}
 use Rattle.app_host.specs.Hosted.{Object, object_at}
 use Rattle.app_host.specs.Whole.{IsRunning, AreSeated, name_at}
 use Rattle.app_host.proofs.Rules.{seen_of_place}

@@ -1,21 +1,19 @@
 -- A new host.
-use Rattle.std.proofs.Common.{◌≡◌, refl, ap, ap₂, sym, ◌∙◌, subst, ℕ, zero, suc, Bool, true, false, ◌==◌, List, [], ◌∷◌, map, replicate, if◌then◌else◌, Option, Some, None}
+use Rattle.std.proofs.Common.{◌≡◌, refl, ap, sym, ◌∙◌, subst, ℕ, zero, suc, Bool, true, false, ◌==◌, List, [], ◌∷◌, map, replicate, if◌then◌else◌, Option, Some, None}
 use Rattle.std.specs.Prelude.{IfSome, slice_index_or}
 use Rattle.lc_model.specs.Packet.{event_mid}
-use Rattle.lc_model.specs.Kept.Call.{ServicesNow}
-use Rattle.lc_model.specs.Kept.Executive.{Executive, first_executive, ready_seat}
-use Rattle.lc_model.specs.Kept.Stations as model
+use Rattle.lc_model.specs.Kept.Executive.{first_executive, ready_seat}
 use Rattle.lc_model.specs.Kept.Stations.{first_host}
 use Rattle.lc_model.specs.Laws.Senders.{counts_with}
 use Rattle.lc_model.specs.Services.Bus.{Bus, no_pipes, pipe_at, seen}
-use Rattle.lc_model.specs.Services.Events.{EventService, first_events, sender_at}
+use Rattle.lc_model.specs.Services.Events.{first_events, sender_at}
 use Rattle.lc_model.specs.Services.Tables.{TableService, first_tables, tables_at}
 use Rattle.lc_model.specs.Services.Interface.{IsFreeSeat}
 use Rattle.lc_model.specs.Services.Seen.{services_seen, count_among}
 use Rattle.app_host.specs.declared.services.Services.{Services}
 use Rattle.app_host.specs.Shared.{held_by, shared}
 use Rattle.app_host.specs.Hosted.{Object, Hosted, object_at, member_of, in_numbers}
-use Rattle.app_host.specs.Whole.{IsRunning, AreSeated, AreSpares, IsWhole, IsQuiet, name_at}
+use Rattle.app_host.specs.Whole.{IsRunning, AreSpares, IsWhole, IsQuiet, name_at}
 
 same_at : {X : Type 0} (n k : ℕ) (x : X) → slice_index_or (replicate n x) k x ≡ x
 same_at zero k x = refl

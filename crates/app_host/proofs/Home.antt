@@ -6,16 +6,16 @@ use Rattle.lc_model.specs.declared.kind.Kind.TheVariants.{Wdt, Adt}
 use Rattle.lc_model.specs.Name.{Name, is_named, host_name, lc_name}
 use Rattle.lc_model.specs.Tables.File.{table_name}
 use Rattle.lc_model.specs.Tables.Slot.{Slot, no_images}
-use Rattle.lc_model.specs.Kept.Summary.{LcOwn, LcNow, AppState, LcState, SchState, CounterState, Other, terms_in, rules_in, EventState}
+use Rattle.lc_model.specs.Kept.Summary.{LcOwn, AppState, LcState, SchState, CounterState, Other, terms_in, rules_in}
 use Rattle.lc_model.specs.Kept.Call.{ServicesNow, lc_with}
 use Rattle.lc_model.specs.Kept.Executive.{Pipe}
-use Rattle.lc_model.specs.Kept.GoesWith.{GoesWith, LcGoesWith, SchGoesWith, IsInStep, IsSender, own_name}
+use Rattle.lc_model.specs.Kept.GoesWith.{GoesWith, LcGoesWith, IsInStep, IsSender, own_name}
 use Rattle.lc_model.specs.Services.Events.{EventService, Sender, sender_at, events_among, sender_named}
-use Rattle.lc_model.specs.Services.Tables.{Table, TableService, Handle, IsTableService, tables_at, table_at}
+use Rattle.lc_model.specs.Services.Tables.{Table, Handle, IsTableService, tables_at}
 use Rattle.lc_model.specs.Services.Interface.{BelongsTo, seen_at}
 use Rattle.lc_model.specs.Laws.TablesByName.{TablesAreFound}
 use Rattle.lc_model.specs.Services.Seen.{slot_among}
-use Rattle.lc_model.specs.Services.Settled.{Settled, IsSettled, Form, form_of, wdt_form, adt_form, own_forms}
+use Rattle.lc_model.specs.Services.Settled.{Settled, IsSettled, Form, form_of, wdt_form, adt_form}
 use Rattle.lc_model.proofs.Facts.{some_same}
 use Rattle.app_host.specs.declared.services.Services.{Services}
 use Rattle.app_host.specs.Shared.{on_board, held_by, shared}

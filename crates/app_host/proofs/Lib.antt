@@ -18,3 +18,5 @@ pub mod Publishing
 pub mod PassedOn
 pub mod Departed
 pub mod Filed
+pub mod EventsObeyed
+pub mod EventsRead

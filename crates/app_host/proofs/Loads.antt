@@ -1,5 +1,5 @@
 -- What waits becomes less with each delivery.
-use Rattle.std.proofs.Common.{◌≡◌, ◌≢◌, ◌⊎◌, inl, inr, refl, ap, sym, ◌∙◌, subst, ℕ, zero, suc, ◌+◌, ◌*◌, ◌<◌, ◌≤◌, ◌==◌, Bool, true, false, List, [], ◌∷◌, ◌++◌, length, map, filter, count_by, arith, if◌then◌else◌, Option, Some, None, length-append}
+use Rattle.std.proofs.Common.{◌≡◌, ◌≢◌, ◌⊎◌, inl, inr, refl, ap, sym, ◌∙◌, ℕ, suc, ◌+◌, ◌*◌, ◌<◌, ◌≤◌, ◌==◌, Bool, true, false, List, [], ◌∷◌, ◌++◌, length, filter, count_by, arith, if◌then◌else◌, Option, Some, None, length-append}
 use Rattle.std.specs.Prelude.{IfSome, option_map, slice_index_or, slice_set}
 use Rattle.std.specs.List.{AllByRecursion, sum_by}
 use Rattle.std.proofs.lemmas.List.{get_or-set_same, get_or-set_other, length-set}
@@ -8,7 +8,6 @@ use Rattle.lc_model.specs.Packet.{message_id, tick_mid}
 use Rattle.lc_model.specs.Kept.Executive.{Pipe, hears}
 use Rattle.lc_model.specs.Services.Interface.{MayPublish, IsOwnPipe, waiting_in}
 use Rattle.app_host.specs.Load.{is_tick, packets_in, ticks_in, weight_of, all_ticks, load, IsLight}
-use Rattle.app_host.proofs.Frames.{fact_at_set}
 
 -- ---- sums
 
@@ -151,7 +150,7 @@ module _ (pipes : List (Option Pipe)) (seat : ℕ) (light : IsLight pipes) (pipe
 
   module _ (new : List (Option Pipe)) (published : List (List ℕ)) (eight : length new ≡ 8) (may : MayPublish packet published)
       (heard : (other : ℕ) → other ≢ seat →
-          slice_index_or new other None ≡ option_map (λ (pipe : Pipe). record pipe { waiting = pipe.waiting ++ filter (λ packet. hears packet pipe) published }) (slice_index_or taken other None))
+      slice_index_or new other None ≡ option_map (λ (pipe : Pipe). record pipe { waiting = pipe.waiting ++ filter (λ packet. hears packet pipe) published }) (slice_index_or taken other None))
       (own : IfSome (slice_index_or new seat None) (IsOwnPipe (slice_index_or taken seat None) published)) where
     each_few : (other : ℕ) → IsFew (slice_index_or taken other None) (slice_index_or new other None) (length published)
     each_few other = by_test (other == seat) refl

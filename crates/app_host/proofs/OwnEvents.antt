@@ -1,26 +1,22 @@
 -- An event of HOST.
-use Rattle.std.proofs.Common.{◌≡◌, ◌≢◌, refl, ap, sym, ◌∙◌, subst, ℕ, ◌+◌, ◌-◌, ◌<◌, ◌≤◌, true, List, [], ◌∷◌, ◌++◌, length, take, map, arith, Option, Some, None}
+use Rattle.std.proofs.Common.{◌≡◌, ap, sym, ◌∙◌, subst, ℕ, ◌+◌, ◌-◌, ◌≤◌, List, [], ◌∷◌, ◌++◌, length, take, map, arith, Some, None}
 use Rattle.std.specs.Prelude.{option_map, slice_index_or}
 use Rattle.std.specs.List.{concat}
 use Rattle.std.specs.Io.KnownBytes.{Appends}
-use Rattle.lc_model.specs.declared.record.Moment.{Moment}
 use Rattle.lc_model.specs.Device.{Sink}
 use Rattle.lc_model.specs.Name.{host_name}
 use Rattle.lc_model.specs.Events.Request.{Request}
-use Rattle.lc_model.specs.Kept.Call.{ServicesNow, sent_by}
-use Rattle.lc_model.specs.Kept.Executive.{Pipe, Written, ready_seat, told_by_host}
+use Rattle.lc_model.specs.Kept.Executive.{Pipe, Written, ready_seat}
 use Rattle.lc_model.specs.Kept.Stations.{Station, size_at, stop_at, written_once}
 use Rattle.lc_model.specs.Laws.TablesByName.{TablesAreFound}
 use Rattle.lc_model.specs.Services.Bus.{Bus, seen}
 use Rattle.lc_model.specs.Services.Tables.{TableService, IsTableService, tables_at}
-use Rattle.lc_model.specs.Services.Interface.{seen_at}
 use Rattle.app_host.specs.declared.services.Services.{Services}
-use Rattle.app_host.specs.Shared.{held_by, shared}
 use Rattle.app_host.specs.Telling.{Tells, name_of}
 use Rattle.app_host.specs.Hosted.{Hosted, member_of}
 use Rattle.app_host.specs.Whole.{AreSeated, AreKnown, IsWhole, IsQuiet}
 use Rattle.app_host.specs.Delivered.{executive_in}
-use Rattle.app_host.specs.Writing.{written_off, IsFlushed, IsAllSent, IsPartSent, IsDone, IsCut, HandlesAll, HandlesPart}
+use Rattle.app_host.specs.Writing.{IsFlushed, IsAllSent, IsPartSent, HandlesAll, HandlesPart}
 use Rattle.app_host.specs.Told.{telling, HasTold}
 use Rattle.app_host.proofs.Frames.{StaysAt, seated_still}
 use Rattle.app_host.proofs.Course.{passes, stops_here, none_stops}

@@ -1,27 +1,24 @@
 -- All deliveries behind a publication.
-use Rattle.std.proofs.Common.{◌≡◌, refl, ap, sym, ◌∙◌, subst, ℕ, ◌≤◌, List, [], length, map, arith, Option, Some, None, Result, Ok, Err}
+use Rattle.std.proofs.Common.{◌≡◌, ap, sym, ◌∙◌, subst, ℕ, ◌≤◌, List, length, map, Option, Some, None, Result, Ok, Err}
 use Rattle.std.specs.Prelude.{IsOk, OnOk, option_map, slice_index_or}
 use Rattle.std.proofs.lemmas.List.{length-map}
 use Rattle.lc_model.specs.declared.record.Moment.{Moment}
 use Rattle.lc_model.specs.Device.{Sink}
-use Rattle.lc_model.specs.Kept.Executive.{Pipe, Executive, Written, ready_seat, published_to, drained}
-use Rattle.lc_model.specs.Kept.Stations.{Station, delivery_stations, last_calls}
+use Rattle.lc_model.specs.Kept.Executive.{Pipe, Executive, ready_seat, published_to, drained}
+use Rattle.lc_model.specs.Kept.Stations.{delivery_stations, last_calls}
 use Rattle.lc_model.specs.Laws.TablesByName.{TablesAreFound}
 use Rattle.lc_model.specs.Services.Bus.{Bus, seen, seen_pipe, IsPublished}
 use Rattle.lc_model.specs.Services.Events.{EventService, sender_at}
 use Rattle.lc_model.specs.Services.Tables.{TableService, IsTableService, tables_at}
-use Rattle.lc_model.specs.Services.Interface.{seen_at}
-use Rattle.lc_model.specs.Services.Seen.{services_seen}
 use Rattle.packet_bus.specs.declared.error.BusError.{BusError}
-use Rattle.app_host.specs.declared.services.Services.{Services}
 use Rattle.app_host.specs.declared.error.WriteFault.{WriteFault}
-use Rattle.app_host.specs.Shared.{on_board, held_by, shared}
+use Rattle.app_host.specs.Shared.{on_board}
 use Rattle.app_host.specs.Telling.{name_of}
 use Rattle.app_host.specs.Hosted.{Hosted, member_of}
-use Rattle.app_host.specs.Whole.{AreSeated, AreKnown, IsWhole, IsQuiet}
+use Rattle.app_host.specs.Whole.{AreKnown, IsWhole, IsQuiet}
 use Rattle.app_host.specs.Load.{IsLight, load}
 use Rattle.app_host.specs.Delivered.{executive_in}
-use Rattle.app_host.specs.Writing.{IsDone, IsCut, HandlesAll, HandlesPart, Handles, Drains, PassesOn}
+use Rattle.app_host.specs.Writing.{IsDone, IsCut, Drains, PassesOn}
 use Rattle.app_host.proofs.Delivery.{shared_still}
 use Rattle.app_host.proofs.Frames.{StaysAt, seated_still}
 use Rattle.app_host.proofs.Publishing.{seen_published, offered_at, offered_keeps, light_first, load_first}

@@ -1,13 +1,13 @@
 -- A packet is published where none waits.
-use Rattle.std.proofs.Common.{◌≡◌, refl, ap, ap₂, sym, ◌∙◌, subst, ℕ, zero, suc, ◌+◌, ◌*◌, ◌<◌, ◌≤◌, ◌==◌, ◌&&◌, ◌||◌, Bool, true, false, List, [], ◌∷◌, ◌++◌, length, map, count_by, arith, cond, if◌then◌else◌, Option, Some, None, Result, Ok, Err}
+use Rattle.std.proofs.Common.{◌≡◌, refl, ap, ap₂, ◌∙◌, ℕ, zero, suc, ◌+◌, ◌*◌, ◌≤◌, ◌&&◌, ◌||◌, Bool, true, false, List, [], ◌∷◌, ◌++◌, length, map, arith, cond, if◌then◌else◌, Option, Some, None, Result, Ok, Err}
 use Rattle.std.specs.Prelude.{IsOk, option_map, slice_index_or, nat_le}
 use Rattle.std.specs.Option.{option_or}
-use Rattle.std.specs.List.{list_any, sum_by, position_from}
+use Rattle.std.specs.List.{sum_by, position_from}
 use Rattle.std.proofs.lemmas.List.{length-map}
 use Rattle.std.proofs.lemmas.List.Sums.{sum_by-cons, count_by-le-length}
 use Rattle.lc_model.specs.Packet.{header_fault, message_id}
 use Rattle.lc_model.specs.Kept.Executive.{Pipe, has_some, is_ready, ready_seat, hears, offered, published_to}
-use Rattle.lc_model.specs.Services.Bus.{Bus, Queue, Publication, seen, seen_pipe, is_subscribed, is_full, hears_packet, is_blocked, publish_refusal, offered_as, published_as, IsPublished}
+use Rattle.lc_model.specs.Services.Bus.{Bus, Queue, Publication, seen, seen_pipe, is_subscribed, is_full, hears_packet, is_blocked, publish_refusal, offered_as, published_as}
 use Rattle.lc_model.specs.Services.Interface.{waiting_in}
 use Rattle.packet_bus.specs.declared.error.BusError.{BusError}
 use Rattle.packet_bus.specs.Error.{refusal_in}

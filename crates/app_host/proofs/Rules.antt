@@ -1,20 +1,19 @@
 -- What an application does at its seat keeps the rules of the interface, and leaves what the definitions say.
-use Rattle.std.proofs.Common.{◌≡◌, ◌≢◌, ◌⊎◌, inl, refl, ap, sym, ◌∙◌, subst, ℕ, zero, suc, ◌≤◌, ◌<◌, lit≤, List, [], ◌∷◌, ◌++◌, length, map, arith, Option, Some, None, get_or, set}
-use Rattle.std.specs.Prelude.{IfSome, IsSomeAnd, IsTrue, option_map, filter, unwrap_or, slice_index_or, slice_set}
+use Rattle.std.proofs.Common.{◌≡◌, ◌≢◌, inl, refl, ap, sym, ◌∙◌, subst, ℕ, zero, suc, ◌≤◌, ◌<◌, lit≤, List, [], ◌∷◌, ◌++◌, length, map, arith, Option, Some, None}
+use Rattle.std.specs.Prelude.{IfSome, IsTrue, option_map, filter, slice_index_or, slice_set}
 use Rattle.std.specs.List.{AllByRecursion, concat}
 use Rattle.std.proofs.lemmas.List.{append-nil, get_or-set_same, get_or-set_other, set-get_or, map-set, length-map}
 use Rattle.lc_model.specs.Name.{Name}
-use Rattle.lc_model.specs.Packet.{message_id, tick_mid}
 use Rattle.lc_model.specs.Events.Request.{Request}
 use Rattle.lc_model.specs.Kept.Summary.{AppState, EventState}
-use Rattle.lc_model.specs.Kept.Call.{ServicesNow, Called, new_sender, with_at, registered, silent, told, sent_by}
+use Rattle.lc_model.specs.Kept.Call.{Called, new_sender, with_at, registered, silent, told, sent_by}
 use Rattle.lc_model.specs.Kept.Executive.{Pipe, hears, all_published_to}
-use Rattle.lc_model.specs.Services.Bus.{Bus, Queue, seen, seen_pipe, pipe_at, with_pipe}
+use Rattle.lc_model.specs.Services.Bus.{Bus, Queue, seen, seen_pipe, pipe_at}
 use Rattle.lc_model.specs.Services.Events.{EventService, Sender, Origin, sender_at, sender_named}
 use Rattle.lc_model.specs.Tables.Slot.{Slot}
 use Rattle.lc_model.specs.Laws.Senders.{counts_with}
 use Rattle.lc_model.specs.Services.Tables.{Table, TableService, tables_at, tables_unregistered}
-use Rattle.lc_model.specs.Services.Interface.{Held, LeavesOthersAlone, PipesHear, IsCallOf, MayBeStarted, IsStarted, MayPublish, IsOwnPipe, IsGiven, IsRetired, BelongsTo, IsFreeSeat, seen_at, waiting_in, is_table_of}
+use Rattle.lc_model.specs.Services.Interface.{LeavesOthersAlone, PipesHear, MayBeStarted, IsStarted, MayPublish, IsOwnPipe, IsGiven, IsRetired, BelongsTo, seen_at, waiting_in, is_table_of}
 use Rattle.lc_model.proofs.Facts.{some_same}
 use Rattle.lc_model.specs.Kept.GoesWith.{own_name, subscriptions_of}
 use Rattle.lc_model.specs.Services.Settled.{IsSettled, form_of, own_forms}

@@ -1,27 +1,25 @@
 -- A seat is taken and given back, by the answers of the services.
-use Rattle.std.proofs.Common.{◌≡◌, ◌≢◌, refl, ap, sym, ◌∙◌, subst, ℕ, zero, suc, ◌+◌, ◌≤◌, ◌<◌, Bool, true, false, ◌||◌, ◌==◌, List, [], ◌∷◌, ◌++◌, length, length-append, arith, if◌then◌else◌, Option, Some, None, Result, Ok, Err, true≢false, get_or, set}
-use Rattle.std.specs.Prelude.{IfSome, IfOk, IsOk, IsSomeAnd, drop, IsTrue, IsFalse, is_some, is_none, option_map, nat_lt, slice_index_or, slice_set}
+use Rattle.std.proofs.Common.{◌≡◌, refl, ap, sym, ◌∙◌, subst, ℕ, zero, suc, ◌+◌, ◌≤◌, ◌<◌, Bool, true, false, ◌||◌, ◌==◌, List, [], ◌∷◌, ◌++◌, length, length-append, arith, if◌then◌else◌, Option, Some, None, Result, Ok, Err, true≢false, get_or}
+use Rattle.std.specs.Prelude.{IfSome, IfOk, IsOk, IsSomeAnd, drop, IsTrue, IsFalse, is_some, option_map, nat_lt, slice_index_or, slice_set}
 use Rattle.std.specs.List.{list_any, position_from}
 use Rattle.std.proofs.lemmas.List.{get_or-set_same, set-get_or, set-set, drop_more}
 use Rattle.lc_model.specs.Name.{Name, is_named, host_name}
-use Rattle.lc_model.specs.Refusal.{Refusal, ◌>>=◌, refused, found, provided}
-use Rattle.lc_model.specs.Kept.Call.{with_mid, with_mids, with_at, new_sender, registered}
+use Rattle.lc_model.specs.Refusal.{Refusal, ◌>>=◌, refused, found}
+use Rattle.lc_model.specs.Kept.Call.{with_mid, with_mids, with_at, new_sender}
 use Rattle.lc_model.specs.Kept.Executive.{seat_count}
-use Rattle.lc_model.specs.Laws.Senders.{RegisteringByName, UnregisteringByName, counts_with}
+use Rattle.lc_model.specs.Laws.Senders.{RegisteringByName, UnregisteringByName}
 use Rattle.lc_model.specs.Services.Bus.{Bus, Queue, new_pipe, pipe_at, with_pipe, pipe_added, pipe_removed, subscribed, joined, is_subscribed, most_subscriptions, after, refusal_of}
 use Rattle.lc_model.specs.Services.Events.{Sender, EventService, IsEventService, is_sender, events_among, sender_named, origin_named, sender_at, registered_at, unregistered_at}
-use Rattle.lc_model.specs.Services.Tables.{TableService}
-use Rattle.lc_model.specs.Services.Interface.{IsApplicationName, IsUnusedName, IsFreeSeat}
 use Rattle.lc_model.proofs.Facts.{or_true, test_less}
 use Rattle.lc_model.proofs.SenderNames.{IsFirst, first, first_is_some, first_has}
-use Rattle.lc_model.specs.Services.Seen.{services_seen, count_among, files_seen, slot_among}
+use Rattle.lc_model.specs.Services.Seen.{services_seen}
 use Rattle.packet_bus.specs.declared.error.BusError.{BusError}
 use Rattle.packet_bus.specs.Error.{refusal_in}
 use Rattle.event_service.specs.declared.error.EventError.{EventError}
 use Rattle.event_service.specs.Error.{answered}
 use Rattle.app_host.specs.declared.services.Services.{Services}
-use Rattle.app_host.specs.Shared.{held_by, shared}
-use Rattle.app_host.specs.Seating.{IsOpened, IsClosed, HasPipeAndSender}
+use Rattle.app_host.specs.Shared.{shared}
+use Rattle.app_host.specs.Seating.{IsOpened}
 
 -- ---- subscriptions
 

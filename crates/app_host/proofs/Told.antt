@@ -1,13 +1,13 @@
 -- An event that is asked of the services is sent as the host in numbers sends it.
-use Rattle.std.proofs.Common.{◌≡◌, ◌≢◌, refl, ap, sym, ◌∙◌, subst, ℕ, zero, suc, ◌<◌, Bool, true, false, ◌==◌, List, [], ◌∷◌, ◌++◌, length, arith, if◌then◌else◌, Option, Some, None, get_or, set}
-use Rattle.std.specs.Prelude.{IfSome, option_map, option_to_list, slice_index_or, slice_set}
+use Rattle.std.proofs.Common.{◌≡◌, ◌≢◌, refl, ap, sym, ◌∙◌, subst, ℕ, zero, suc, ◌<◌, Bool, true, false, ◌==◌, List, [], ◌∷◌, ◌++◌, length, arith, if◌then◌else◌, Option, Some, None}
+use Rattle.std.specs.Prelude.{IfSome, option_map, option_to_list, slice_index_or}
 use Rattle.std.specs.List.{concat}
 use Rattle.std.proofs.lemmas.List.{append-nil, get_or-set_same, get_or-set_other}
 use Rattle.lc_model.specs.declared.record.Moment.{Moment}
 use Rattle.lc_model.specs.declared.rule.EventKind.{EventKind}
 use Rattle.lc_model.specs.Packet.{event_mid}
 use Rattle.lc_model.specs.Events.Request.{Event}
-use Rattle.lc_model.specs.Kept.Call.{ServicesNow, sent_by}
+use Rattle.lc_model.specs.Kept.Call.{sent_by}
 use Rattle.lc_model.specs.Laws.Senders.{EventsByName, counts_with}
 use Rattle.lc_model.specs.Services.Events.{Sender, EventService, Origin, IsEventService, Asked, sender_at, sender_named, asked_by, accounted_at, event_asked}
 use Rattle.lc_model.specs.Services.Seen.{services_seen, count_among, files_seen, slot_among}

@@ -1,7 +1,6 @@
 -- What one delivery leaves.
 use Rattle.std.specs.Prelude.{◌≡◌, ℕ, ◌+◌, ◌<◌, ◌≤◌, List, length}
 use Rattle.std.specs.List.{concat}
-use Rattle.lc_model.specs.declared.record.Moment.{Moment}
 use Rattle.lc_model.specs.Kept.Executive.{Executive, Written, delivered_at}
 use Rattle.lc_model.specs.Services.Bus.{seen}
 use Rattle.app_host.specs.Shared.{on_board}

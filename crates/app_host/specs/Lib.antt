@@ -12,3 +12,4 @@ pub mod Delivered
 pub mod Writing
 pub mod Told
 pub mod Left
+pub mod Obeyed

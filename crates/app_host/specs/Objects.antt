@@ -1,6 +1,5 @@
 -- What the calls of one object ask for and leave, by what the object means.
 use Rattle.std.specs.Prelude.{◌≡◌, ℕ, ⊤, List, [], Option, Some, None, IfSome}
-use Rattle.lc_model.specs.Kept.Summary.{Other}
 use Rattle.lc_model.specs.Kept.Call.{next_start, next_on_packet, next_retire}
 use Rattle.lc_model.specs.Services.Interface.{MayBeStarted, MayBeGiven, IsStarted, IsGiven, IsRetired}
 use Rattle.app_host.specs.declared.services.Services.{Services}

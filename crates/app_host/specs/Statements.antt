@@ -7,7 +7,7 @@ use Rattle.lc_model.specs.Kept.Call.{Called, with_at, registered, silent, told, 
 use Rattle.lc_model.specs.Kept.Executive.{Pipe}
 use Rattle.lc_model.specs.Tables.Slot.{Slot}
 use Rattle.lc_model.specs.Services.Events.{Origin, Sender, sender_at}
-use Rattle.lc_model.specs.Services.Tables.{TableService, tables_at, tables_unregistered}
+use Rattle.lc_model.specs.Services.Tables.{tables_at, tables_unregistered}
 use Rattle.lc_model.specs.Kept.GoesWith.{own_name, subscriptions_of}
 use Rattle.lc_model.specs.Services.Settled.{IsSettled, Settled, own_forms}
 use Rattle.lc_model.specs.Services.Seen.{slot_among}

@@ -1,5 +1,5 @@
 -- What it leaves that a sender's requests are sent.
-use Rattle.std.specs.Prelude.{◌≡◌, ◌≢◌, ℕ, List, ◌++◌, option_map}
+use Rattle.std.specs.Prelude.{◌≡◌, ◌≢◌, List, ◌++◌, option_map}
 use Rattle.std.specs.List.{concat}
 use Rattle.lc_model.specs.Name.{Name}
 use Rattle.lc_model.specs.Events.Request.{Request}

@@ -1,16 +1,16 @@
 -- What an event of HOST leaves.
 use Rattle.std.specs.Prelude.{◌≡◌, ℕ, ◌≤◌, List, [], ◌∷◌, length, Result}
 use Rattle.std.specs.List.{concat}
-use Rattle.lc_model.specs.declared.record.Moment.{Moment}
 use Rattle.lc_model.specs.Device.{Sink}
 use Rattle.lc_model.specs.Name.{Name}
 use Rattle.lc_model.specs.Host.React.{stored}
 use Rattle.lc_model.specs.Services.Seen.{meaning_of}
-use Rattle.lc_model.specs.Events.Request.{Request}
-use Rattle.lc_model.specs.Kept.Executive.{Executive, Written, told_by_host, filed_now}
+use Rattle.lc_model.specs.Events.Request.{Request, event_services}
+use Rattle.lc_model.specs.Kept.Executive.{Executive, Written, told_by_host, filed_now, answered_now, with_services, event_service_now}
 use Rattle.lc_model.specs.Kept.Stations.{written_once}
 use Rattle.lc_model.specs.Services.Bus.{seen}
 use Rattle.app_host.specs.declared.error.WriteFault.{WriteFault}
+use Rattle.app_host.specs.Shared.{on_board}
 use Rattle.app_host.specs.Hosted.{Hosted}
 use Rattle.app_host.specs.Whole.{AreSeated}
 use Rattle.app_host.specs.Delivered.{executive_in}
@@ -41,4 +41,11 @@ abbrev pub Files : Name → List ℕ → Hosted → Hosted → Sink → Sink →
 Files name bytes old new before now result =
     let e : Executive (List ℕ) = executive_in old in
     let step : Written (List ℕ) = filed_now old.services.moment e (stored name (length bytes) (meaning_of bytes) e.services.files) in
+    Handles (written_once step) step 0 old new before now result
+
+-- a command to the event services is obeyed or refused, and that is written
+abbrev pub ObeysEvents : List ℕ → Hosted → Hosted → Sink → Sink → Result (Unit {0}) WriteFault → Type 0
+ObeysEvents packet old new before now result =
+    let e : Executive (List ℕ) = executive_in old in
+    let step : Written (List ℕ) = answered_now on_board old.services.moment event_services packet e (with_services e (event_service_now packet e.services)) in
     Handles (written_once step) step 0 old new before now result

@@ -1,7 +1,7 @@
 -- What each call of the host keeps.
 use Rattle.std.specs.Prelude.{◌≡◌, ◌≢◌, ℕ, List, [], length, Option, Some, None, option_map, All, IfSome}
 use Rattle.lc_model.specs.Name.{Name}
-use Rattle.lc_model.specs.Kept.Summary.{AppState, Other}
+use Rattle.lc_model.specs.Kept.Summary.{Other}
 use Rattle.lc_model.specs.Kept.Executive.{seat_count, ready_seat}
 use Rattle.lc_model.specs.Services.Bus.{seen}
 use Rattle.lc_model.specs.Services.Interface.{IsApplicationName, IsFreeSeat}

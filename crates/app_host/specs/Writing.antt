@@ -1,9 +1,9 @@
 -- What a part of a step writes, and where it stops if a write fails.
-use Rattle.std.specs.Prelude.{◌≡◌, ℕ, ◌+◌, ◌<◌, ◌≤◌, Bool, true, false, List, [], ◌∷◌, length, take, Option, Some, None, Result, Ok, Err}
+use Rattle.std.specs.Prelude.{◌≡◌, ℕ, ◌+◌, ◌<◌, ◌≤◌, true, List, [], length, take, Option, Some, None, Result, Ok, Err}
 use Rattle.std.specs.List.{concat}
 use Rattle.std.specs.Io.KnownBytes.{Appends}
-use Rattle.lc_model.specs.Device.{Sink, IsCutShort}
-use Rattle.lc_model.specs.Kept.Executive.{Executive, Written, most_deliveries, drained, passed_on}
+use Rattle.lc_model.specs.Device.{Sink}
+use Rattle.lc_model.specs.Kept.Executive.{Written, most_deliveries, drained, passed_on}
 use Rattle.lc_model.specs.Kept.Stations.{Station, stop_at, delivery_stations, passing_stations, last_calls}
 use Rattle.app_host.specs.declared.services.Services.{Services}
 use Rattle.app_host.specs.declared.error.WriteFault.{WriteFault}

@@ -4,10 +4,10 @@
 
 mod app;
 mod counts;
-
 mod deliveries;
 mod departure;
 mod error;
+mod event_commands;
 mod filing;
 mod host;
 pub mod laws;

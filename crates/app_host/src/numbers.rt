@@ -1,8 +1,10 @@
 //! The numbers of a refusal, which HOST's event names.
 
 ghost use Rattle.std.specs.Prelude.{◌≡◌, ◌≤◌, [], ◌∷◌, length};
+ghost use Rattle.event_service.specs.Error as events;
 ghost use Rattle.tbl_service.specs.Error as tables;
 
+use event_service::EventError;
 use std::marker::Model;
 use tbl_service::TableError;
 
@@ -75,5 +77,17 @@ pub(crate) fn of_tables(error: TableError) -> Numbers
         TableError::FileTooLong => Numbers::one(119),
         TableError::NoSlot => Numbers::one(120),
         TableError::Memory => Numbers::none(),
+    }
+}
+
+/// The number of a refusal of the event services.
+pub(crate) fn of_events(error: EventError) -> Numbers
+    ensures { result ≡ events.refusal_of error }
+{
+    match error {
+        EventError::NotRegistered => Numbers::one(101),
+        EventError::FilterFull => Numbers::one(102),
+        EventError::AppsFull => Numbers::one(103),
+        EventError::Memory => Numbers::none(),
     }
 }

@@ -11,12 +11,7 @@ use crate::services::Services;
 use lc_model::Seat;
 
 /// The object of a place answers a packet.
-fn give_in(
-    place: &mut Option<Box<dyn App>>,
-    seat: Seat,
-    services: &mut Services,
-    packet: &[u8],
-)
+fn give_in(place: &mut Option<Box<dyn App>>, seat: Seat, services: &mut Services, packet: &[u8])
     requires { IfSome (option_map (object state called held) place.old) (MayAnswer seat packet.now services.old) }
     ensures { IfBoth (option_map (object state called held) place.old) (option_map (object state called held) place.new) (HasAnswered seat packet.now services.old services.new) }
 {

@@ -1,7 +1,6 @@
 use Rattle.std.proofs.Common.{◌≡◌, map, drop}
-use Rattle.std.specs.Prelude.{option_map, is_none}
 use Rattle.std.specs.List.{position_from}
-use Rattle.lc_model.specs.Kept.Executive.{is_called, is_seated}
+use Rattle.lc_model.specs.Kept.Executive.{is_called}
 use Rattle.app_host.specs.Hosted.{object, member_of}
 use Rattle.app_host.proofs.objects.spare_of.Given as goal
 

@@ -1,4 +1,4 @@
-use Rattle.std.proofs.Common.{rules, sym, ◌∙◌, refl, arith}
+use Rattle.std.proofs.Common.{◌∙◌, arith}
 use Rattle.std.proofs.lemmas.List.{drop_all}
 use Rattle.app_host.proofs.Seats.{none_yet, takes_one_more, one_more, all_made, is_taken}
 use Rattle.app_host.proofs.seat.subscribe.Goals as goal

@@ -1,5 +1,4 @@
-use Rattle.std.proofs.Common.{refl, sym, ◌∙◌, arith, ◌<◌}
-use Rattle.lc_model.specs.Services.Bus.{Bus}
+use Rattle.std.proofs.Common.{refl, arith, ◌<◌}
 use Rattle.app_host.proofs.Delivery.{has_first}
 use Rattle.app_host.proofs.Deliver.{is_received, has_size, front_is, may_give, deliver_done}
 use Rattle.app_host.proofs.host.Host.deliver.Goals as goal

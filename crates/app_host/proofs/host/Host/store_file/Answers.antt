@@ -1,4 +1,4 @@
-use Rattle.std.proofs.Common.{refl, ap, sym, ◌∙◌}
+use Rattle.std.proofs.Common.{refl, ap, ◌∙◌}
 use Rattle.lc_model.specs.Services.Tables.{TableService}
 use Rattle.lc_model.specs.Events.Request.{file_refused}
 use Rattle.tbl_service.specs.Error.{refusal_of}

@@ -1,4 +1,4 @@
-use Rattle.std.proofs.Common.{◌<◌, length, sym, ◌∙◌, ap, refl, subst, arith}
+use Rattle.std.proofs.Common.{◌<◌, length, ◌∙◌, refl, arith}
 use Rattle.app_host.proofs.Seats.{may_register, is_answered, answered_by, opened, new_pipe_there, subscribed_all}
 use Rattle.app_host.proofs.services.Services.open.Goals as goal
 

@@ -1,0 +1,128 @@
+//! Commands to the event services (cFE user's guide, event services).
+
+ghost use Rattle.std.specs.Prelude.{◌≡◌, ◌≤◌, ◌==◌, length, take, OnErr};
+ghost use Rattle.std.specs.List.{position_or_len};
+ghost use Rattle.lc_model.specs.Name.{name_in};
+ghost use Rattle.lc_model.specs.Packet.{function_code, payload};
+ghost use Rattle.lc_model.specs.Command.{event_command};
+ghost use Rattle.app_host.specs.Hosted.{shown};
+ghost use Rattle.app_host.specs.Whole.{IsWhole, IsQuiet};
+ghost use Rattle.app_host.specs.Told.{ObeysEvents};
+ghost use Rattle.app_host.specs.Obeyed.{obeyed_by, set_filter_by, reset_by, set_types_by, events_by};
+
+use crate::error::WriteFault;
+use crate::host::Host;
+use crate::numbers::{Numbers, of_events};
+use event_service::host::{self, Service};
+use event_service::{EventTypes, Events};
+use lc_model::laws::senders::event_services_go_by_names;
+use lc_model::laws::table_services::table_services_go_by_names;
+use lc_model::packet::function_code;
+use lc_model::{ByteSink, EventKind, u16_at};
+
+/// How many bytes come before the first zero byte, or all of them.
+fn name_length(field: &[u8]) -> usize
+    ensures { result ≡ position_or_len (λ b. b == 0) field.now }
+{
+    field.iter().take_while(|byte| **byte != 0).count()
+}
+
+/// The name in a field: the bytes before the first zero byte, or all of them.
+pub(crate) fn name_in(field: &[u8]) -> &[u8]
+    ensures { result.now ≡ name_in field.now }
+{
+    &field[..name_length(field)]
+}
+
+/// A filter is set: 20 bytes of a name, then an id and a mask.
+fn set_filter(events: &mut Events, payload: &[u8]) -> Result<(), Numbers>
+    ensures answer { obeyed_by result events.new ≡ set_filter_by payload.now events.old }
+    ensures refused { OnErr result (events.new ≡ events.old) }
+{
+    if payload.len() != 24 {
+        return Err(Numbers::one(152));
+    }
+    match events.set_filter(
+        name_in(&payload[..20]),
+        u16_at(payload, 20),
+        u16_at(payload, 22),
+    ) {
+        Ok(()) => Ok(()),
+        Err(error) => Err(of_events(error)),
+    }
+}
+
+/// The filters of a name begin again: 20 bytes of a name.
+fn reset_filters(events: &mut Events, payload: &[u8]) -> Result<(), Numbers>
+    ensures answer { obeyed_by result events.new ≡ reset_by payload.now events.old }
+    ensures refused { OnErr result (events.new ≡ events.old) }
+{
+    if payload.len() != 20 {
+        return Err(Numbers::one(152));
+    }
+    match events.reset_filters(name_in(payload)) {
+        Ok(()) => Ok(()),
+        Err(error) => Err(of_events(error)),
+    }
+}
+
+/// Types are turned on or off: 20 bytes of a name, a byte whose lower four bits are types, and one that does not count.
+fn set_types(events: &mut Events, payload: &[u8], on: bool) -> Result<(), Numbers>
+    ensures answer { obeyed_by result events.new ≡ set_types_by on payload.now events.old }
+    ensures refused { OnErr result (events.new ≡ events.old) }
+{
+    if payload.len() != 22 {
+        return Err(Numbers::one(152));
+    }
+    let types = EventTypes::of_command(payload[20]);
+    match events.set_types(name_in(&payload[..20]), types, on) {
+        Ok(()) => Ok(()),
+        Err(error) => Err(of_events(error)),
+    }
+}
+
+/// A command to the event services is obeyed. It is refused with 151 for its code, 152 for its length, and then for what the
+/// services refuse it for; then nothing changes.
+pub(crate) fn obey(events: &mut Events, packet: &[u8]) -> Result<(), Numbers>
+    requires { 8 ≤ length packet.now }
+    ensures answer { obeyed_by result events.new ≡ events_by (event_command (function_code packet.now) (payload packet.now)) events.old }
+    ensures refused { OnErr result (events.new ≡ events.old) }
+{
+    let payload = &packet[8..];
+    match function_code(packet) {
+        1 => set_filter(events, payload),
+        2 => reset_filters(events, payload),
+        3 => set_types(events, payload, true),
+        4 => set_types(events, payload, false),
+        _ => Err(Numbers::one(151)),
+    }
+}
+
+impl Host {
+    /// A command to the event services is obeyed or refused, and `HOST` tells which.
+    pub(crate) fn obey_events<W: ByteSink>(
+        &mut self,
+        packet: &[u8],
+        out: &mut W,
+    ) -> Result<(), WriteFault>
+        requires whole { IsWhole (shown state called held self.old) }
+        requires quiet { IsQuiet (shown state called held self.old) }
+        requires none_yet { self.old.calls ≡ 0 }
+        requires headers { 8 ≤ length packet.now }
+        ensures { ObeysEvents packet.now (shown state called held self.old) (shown state called held self.new) (W.sink out.old) (W.sink out.new) result }
+    {
+        event_services_go_by_names();
+        table_services_go_by_names();
+        self.services.tables.is_service();
+        match obey(&mut self.services.events, packet) {
+            Ok(()) => {
+                let text = host::command_done(Service::Events, function_code(packet));
+                self.tell_alone(6, EventKind::Information, &text, out)
+            }
+            Err(numbers) => {
+                let text = host::command_refused(Service::Events, numbers.as_slice());
+                self.tell_alone(7, EventKind::Error, &text, out)
+            }
+        }
+    }
+}
