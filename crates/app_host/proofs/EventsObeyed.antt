@@ -1,7 +1,6 @@
 -- A command to the event services, by names.
-use Rattle.std.proofs.Common.{◌≡◌, ◌≢◌, refl, ap, sym, ◌∙◌, subst, ℕ, zero, suc, ◌<◌, List, [], ◌∷◌, length, map, arith, Option, Some, None, Result, Ok, Err}
-use Rattle.std.specs.Prelude.{option_map, slice_index_or, slice_set}
-use Rattle.lc_model.specs.declared.record.Moment.{Moment}
+use Rattle.std.proofs.Common.{◌≡◌, refl, ap, sym, ◌∙◌, subst, ℕ, zero, suc, ◌<◌, List, [], ◌∷◌, length, map, arith, Option, Some, None, Result, Ok, Err}
+use Rattle.std.specs.Prelude.{option_map, slice_index_or}
 use Rattle.lc_model.specs.Device.{Sink}
 use Rattle.lc_model.specs.Name.{Name}
 use Rattle.lc_model.specs.Packet.{function_code, payload}
@@ -11,7 +10,7 @@ use Rattle.lc_model.specs.Events.Log.{LogItem}
 use Rattle.lc_model.specs.Events.Request.{Request, event_services, command_done, command_refused}
 use Rattle.lc_model.specs.Kept.Summary.{EventState}
 use Rattle.lc_model.specs.Kept.Call.{ServicesNow, with_at}
-use Rattle.lc_model.specs.Kept.Executive.{Pipe, Executive, Written, ready_seat, joined_now, told_by_host, answered_now, with_services, event_service_now}
+use Rattle.lc_model.specs.Kept.Executive.{Pipe, Executive, Written, joined_now, told_by_host, answered_now, with_services, event_service_now}
 use Rattle.lc_model.specs.Kept.Stations.{written_once}
 use Rattle.lc_model.specs.Laws.Senders.{CommandsByName, counts_with}
 use Rattle.lc_model.specs.Laws.TablesByName.{TablesAreFound}
@@ -24,7 +23,7 @@ use Rattle.app_host.specs.declared.error.WriteFault.{WriteFault}
 use Rattle.app_host.specs.Shared.{on_board, shared}
 use Rattle.app_host.specs.Telling.{name_of}
 use Rattle.app_host.specs.Hosted.{Hosted, member_of}
-use Rattle.app_host.specs.Whole.{AreSeated, AreKnown, IsWhole, IsQuiet}
+use Rattle.app_host.specs.Whole.{AreKnown, IsWhole}
 use Rattle.app_host.specs.Delivered.{executive_in}
 use Rattle.app_host.specs.Writing.{Handles}
 use Rattle.app_host.specs.Obeyed.{events_by}

@@ -1,6 +1,4 @@
-use Rattle.std.proofs.Common.{◌≡◌, ap, ◌∙◌, length, arith, Err, take}
-use Rattle.std.specs.Prelude.{slice_index, ◌%◌}
-use Rattle.lc_model.specs.Bytes.{u16_at}
+use Rattle.std.proofs.Common.{◌≡◌, ap, ◌∙◌, length, arith, Err}
 use Rattle.lc_model.specs.Name.{name_in}
 use Rattle.lc_model.specs.Events.Log.{FiltersReset}
 use Rattle.lc_model.specs.Services.Events.{commanded}
