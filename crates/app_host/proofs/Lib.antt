@@ -2,3 +2,4 @@ pub mod Told
 pub mod Seats
 pub mod Rules
 pub mod AtHome
+pub mod Published

@@ -3,3 +3,4 @@ pub mod Telling
 pub mod Calls
 pub mod Seating
 pub mod Statements
+pub mod Publishing

@@ -6,6 +6,7 @@ mod app;
 mod counts;
 pub mod laws;
 mod outgoing;
+pub mod publishing;
 mod seat;
 mod services;
 
