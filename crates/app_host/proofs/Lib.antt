@@ -3,3 +3,4 @@ pub mod Seats
 pub mod Rules
 pub mod AtHome
 pub mod Published
+pub mod Sent

@@ -4,3 +4,4 @@ pub mod Calls
 pub mod Seating
 pub mod Statements
 pub mod Publishing
+pub mod Sending

@@ -8,6 +8,7 @@ pub mod laws;
 mod outgoing;
 pub mod publishing;
 mod seat;
+pub mod sending;
 mod services;
 
 pub use app::App;
