@@ -132,6 +132,18 @@ telling_goes_on origin name first second before between after t u =
       moment = u.moment ∙ t.moment;
     }
 
+pub still_sends : (origin : Origin) (name : Name) (requests : List Request) (before after : Services) → Tells origin name requests before after →
+    IsSender name (shared before) → IsSender name (shared after)
+still_sends origin name requests before after t sender =
+    subst (λ (s : ServicesNow (List ℕ)). IsSender name s) (sym t.services) (by_events ((shared before).events name) refl sender)
+  where
+    by_events : (o : Option EventState) → (shared before).events name ≡ o → IsTrue (is_some o) → IsSender name (sent_by before.moment name requests (shared before)).0
+    by_events None is some = absurd (cc some)
+    by_events (Some e) is some =
+        let after : Accounts × List (List ℕ) = next_all_delivered before.moment requests (record { events = e; counts = (shared before).counts }) in
+        subst (λ (step : ServicesNow (List ℕ) × List (List ℕ)). IsSender name step.0) (sym (sent_among before.moment name requests (shared before) e is))
+        (ap is_some (found_own name (Some after.0.events) (shared before).events))
+
 -- ---- a packet of a message id that the event services don't count
 
 -- one packet more

@@ -17,6 +17,11 @@ abbrev pub TellingGoesOn : Type 0
 TellingGoesOn = (origin : Origin) (name : Name) (first second : List Request) (before between after : Services) → Tells origin name first before between →
     Tells origin name second between after → Tells origin name (first ++ second) before after
 
+-- who sends events still does
+abbrev pub TellingKeepsSenders : Type 0
+TellingKeepsSenders = (origin : Origin) (name : Name) (requests : List Request) (before after : Services) → Tells origin name requests before after →
+    IsSender name (shared before) → IsSender name (shared after)
+
 -- of whatever sender: only sequence counts change
 abbrev pub RequestsSequence : ℕ → Services → Services → Type 0
 RequestsSequence number before after = (origin : Origin) (name : Name) → IsSender name (shared before) → Tells origin name (Sequence number ∷ []) before after

@@ -2,7 +2,7 @@
 //! project's own).
 
 ghost use Rattle.std.specs.Prelude.{◌≡◌, ◌+◌, ◌≤◌, length};
-ghost use Rattle.app_host.specs.Sending.{NothingIsTold, TellingGoesOn, RequestsSequence};
+ghost use Rattle.app_host.specs.Sending.{NothingIsTold, TellingGoesOn, TellingKeepsSenders, RequestsSequence};
 
 use crate::services::Services;
 use lc_model::mids;
@@ -24,4 +24,5 @@ impl Services {
 pub fn telling_goes_on()
     ensures nothing { NothingIsTold }
     ensures goes_on { TellingGoesOn }
+    ensures keeps { TellingKeepsSenders }
 {}
