@@ -1,18 +1,17 @@
 -- What is published keeps the rules of the interface, and is what the definitions say.
-use Rattle.std.proofs.Common.{◌≡◌, ◌≢◌, ◌⊎◌, inl, refl, ap, sym, ◌∙◌, subst, ℕ, zero, suc, ◌+◌, ◌≤◌, Bool, true, false, ◌&&◌, List, [], ◌∷◌, ◌++◌, length, map, filter, arith, if◌then◌else◌, Option, Some, None, Result, Ok, Err}
-use Rattle.std.specs.Prelude.{IfSome, IsTrue, IsOk, OnOk, option_map, slice_index_or, slice_set}
+use Rattle.std.proofs.Common.{◌≡◌, ◌≢◌, inl, refl, ap, sym, ◌∙◌, subst, ℕ, zero, suc, ◌+◌, ◌≤◌, Bool, true, false, List, [], ◌∷◌, ◌++◌, length, map, filter, arith, if◌then◌else◌, Option, Some, None, Result, Ok, Err}
+use Rattle.std.specs.Prelude.{IfSome, IsTrue, OnOk, option_map, slice_index_or, slice_set}
 use Rattle.std.specs.Option.{option_or}
-use Rattle.std.specs.List.{AllByRecursion, concat}
-use Rattle.std.proofs.lemmas.List.{append-nil, append_assoc, set-get_or}
+use Rattle.std.specs.List.{AllByRecursion}
+use Rattle.std.proofs.lemmas.List.{append-nil, append_assoc}
 use Rattle.lc_model.specs.Name.{Name}
 use Rattle.lc_model.specs.Packet.{message_id, tick_mid, header_fault}
-use Rattle.lc_model.specs.Refusal.{Refusal}
 use Rattle.lc_model.specs.Kept.Summary.{AppState}
 use Rattle.lc_model.specs.Kept.Call.{silent}
 use Rattle.lc_model.specs.Kept.Executive.{Pipe, hears, offered, published_to, all_published_to}
 use Rattle.lc_model.specs.Kept.GoesWith.{own_name, subscriptions_of}
 use Rattle.lc_model.specs.Laws.Bus.{IsShort}
-use Rattle.lc_model.specs.Services.Bus.{Bus, Queue, Publication, pipe_at, pipe_depth, seen, seen_pipe, is_blocked, publish_refusal}
+use Rattle.lc_model.specs.Services.Bus.{Bus, Queue, Publication, pipe_depth, seen, seen_pipe, is_blocked, publish_refusal}
 use Rattle.lc_model.specs.Services.Events.{EventService, Sender, sender_at}
 use Rattle.lc_model.specs.Services.Tables.{Table, TableService, tables_at}
 use Rattle.lc_model.specs.Services.Interface.{Held, MayBeGiven, MayPublish, IsGiven, IsOwnPipe, BelongsTo, most_published, seen_at, waiting_in, is_table_of}

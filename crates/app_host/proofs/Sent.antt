@@ -1,15 +1,18 @@
 -- Requests that are sent one after the other, and those of the Limit Checker beside events.
-use Rattle.std.proofs.Common.{◌≡◌, ◌≢◌, refl, ap, sym, ◌∙◌, subst, ℕ, zero, suc, ◌+◌, ◌-◌, ◌%◌, ◌≤◌, ◌<◌, Bool, true, false, ◌==◌, List, [], ◌∷◌, ◌++◌, length, map, drop, take, replicate, arith, if◌then◌else◌, Option, Some, None, get_or}
-use Rattle.std.specs.Prelude.{IsTrue, is_some, option_map, slice_index_or, slice_set}
+use Rattle.std.proofs.Common.{◌≡◌, refl, ap, sym, ◌∙◌, subst, ℕ, zero, suc, ◌+◌, ◌-◌, ◌%◌, ◌≤◌, ◌<◌, Bool, true, false, ◌==◌, List, [], ◌∷◌, ◌++◌, length, map, drop, take, replicate, arith, if◌then◌else◌, Option, Some, None}
+use Rattle.std.specs.Prelude.{IsTrue, is_some, option_map, slice_set}
 use Rattle.std.specs.Option.{option_map_or}
 use Rattle.std.specs.List.{concat}
-use Rattle.std.proofs.lemmas.List.{append-nil, append_assoc, get_or-set_same, get_or-set_other, length-map, length-append}
+use Rattle.std.proofs.lemmas.List.{append-nil, append_assoc, get_or-set_same, get_or-set_other, length-map, length-append, length-replicate}
 use Rattle.std.proofs.lemmas.Slice.Eq.{bytes_eq-Decides}
 use Rattle.lc_model.specs.declared.record.Moment.{Moment}
+use Rattle.lc_model.specs.declared.mode.LcMode.{LcMode}
+use Rattle.lc_model.specs.Bytes.{u16, u32}
+use Rattle.lc_model.specs.Codes.{mode_code}
 use Rattle.lc_model.specs.Name.{Name, is_named}
-use Rattle.lc_model.specs.Packet.{event_mid, sequence_mid}
-use Rattle.lc_model.specs.Events.Request.{Request, Sequence}
-use Rattle.lc_model.specs.Events.Outgoing.{sequence_request}
+use Rattle.lc_model.specs.Packet.{event_mid, sequence_mid, lc_housekeeping_mid, primary_header, telemetry}
+use Rattle.lc_model.specs.Events.Request.{Request, Sequence, Housekeeping, Standing}
+use Rattle.lc_model.specs.Events.Outgoing.{sequence_request, standing_byte}
 use Rattle.lc_model.specs.Kept.Summary.{EventState}
 use Rattle.lc_model.specs.Kept.Next.{Accounts, next_delivered, next_all_delivered, counts_after}
 use Rattle.lc_model.specs.Kept.Call.{ServicesNow, with_at, accounted, sent_by}
@@ -206,3 +209,60 @@ counted_alone mid origin name request packet before after sender delivered insid
 pub sequence_delivered : (moment : Moment) (number count : ℕ) (old : Accounts) → old.counts sequence_mid ≡ count →
     next_delivered moment (Sequence number) old ≡ (record old { counts = counts_after sequence_mid old.counts }, sequence_request count number ∷ [])
 sequence_delivered moment number count old is = λ i. (record old { counts = counts_after sequence_mid old.counts }, sequence_request (is i) number ∷ [])
+
+pub housekeeping_delivered : (moment : Moment) (mode : LcMode) (points : List Standing) (bytes : List ℕ) (count : ℕ) → map standing_byte points ≡ bytes → (old : Accounts) →
+    old.counts lc_housekeeping_mid ≡ count →
+    next_delivered moment (Housekeeping mode points) old
+    ≡ (record old { counts = counts_after lc_housekeeping_mid old.counts }, telemetry lc_housekeeping_mid count moment (u16 (mode_code mode) ++ u16 (length bytes) ++ bytes ++ replicate (176 - length bytes) 255) ∷ [])
+housekeeping_delivered moment mode points bytes count are old is =
+    let same : length points ≡ length bytes = sym (length-map points standing_byte) ∙ ap length are in
+    λ i. (
+      record old { counts = counts_after lc_housekeeping_mid old.counts },
+      telemetry lc_housekeeping_mid (is i) moment (u16 (mode_code mode) ++ u16 (same i) ++ are i ++ replicate (176 - same i) 255) ∷ [],
+    )
+
+one_behind_the_other : (a b c d e f : List ℕ) → ((((a ++ b) ++ c) ++ d) ++ e) ++ f ≡ a ++ (b ++ (c ++ d ++ e ++ f))
+one_behind_the_other a b c d e f = simp append_assoc refl
+
+-- what is written one behind the other is the packet
+pub housekeeping_written : (before header mode rules standings rest after : List ℕ) (count : ℕ) (moment : Moment) →
+    header ≡ primary_header lc_housekeeping_mid count 192 ++ u32 moment.seconds ++ u16 moment.subseconds → length mode ≡ 2 → length rules ≡ 2 → length standings ≤ 176 → length rest ≡ 176 - length standings →
+    after ≡ ((((before ++ header) ++ mode) ++ rules) ++ standings) ++ rest → after ≡ before ++ telemetry lc_housekeeping_mid count moment (mode ++ rules ++ standings ++ rest)
+housekeeping_written before header mode rules standings rest after count moment is two again few left all =
+    let payload : List ℕ = mode ++ rules ++ standings ++ rest in
+    let size : length payload ≡ 180 =
+    let a : length payload ≡ length (mode ++ rules ++ standings) + length rest = length-append (mode ++ rules ++ standings) rest in
+    let b : length (mode ++ rules ++ standings) ≡ length (mode ++ rules) + length standings = length-append (mode ++ rules) standings in
+    let c : length (mode ++ rules) ≡ length mode + length rules = length-append mode rules in
+    omega (arith, a, b, c, two, again, few, left) in
+    let whole : 12 + length payload ≡ 192 = omega (arith, size) in
+    all
+    ∙ one_behind_the_other before header mode rules standings rest
+    ∙ ap (λ bytes. before ++ (bytes ++ payload)) is
+    ∙ ap (λ n. before ++ (primary_header lc_housekeeping_mid count n ++ u32 moment.seconds ++ u16 moment.subseconds ++ payload)) (sym whole)
+
+-- the same by the numbers that are written
+pub housekeeping_there : (before header mode rules standings rest after a b c d : List ℕ) (count number : ℕ) (moment : Moment) →
+    header ≡ primary_header lc_housekeeping_mid count 192 ++ u32 moment.seconds ++ u16 moment.subseconds → mode ≡ u16 number → rules ≡ u16 (length standings) →
+    length standings ≤ 176 → rest ≡ replicate (176 - length standings) 255 →
+    a ≡ before ++ header → b ≡ a ++ mode → c ≡ b ++ rules → d ≡ c ++ standings → after ≡ d ++ rest →
+    after ≡ before ++ telemetry lc_housekeeping_mid count moment (u16 number ++ u16 (length standings) ++ standings ++ replicate (176 - length standings) 255)
+housekeeping_there before header mode rules standings rest after a b c d count number moment is mode_is rules_are few left first second third fourth fifth =
+    housekeeping_written before header (u16 number) (u16 (length standings)) standings (replicate (176 - length standings) 255) after count moment is refl refl few
+    (length-replicate (176 - length standings) 255)
+    (fifth ∙ (λ i. fourth i ++ left i) ∙ ap (λ x. (x ++ standings) ++ replicate (176 - length standings) 255) (third ∙ (λ i. second i ++ rules_are i) ∙ (λ i. (first i ++ mode_is i) ++ u16 (length standings))))
+
+abbrev blanks : ℕ → List ℕ
+blanks n = replicate n 255
+
+all_blanks : (n : ℕ) → take n (blanks n) ≡ blanks n
+all_blanks zero = refl
+all_blanks (suc n) = ap (λ rest. 255 ∷ rest) (all_blanks n)
+
+blanks_behind : (k n left : ℕ) → k + left ≡ n → take left (drop k (blanks n)) ≡ blanks left
+blanks_behind zero n left sum = let same : left ≡ n = omega (arith, sum) in subst (λ m. take left (blanks m) ≡ blanks left) same (all_blanks left)
+blanks_behind (suc k) zero left sum = absurd (omega (arith, sum))
+blanks_behind (suc k) (suc n) left sum = blanks_behind k n left (omega (arith, sum))
+
+pub filler : (standings : List ℕ) → length standings ≤ 176 → take (176 - length standings) (drop (length standings) (blanks 176)) ≡ blanks (176 - length standings)
+filler standings few = blanks_behind (length standings) 176 (176 - length standings) (omega (arith, few))

@@ -1,7 +1,9 @@
 -- That what is sent one after the other is sent as the host in numbers sends it.
-use Rattle.std.specs.Prelude.{◌≡◌, ℕ, List, [], ◌∷◌, ◌++◌}
+use Rattle.std.specs.Prelude.{◌≡◌, ℕ, List, [], ◌∷◌, ◌++◌, map}
 use Rattle.lc_model.specs.Name.{Name}
-use Rattle.lc_model.specs.Events.Request.{Request, Sequence}
+use Rattle.lc_model.specs.declared.mode.LcMode.{LcMode}
+use Rattle.lc_model.specs.Events.Request.{Request, Sequence, Housekeeping, Standing}
+use Rattle.lc_model.specs.Events.Outgoing.{standing_byte}
 use Rattle.lc_model.specs.Kept.GoesWith.{IsSender}
 use Rattle.lc_model.specs.Services.Events.{Origin}
 use Rattle.app_host.specs.declared.services.Services.{Services}
@@ -25,3 +27,7 @@ TellingKeepsSenders = (origin : Origin) (name : Name) (requests : List Request) 
 -- of whatever sender: only sequence counts change
 abbrev pub RequestsSequence : ℕ → Services → Services → Type 0
 RequestsSequence number before after = (origin : Origin) (name : Name) → IsSender name (shared before) → Tells origin name (Sequence number ∷ []) before after
+
+abbrev pub SendsHousekeeping : LcMode → List ℕ → Services → Services → Type 0
+SendsHousekeeping mode bytes before after = (origin : Origin) (name : Name) (points : List Standing) → map standing_byte points ≡ bytes →
+    IsSender name (shared before) → Tells origin name (Housekeeping mode points ∷ []) before after

@@ -1,4 +1,4 @@
-use Rattle.std.proofs.Common.{refl, ◌∙◌, sym, ap, [], ◌∷◌}
+use Rattle.std.proofs.Common.{refl, ◌∙◌}
 use Rattle.lc_model.specs.Services.Bus.{seen}
 use Rattle.app_host.proofs.Seats.{is_taken}
 use Rattle.app_host.proofs.Published.{not_refused, one_published, where_taken}

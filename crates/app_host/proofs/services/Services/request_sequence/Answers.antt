@@ -1,4 +1,4 @@
-use Rattle.std.proofs.Common.{refl, ◌∙◌, sym, ap, ◌∷◌, []}
+use Rattle.std.proofs.Common.{refl, ◌∙◌, sym, ◌∷◌, []}
 use Rattle.lc_model.specs.Packet.{sequence_mid}
 use Rattle.lc_model.specs.Events.Request.{Sequence}
 use Rattle.lc_model.specs.Kept.Next.{counts_after}
