@@ -1,6 +1,6 @@
 -- A packet that leaves the tables alone is answered by the rules of the interface and as the definitions say.
-use Rattle.std.proofs.Common.{◌≡◌, refl, ap, sym, ◌∙◌, subst, ℕ, ◌+◌, ◌≤◌, Bool, true, false, ◌==◌, List, [], ◌∷◌, ◌++◌, length, map, arith, Option, Some, None, Result, Ok, Err, true≢false, if◌then◌else◌}
-use Rattle.std.specs.Prelude.{IfSome, IsSomeAnd, IsTrue, is_some, option_map, unwrap_or}
+use Rattle.std.proofs.Common.{◌≡◌, refl, ap, sym, ◌∙◌, subst, ℕ, ◌+◌, ◌≤◌, Bool, true, false, List, [], ◌∷◌, length, map, arith, Option, Some, None, true≢false, if◌then◌else◌}
+use Rattle.std.specs.Prelude.{IfSome, IsTrue, is_some, unwrap_or}
 use Rattle.std.proofs.lemmas.Slice.Eq.{bytes_eq-Decides}
 use Rattle.lc_model.specs.declared.kind.Kind.TheVariants.{Wdt, Adt}
 use Rattle.lc_model.specs.declared.field.Term.{Term}
@@ -10,11 +10,11 @@ use Rattle.lc_model.specs.Packet.{lc_command_mid, lc_housekeeping_request_mid, s
 use Rattle.lc_model.specs.Events.Request.{Request}
 use Rattle.lc_model.specs.LimitChecker.Steps.{Point}
 use Rattle.lc_model.specs.Tables.File.{table_name}
-use Rattle.lc_model.specs.Tables.Slot.{Slot, no_images}
-use Rattle.lc_model.specs.Kept.Summary.{AppState, LcState, LcNow, LcOwn, Tally, WatchResult, lc_own, terms_in, rules_in}
-use Rattle.lc_model.specs.Kept.Call.{ServicesNow, Called, with_at, with_mids, with_tables, lc_with, lc_told, lc_subscriptions, slot_named, told, effort_after, next_lc_packet, next_on_packet}
+use Rattle.lc_model.specs.Tables.Slot.{no_images}
+use Rattle.lc_model.specs.Kept.Summary.{LcState, LcNow, LcOwn, Tally, WatchResult, lc_own}
+use Rattle.lc_model.specs.Kept.Call.{ServicesNow, with_at, with_mids, with_tables, lc_with, lc_told, lc_subscriptions, slot_named, told, effort_after, next_lc_packet, next_on_packet}
 use Rattle.lc_model.specs.Kept.GoesWith.{LcGoesWith, subscriptions_of}
-use Rattle.lc_model.specs.Services.Interface.{MayBeGiven, IsGiven}
+use Rattle.lc_model.specs.Services.Interface.{MayBeGiven}
 use Rattle.lc_model.specs.Services.Settled.{IsSettled}
 use Rattle.lc_model.specs.Services.Events.{Sender, sender_at}
 use Rattle.app_host.specs.declared.services.Services.{Services}

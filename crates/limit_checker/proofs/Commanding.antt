@@ -1,9 +1,8 @@
 -- Commands and telemetry, as the application answers them.
-use Rattle.std.proofs.Common.{◌≡◌, refl, ap, sym, ◌∙◌, subst, ℕ, ◌+◌, ◌≤◌, Bool, true, false, not, ◌&&◌, ◌==◌, List, [], ◌∷◌, ◌++◌, length, map, arith, Option, Some, None, Result, Ok, Err, true≢false, if◌then◌else◌}
-use Rattle.std.specs.Prelude.{IfSome, IfOk, IsSomeAnd, option_map, nat_le}
+use Rattle.std.proofs.Common.{◌≡◌, refl, ap, sym, ◌∙◌, subst, ℕ, ◌+◌, ◌≤◌, Bool, true, false, not, ◌&&◌, ◌==◌, List, [], ◌∷◌, length, arith, Option, Some, None, Result, Ok, Err, if◌then◌else◌}
+use Rattle.std.specs.Prelude.{IfSome, IfOk, nat_le}
 use Rattle.lc_model.specs.declared.mode.LcMode.{LcMode}
-use Rattle.lc_model.specs.declared.mode.ApMode.{ApMode}
-use Rattle.lc_model.specs.Name.{Name, lc_name}
+use Rattle.lc_model.specs.Name.{lc_name}
 use Rattle.lc_model.specs.Packet.{message_id, function_code, payload, lc_command_mid, lc_housekeeping_request_mid, sample_mid, is_telemetry_mid}
 use Rattle.lc_model.specs.Refusal.{Refusal, ◌>>=◌, found}
 use Rattle.lc_model.specs.Command.{LcCommand, NoOperation, SetMode, SetState, TurnPermanentlyOff, lc_command, mode_numbered, sample_request}
@@ -11,12 +10,11 @@ use Rattle.lc_model.specs.Events.Request.{Request, lc_command_done, lc_command_r
 use Rattle.lc_model.specs.LimitChecker.Steps as steps
 use Rattle.lc_model.specs.LimitChecker.Steps.{Point, lc_obeyed, lc_commanded, lc_housekeeping, one_set, states_set, turned_permanently_off, is_disabled, is_short}
 use Rattle.lc_model.specs.Kept.Summary.{LcNow, LcOwn, Tally, WatchResult}
-use Rattle.lc_model.specs.Kept.Effort.{Effort}
 use Rattle.lc_model.specs.Kept.Next.{by_counts}
 use Rattle.lc_model.specs.Kept.Call.{ServicesNow, lc_with, effort_after, sample_effort, telemetry_effort, telemetry_seen, sample_taken, next_lc_packet}
-use Rattle.lc_model.proofs.Facts.{test_equal, tested_equal, tested_at_most, and_second}
+use Rattle.lc_model.proofs.Facts.{tested_equal, tested_at_most, and_second}
 use Rattle.app_host.specs.declared.services.Services.{Services}
-use Rattle.app_host.specs.Shared.{on_board, held_by, shared}
+use Rattle.app_host.specs.Shared.{on_board, shared}
 use Rattle.app_host.specs.Telling.{Tells}
 use Rattle.app_host.specs.Statements.{TellingAnswers, TellingLeaves, TellingSettles}
 use Rattle.app_host.specs.Sending.{NothingIsTold}
@@ -24,7 +22,7 @@ use Rattle.limit_checker.specs.Application.{IsHome, MayHave, Answers}
 use Rattle.limit_checker.specs.Commands.{own_obeyed, own_commanded}
 use Rattle.limit_checker.specs.Engine.{after_telemetry, tells_short}
 use Rattle.limit_checker.specs.States.{outcome, unless_refused}
-use Rattle.limit_checker.proofs.Answering.{own_with, now_with, answers, little_after}
+use Rattle.limit_checker.proofs.Answering.{now_with, answers, little_after}
 
 -- ---- a command
 

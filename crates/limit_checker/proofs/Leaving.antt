@@ -1,21 +1,19 @@
 -- The application gives its seat back.
-use Rattle.std.proofs.Common.{◌≡◌, refl, ap, sym, ◌∙◌, subst, ℕ, List, [], ◌∷◌, map, Option, Some, None}
-use Rattle.std.specs.Prelude.{IfSome, IsSomeAnd, IsTrue, is_some, option_map}
+use Rattle.std.proofs.Common.{◌≡◌, refl, ap, sym, ◌∙◌, ℕ, List, [], ◌∷◌, map, Option, Some, None}
+use Rattle.std.specs.Prelude.{IfSome}
 use Rattle.lc_model.specs.declared.kind.Kind.TheVariants.{Wdt, Adt}
 use Rattle.lc_model.specs.Laws.TablesByName.{UnregisteringTables, withdrawn}
-use Rattle.lc_model.specs.Name.{Name, lc_name}
+use Rattle.lc_model.specs.Name.{lc_name}
 use Rattle.lc_model.specs.Tables.File.{table_name}
-use Rattle.lc_model.specs.Tables.Slot.{Slot}
 use Rattle.lc_model.specs.Kept.Summary.{LcOwn, LcState}
 use Rattle.lc_model.specs.Kept.Call.{with_at, next_retire}
-use Rattle.lc_model.specs.Services.Events.{Sender, sender_at}
 use Rattle.lc_model.specs.Services.Interface.{IsRetired}
 use Rattle.lc_model.specs.Services.Seen.{slot_among}
 use Rattle.lc_model.specs.Services.Settled.{Form, form_of}
-use Rattle.lc_model.specs.Services.Tables.{Table, IsTableService, tables_at, tables_unregistered}
+use Rattle.lc_model.specs.Services.Tables.{Table, IsTableService, tables_at}
 use Rattle.app_host.specs.declared.services.Services.{Services}
 use Rattle.app_host.specs.Shared.{held_by, shared}
-use Rattle.app_host.specs.Seating.{IsClosed, HasPipeAndSender}
+use Rattle.app_host.specs.Seating.{IsClosed}
 use Rattle.app_host.specs.Calls.{LeavesEmpty}
 use Rattle.app_host.specs.Statements.{ClosingRetires, ClosingLeaves}
 use Rattle.limit_checker.specs.Application.{IsHome}

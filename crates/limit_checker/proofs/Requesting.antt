@@ -1,16 +1,15 @@
 -- What a sample asks for, as it is sent.
-use Rattle.std.proofs.Common.{◌≡◌, refl, ap, sym, ◌∙◌, subst, ℕ, zero, suc, ◌+◌, ◌≤◌, ◌<◌, List, [], ◌∷◌, ◌++◌, length, take, drop, get_or, arith, Option, Some, None, min}
-use Rattle.std.specs.Prelude.{IfSome, IsSomeAnd, option_map, slice_get, flat_map}
+use Rattle.std.proofs.Common.{◌≡◌, refl, ap, sym, ◌∙◌, subst, ℕ, zero, suc, ◌+◌, ◌≤◌, ◌<◌, List, [], ◌∷◌, ◌++◌, length, take, get_or, arith, Option, Some, None}
+use Rattle.std.specs.Prelude.{IfSome, slice_get}
 use Rattle.std.proofs.lemmas.List.{take_more, append_assoc, append-nil}
 use Rattle.lc_model.specs.Count.{capped}
-use Rattle.lc_model.specs.Name.{Name, lc_name}
+use Rattle.lc_model.specs.Name.{lc_name}
 use Rattle.lc_model.specs.Events.Request.{Request, Event, Sequence, rule_failed}
 use Rattle.lc_model.specs.Rule.{Actionpoint}
 use Rattle.lc_model.specs.Kept.Summary.{LcOwn}
 use Rattle.lc_model.specs.Services.Events.{Origin, Sender, sender_at}
 use Rattle.app_host.specs.declared.services.Services.{Services}
-use Rattle.app_host.specs.Shared.{shared}
-use Rattle.app_host.specs.Telling.{Tells, name_of}
+use Rattle.app_host.specs.Telling.{Tells}
 use Rattle.app_host.specs.Sending.{NothingIsTold, TellingGoesOn, TellingKeepsSenders, RequestsSequence}
 use Rattle.app_host.specs.Statements.{TellingIsByName}
 use Rattle.limit_checker.specs.declared.checker.RuleEvent.{RuleEvent}

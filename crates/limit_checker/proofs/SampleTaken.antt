@@ -1,8 +1,8 @@
 -- A sample request, as the application answers it.
-use Rattle.std.proofs.Common.{◌≡◌, refl, ap, sym, ◌∙◌, subst, ℕ, ◌+◌, ◌≤◌, Bool, true, false, ◌==◌, List, [], ◌∷◌, ◌++◌, length, arith, Option, Some, None, Result, Ok, Err, if◌then◌else◌}
-use Rattle.std.specs.Prelude.{IfSome, IsSomeAnd}
+use Rattle.std.proofs.Common.{◌≡◌, refl, ap, sym, ◌∙◌, ℕ, ◌+◌, ◌≤◌, Bool, true, false, ◌==◌, List, [], ◌∷◌, length, arith, Option, Some, None, Result, Ok, Err, if◌then◌else◌}
+use Rattle.std.specs.Prelude.{IfSome}
 use Rattle.lc_model.specs.declared.command.SampleRequest.{SampleRequest}
-use Rattle.lc_model.specs.Name.{Name, lc_name}
+use Rattle.lc_model.specs.Name.{lc_name}
 use Rattle.lc_model.specs.Packet.{message_id, function_code, payload, lc_command_mid, lc_housekeeping_request_mid, sample_mid, is_telemetry_mid}
 use Rattle.lc_model.specs.Refusal.{Refusal, ◌>>=◌}
 use Rattle.lc_model.specs.Command.{sample_request}
@@ -10,19 +10,18 @@ use Rattle.lc_model.specs.Events.Request.{Request, lc_command_refused}
 use Rattle.lc_model.specs.LimitChecker.Steps as steps
 use Rattle.lc_model.specs.LimitChecker.Steps.{Point, lc_commanded, lc_housekeeping, is_disabled, sampled_over, sampled_points}
 use Rattle.lc_model.specs.Kept.Summary.{LcNow, LcOwn, Tally, WatchResult}
-use Rattle.lc_model.specs.Kept.Effort.{Effort, sampled_words}
 use Rattle.lc_model.specs.Kept.Next.{by_counts}
 use Rattle.lc_model.specs.Kept.Call.{ServicesNow, lc_with, effort_after, sample_effort, telemetry_effort, telemetry_seen, sample_taken, next_lc_packet}
 use Rattle.app_host.specs.declared.services.Services.{Services}
-use Rattle.app_host.specs.Shared.{on_board, held_by, shared}
+use Rattle.app_host.specs.Shared.{on_board, shared}
 use Rattle.app_host.specs.Telling.{Tells}
 use Rattle.app_host.specs.Statements.{TellingAnswers, TellingLeaves, TellingSettles}
 use Rattle.limit_checker.specs.Application.{IsHome, MayHave, Answers}
 use Rattle.limit_checker.specs.Engine.{after_sample, points_sampled, words_sampled}
 use Rattle.limit_checker.specs.declared.reaction.Asked.{Asked}
 use Rattle.limit_checker.specs.Reactions.{requests_in}
-use Rattle.limit_checker.specs.Sending.{MaySend, sizes}
-use Rattle.limit_checker.proofs.Answering.{own_with, now_with, answers, little_after}
+use Rattle.limit_checker.specs.Sending.{sizes}
+use Rattle.limit_checker.proofs.Answering.{now_with, answers, little_after}
 use Rattle.limit_checker.proofs.Sizes.{sample_few}
 
 module _ (packet : List ℕ) (own : LcOwn) (kind : message_id packet ≡ sample_mid) where

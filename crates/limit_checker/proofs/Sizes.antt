@@ -1,5 +1,5 @@
 -- How many bytes a sample asks for at most.
-use Rattle.std.proofs.Common.{◌≡◌, refl, ap, sym, ◌∙◌, subst, ℕ, suc, ◌+◌, ◌*◌, ◌≤◌, Bool, true, false, ◌&&◌, List, [], ◌∷◌, ◌++◌, length, map, arith, Option, Some, None, if◌then◌else◌}
+use Rattle.std.proofs.Common.{◌≡◌, ℕ, ◌+◌, ◌*◌, ◌≤◌, Bool, true, false, ◌&&◌, List, [], ◌∷◌, ◌++◌, length, arith, Option, if◌then◌else◌}
 use Rattle.std.specs.Prelude.{nat_le}
 use Rattle.lc_model.specs.declared.field.Term.{Term}
 use Rattle.lc_model.specs.declared.mode.LcMode.{LcMode}
@@ -12,13 +12,13 @@ use Rattle.lc_model.specs.declared.command.SampleRequest.{SampleRequest}
 use Rattle.lc_model.specs.Command.{takes}
 use Rattle.lc_model.specs.Events.Request.{Request, failed_passive, turned_to_fail, turned_to_pass}
 use Rattle.lc_model.specs.LimitChecker.Past.{is_result}
-use Rattle.lc_model.specs.LimitChecker.Reaction.{Reaction, failure_requests}
+use Rattle.lc_model.specs.LimitChecker.Reaction.{failure_requests}
 use Rattle.lc_model.specs.LimitChecker.Steps.{Point, is_disabled, is_sampled, sampled_point, sampled_points}
 use Rattle.lc_model.specs.Rule.{Actionpoint}
 use Rattle.lc_model.specs.Kept.Summary.{LcOwn, Tally, WatchResult}
 use Rattle.lc_model.specs.Kept.Next.{by_counts, is_last, tally_after, next_turn_reports, next_on_failure, next_reaction}
 use Rattle.limit_checker.specs.Engine.{points_sampled}
-use Rattle.limit_checker.specs.Sending.{size_of, sizes}
+use Rattle.limit_checker.specs.Sending.{sizes}
 
 pub both : (xs ys : List Request) → sizes (xs ++ ys) ≡ sizes xs + sizes ys
 both [] ys = omega arith

@@ -1,4 +1,4 @@
-use Rattle.std.proofs.Common.{◌≡◌, ◌≤◌, length, refl, sym, ◌∙◌, ap, subst, [], ◌∷◌, arith}
+use Rattle.std.proofs.Common.{refl, sym, ◌∙◌, ap, [], ◌∷◌, arith}
 use Rattle.lc_model.specs.declared.rule.EventKind.TheVariants.{Error}
 use Rattle.lc_model.specs.Name.{lc_name}
 use Rattle.lc_model.specs.Command.{answer_of, refusal_number}

@@ -1,4 +1,3 @@
-use Rattle.std.proofs.Common.{arith}
 use Rattle.limit_checker.proofs.Requesting.{has_room, told_so_far, size_so_far}
 use Rattle.limit_checker.proofs.application.reacting.tell_all.Goals as goal
 

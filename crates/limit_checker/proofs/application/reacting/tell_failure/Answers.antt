@@ -1,4 +1,4 @@
-use Rattle.std.proofs.Common.{Some, sym, ap, subst}
+use Rattle.std.proofs.Common.{Some, sym, subst}
 use Rattle.lc_model.specs.Name.{lc_name}
 use Rattle.app_host.specs.Telling.{Tells}
 use Rattle.limit_checker.specs.Reactions.{failure_requests}

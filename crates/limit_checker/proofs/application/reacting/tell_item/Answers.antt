@@ -1,4 +1,4 @@
-use Rattle.std.proofs.Common.{◌<◌, ◌≤◌, length, arith}
+use Rattle.std.proofs.Common.{◌<◌, length, arith}
 use Rattle.limit_checker.proofs.Requesting.{item_told, item_size, no_item, still_may_send}
 use Rattle.limit_checker.proofs.application.reacting.tell_item.Goals as goal
 
