@@ -19,3 +19,4 @@ mod Sizes
 mod Requesting
 mod SampleTaken
 mod Leaving
+mod Stands

@@ -4,7 +4,8 @@ use Rattle.std.specs.Prelude.{IfSome, slice_get}
 use Rattle.std.proofs.lemmas.List.{take_more, append_assoc, append-nil}
 use Rattle.lc_model.specs.Count.{capped}
 use Rattle.lc_model.specs.Name.{lc_name}
-use Rattle.lc_model.specs.Events.Request.{Request, Event, Sequence, rule_failed}
+use Rattle.lc_model.specs.Events.Request.{Request, Event, Housekeeping, Sequence, Standing, rule_failed}
+use Rattle.lc_model.specs.declared.mode.LcMode.{LcMode}
 use Rattle.lc_model.specs.Rule.{Actionpoint}
 use Rattle.lc_model.specs.Kept.Summary.{LcOwn}
 use Rattle.lc_model.specs.Services.Events.{Origin, Sender, sender_at}
@@ -161,3 +162,8 @@ pub size_so_far : (rules : List Actionpoint) (asked : List Asked) (k : ℕ) (def
 size_so_far rules asked k default more now new first far one =
     let sum = size_of_more rules asked k default more in
     omega (arith, sum, far, one)
+
+-- the same mode is told
+pub tells_mode : (from : Origin) (points : List Standing) (before after : Services) {mode told : LcMode} → told ≡ mode → Tells from lc_name (Housekeeping told points ∷ []) before after →
+    Tells from lc_name (Housekeeping mode points ∷ []) before after
+tells_mode from points before after is tells = subst (λ m. Tells from lc_name (Housekeeping m points ∷ []) before after) is tells

@@ -15,3 +15,4 @@ pub mod Packed
 pub mod Application
 pub mod Commands
 pub mod Sending
+pub mod Standings

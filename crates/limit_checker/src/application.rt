@@ -1,6 +1,11 @@
 //! The application `LC` (cFS Limit Checker user's guide), over the services that applications share.
 
-ghost use Rattle.std.specs.Prelude.{◌≡◌, true, [], None, IfOk, IfSome};
+ghost use Rattle.std.specs.Prelude.{◌≡◌, ◌+◌, ◌≤◌, true, [], ◌∷◌, length, map, None, IfOk, IfSome};
+ghost use Rattle.lc_model.specs.Events.Request.{Housekeeping};
+ghost use Rattle.lc_model.specs.Kept.Next.{by_counts};
+ghost use Rattle.lc_model.specs.LimitChecker.Steps.{standing};
+ghost use Rattle.app_host.specs.Telling.{Tells};
+ghost use Rattle.limit_checker.specs.Sending.{MaySend};
 ghost use Rattle.lc_model.specs.Packet.{message_id, lc_command_mid, sample_mid, is_telemetry_mid};
 ghost use Rattle.lc_model.specs.Name.{lc_name};
 ghost use Rattle.lc_model.specs.Kept.Call.{next_retire};
@@ -15,6 +20,7 @@ ghost use Rattle.limit_checker.specs.Application.{IsHome, MayHave, Answers};
 mod asked;
 mod command;
 mod reacting;
+mod standings;
 
 use crate::application::asked::AskedList;
 use crate::checker::LimitChecker as Engine;
@@ -120,6 +126,17 @@ impl LimitChecker {
                 services.tell(self.seat, 9, EventKind::Error, text.as_bytes());
             }
         }
+    }
+
+    /// How the Limit Checker and its rules stand is told (message id 0x08A7). Condition: room for the packet's 192 bytes.
+    fn tell_standing(&self, services: &mut Services)
+        requires sends { MaySend self.now.seat services.old }
+        requires room { length services.old.outgoing + 192 ≤ 65536 }
+        ensures told { Tells self.now.seat lc_name (Housekeeping self.now.engine.mode (map (standing by_counts) self.now.engine.points) ∷ []) services.old services.new }
+        ensures size { length services.new.outgoing ≡ length services.old.outgoing + 192 }
+    {
+        let standings = standings::standings(&self.engine);
+        services.send_housekeeping(self.engine.mode(), standings.as_slice());
     }
 
     /// The seat is given back, with the pipe, the sender of events and the tables that are there. Conditions: nothing waits to be

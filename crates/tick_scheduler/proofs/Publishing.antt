@@ -1,25 +1,25 @@
 -- What the scheduler does at its seat, by the rules of the interface and by the definitions.
-use Rattle.std.proofs.Common.{◌≡◌, ◌≢◌, refl, ap, sym, ◌∙◌, subst, ℕ, suc, ◌+◌, ◌<◌, ◌≤◌, Bool, true, false, ◌==◌, List, [], ◌∷◌, ◌++◌, length, map, take, drop, arith, Option, Some, None, if◌then◌else◌, get_or}
-use Rattle.std.specs.Prelude.{IfSome, IsSomeAnd, option_map, nat_lt}
+use Rattle.std.proofs.Common.{◌≡◌, ◌≢◌, refl, ap, sym, ◌∙◌, subst, ℕ, ◌+◌, ◌<◌, ◌≤◌, Bool, true, false, ◌==◌, List, [], ◌∷◌, ◌++◌, length, map, take, drop, arith, Option, Some, None, if◌then◌else◌, get_or}
+use Rattle.std.specs.Prelude.{IfSome, IsSomeAnd}
 use Rattle.std.specs.List.{AllByRecursion}
 use Rattle.std.proofs.lemmas.List.{take_more, take_all, map-append, length-map}
-use Rattle.lc_model.specs.Name.{Name, sch_name}
+use Rattle.lc_model.specs.Name.{sch_name}
 use Rattle.lc_model.specs.Packet.{message_id, header_fault, tick_mid}
-use Rattle.lc_model.specs.Host.Schedule.{Schedule, ScheduleEntry, Sample, Housekeeping, entry_packet, entries_at}
+use Rattle.lc_model.specs.Host.Schedule.{Schedule, ScheduleEntry, Sample, Housekeeping, entry_packet}
 use Rattle.lc_model.specs.Kept.Summary.{AppState, SchState}
 use Rattle.lc_model.specs.Kept.Next.{next_tick}
 use Rattle.lc_model.specs.Kept.Call.{with_mids, sch_subscriptions, sch_told, silent, registered, next_start, next_on_packet, next_retire}
 use Rattle.lc_model.specs.Services.Bus.{Bus}
 use Rattle.lc_model.specs.Services.Tables.{Table, tables_at}
-use Rattle.lc_model.specs.Services.Interface.{MayBeStarted, MayBeGiven, MayPublish, IsStarted, IsGiven, IsRetired}
+use Rattle.lc_model.specs.Services.Interface.{MayBeStarted, MayBeGiven, MayPublish, IsGiven, IsRetired}
 use Rattle.lc_model.specs.Services.Settled.{IsSettled, form_of}
 use Rattle.lc_model.proofs.Facts.{tested_equal}
 use Rattle.app_host.specs.declared.services.Services.{Services}
 use Rattle.app_host.specs.Shared.{on_board, held_by, shared}
 use Rattle.app_host.specs.Seating.{IsOpened, IsClosed}
 use Rattle.app_host.specs.Calls.{IsAtHome, Leaves, LeavesEmpty}
-use Rattle.app_host.specs.Publishing.{AreShort, Publishes, NothingIsPublished, PublishingGoesOn, TicksHaveRoom, PublishingAnswers, PublishingLeaves, PublishingSettles}
-use Rattle.app_host.specs.Statements.{OpeningLeaves, OpeningSettles, SilenceAnswers, SilenceLeaves, ClosingRetires, ClosingLeaves, NoTablesGo}
+use Rattle.app_host.specs.Publishing.{AreShort, Publishes, PublishingGoesOn, TicksHaveRoom, PublishingAnswers, PublishingLeaves, PublishingSettles}
+use Rattle.app_host.specs.Statements.{OpeningLeaves, OpeningSettles, SilenceLeaves, ClosingRetires, ClosingLeaves, NoTablesGo}
 use Rattle.tick_scheduler.specs.declared.entry.Entry.{Entry}
 use Rattle.tick_scheduler.specs.Entry.{entry_of, entries_of}
 

@@ -1,5 +1,5 @@
 use Rattle.std.proofs.Common.{◌+◌, take, arith}
-use Rattle.tick_scheduler.proofs.Publishing.{written_is_good, packet_of_entry, one_entry_more, one_more_waits, all_entries}
+use Rattle.tick_scheduler.proofs.Publishing.{written_is_good, packet_of_entry, one_entry_more, one_more_waits}
 use Rattle.tick_scheduler.proofs.scheduler.publish_all.Goals as goal
 
 pub publish-requires-clause-good : goal.publish-requires-clause-good

@@ -1,4 +1,4 @@
-use Rattle.std.proofs.Common.{◌+◌, ℕ, take, map}
+use Rattle.std.proofs.Common.{◌+◌, take, map}
 use Rattle.lc_model.specs.Host.Schedule.{entry_packet}
 use Rattle.app_host.specs.Publishing.{AreShort, Publishes}
 use Rattle.tick_scheduler.specs.Entry.{entries_of}

@@ -1,4 +1,4 @@
-use Rattle.std.proofs.Common.{refl, sym, ◌∙◌, ap}
+use Rattle.std.proofs.Common.{sym, ◌∙◌, ap}
 use Rattle.lc_model.specs.Kept.Summary.{SchState}
 use Rattle.lc_model.specs.Packet.{message_id, tick_mid}
 use Rattle.lc_model.proofs.Facts.{test_equal}

@@ -1,4 +1,4 @@
-use Rattle.std.proofs.Common.{refl, sym, ◌∙◌, ap}
+use Rattle.std.proofs.Common.{◌∙◌, ap}
 use Rattle.lc_model.specs.Kept.Summary.{SchState}
 use Rattle.tick_scheduler.specs.Turn.{Turn}
 use Rattle.tick_scheduler.proofs.Publishing.{starts, start_settles}
