@@ -20,3 +20,5 @@ pub mod Departed
 pub mod Filed
 pub mod EventsObeyed
 pub mod EventsRead
+pub mod Published
+pub mod Sent

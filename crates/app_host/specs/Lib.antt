@@ -13,3 +13,5 @@ pub mod Writing
 pub mod Told
 pub mod Left
 pub mod Obeyed
+pub mod Publishing
+pub mod Sending

@@ -1,6 +1,6 @@
 //! The sequence counts of outgoing packets (CCSDS 133.0-B, packet sequence count).
 
-ghost use Rattle.std.specs.Prelude.{◌≡◌, ◌+◌, ◌%◌, ◌<◌, replicate, slice_set, IfOk};
+ghost use Rattle.std.specs.Prelude.{◌≡◌, ◌+◌, ◌%◌, ◌<◌, replicate, slice_set, length, IfOk};
 ghost use Rattle.lc_model.specs.Services.Seen.{count_among};
 
 use lc_model::packet::next_count;
@@ -46,6 +46,7 @@ impl Counts {
         ensures count { result ≡ count_among self.old message_id }
         ensures below { result < 16384 }
         ensures after { self.new ≡ slice_set self.old message_id ((count_among self.old message_id + 1) % 16384) }
+        ensures inside { message_id < length self.old }
     {
         let place = &mut self.counts[usize::from(message_id)];
         let count = *place;

@@ -17,7 +17,9 @@ mod outgoing;
 mod own_events;
 mod places;
 mod publication;
+pub mod publishing;
 mod seat;
+pub mod sending;
 mod services;
 
 pub use app::App;

@@ -13,3 +13,10 @@ pub mod SampledRules
 pub mod CountedWords
 pub mod Whole
 pub mod Packing
+mod Answering
+mod Commanding
+mod Sizes
+mod Requesting
+mod SampleTaken
+mod Leaving
+mod Stands

@@ -12,3 +12,7 @@ pub mod Entry
 pub mod Layout
 pub mod Tables
 pub mod Packed
+pub mod Application
+pub mod Commands
+pub mod Sending
+pub mod Standings

@@ -3,6 +3,7 @@
 #![tactic(auto)]
 
 mod actionpoint;
+pub mod application;
 mod checker;
 mod equation;
 mod field;

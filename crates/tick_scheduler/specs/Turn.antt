@@ -1,8 +1,9 @@
 -- A scheduler between two ticks. This project's own, after the cFS scheduler.
-use Rattle.std.specs.Prelude.{ℕ}
+use Rattle.std.specs.Prelude.{ℕ, Option}
 use Rattle.lc_model.specs.Host.Schedule.{Schedule}
 
--- its schedule, and the slot of the next tick
+-- its schedule, the slot of the next tick, and the seat that it holds
 pub record Turn : Type 0 where
   pub schedule : Schedule
   pub slot : ℕ
+  pub seat : Option ℕ

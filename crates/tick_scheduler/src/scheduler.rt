@@ -1,51 +1,71 @@
-//! The scheduler: its schedule, and the slot of the next tick.
+//! The scheduler: its schedule, the slot of the next tick, and the application of that name.
 
-ghost use Rattle.std.specs.Prelude.{◌≡◌, ◌<◌, ◌≤◌, length, map, IfOk};
-ghost use Rattle.lc_model.specs.Host.Schedule.{entry_packet};
+ghost use Rattle.std.specs.Prelude.{◌≡◌, ◌<◌, ◌≤◌, length, map, None, IfOk};
+ghost use Rattle.lc_model.specs.Host.Schedule.{entry_packet, IsSchedule};
 ghost use Rattle.lc_model.specs.Kept.Next.{next_tick};
 ghost use Rattle.tick_scheduler.specs.Entry.{entries_of};
+ghost use Rattle.app_host.specs.Publishing.{AreShort, Publishes};
 
-use crate::entry::Entry;
+use crate::entry::{Entry, PACKET_SIZE};
 use crate::schedule::Schedule;
+use app_host::laws::seats_are_kept_by_the_rules;
+use app_host::publishing::publishing_is_by_the_rules;
+use app_host::{App, Services};
+use lc_model::laws::bus::bus_has_room;
+use lc_model::packet::message_id;
+use lc_model::{Seat, mids};
 use std::alloc::{AllocError, Global};
 use std::marker::Model;
 
-/// A scheduler with a copy of its schedule. Contracts see both parts (`Turn`).
+const NAME: &[u8] = b"SCH";
+
+/// A scheduler with a copy of its schedule: the application `SCH`. At its nth tick, from 0, it publishes the entries of slot n
+/// modulo the number of slots, in order. Contracts see its three parts (`Turn`).
 #[derive(Debug, Drop)]
 pub struct Scheduler {
     schedule: Schedule,
     slot: usize,
+    seat: Option<Seat>,
 }
 
 impl Model for Scheduler {
     ghost use Rattle.std.specs.Prelude.{length, ◌<◌};
+    ghost use Rattle.lc_model.specs.Host.Schedule.{IsSchedule};
     ghost use Rattle.tick_scheduler.specs.Turn.{Turn};
 
     ghost Value = { Turn };
 
-    ghost view = { λ s. record { schedule = s.schedule; slot = s.slot } };
+    ghost view = { λ s. record { schedule = s.schedule; slot = s.slot; seat = s.seat } };
 
-    ghost invariant = { λ s. s.slot < length s.schedule };
+    ghost invariant = { λ s. (s.slot < length s.schedule) × IsSchedule s.schedule };
 }
 
 impl Scheduler {
-    /// A scheduler in front of its first tick, with a copy of the schedule. Out of memory is the only error.
+    /// A scheduler in front of its first tick, with a copy of the schedule, on no seat. Out of memory is the only error.
     pub fn new(alloc: Global, schedule: &Schedule) -> Result<Scheduler, AllocError>
-        ensures { IfOk result (λ scheduler. scheduler ≡ record { schedule = schedule.now; slot = 0 }) }
+        ensures { IfOk result (λ scheduler. scheduler ≡ record { schedule = schedule.now; slot = 0; seat = None }) }
     {
         let slots = schedule.len();
         let copy = schedule.copy(alloc)?;
         Ok(Scheduler {
             schedule: copy,
             slot: 0,
+            seat: None,
         })
     }
 
     /// The next tick is the first again.
     pub fn begin(&mut self)
-        ensures { self.new ≡ record { schedule = self.old.schedule; slot = 0 } }
+        ensures { self.new ≡ record self.old { slot = 0 } }
     {
         self.slot = 0;
+    }
+
+    /// What is scheduled is a schedule that a text can say.
+    fn has_schedule(&self)
+        ensures { IsSchedule self.now.schedule }
+    {
+        let slots = self.schedule.len();
     }
 
     /// What the next tick publishes, entry by entry: `Entry::write_packet` gives the packet of each.
@@ -59,9 +79,63 @@ impl Scheduler {
 
     /// The next tick is that of the slot behind, or of the first behind the last.
     pub fn move_on(&mut self)
-        ensures { self.new ≡ record { schedule = self.old.schedule; slot = (next_tick self.old.schedule self.old.slot).0 } }
+        ensures { self.new ≡ record self.old { slot = (next_tick self.old.schedule self.old.slot).0 } }
     {
         let slots = self.schedule.len();
         self.slot = (self.slot + 1) % slots;
+    }
+}
+
+impl App for Scheduler {
+    ghost use Rattle.lc_model.specs.Name.{sch_name};
+    ghost use Rattle.lc_model.specs.Kept.Summary.{SchState};
+
+    ghost state = { λ s. SchState s.schedule s.slot };
+
+    ghost called = { λ s. sch_name };
+
+    ghost held = { λ s. s.seat };
+
+    fn name(&self) -> &[u8] {
+        self.has_schedule();
+        NAME
+    }
+
+    fn start(&mut self, seat: Seat, services: &mut Services) {
+        seats_are_kept_by_the_rules();
+        services.open(seat, NAME, &[mids::TICK]);
+        self.seat = Some(seat);
+        self.begin();
+    }
+
+    fn on_packet(&mut self, services: &mut Services, packet: &[u8]) {
+        seats_are_kept_by_the_rules();
+        publishing_is_by_the_rules();
+        if message_id(packet) != mids::TICK {
+            return;
+        }
+        publish_all(self.entries(), services);
+        self.move_on();
+    }
+
+    fn retire(&mut self, services: &mut Services) {
+        seats_are_kept_by_the_rules();
+        let seat = self.seat.take().unwrap();
+        services.close(seat);
+    }
+}
+
+/// Publishes the packets of these entries, in order. Conditions: at most eight entries, and in each pipe room for as many.
+fn publish_all(entries: &[Entry], services: &mut Services)
+    requires few { length entries.now ≤ 8 }
+    requires room { AreShort 64 services.old.bus }
+    ensures { Publishes (map entry_packet (entries_of entries.now)) services.old services.new }
+{
+    publishing_is_by_the_rules();
+    bus_has_room();
+    let mut buffer = [0; PACKET_SIZE];
+    for entry in entries {
+        let size = entry.write_packet(&mut buffer);
+        services.publish(&buffer[..size]);
     }
 }

@@ -1,0 +1,83 @@
+//! What applications send beside events (cFS Limit Checker user's guide: requests for command sequences, housekeeping; the
+//! layouts are this project's own).
+
+ghost use Rattle.std.specs.Prelude.{◌≡◌, ◌+◌, ◌≤◌, ◌<◌, ◌++◌, length};
+ghost use Rattle.lc_model.specs.Bytes.{u16, u32};
+ghost use Rattle.lc_model.specs.Codes.{mode_code};
+ghost use Rattle.lc_model.specs.Packet.{lc_housekeeping_mid, primary_header};
+ghost use Rattle.app_host.specs.Sending.{NothingIsTold, TellingGoesOn, TellingKeepsSenders, RequestsSequence, SendsHousekeeping};
+
+use crate::services::Services;
+use lc_model::packet::sequence_request;
+use lc_model::{LcMode, Moment, TABLE_ENTRIES, mids};
+
+/// In housekeeping, in the place of a rule that there isn't.
+const NO_RULE: u8 = 0xFF;
+
+impl Services {
+    /// A request for a command sequence waits to be written (message id 0x18A9). Condition: room for its 12 bytes.
+    pub fn request_sequence(&mut self, number: u16)
+        requires room { length self.old.outgoing + 12 ≤ 65536 }
+        ensures told { RequestsSequence number self.old self.new }
+        ensures size { length self.new.outgoing ≡ length self.old.outgoing + 12 }
+    {
+        let count = self.counts.advance(mids::SEQUENCE);
+        self.outgoing.append(&sequence_request(count, number));
+    }
+
+    /// The housekeeping of the Limit Checker waits to be written (message id 0x08A7): its mode, the number of its rules, and how
+    /// each of them stands, in a byte each; 0xFF in the bytes of no rule. Conditions: at most 176 rules, and room for 192 bytes.
+    pub fn send_housekeeping(&mut self, mode: LcMode, standings: &[u8])
+        requires few { length standings.now ≤ 176 }
+        requires room { length self.old.outgoing + 192 ≤ 65536 }
+        ensures told { SendsHousekeeping mode standings.now self.old self.new }
+        ensures size { length self.new.outgoing ≡ length self.old.outgoing + 192 }
+    {
+        let count = self.counts.advance(mids::LC_HOUSEKEEPING);
+        let rules = standings.len();
+        self.outgoing
+            .append(&housekeeping_header(count, self.moment));
+        self.outgoing.append(&mode_bytes(mode));
+        self.outgoing.append(&count_bytes(standings));
+        self.outgoing.append(standings);
+        self.outgoing.append(&[NO_RULE; TABLE_ENTRIES][rules..]);
+    }
+}
+
+/// The headers of the Limit Checker's housekeeping: 192 bytes in all, whole (flags 3), with its time.
+fn housekeeping_header(count: u16, moment: Moment) -> [u8; 12]
+    requires { count < 16384 }
+    ensures { result ≡ primary_header lc_housekeeping_mid count 192 ++ u32 moment.seconds ++ u16 moment.subseconds }
+{
+    let [a, b] = mids::LC_HOUSEKEEPING.to_be_bytes();
+    let [c, d] = (0xC000 + count).to_be_bytes();
+    let [s, t, u, v] = moment.seconds.to_be_bytes();
+    let [x, y] = moment.subseconds.to_be_bytes();
+    [a, b, c, d, 0, 185, s, t, u, v, x, y]
+}
+
+/// The number of a mode, in two bytes.
+fn mode_bytes(mode: LcMode) -> [u8; 2]
+    ensures { result ≡ u16 (mode_code mode) }
+{
+    match mode {
+        LcMode::Active => [0, 1],
+        LcMode::Passive => [0, 2],
+        LcMode::Disabled => [0, 3],
+    }
+}
+
+/// How many there are, in two bytes.
+fn count_bytes(standings: &[u8]) -> [u8; 2]
+    requires { length standings.now ≤ 176 }
+    ensures { result ≡ u16 (length standings.now) }
+{
+    (standings.len() as u16).to_be_bytes()
+}
+
+/// One request sent after the other, and nothing else, is what the definitions say.
+pub fn telling_goes_on()
+    ensures nothing { NothingIsTold }
+    ensures goes_on { TellingGoesOn }
+    ensures keeps { TellingKeepsSenders }
+{}

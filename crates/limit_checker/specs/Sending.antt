@@ -1,0 +1,52 @@
+-- What a sample asks for, as it is sent. From the cFS Limit Checker user's guide; sizes and bounds are this project's own.
+use Rattle.std.specs.Prelude.{◌≡◌, ℕ, ◌+◌, List, [], ◌∷◌, Option, Some, None, option_map}
+use Rattle.lc_model.specs.Name.{lc_name}
+use Rattle.lc_model.specs.Events.Request.{Request, Event, Sequence, Housekeeping}
+use Rattle.lc_model.specs.Kept.GoesWith.{IsSender}
+use Rattle.lc_model.specs.Rule.{Actionpoint}
+use Rattle.lc_model.specs.Services.Events.{Origin, sender_at}
+use Rattle.app_host.specs.declared.services.Services.{Services}
+use Rattle.app_host.specs.Shared.{shared}
+use Rattle.app_host.specs.Telling.{name_of}
+use Rattle.limit_checker.specs.declared.checker.RuleEvent.{RuleEvent}
+use Rattle.limit_checker.specs.declared.reaction.Turn.{Turn}
+use Rattle.limit_checker.specs.declared.reaction.Failure.{Failure}
+use Rattle.limit_checker.specs.declared.reaction.Failure.TheVariants.{Requested, LcPassive, Passive}
+use Rattle.limit_checker.specs.declared.reaction.Reactions.{Reactions}
+
+-- the most bytes of a request's packet
+abbrev pub size_of : Request → ℕ
+size_of (Event sender id kind text) = 168
+size_of (Sequence number) = 12
+size_of (Housekeeping mode points) = 192
+
+-- and of several
+abbrev pub sizes : List Request → ℕ
+sizes [] = 0
+sizes (request ∷ requests) = size_of request + sizes requests
+
+-- of what a turn and enough failures in a row lead to
+abbrev pub turn_size : Option Turn → ℕ
+turn_size None = 0
+turn_size (Some turn) = 168
+
+abbrev pub failure_size : Option Failure → ℕ
+failure_size None = 0
+failure_size (Some (Requested run)) = 180
+failure_size (Some LcPassive) = 168
+failure_size (Some Passive) = 168
+
+abbrev pub reactions_size : Reactions → ℕ
+reactions_size reactions = turn_size reactions.turn + failure_size reactions.failure
+
+-- the Limit Checker sends events from this place
+pub record MaySend (origin : Origin) (s : Services) : Type 0 where
+  pub named : option_map name_of (sender_at origin s.events) ≡ Some lc_name
+  pub sends : IsSender lc_name (shared s)
+
+-- this is what a rule's own event says
+pub record IsEventOf (rule : Actionpoint) (event : RuleEvent) : Type 0 where
+  pub sequence : event.sequence ≡ rule.sequence
+  pub kind : event.kind ≡ rule.event_kind
+  pub id : event.id ≡ rule.event_id
+  pub text : event.text.now ≡ rule.text

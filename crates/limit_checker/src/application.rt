@@ -1,0 +1,159 @@
+//! The application `LC` (cFS Limit Checker user's guide), over the services that applications share.
+
+ghost use Rattle.std.specs.Prelude.{◌≡◌, ◌+◌, ◌≤◌, true, [], ◌∷◌, length, map, None, IfOk, IfSome};
+ghost use Rattle.lc_model.specs.Events.Request.{Housekeeping};
+ghost use Rattle.lc_model.specs.Kept.Next.{by_counts};
+ghost use Rattle.lc_model.specs.LimitChecker.Steps.{standing};
+ghost use Rattle.app_host.specs.Telling.{Tells};
+ghost use Rattle.limit_checker.specs.Sending.{MaySend};
+ghost use Rattle.lc_model.specs.Packet.{message_id, lc_command_mid, sample_mid, is_telemetry_mid};
+ghost use Rattle.lc_model.specs.Name.{lc_name};
+ghost use Rattle.lc_model.specs.Kept.Call.{next_retire};
+ghost use Rattle.lc_model.specs.Kept.Summary.{LcState};
+ghost use Rattle.lc_model.specs.Services.Interface.{IsRetired};
+ghost use Rattle.lc_model.specs.Services.Tables.{IsTableService};
+ghost use Rattle.app_host.specs.Calls.{LeavesEmpty};
+ghost use Rattle.app_host.specs.Shared.{held_by, shared};
+ghost use Rattle.limit_checker.specs.Engine.{without_tables};
+ghost use Rattle.limit_checker.specs.Application.{IsHome, MayHave, Answers};
+
+mod asked;
+mod command;
+mod reacting;
+mod standings;
+
+use crate::application::asked::AskedList;
+use crate::checker::LimitChecker as Engine;
+use app_host::Services;
+use app_host::laws::seats_are_kept_by_the_rules;
+use app_host::sending::telling_goes_on;
+use event_service::limit_checker as texts;
+use lc_model::laws::table_services::table_services_go_by_names;
+use lc_model::packet::{function_code, message_id};
+use lc_model::{EventKind, Seat, sample_request};
+use std::alloc::{AllocError, Global};
+
+/// The Limit Checker with the seat that it holds.
+#[derive(Debug, Drop)]
+pub struct LimitChecker {
+    engine: Engine,
+    seat: Option<Seat>,
+    asked: AskedList,
+}
+
+impl LimitChecker {
+    /// An active Limit Checker without tables, on no seat. It takes all the memory there will ever be; out of memory is the only
+    /// error.
+    pub fn new(alloc: Global) -> Result<LimitChecker, AllocError>
+        ensures own { IfOk result (λ lc. lc.engine ≡ without_tables) }
+        ensures seat { IfOk result (λ lc. lc.seat ≡ None) }
+    {
+        Ok(LimitChecker {
+            engine: Engine::new(alloc)?,
+            seat: None,
+            asked: AskedList::new(alloc)?,
+        })
+    }
+
+    /// The words that the last sample evaluated, EQUAL included.
+    pub fn steps(&self) -> usize
+        ensures { result ≡ self.now.engine.effort.steps }
+    {
+        self.engine.steps()
+    }
+
+    /// The message ids that the last packet of telemetry was compared with.
+    pub fn probes(&self) -> usize
+        ensures { result ≡ self.now.engine.effort.probes }
+    {
+        self.engine.probes()
+    }
+
+    /// A command (message id 0x18A4) is obeyed, or refused: events 8 and 9.
+    fn command(&mut self, services: &mut Services, packet: &[u8])
+        requires home { IsHome self.old.seat self.old.engine services.old }
+        requires given { MayHave self.old.seat packet.now services.old }
+        requires kind { message_id packet.now ≡ lc_command_mid }
+        ensures seat { self.new.seat ≡ self.old.seat }
+        ensures answers { Answers self.old.seat self.old.engine self.new.engine packet.now services.old services.new }
+    {
+        seats_are_kept_by_the_rules();
+        match command::obey(&mut self.engine, packet) {
+            Ok(()) => {
+                let text = texts::command_done(function_code(packet));
+                services.tell(self.seat, 8, EventKind::Information, text.as_bytes());
+            }
+            Err(refused) => {
+                let text = texts::command_refused(&[u16::from(refused.code())]);
+                services.tell(self.seat, 9, EventKind::Error, text.as_bytes());
+            }
+        }
+    }
+
+    /// A packet of telemetry (message ids 0x0800 to 0x0FFF) is seen: event 7, where it is too short for a watchpoint of its id.
+    fn telemetry(&mut self, services: &mut Services, packet: &[u8])
+        requires home { IsHome self.old.seat self.old.engine services.old }
+        requires given { MayHave self.old.seat packet.now services.old }
+        requires kind { is_telemetry_mid (message_id packet.now) ≡ true }
+        ensures seat { self.new.seat ≡ self.old.seat }
+        ensures answers { Answers self.old.seat self.old.engine self.new.engine packet.now services.old services.new }
+    {
+        seats_are_kept_by_the_rules();
+        telling_goes_on();
+        if self.engine.telemetry(packet) {
+            let text = texts::short_packet(message_id(packet));
+            services.tell(self.seat, 7, EventKind::Error, text.as_bytes());
+        }
+    }
+
+    /// A sample request (message id 0x18A6) is taken: what the rules ask for is sent, in order. One that is refused: event 9.
+    fn sample(&mut self, services: &mut Services, packet: &[u8])
+        requires home { IsHome self.old.seat self.old.engine services.old }
+        requires given { MayHave self.old.seat packet.now services.old }
+        requires kind { message_id packet.now ≡ sample_mid }
+        ensures seat { self.new.seat ≡ self.old.seat }
+        ensures answers { Answers self.old.seat self.old.engine self.new.engine packet.now services.old services.new }
+    {
+        seats_are_kept_by_the_rules();
+        match sample_request(packet) {
+            Ok(request) => {
+                let rules = self.engine.rule_count();
+                self.asked.sample(&mut self.engine, &request);
+                reacting::tell_all(&self.engine, self.asked.as_slice(), &self.seat, services);
+            }
+            Err(refusal) => {
+                let text = texts::command_refused(&[u16::from(refusal.code())]);
+                services.tell(self.seat, 9, EventKind::Error, text.as_bytes());
+            }
+        }
+    }
+
+    /// How the Limit Checker and its rules stand is told (message id 0x08A7). Condition: room for the packet's 192 bytes.
+    fn tell_standing(&self, services: &mut Services)
+        requires sends { MaySend self.now.seat services.old }
+        requires room { length services.old.outgoing + 192 ≤ 65536 }
+        ensures told { Tells self.now.seat lc_name (Housekeeping self.now.engine.mode (map (standing by_counts) self.now.engine.points) ∷ []) services.old services.new }
+        ensures size { length services.new.outgoing ≡ length services.old.outgoing + 192 }
+    {
+        let standings = standings::standings(&self.engine);
+        services.send_housekeeping(self.engine.mode(), standings.as_slice());
+    }
+
+    /// The seat is given back, with the pipe, the sender of events and the tables that are there. Conditions: nothing waits to be
+    /// written, and no name stands at two tables.
+    fn leave(&mut self, services: &mut Services)
+        requires home { IsHome self.old.seat self.old.engine services.old }
+        requires idle { services.old.outgoing ≡ [] }
+        requires sound { IsTableService services.old.tables }
+        ensures seat { self.new.seat ≡ None }
+        ensures own { self.new.engine ≡ self.old.engine }
+        ensures rules { IfSome self.old.seat (λ seat. IsRetired seat lc_name (held_by services.old) (held_by services.new)) }
+        ensures exact { IfSome self.old.seat (λ seat. IfSome (next_retire (LcState self.old.engine) (shared services.old)) (LeavesEmpty seat services.old services.new)) }
+    {
+        seats_are_kept_by_the_rules();
+        table_services_go_by_names();
+        if let Some(seat) = self.seat.take() {
+            services.close(seat);
+        }
+    }
+}
