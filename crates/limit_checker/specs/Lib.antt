@@ -1,6 +1,6 @@
 pub mod Watcher
 pub mod Ids
-pub mod Judged
+pub mod Ranges
 pub mod Grouped
 pub mod Reactions
 pub mod Engine
