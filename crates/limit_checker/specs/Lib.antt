@@ -1,5 +1,6 @@
 pub mod Watcher
 pub mod Ids
+pub mod Bytes
 pub mod Ranges
 pub mod Grouped
 pub mod Reactions

@@ -4,6 +4,7 @@
 ghost use Rattle.std.specs.Prelude.{◌≡◌, length, IsTrue};
 ghost use Rattle.lc_model.specs.Packet.{message_id as id_of};
 ghost use Rattle.lc_model.specs.Field.{is_in_type, width, raw};
+ghost use Rattle.limit_checker.specs.Bytes.{is_little, two_bytes, four_bytes};
 ghost use Rattle.limit_checker.specs.Ranges.{sign_of, ordered, range_of, holds_in};
 
 use lc_model::{CmpOp, FieldType};
@@ -19,22 +20,60 @@ pub(crate) fn message_id(packet: &[u8]) -> u16
     }
 }
 
-/// The bytes of a field as a number, in the order of its type.
+/// Whether the low byte of the type comes first.
+fn is_little(kind: FieldType) -> bool
+    ensures { result ≡ is_little kind }
+{
+    match kind {
+        FieldType::U16Le | FieldType::I16Le | FieldType::U32Le | FieldType::I32Le => true,
+        FieldType::U8
+        | FieldType::I8
+        | FieldType::U16Be
+        | FieldType::I16Be
+        | FieldType::U32Be
+        | FieldType::I32Be => false,
+    }
+}
+
+/// Two bytes as a number.
+fn two_bytes(bytes: &[u8], little: bool) -> u32
+    requires { length bytes.now ≡ 2 }
+    ensures { result ≡ two_bytes little bytes.now }
+{
+    let pair = [bytes[0], bytes[1]];
+    if little {
+        u16::from_le_bytes(pair) as u32
+    } else {
+        u16::from_be_bytes(pair) as u32
+    }
+}
+
+/// Four bytes as a number.
+fn four_bytes(bytes: &[u8], little: bool) -> u32
+    requires { length bytes.now ≡ 4 }
+    ensures { result ≡ four_bytes little bytes.now }
+{
+    let four = [bytes[0], bytes[1], bytes[2], bytes[3]];
+    if little {
+        u32::from_le_bytes(four)
+    } else {
+        u32::from_be_bytes(four)
+    }
+}
+
+/// The bytes of a field as a number, in the order of its type. It goes by their number and order, and not by the ten types,
+/// so that nothing is looked up where it jumps.
 pub(crate) fn bits_in(kind: FieldType, bytes: &[u8]) -> u32
     requires { length bytes.now ≡ width kind }
     ensures { result ≡ raw kind bytes.now }
 {
-    match kind {
-        FieldType::U8 | FieldType::I8 => bytes[0] as u32,
-        FieldType::U16Be | FieldType::I16Be => u16::from_be_bytes([bytes[0], bytes[1]]) as u32,
-        FieldType::U16Le | FieldType::I16Le => u16::from_le_bytes([bytes[0], bytes[1]]) as u32,
-        FieldType::U32Be | FieldType::I32Be => u32::from_be_bytes([
-            bytes[0], bytes[1], bytes[2], bytes[3],
-        ]),
-        FieldType::U32Le | FieldType::I32Le => u32::from_le_bytes([
-            bytes[0], bytes[1], bytes[2], bytes[3],
-        ]),
+    if bytes.len() == 1 {
+        return bytes[0] as u32;
     }
+    if bytes.len() == 2 {
+        return two_bytes(bytes, is_little(kind));
+    }
+    four_bytes(bytes, is_little(kind))
 }
 
 /// The weight of the bit that is the sign; 0 where there is none.
