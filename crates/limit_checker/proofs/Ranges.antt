@@ -1,16 +1,15 @@
 -- A comparison of numbers is one of their bits.
-use Rattle.std.proofs.Common.{◌≡◌, refl, sym, ◌∙◌, ap, ap₂, ℕ, ◌+◌, ◌-◌, ◌*◌, ◌/◌, ◌%◌, ◌^◌, ◌<◌, ◌≤◌, Bool, true, false, ◌&&◌, not, ◌==◌, nat_lt, nat_le, if◌then◌else◌, ℤ, pos, negsuc, ◌-ℤ◌, int_le, int_lt, IsTrue, arith}
+use Rattle.std.proofs.Common.{◌≡◌, refl, ◌∙◌, ap, ap₂, ℕ, ◌+◌, ◌-◌, ◌*◌, ◌<◌, ◌≤◌, Bool, true, false, not, ◌==◌, nat_lt, nat_le, if◌then◌else◌, ℤ, pos, negsuc, ◌-ℤ◌, int_le, int_lt, arith}
 use Rattle.std.specs.Ordering.{int_eq}
 use Rattle.std.proofs.lemmas.Int.{ints}
-use Rattle.std.specs.Int.Bits.{bit_and, bit_xor, xor_add_and, xor_zero_r}
-use Rattle.std.specs.Int.{bit_at}
+use Rattle.std.specs.Int.Bits.{bit_xor, xor_add_and, xor_zero_r}
 use Rattle.std.proofs.lemmas.Nat.Bits.{and_pow}
 use Rattle.lc_model.specs.declared.field.FieldType.{FieldType}
 use Rattle.lc_model.specs.declared.field.FieldType.TheVariants.{U8, I8, U16Be, U16Le, I16Be, I16Le, U32Be, U32Le, I32Be, I32Le}
 use Rattle.lc_model.specs.declared.field.CmpOp.{CmpOp}
 use Rattle.lc_model.specs.declared.field.CmpOp.TheVariants.{Less, LessOrEqual, NotEqual, Equal, GreaterOrEqual, Greater}
 use Rattle.lc_model.specs.Field.{is_in_type, least, greatest, full_mask, twos_complement, compares}
-use Rattle.lc_model.proofs.Facts.{tested_at_most, tested_less, test_less, test_at_most, test_not_at_most, and_first, and_second, and_true}
+use Rattle.lc_model.proofs.Facts.{tested_at_most, and_first, and_second}
 use Rattle.limit_checker.specs.Ranges.{sign_of, ordered, range_to, range_of, holds_in}
 
 -- ---- bits

@@ -1,6 +1,5 @@
 -- What a step makes of the whole object.
-use Rattle.std.proofs.Common.{◌≡◌, refl, sym, ◌∙◌, ap, ap₂, ℕ, ◌+◌, ◌≤◌, Bool, true, false, ◌<◌, List, [], ◌∷◌, length, map, replicate, if◌then◌else◌, All, arith}
-use Rattle.std.proofs.lemmas.List.{length-map}
+use Rattle.std.proofs.Common.{◌≡◌, refl, ◌∙◌, ap, ℕ, ◌+◌, Bool, true, false, ◌<◌, List, [], ◌∷◌, length, map, replicate, if◌then◌else◌, All, arith}
 use Rattle.lc_model.specs.declared.field.Term.{Term}
 use Rattle.lc_model.specs.declared.mode.LcMode.{LcMode}
 use Rattle.lc_model.specs.declared.command.SampleRequest.{SampleRequest}

@@ -1,11 +1,9 @@
-use Rattle.std.proofs.Common.{rules, refl, ◌≡◌, ◌∙◌, ap, ap₂, sym, subst, List, [], length, fold, arith}
+use Rattle.std.proofs.Common.{refl, ◌≡◌, ◌∙◌, ap, ap₂, sym, subst, List, [], length, fold}
 use Rattle.std.specs.List.{list_any}
 use Rattle.lc_model.specs.Packet.{message_id}
-use Rattle.lc_model.specs.LimitChecker.Steps.{is_short, is_disabled}
-use Rattle.lc_model.specs.Kept.Summary.{WatchResult, LcOwn}
+use Rattle.lc_model.specs.Kept.Summary.{WatchResult}
 use Rattle.lc_model.specs.Kept.Next.{seen_result, results_by}
 use Rattle.lc_model.specs.Kept.Effort.{probes_for, watched_ids}
-use Rattle.limit_checker.specs.declared.watchpoint.Watch.{Watch}
 use Rattle.limit_checker.specs.Engine.{after_telemetry, tells_short}
 use Rattle.limit_checker.specs.Grouped.{watch_seen, watches_for, lacks_field}
 use Rattle.limit_checker.specs.Tables.{AreTables}
