@@ -2,6 +2,7 @@
 
 mod engine;
 mod one_rule;
+mod random;
 mod sound_tables;
 mod versions;
 

@@ -1,9 +1,11 @@
-//! How fast the crates are: today those on the ground.
+//! How fast the crates are: those on the ground, and the Limit Checker's engine.
 //!
-//! A word names what is measured: `lexer`, `checker`, or `compiler` with the text that is compiled (`tables`, `declarations`
-//! or `longest`). A run of one text tells its peak memory, too, to the shell that measures the process.
+//! A word names what is measured: `lexer`, `checker`, `compiler` with the text that is compiled (`tables`, `declarations` or
+//! `longest`), or `engine`, with a row's name behind it where that row alone is measured. A run of one text tells its peak
+//! memory, too, to the shell that measures the process.
 #![tactic(auto)]
 
+mod engine;
 mod texts;
 
 use crate::texts::{SHORT_NAME, TEXT_SIZE};
@@ -103,9 +105,10 @@ fn main(rt: HostRuntime) -> anyhow::Result<()> {
             &texts::declarations(rt.alloc(), SHORT_NAME, TEXT_SIZE)?,
         ),
         (Some("compiler"), Some("longest")) => measure_compiler(&rt, &texts::longest(rt.alloc())?),
+        (Some("engine"), row) => engine::measure(&rt, row),
         _ => {
             println!(rt;
-                "usage: flight_bench lexer | checker | compiler tables | compiler declarations | compiler longest"
+                "usage: flight_bench lexer | checker | compiler tables | compiler declarations | compiler longest | engine"
             )?;
             Ok(())
         }

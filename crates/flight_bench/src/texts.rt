@@ -101,3 +101,29 @@ pub fn longest(alloc: Global) -> Result<Vec<u8>, AllocError> {
     text.resize(TEXT_SIZE, b' ')?;
     Ok(text)
 }
+
+/// Rules of one comparison each, so many for each of so many message ids from 0x0900 on.
+pub fn watched(alloc: Global, ids: u16, each: u16) -> Result<Vec<u8>, AllocError> {
+    let mut text = Vec::new(alloc);
+    for id in 0..ids {
+        let head = format!(in alloc;
+            "packet P{id} = mid {} length 16; field V{id} = P{id} u16be at 12;\n",
+            u32::from(id) + 2_304
+        )?;
+        text.extend_from_slice(head.as_bytes())?;
+    }
+    for number in 0..each {
+        for id in 0..ids {
+            push_watch(alloc, &mut text, id, number)?;
+        }
+    }
+    Ok(text)
+}
+
+/// Adds a rule of one comparison.
+fn push_watch(alloc: Global, text: &mut Vec<u8>, id: u16, number: u16) -> Result<(), AllocError> {
+    let line = format!(in alloc;
+        "rule R{id}_{number} active fails 9 sequence 7 event info 1001 \"\" when V{id} < {number};\n"
+    )?;
+    text.extend_from_slice(line.as_bytes())
+}

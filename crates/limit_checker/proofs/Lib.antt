@@ -1,5 +1,6 @@
 pub mod Ascending
 pub mod Halves
+pub mod Ranges
 pub mod Grouping
 pub mod Reacting
 pub mod Results

@@ -1,13 +1,10 @@
 -- What a sample of a rule requests.
-use Rattle.std.proofs.Common.{◌≡◌, refl, sym, ◌∙◌, ap, ℕ, ◌+◌, ◌<◌, Bool, true, false, true≢false, ◌&&◌, nat_le, if◌then◌else◌, List, [], ◌∷◌, ◌++◌, Option, Some, None, arith, append-nil}
+use Rattle.std.proofs.Common.{◌≡◌, refl, sym, ◌∙◌, ap, ℕ, Bool, true, false, true≢false, nat_le, if◌then◌else◌, List, [], ◌++◌, Option, Some, None}
 use Rattle.lc_model.specs.declared.mode.LcMode.{LcMode}
-use Rattle.lc_model.specs.declared.mode.LcMode.TheVariants as mode
 use Rattle.lc_model.specs.declared.mode.ApMode.{ApMode}
-use Rattle.lc_model.specs.declared.mode.ApMode.TheVariants as state
 use Rattle.lc_model.specs.declared.mode.ApResult.{ApResult}
-use Rattle.lc_model.specs.Count.{capped}
 use Rattle.lc_model.specs.Rule.{Actionpoint}
-use Rattle.lc_model.specs.Events.Request.{Request, Sequence, rule_failed}
+use Rattle.lc_model.specs.Events.Request.{Request}
 use Rattle.lc_model.specs.LimitChecker.Steps.{Point}
 use Rattle.lc_model.specs.LimitChecker.Reaction.{Reaction}
 use Rattle.lc_model.specs.Kept.Summary.{Tally}
@@ -15,7 +12,6 @@ use Rattle.lc_model.specs.Kept.Next.{tally_after, next_on_failure, next_turn_rep
 use Rattle.limit_checker.specs.declared.reaction.Turn.{Turn}
 use Rattle.limit_checker.specs.declared.reaction.Turn.TheVariants.{ToFail, ToPass}
 use Rattle.limit_checker.specs.declared.reaction.Failure.{Failure}
-use Rattle.limit_checker.specs.declared.reaction.Reactions.{Reactions}
 use Rattle.limit_checker.specs.Reactions.{turn_requests, failure_requests, requests_of}
 use Rattle.limit_checker.specs.Sampling.{point_with}
 use Rattle.limit_checker.specs.Watcher.{sequence_in}

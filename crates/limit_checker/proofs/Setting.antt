@@ -1,12 +1,11 @@
 -- The tables of a sound pair of images are what the images spell.
-use Rattle.std.proofs.Common.{◌≡◌, refl, sym, ◌∙◌, ap, ap₂, ℕ, zero, suc, ◌+◌, ◌-◌, ◌<◌, ◌≤◌, List, [], ◌∷◌, ◌++◌, length, map, flat_map, slice_range, Option, Some, option_map, unwrap_or, All, append-nil, append_assoc, length-append, arith}
+use Rattle.std.proofs.Common.{◌≡◌, refl, sym, ◌∙◌, ap, ℕ, zero, suc, ◌+◌, ◌-◌, ◌<◌, ◌≤◌, List, [], ◌∷◌, ◌++◌, length, map, flat_map, slice_range, Option, Some, option_map, unwrap_or, All, append-nil, append_assoc, length-append, arith}
 use Rattle.std.specs.List.{AllByRecursion}
 use Rattle.std.proofs.Math.Seq.{take-append-le, take_all, drop-append_seam}
 use Rattle.std.proofs.lemmas.List.{length-map, map-append}
 use Rattle.std.proofs.lemmas.List.Concat.{flat_map-append}
 use Rattle.std.proofs.lemmas.Option.{slice_get-map}
 use Rattle.lc_model.specs.declared.field.Term.{Term}
-use Rattle.lc_model.specs.declared.mode.LcMode.TheVariants.{Active}
 use Rattle.lc_model.specs.Condition.{Condition}
 use Rattle.lc_model.specs.Rule.{Actionpoint}
 use Rattle.lc_model.specs.Tables.Half.{IsMatch}
@@ -25,8 +24,8 @@ use Rattle.table_validator.specs.Sound.{adt_layout, IsSoundEquation, HasSoundWat
 use Rattle.limit_checker.specs.declared.actionpoint.Entry.{Entry}
 use Rattle.limit_checker.specs.Entry.{rule_with, rule_in, no_condition, IsRunnable}
 use Rattle.limit_checker.specs.Layout.{entry_for, point_for, words_for, entries_below, points_below, words_below}
-use Rattle.limit_checker.specs.Tables.{AreTables, watcher}
-use Rattle.limit_checker.specs.Watcher.{Watcher, fresh, fresh_point}
+use Rattle.limit_checker.specs.Tables.{AreTables}
+use Rattle.limit_checker.specs.Watcher.{fresh_point}
 use Rattle.limit_checker.proofs.Laying.{has_place}
 
 -- ---- lists

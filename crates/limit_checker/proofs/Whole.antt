@@ -1,9 +1,9 @@
 -- What a step makes of the whole object.
-use Rattle.std.proofs.Common.{◌≡◌, refl, sym, ◌∙◌, ap, ap₂, ℕ, ◌≤◌, Bool, true, false, ◌<◌, List, [], ◌∷◌, length, map, replicate, if◌then◌else◌, All, arith}
-use Rattle.std.proofs.lemmas.List.{length-map}
+use Rattle.std.proofs.Common.{◌≡◌, refl, ◌∙◌, ap, ℕ, ◌+◌, Bool, true, false, ◌<◌, List, [], ◌∷◌, length, map, replicate, if◌then◌else◌, All, arith}
 use Rattle.lc_model.specs.declared.field.Term.{Term}
 use Rattle.lc_model.specs.declared.mode.LcMode.{LcMode}
 use Rattle.lc_model.specs.declared.command.SampleRequest.{SampleRequest}
+use Rattle.lc_model.specs.Field.{width}
 use Rattle.lc_model.specs.Packet.{message_id}
 use Rattle.lc_model.specs.LimitChecker.Steps.{Point, is_disabled, is_short, sampled_points}
 use Rattle.lc_model.specs.Kept.Summary.{WatchResult, Tally, LcOwn}
@@ -15,13 +15,17 @@ use Rattle.limit_checker.specs.Entry.{rule_in}
 use Rattle.limit_checker.specs.Engine.{after_telemetry, tells_short, after_sample, aged, with_steps, words_sampled, points_sampled}
 use Rattle.limit_checker.specs.Grouped.{watches_for}
 use Rattle.limit_checker.specs.Tables.{own_of, AreTables}
-use Rattle.limit_checker.proofs.Grouping.{group_numbers}
+use Rattle.limit_checker.proofs.Grouping.{group_numbers, group_fields}
 use Rattle.limit_checker.proofs.Setting.{each}
 
 -- the numbers of a group are those of results
 pub group_within : (terms : List Term) (watch : List WatchResult) (mid : ℕ) → length watch ≡ length terms → All (λ (w : Watch). w.number < length watch) (watches_for mid 0 terms)
 group_within terms watch mid long =
     each (λ (w : Watch). w.number < length watch) (watches_for mid 0 terms) (group_numbers mid 0 (length watch) terms (omega (arith, long)))
+
+-- their fields end where they do
+pub fields_within : (terms : List Term) (mid : ℕ) → All (λ (w : Watch). w.need ≡ w.start + width w.kind) (watches_for mid 0 terms)
+fields_within terms mid = each (λ (w : Watch). w.need ≡ w.start + width w.kind) (watches_for mid 0 terms) (group_fields mid 0 terms)
 
 module _ (mode : LcMode) (terms : List Term) (watch : List WatchResult) (entries : List Entry) (points : List (Point Tally)) (words : List ℕ) (steps probes : ℕ)
     (enabled : is_disabled mode ≡ false) where

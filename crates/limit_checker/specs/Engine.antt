@@ -10,7 +10,7 @@ use Rattle.lc_model.specs.Events.Request.{Request}
 use Rattle.lc_model.specs.LimitChecker.Steps.{Point, is_disabled, is_short, sampled_points}
 use Rattle.lc_model.specs.Kept.Summary.{Tally, LcOwn}
 use Rattle.lc_model.specs.Kept.Next.{by_counts}
-use Rattle.lc_model.specs.Kept.Call.{telemetry_effort, sample_effort}
+use Rattle.lc_model.specs.Kept.Call.{telemetry_effort}
 use Rattle.lc_model.specs.Kept.Effort.{no_effort, sampled_words}
 use Rattle.limit_checker.specs.Watcher.{Watcher, fresh_point}
 

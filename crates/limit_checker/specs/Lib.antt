@@ -1,6 +1,7 @@
 pub mod Watcher
 pub mod Ids
-pub mod Judged
+pub mod Bytes
+pub mod Ranges
 pub mod Grouped
 pub mod Reactions
 pub mod Engine

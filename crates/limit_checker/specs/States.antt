@@ -1,5 +1,5 @@
 -- What a command makes of the mode and of the rules' states, and why it is refused.
-use Rattle.std.specs.Prelude.{ℕ, List, [], ◌∷◌, Option, Some, None, Result, Ok, Err}
+use Rattle.std.specs.Prelude.{ℕ, [], ◌∷◌, Result, Ok, Err}
 use Rattle.lc_model.specs.Refusal.{Refusal}
 use Rattle.limit_checker.specs.declared.states.StateRefusal.{StateRefusal}
 use Rattle.limit_checker.specs.declared.states.StateRefusal.TheVariants.{NoRule, NoState, RuleStands}

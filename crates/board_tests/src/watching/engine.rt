@@ -164,6 +164,40 @@ fn failures_by_mode_and_state(rt: HostRuntime) {
 }
 
 #[test]
+fn a_passive_rule_reports_255_times(rt: HostRuntime) {
+    let mut checker = fresh(&rt);
+    set(&rt, &mut checker, &reporting(&rt, 1, 255, 0, 0));
+    checker.telemetry(LOW);
+    let requested = failure(Failure::Requested(1));
+    reacts(&rt, "active", &mut checker, requested);
+    for _ in 0..255 {
+        reacts(&rt, "passive", &mut checker, failure(Failure::Passive));
+    }
+    reacts(&rt, "quiet", &mut checker, NOTHING);
+}
+
+#[test]
+fn a_countdown_that_came_to_0_stays(rt: HostRuntime) {
+    let low = Act::Packet(LOW);
+    let nothing = Act::Reacts(NOTHING);
+    let requested = Act::Reacts(failure(Failure::Requested(1)));
+    let tables = reporting(&rt, 1, 0, 0, 0);
+    let acts = [Act::Age, Act::Age, nothing, low, requested];
+    play(&rt, "aged before a packet", &tables, &acts);
+    let acts = [
+        low,
+        Act::Age,
+        Act::Age,
+        Act::Age,
+        nothing,
+        low,
+        Act::Age,
+        requested,
+    ];
+    play(&rt, "aged past 0", &tables, &acts);
+}
+
+#[test]
 fn a_stale_result_ends_a_run_and_a_skip_does_not(rt: HostRuntime) {
     let low = Act::Packet(LOW);
     let nothing = Act::Reacts(NOTHING);

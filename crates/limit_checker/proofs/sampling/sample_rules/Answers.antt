@@ -1,11 +1,9 @@
-use Rattle.std.proofs.Common.{rules, refl, ◌≡◌, ◌+◌, ◌-◌, ◌≤◌, ◌∙◌, sym, ap, map, length, set, get_or, List, arith}
+use Rattle.std.proofs.Common.{refl, ◌∙◌, sym, ap, map, length, arith}
 use Rattle.std.proofs.lemmas.List.{length-set, length-map}
-use Rattle.lc_model.specs.declared.field.Term.{Term}
 use Rattle.lc_model.specs.LimitChecker.Steps.{Point, is_sampled, sampled_point}
 use Rattle.lc_model.specs.Kept.Next.{by_counts}
 use Rattle.lc_model.specs.Kept.Summary.{Tally}
 use Rattle.limit_checker.specs.Entry.{rule_in}
-use Rattle.limit_checker.specs.Reactions.{requests_in}
 use Rattle.limit_checker.proofs.SampledRules.{rule_skipped, rule_sampled, points_sampled_are, requests_sampled_are, steps_sampled_are, short_entry, as_many_points, both_off, first_point, first_point_at}
 use Rattle.limit_checker.proofs.sampling.sample_rules.Goals as goal
 use Rattle.limit_checker.proofs.sampling.sample_rules.Goals.{then-takes+then-is_sampled, else-takes, else-takes-via-then-takes+else-is_sampled, else-takes-via-else-takes}

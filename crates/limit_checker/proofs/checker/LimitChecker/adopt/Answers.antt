@@ -1,9 +1,8 @@
-use Rattle.std.proofs.Common.{rules, ◌≡◌, ◌∙◌, ap, sym, List, length, map, replicate, arith}
+use Rattle.std.proofs.Common.{◌≡◌, ◌∙◌, ap, List, length, map, replicate, arith}
 use Rattle.lc_model.specs.declared.field.Term.{Term}
 use Rattle.lc_model.specs.Tables.InForce.{layouts}
 use Rattle.lc_model.specs.Tables.Spelled.{spelled_terms, spelled_rules}
-use Rattle.lc_model.specs.Kept.Summary.{LcOwn}
-use Rattle.lc_model.specs.Kept.Next.{by_counts, unseen_result}
+use Rattle.lc_model.specs.Kept.Next.{unseen_result}
 use Rattle.limit_checker.specs.Engine.{with_tables}
 use Rattle.limit_checker.specs.Entry.{rule_in}
 use Rattle.limit_checker.specs.Watcher.{fresh_point}

@@ -5,7 +5,6 @@ use Rattle.lc_model.specs.Kept.Summary.{Tally}
 use Rattle.limit_checker.specs.Entry.{condition_in}
 use Rattle.limit_checker.specs.Tables.{watcher}
 use Rattle.limit_checker.specs.Engine.{watcher_of}
-use Rattle.limit_checker.specs.Reactions.{requests_of}
 use Rattle.limit_checker.specs.Watcher.{Watcher, sequence_in}
 use Rattle.limit_checker.proofs.OneSample.{unchanged_disabled, unchanged_off, within, sampled_as}
 use Rattle.limit_checker.proofs.checker.LimitChecker.sample_one.Goals as goal

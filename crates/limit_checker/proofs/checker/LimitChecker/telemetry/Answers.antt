@@ -1,21 +1,22 @@
-use Rattle.std.proofs.Common.{rules, refl, ◌≡◌, ◌∙◌, ap, ap₂, sym, subst, List, [], length, fold, arith}
+use Rattle.std.proofs.Common.{refl, ◌≡◌, ◌∙◌, ap, ap₂, sym, subst, List, [], length, fold}
 use Rattle.std.specs.List.{list_any}
 use Rattle.lc_model.specs.Packet.{message_id}
-use Rattle.lc_model.specs.LimitChecker.Steps.{is_short, is_disabled}
-use Rattle.lc_model.specs.Kept.Summary.{WatchResult, LcOwn}
+use Rattle.lc_model.specs.Kept.Summary.{WatchResult}
 use Rattle.lc_model.specs.Kept.Next.{seen_result, results_by}
 use Rattle.lc_model.specs.Kept.Effort.{probes_for, watched_ids}
-use Rattle.limit_checker.specs.declared.watchpoint.Watch.{Watch}
 use Rattle.limit_checker.specs.Engine.{after_telemetry, tells_short}
 use Rattle.limit_checker.specs.Grouped.{watch_seen, watches_for, lacks_field}
 use Rattle.limit_checker.specs.Tables.{AreTables}
 use Rattle.limit_checker.proofs.Grouping.{seen_by_group, short_by_group}
 use Rattle.limit_checker.proofs.Tables.{results_kept, written_back, length-results_by}
-use Rattle.limit_checker.proofs.Whole.{group_within, seen_whole, told_short}
+use Rattle.limit_checker.proofs.Whole.{group_within, fields_within, seen_whole, told_short}
 use Rattle.limit_checker.proofs.checker.LimitChecker.telemetry.Goals as goal
 
-pub see_group-requires : goal.see_group-requires
-see_group-requires c =
+pub see_group-requires-clause-fields : goal.see_group-requires-clause-fields
+see_group-requires-clause-fields c = rw c.find-found.ensures.group (fields_within c.self.inside.watchpoints c.message_id.result)
+
+pub see_group-requires-clause-numbers : goal.see_group-requires-clause-numbers
+see_group-requires-clause-numbers c =
     rw (c.find-found.ensures.group, c.as_mut_slice.ensures.value)
     (group_within c.self.inside.watchpoints c.self.inside.watch.items c.message_id.result c.self.invariant.0.found)
 
@@ -28,7 +29,7 @@ invariant_of-self-2 c =
     let group : c.find-found.result.group.now ≡ watches_for (message_id packet) 0 terms =
     c.find-found.ensures.group ∙ ap (λ mid. watches_for mid 0 terms) c.message_id.ensures in
     let seen : c.see_group.new.results ≡ results_by (seen_result packet) terms watch =
-    c.see_group.ensures.results ∙ ap₂ (fold (watch_seen packet)) c.as_mut_slice.ensures.value group ∙ seen_by_group packet [] watch 0 terms refl tables.found in
+    c.see_group.ensures.results ∙ ap₂ (fold (watch_seen packet)) c.as_mut_slice.ensures.value group ∙ seen_by_group packet [] watch 0 terms c.find-found.ensures.fit refl tables.found in
     let old : length watch ≡ c.self.inside.watch.len = sym (ap length c.as_mut_slice.ensures.value) ∙ c.as_mut_slice.ensures.len in
     let new : length c.see_group.new.results ≡ c.self.inside.watch.len = ap length seen ∙ length-results_by (seen_result packet) terms watch tables.found ∙ sym tables.found ∙ old in (
       subst (λ (results : List WatchResult). AreTables terms results c.self.inside.entries.items c.self.inside.points.items c.self.inside.words.items)
@@ -45,7 +46,7 @@ returns-clause-after c =
     let group : c.find-found.result.group.now ≡ watches_for (message_id packet) 0 terms =
     c.find-found.ensures.group ∙ ap (λ mid. watches_for mid 0 terms) c.message_id.ensures in
     let seen : c.see_group.new.results ≡ results_by (seen_result packet) terms watch =
-    c.see_group.ensures.results ∙ ap₂ (fold (watch_seen packet)) c.as_mut_slice.ensures.value group ∙ seen_by_group packet [] watch 0 terms refl c.self.invariant.0.found in
+    c.see_group.ensures.results ∙ ap₂ (fold (watch_seen packet)) c.as_mut_slice.ensures.value group ∙ seen_by_group packet [] watch 0 terms c.find-found.ensures.fit refl c.self.invariant.0.found in
     let tables = c.self.invariant.0 in
     let old : length watch ≡ c.self.inside.watch.len = sym (ap length c.as_mut_slice.ensures.value) ∙ c.as_mut_slice.ensures.len in
     let new : length c.see_group.new.results ≡ c.self.inside.watch.len = ap length seen ∙ length-results_by (seen_result packet) terms watch tables.found ∙ sym tables.found ∙ old in
