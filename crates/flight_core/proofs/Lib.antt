@@ -2,3 +2,4 @@ pub mod Fronts
 pub mod Slices
 pub mod Cutting
 mod Counting
+mod Given

@@ -1,7 +1,8 @@
--- What the contracts of streams in pieces cite.
+-- What the contracts of streams in pieces, and of words, cite.
 pub mod Window
 pub mod Front
 pub mod Answer
 pub mod Found
 pub mod Records
 pub mod Cutting
+pub mod Words

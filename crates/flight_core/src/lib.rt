@@ -1,5 +1,5 @@
-//! What a run of the host is made of, below its program: the records of a stream that comes in pieces, and the
-//! counter.
+//! What a run of the host is made of, below its program: the program's words, the records of a stream that comes in pieces,
+//! and the counter.
 #![tactic(auto)]
 
 mod counter;
@@ -8,7 +8,9 @@ mod front;
 pub mod laws;
 mod records;
 mod window;
+mod words;
 
 pub use counter::Counter;
 pub use found::Found;
 pub use records::Records;
+pub use words::{Plan, WordsError, read_words};

@@ -15,3 +15,5 @@ mod room;
 mod shared;
 #[cfg(test)]
 mod speed;
+#[cfg(test)]
+mod words;

@@ -1,0 +1,48 @@
+//! One application on seat 0, with services of its own.
+
+ghost use Rattle.std.specs.Prelude.{◌≡◌, None, Some, [], IsSomeAnd};
+ghost use Rattle.lc_model.specs.Services.Bus.{no_pipes};
+ghost use Rattle.lc_model.specs.Services.Events.{first_events};
+ghost use Rattle.lc_model.specs.Services.Tables.{first_tables};
+ghost use Rattle.app_host.specs.Calls.{IsAtHome};
+
+use app_host::laws::objects_are_at_home;
+use app_host::{App, Services};
+use lc_model::packet::{header_fault, message_id};
+use lc_model::{Seat, mids};
+
+/// The application starts on seat 0 of new services.
+pub fn begin<A: App>(app: &mut A, services: &mut Services)
+    requires spare { A.held app.old ≡ None }
+    requires bus { services.old.bus ≡ no_pipes }
+    requires events { services.old.events ≡ first_events }
+    requires tables { services.old.tables ≡ first_tables }
+    requires idle { services.old.outgoing ≡ [] }
+    ensures { IsSomeAnd (A.held app.new) (λ seat. IsAtHome (A.state app.new) (A.called app.new) seat services.new) }
+{
+    objects_are_at_home();
+    let _name = app.name();
+    app.start(Seat::new(0), services);
+}
+
+/// The application has a packet, and what it sends waits to be written. Bytes that are no packet, and ticks, are not given.
+pub fn give<A: App>(app: &mut A, services: &mut Services, packet: &[u8])
+    requires { IsSomeAnd (A.held app.old) (λ seat. IsAtHome (A.state app.old) (A.called app.old) seat services.old) }
+    ensures { IsSomeAnd (A.held app.new) (λ seat. IsAtHome (A.state app.new) (A.called app.new) seat services.new) }
+{
+    objects_are_at_home();
+    services.outgoing.clear();
+    if header_fault(packet).is_some() || message_id(packet) == mids::TICK {
+        return;
+    }
+    app.on_packet(services, packet);
+}
+
+/// The application retires.
+pub fn end<A: App>(app: &mut A, services: &mut Services)
+    requires { IsSomeAnd (A.held app.old) (λ seat. IsAtHome (A.state app.old) (A.called app.old) seat services.old) }
+    ensures { A.held app.new ≡ None }
+{
+    services.outgoing.clear();
+    app.retire(services);
+}

@@ -1,0 +1,11 @@
+//! The tests of `app_host`'s services and of the applications that stand on them, by public calls alone: one application has
+//! services of its own and is called by the rules of the interface. Expected values come from the packets' layout.
+#![tactic(auto)]
+
+pub mod alone;
+#[cfg(test)]
+mod counting;
+#[cfg(test)]
+mod shared;
+#[cfg(test)]
+mod sharing;
