@@ -13,7 +13,7 @@ use Rattle.lc_model.specs.Services.Events.{Sender, EventService, IsEventService,
 use Rattle.lc_model.specs.Services.Tables.{TableService}
 use Rattle.lc_model.specs.Services.Interface.{IsApplicationName, IsUnusedName, IsFreeSeat}
 use Rattle.lc_model.proofs.Facts.{or_true, test_less}
-use Rattle.lc_model.proofs.SenderNames.{IsFirst, first, first_is_some, first_has}
+use Rattle.lc_model.proofs.Services.SenderNames.{IsFirst, first, first_is_some, first_has}
 use Rattle.lc_model.specs.Services.Seen.{services_seen, count_among, files_seen, slot_among}
 use Rattle.packet_bus.specs.declared.error.BusError.{BusError}
 use Rattle.packet_bus.specs.Error.{refusal_in}
