@@ -5,4 +5,4 @@ pub mod SenderLogs
 pub mod BusLaws
 pub mod NamedLists
 pub mod TableServiceLaws
-mod TableNames
+pub mod TableNames
