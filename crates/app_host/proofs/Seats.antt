@@ -7,9 +7,9 @@ use Rattle.lc_model.specs.Name.{Name, is_named, host_name}
 use Rattle.lc_model.specs.Refusal.{Refusal, ◌>>=◌, refused, found, provided}
 use Rattle.lc_model.specs.Kept.Call.{with_mid, with_mids, with_at, new_sender, registered}
 use Rattle.lc_model.specs.Kept.Executive.{seat_count}
-use Rattle.lc_model.specs.Laws.Senders.{RegisteringByName, UnregisteringByName, counts_with}
+use Rattle.lc_model.specs.Laws.Senders.{RegisteringByName, UnregisteringByName}
 use Rattle.lc_model.specs.Services.Bus.{Bus, Queue, new_pipe, pipe_at, with_pipe, pipe_added, pipe_removed, subscribed, joined, is_subscribed, most_subscriptions, after, refusal_of}
-use Rattle.lc_model.specs.Services.Events.{Sender, EventService, IsEventService, is_sender, events_among, sender_named, origin_named, sender_at, registered_at, unregistered_at}
+use Rattle.lc_model.specs.Services.Events.{counts_with, Sender, EventService, IsEventService, is_sender, events_among, sender_named, origin_named, sender_at, registered_at, unregistered_at}
 use Rattle.lc_model.specs.Services.Tables.{TableService}
 use Rattle.lc_model.specs.Services.Interface.{IsApplicationName, IsUnusedName, IsFreeSeat}
 use Rattle.lc_model.proofs.Facts.{or_true, test_less}

@@ -17,8 +17,8 @@ use Rattle.lc_model.specs.Kept.Summary.{EventState}
 use Rattle.lc_model.specs.Kept.Next.{next_chosen, events_after, counts_after, Accounts, next_all_delivered}
 use Rattle.lc_model.specs.Kept.Call.{ServicesNow, with_at, new_sender, accounted}
 use Rattle.lc_model.specs.Kept.Executive.{joined_now}
-use Rattle.lc_model.specs.Services.Events.{Sender, EventService, Origin, IsEventService, is_sender, events_among, sender_named, origin_named, sender_at, with_events, registered_at, asked_by, accounted_at, event_asked}
-use Rattle.lc_model.specs.Laws.Senders.{ChangesKeep, RegisteringKeeps, UnregisteringKeeps, CommandsKeep, EventsKeep, RegisteringByName, UnregisteringByName, CommandsByName, EventsByName, counts_with}
+use Rattle.lc_model.specs.Services.Events.{counts_with, Sender, EventService, Origin, IsEventService, is_sender, events_among, sender_named, origin_named, sender_at, with_events, registered_at, asked_by, accounted_at, event_asked}
+use Rattle.lc_model.specs.Laws.Senders.{ChangesKeep, RegisteringKeeps, UnregisteringKeeps, CommandsKeep, EventsKeep, RegisteringByName, UnregisteringByName, CommandsByName, EventsByName}
 use Rattle.lc_model.proofs.Services.SenderNames.{same_name, other_way, IsAbsent, IsFirst, alone_is_first, absent_at, alone, set_first, set_free, set_gone, absent_has_nothing, first, not_found, first_has, first_is_some, same_names, absent_without, distinct_without, absent_with, distinct_with}
 
 -- ---- HOST and the seats
