@@ -3,3 +3,12 @@ pub mod Telling
 pub mod Calls
 pub mod Seating
 pub mod Statements
+pub mod Error
+pub mod Hosted
+pub mod Objects
+pub mod Whole
+pub mod Load
+pub mod Delivered
+pub mod Writing
+pub mod Told
+pub mod Left

@@ -4,13 +4,26 @@
 
 mod app;
 mod counts;
+
+mod deliveries;
+mod departure;
+mod error;
+mod filing;
+mod host;
 pub mod laws;
+mod numbers;
+mod objects;
 mod outgoing;
+mod own_events;
+mod places;
+mod publication;
 mod seat;
 mod services;
 
 pub use app::App;
 pub use counts::Counts;
+pub use error::{HostError, WriteFault};
+pub use host::Host;
 pub use outgoing::Outgoing;
 pub use seat::subscribe;
 pub use services::Services;

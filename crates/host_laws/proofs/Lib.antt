@@ -33,3 +33,4 @@ mod StationsWrite
 mod FilesStay
 mod NamesStay
 mod Examples
+mod Commands

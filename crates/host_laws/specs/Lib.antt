@@ -3,4 +3,5 @@ pub mod Statements
 pub mod Calls
 pub mod Writes
 pub mod Invariants
+pub mod Commands
 pub mod Parts

@@ -1,5 +1,5 @@
 -- What keeps to a world, part by part. This project's own.
-use Rattle.std.specs.Prelude.{◌≡◌, ℕ, List, [], map, count_by, if◌then◌else◌, Option, IfSome, IsTrue, option_map}
+use Rattle.std.specs.Prelude.{◌≡◌, ℕ, [], count_by, if◌then◌else◌, IfSome, IsTrue, option_map}
 use Rattle.std.specs.List.{AllByRecursion}
 use Rattle.lc_model.specs.declared.record.Moment.{Moment}
 use Rattle.lc_model.specs.Name.{Name}

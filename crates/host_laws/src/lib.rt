@@ -7,10 +7,13 @@ ghost use Rattle.lc_model.specs.Host.Schedule.{Schedule};
 ghost use Rattle.lc_model.specs.Tables.HalvesAndBytes.{as_bytes};
 ghost use Rattle.lc_model.specs.Tables.Image.{Layout};
 ghost use Rattle.host_laws.specs.Calls.{CallsKeepOthers, CopiesServe, PacketsKeep, PublishesFew, StartsGoWith, StartsWriteLittle, TheHostKeeps, WritesLittle};
+ghost use Rattle.host_laws.specs.Commands.{CommandsKeepForms, LoadsByName, MovesByName};
 ghost use Rattle.host_laws.specs.Invariants.{FilesStayAMap, NamesStayOwn, PipesFollowStates};
 ghost use Rattle.host_laws.specs.Parts.{HasSpares, HasStates, HoldsCounts, HoldsFiles, HoldsFilters, HoldsTables, IsKept, PipesAreEmpty, RunsOnOneSeat};
 ghost use Rattle.host_laws.specs.Writes.{CallsAreBounded, OpenHostsTake, WritesAreTheSteps};
 ghost use Rattle.host_laws.specs.Statements.{AreBytes, BeginsSo, EachRecordKeeps, RecordsAreFine, RunsGoOn, SchedulesFit, SeatsGoWith, StreamsBring, WritesByBytes, WritesByTexts, WritesWhatIsCalledFor, WritesWithFixedTables};
+
+use lc_model::laws::table_services::table_services_go_by_names;
 
 /// With nothing running and the same stock, both begin alike.
 pub fn begins_as_the_world()
@@ -112,3 +115,12 @@ pub fn steps_keep_their_order()
     ensures names { (layouts : List Layout) → NamesStayOwn (as_bytes layouts) }
     ensures pipes { (layouts : List Layout) → PipesFollowStates (as_bytes layouts) }
 {}
+
+/// What a command to a table does at the table's seat is what the host in numbers says of its name. A table keeps its form.
+pub fn table_commands_go_by_names()
+    ensures moves { MovesByName }
+    ensures loads { LoadsByName }
+    ensures forms { CommandsKeepForms }
+{
+    table_services_go_by_names();
+}

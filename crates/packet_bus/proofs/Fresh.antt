@@ -30,6 +30,7 @@ module _ (slots rows : ℕ) (all_rows : rows ≡ 8192) where
     eight = refl;
     readers = λ slot. nothing_kept slots slot;
     short = λ seat. let none : place_at no_lines seat ≡ None = same_at 8 seat None in rw none (omega arith);
+    good = λ slot less. absurd (omega (arith, nothing_kept slots slot));
     rows = rows_are rows all_rows;
     heard = λ mid below. nobody_hears rows mid;
     waits = refl;

@@ -1,12 +1,13 @@
 -- The parts of the bus, where one place changes.
-use Rattle.std.proofs.Common.{◌≡◌, ◌≢◌, ◌∙◌, ap, ap₂, sym, refl, ℕ, suc, ◌+◌, ◌<◌, ◌≤◌, ◌==◌, Bool, true, false, not, List, [], ◌∷◌, ◌++◌, length, map, drop, arith, length-set, zero-add}
+use Rattle.std.proofs.Common.{◌≡◌, ◌≢◌, ◌∙◌, ap, ap₂, sym, refl, ℕ, suc, ◌+◌, ◌<◌, ◌≤◌, ◌==◌, Bool, true, false, not, List, [], ◌∷◌, ◌++◌, length, map, drop, arith, length-set, zero-add, subst, IfSome}
 use Rattle.std.specs.Prelude.{Option, Some, None, option_map, slice_set, slice_index_or, slice_get, if◌then◌else◌, is_some}
 use Rattle.std.specs.List.{sum_by, list_any}
 use Rattle.std.proofs.lemmas.List.{map-set, set-get_or, get_or-set_same, get_or-set_other, get_or-map, get_or_default}
 use Rattle.std.proofs.lemmas.List.Sums.{sum_by-append, sum_by-set}
 use Rattle.std.proofs.lemmas.Grind.{common_steps}
 use Rattle.std.proofs.Math.Seq.{map-set_same}
-use Rattle.lc_model.specs.Services.Bus.{Publication, Queue, Bus, pipe_at, without_oldest}
+use Rattle.lc_model.specs.Packet.{header_fault}
+use Rattle.lc_model.specs.Services.Bus.{Publication, Queue, Bus, pipe_at, oldest, oldest_at, without_oldest}
 use Rattle.packet_bus.specs.Slots.{Kept, slot_at, no_packet, occurrences, released}
 use Rattle.packet_bus.specs.Line.{Line, slots_in, mids_in, first_slot, behind_first, has_slots, is_long, hears_mid}
 use Rattle.packet_bus.specs.Inside.{publication_in, queue_over, shown, place_at, waiting_slots, audience_of, IsBus, changed}
@@ -114,6 +115,7 @@ module _ (places : List (Option Line)) (pool : List Kept) (audience : List (List
     eight = length-set places seat place ∙ bus.eight;
     readers = λ slot. readers_kept slot (occurs_changed slot places seat place in_places) (ap (occurrences slot) same) ∙ bus.readers slot;
     short = each_place (λ place. length (slots_in place) ≤ 72) places seat place in_places (rw same (bus.short seat)) bus.short;
+    good = bus.good;
     rows = size;
     heard = λ mid less. heard mid less ∙ ap (λ row. slice_set row seat (hears_mid mid place)) (bus.heard mid less) ∙ sym (map-set (hears_mid mid) places seat place);
     waits = bus.waits ∙ sym (map-set_same has_slots places seat place None (ap (λ slots. not (length slots == 0)) same));
@@ -180,6 +182,9 @@ module _ (places : List (Option Line)) (pool : List Kept) (audience : List (List
             let at : slot_at pool_after other ≡ slot_at pool other = get_or-set_other pool slot other (released (slot_at pool slot)) no_packet another in
             rw at (grind (arith, another))
 
+    good_then : (other : ℕ) → 0 < (slot_at pool_after other).readers → header_fault (slot_at pool_after other).packet ≡ None
+    good_then other less = rw (packet_kept other) (bus.good other (omega (arith, less, readers_then other)))
+
     -- the bus belongs together again
     pub popped : (places' : List (Option Line)) (ready' full' : List Bool) → places' ≡ slice_set places seat behind → ready' ≡ map has_slots places' → full' ≡ map is_long places' →
         IsBus places' pool_after audience ready' full'
@@ -187,6 +192,7 @@ module _ (places : List (Option Line)) (pool : List Kept) (audience : List (List
       eight = ap length are ∙ length-set places seat behind ∙ bus.eight;
       readers = λ other. omega (arith, ap (λ (ps : List (Option Line)). occurrences other (waiting_slots ps)) are, occurs_then other, readers_then other, bus.readers other);
       short = rw are (each_place (λ place. length (slots_in place) ≤ 72) places seat behind in_places (omega (arith, shorter)) bus.short);
+      good = good_then;
       rows = bus.rows;
       heard = λ mid less.
           bus.heard mid less ∙ sym (map-set_same (hears_mid mid) places seat behind None (ap (list_any (λ other. mid == other)) mids_kept)) ∙ ap (map (hears_mid mid)) (sym are);
@@ -217,6 +223,25 @@ module _ (places : List (Option Line)) (pool : List Kept) (audience : List (List
         map_behind [] = refl
         map_behind (slot ∷ slots) = refl
 
+  -- the oldest packet of a seat has no fault
+  pub good_oldest : IfSome (oldest_at seat (shown pool places)) (λ packet. header_fault packet ≡ None)
+  good_oldest = subst Good (sym (ap is_oldest (get_or-map (option_map (queue_over pool)) places seat None None in_places))) (by_place (place_at places seat) refl)
+    where
+      Good : Option (List ℕ) → Type 0
+      Good packet = IfSome packet (λ packet. header_fault packet ≡ None)
+
+      is_oldest : Option Queue → Option (List ℕ)
+      is_oldest queue = option_map (λ (publication : Publication). publication.bytes) (oldest queue)
+
+      by_slots : (slots : List ℕ) → ((slot : ℕ) → slice_get slots 0 ≡ Some slot → 0 < (slot_at pool slot).readers) →
+          Good (option_map (λ (publication : Publication). publication.bytes) (slice_get (map (publication_in pool) slots) 0))
+      by_slots [] waiting = tt
+      by_slots (slot ∷ slots) waiting = bus.good slot (waiting slot refl)
+
+      by_place : (place : Option Line) → place_at places seat ≡ place → Good (is_oldest (option_map (queue_over pool) place))
+      by_place None is = tt
+      by_place (Some line) is = by_slots line.slots (λ slot first. waits_here slot (rw is first))
+
   -- no slot waits on a seat
   module _ (none : first_slot (place_at places seat) ≡ None) where
     same_place : option_map behind_first (place_at places seat) ≡ place_at places seat
@@ -241,6 +266,7 @@ module _ (places : List (Option Line)) (pool : List Kept) (audience : List (List
           eight = ap length same ∙ bus.eight;
           readers = λ slot. ap (λ (ps : List (Option Line)). occurrences slot (waiting_slots ps)) same ∙ bus.readers slot;
           short = rw same bus.short;
+          good = bus.good;
           rows = bus.rows;
           heard = λ mid less. bus.heard mid less ∙ ap (map (hears_mid mid)) (sym same);
           waits = waits;

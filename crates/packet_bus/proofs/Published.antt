@@ -3,7 +3,7 @@ use Rattle.std.proofs.Common.{◌≡◌, ◌≢◌, ◌∙◌, ap, ap₂, sym, r
 use Rattle.std.specs.Prelude.{Option, Some, None, option_map, slice_set, slice_index_or, if◌then◌else◌, nat_lt}
 use Rattle.std.proofs.lemmas.List.{set-set, get_or-set_same, get_or-set_other}
 use Rattle.std.proofs.Math.ListN.{get_or-eq_default}
-use Rattle.lc_model.specs.Packet.{message_id}
+use Rattle.lc_model.specs.Packet.{header_fault, message_id}
 use Rattle.lc_model.specs.Services.Bus.{Publication, Bus, waiting_numbers, is_among, offered_as, published_as, IsPublished}
 use Rattle.packet_bus.specs.Seats.{is_in}
 use Rattle.packet_bus.specs.Slots.{Kept, slot_at, no_packet, occurrences}
@@ -210,15 +210,30 @@ module _ (places : List (Option Line)) (pool : List Kept) (audience : List (List
           let never : occurrences other (slot ∷ []) ≡ 0 = occurs_cons other slot [] ∙ rw differs (omega arith) in
           rw at (weighed slot other 0 never (message_id packet) places ∙ omega (arith, bus.readers other, none_each (map (hears_mid (message_id packet)) places)))
 
+  good_then : header_fault packet ≡ None → (other : ℕ) → 0 < (slot_at (slice_set pool slot (record { packet = packet; readers = readers })) other).readers →
+      header_fault (slot_at (slice_set pool slot (record { packet = packet; readers = readers })) other).packet ≡ None
+  good_then good other less = by_slot (other == slot) refl
+    where
+      by_slot : (b : Bool) → (other == slot) ≡ b → header_fault (slot_at (slice_set pool slot (record { packet = packet; readers = readers })) other).packet ≡ None
+      by_slot true is =
+          let same : other ≡ slot = grind (arith, is) in
+          rw (same, get_or-set_same pool slot (record { packet = packet; readers = readers }) no_packet within) good
+      by_slot false is =
+          let another : other ≢ slot = grind (arith, is) in
+          let at : slot_at (slice_set pool slot (record { packet = packet; readers = readers })) other ≡ slot_at pool other =
+          get_or-set_other pool slot other (record { packet = packet; readers = readers }) no_packet another in
+          rw at (bus.good other (omega (arith, less, ap (λ (kept : Kept). kept.readers) at)))
+
   -- the bus belongs together
-  pub published_together : (places' : List (Option Line)) (ready' full' : List Bool) → places' ≡ delivered slot (map (hears_mid (message_id packet)) places) places →
+  pub published_together : header_fault packet ≡ None → (places' : List (Option Line)) (ready' full' : List Bool) → places' ≡ delivered slot (map (hears_mid (message_id packet)) places) places →
       readers ≡ count_by is_in (map (hears_mid (message_id packet)) places) → HaveRoom (map (hears_mid (message_id packet)) places) places →
       ready' ≡ map has_slots places' → full' ≡ map is_long places' →
       IsBus places' (slice_set pool slot (record { packet = packet; readers = readers })) audience ready' full'
-  published_together places' ready' full' are count room waits long = record {
+  published_together good places' ready' full' are count room waits long = record {
     eight = ap length are ∙ as_many slot (map (hears_mid (message_id packet)) places) places ∙ bus.eight;
     readers = λ other. ap (λ (ps : List (Option Line)). occurrences other (waiting_slots ps)) are ∙ readers_then count other;
     short = rw are (still_short slot (map (hears_mid (message_id packet)) places) places room bus.short);
+    good = good_then good;
     rows = bus.rows;
     heard = λ mid below. bus.heard mid below ∙ sym (heard_still slot mid (map (hears_mid (message_id packet)) places) places) ∙ ap (map (hears_mid mid)) (sym are);
     waits = waits;

@@ -1,6 +1,7 @@
 -- What the parts of the bus are together (this project's own).
 use Rattle.std.specs.Prelude.{◌≡◌, ℕ, ◌<◌, ◌≤◌, Bool, true, false, List, [], ◌∷◌, length, map, replicate, slice_index_or, slice_set, Option, None, is_some, option_map}
 use Rattle.std.specs.List.{flat_map}
+use Rattle.lc_model.specs.Packet.{header_fault}
 use Rattle.lc_model.specs.Services.Bus.{Publication, Queue, Bus, pipe_at}
 use Rattle.packet_bus.specs.Slots.{Kept, slot_at, occurrences}
 use Rattle.packet_bus.specs.Line.{Line, slots_in, has_slots, is_long, hears_mid, with_slot}
@@ -46,6 +47,8 @@ pub record IsBus (places : List (Option Line)) (pool : List Kept) (audience : Li
   -- each slot has as many readers as pipes wait for it
   pub readers : (slot : ℕ) → occurrences slot (waiting_slots places) ≡ (slot_at pool slot).readers
   pub short : (seat : ℕ) → length (slots_in (place_at places seat)) ≤ 72
+  -- what pipes wait for has no fault
+  pub good : (slot : ℕ) → 0 < (slot_at pool slot).readers → header_fault (slot_at pool slot).packet ≡ None
   -- a row for each message id that passes the header check
   pub rows : length audience ≡ 8192
   pub heard : (mid : ℕ) → mid < 8192 → audience_of audience mid ≡ map (hears_mid mid) places

@@ -1,7 +1,8 @@
 //! The bus (cFE user's guide, software bus services; the pool is this project's own).
 
-ghost use Rattle.std.specs.Prelude.{◌≡◌, ◌≤◌, ◌<◌, ◌+◌, ◌++◌, ℕ, true, false, length, drop, map, is_some, IfOk, IfErr, OnOk, OnErr, replicate, IfSome, IfNone, option_map, slice_set, count_by};
+ghost use Rattle.std.specs.Prelude.{◌≡◌, ◌≤◌, ◌<◌, ◌+◌, ◌++◌, ℕ, true, false, length, drop, map, None, is_some, IfOk, IfErr, OnOk, OnErr, replicate, IfSome, IfNone, option_map, slice_set, count_by};
 ghost use Rattle.lc_model.specs.Kept.Executive.{ready_seat};
+ghost use Rattle.lc_model.specs.Packet.{header_fault};
 ghost use Rattle.lc_model.specs.Services.Bus as model;
 ghost use Rattle.lc_model.specs.Services.Bus.{after, refusal_of, seen, pipe_at, oldest_at, no_pipes, publish_refusal, IsPublished, free_publications};
 ghost use Rattle.packet_bus.specs.Error.{refusal_in};
@@ -266,6 +267,7 @@ impl Bus {
         ensures answer { refusal_in result ≡ publish_refusal packet.now self.old }
         ensures published { OnOk result (IsPublished packet.now self.old self.new) }
         ensures refused { OnErr result (self.new ≡ self.old) }
+        ensures eight { OnOk result (length self.old ≡ 8) }
     {
         let mid = match checked_message_id(packet) {
             Ok(mid) => mid,
@@ -289,7 +291,7 @@ impl Bus {
     }
 
     /// Takes the oldest packet of the seat's pipe into the front of a buffer, whose further bytes stay, and answers how many
-    /// bytes it has; None where no packet waits. 93 where the seat has no pipe.
+    /// bytes it has; None where no packet waits. 93 where the seat has no pipe. What waits has no fault.
     pub fn receive(
         &mut self,
         seat: Seat,
@@ -299,6 +301,7 @@ impl Bus {
         ensures answer { refusal_in result ≡ refusal_of (model.received seat self.old) }
         ensures size { IfOk result (λ size. size ≡ option_map length (oldest_at seat self.old)) }
         ensures buffer { buffer.new ≡ filled (oldest_at seat self.old) buffer.old }
+        ensures good { IfSome (oldest_at seat self.old) (λ packet. header_fault packet ≡ None) }
         ensures eight { length self.old ≡ 8 }
     {
         let size = self.take_packet(seat, buffer);
@@ -335,6 +338,7 @@ impl Bus {
         ensures after { self.new ≡ changed seat model.without_oldest self.old }
         ensures size { result ≡ option_map length (oldest_at seat self.old) }
         ensures buffer { buffer.new ≡ filled (oldest_at seat self.old) buffer.old }
+        ensures good { IfSome (oldest_at seat self.old) (λ packet. header_fault packet ≡ None) }
         ensures eight { length self.old ≡ 8 }
     {
         let slot = take_oldest(seat, &mut self.places, &mut self.ready, &mut self.full)?;

@@ -2,3 +2,4 @@ mod Firsts
 mod StoredFiles
 mod Handles
 mod Installed
+mod Sound

@@ -5,10 +5,12 @@
 mod buffer;
 mod error;
 mod place;
+mod registry;
 mod service;
 mod slot;
 mod store;
 
 pub use error::TableError;
-pub use service::{Slot, Tables};
+pub use registry::Slot;
+pub use service::Tables;
 pub use slot::Stage;

@@ -1,66 +1,37 @@
 //! The table services: stored files and registered tables (cFE user's guide, table services; that tables belong to seats, and
 //! the limits, are this project's own).
 
-ghost use Rattle.std.specs.Prelude.{◌≡◌, ◌<◌, ◌≤◌, length, option_map, IfOk, IfSome, IsSomeAnd, IsTrue, is_some, Some, None, OnErr};
+ghost use Rattle.std.specs.Prelude.{◌≡◌, ◌≤◌, length, option_map, IfOk, IfSome, IsSomeAnd, IsTrue, is_some, OnErr};
 ghost use Rattle.lc_model.specs.Name.{held};
 ghost use Rattle.lc_model.specs.Command.{Load, Manage};
-ghost use Rattle.lc_model.specs.Tables.File.{opened};
-ghost use Rattle.lc_model.specs.Tables.Slot.{Activated, Asked, Validate, Activate, Abort, installed, waiting_at};
-ghost use Rattle.lc_model.specs.Services.Tables.{changed_among, file_put, first_tables, fits_at, handle_named, image_in, image_installed, image_loaded_among, image_taken, loaded_among, moved_among, new_handle, slot_at, stored_image, table_at, table_commanded, table_registered, tables_unregistered, verdict_set};
+ghost use Rattle.lc_model.specs.Tables.Slot.{Activated, Asked, Validate, Activate, Abort, waiting_at};
+ghost use Rattle.lc_model.specs.Services.Tables.{IsTableService, file_put, first_tables, fits_at, image_installed, image_taken, new_handle, slot_at, stored_image, table_at, table_commanded, table_registered, tables_unregistered, verdict_set};
 ghost use Rattle.tbl_service.specs.Error.{answered};
-ghost use Rattle.tbl_service.specs.Images.{move_of, waiting_seen};
+ghost use Rattle.tbl_service.specs.Images.{waiting_seen};
 
 use crate::error::TableError;
-use crate::place::{Place, Table, number_of};
-use crate::slot::{Move, Stage};
-use crate::store::Files;
+use crate::registry::{Registry, Slot};
+use crate::slot::Stage;
 use lc_model::Seat;
+use lc_model::laws::table_services::table_services_stay_sound;
 use std::alloc::Global;
 use std::marker::Model;
-use table_file::open;
-
-/// A registered table. Contracts see its seat, and its number among the seat's.
-#[derive(Clone, Copy, Debug, PartialEq, Eq)]
-pub struct Slot {
-    seat: Seat,
-    number: usize,
-}
-
-impl Model for Slot {
-    ghost use Rattle.lc_model.specs.Services.Tables.{Handle};
-
-    ghost Value = { Handle };
-
-    ghost view = { λ s. record { seat = s.seat; number = s.number } };
-
-    ghost inverse = { λ h. record { seat = h.seat; number = h.number } };
-}
-
-impl Slot {
-    fn new(seat: Seat, number: usize) -> Slot
-        ensures { result ≡ record { seat = seat; number = number } }
-    {
-        Slot { seat, number }
-    }
-}
 
 /// Stored files, at most eight of at most 32,768 bytes, and the tables of the eight seats, at most two of each, with an image
 /// in use and one that waits. Contracts see the files under their names and the tables by seat.
 #[derive(Debug, Drop)]
 pub struct Tables {
-    files: Files,
-    places: Vec<Place>,
+    registry: Registry,
 }
 
 impl Model for Tables {
-    ghost use Rattle.std.specs.Prelude.{◌≡◌, length};
-    ghost use Rattle.lc_model.specs.Services.Tables.{TableService};
+    ghost use Rattle.lc_model.specs.Services.Tables.{TableService, IsTableService};
 
     ghost Value = { TableService };
 
-    ghost view = { λ t. record { files = t.files; places = t.places.items } };
+    ghost view = { λ t. t.registry };
 
-    ghost invariant = { λ t. length t.places.items ≡ 8 };
+    ghost invariant = { λ t. IsTableService t.registry };
 }
 
 impl Tables {
@@ -68,12 +39,10 @@ impl Tables {
     pub fn new(alloc: Global) -> Result<Tables, TableError>
         ensures { IfOk result (λ tables. tables ≡ first_tables) }
     {
-        let files = Files::new(alloc)?;
-        let mut places = Vec::with_capacity(alloc, Seat::COUNT)?;
-        for _ in 0..Seat::COUNT {
-            places.push(Place::new(alloc)?)?;
-        }
-        Ok(Tables { files, places })
+        table_services_stay_sound();
+        Ok(Tables {
+            registry: Registry::new(alloc)?,
+        })
     }
 
     /// Stores a file, in place of another of its name. Errors: `FileTooLong`, over 32,768 bytes; `StoreFull`, where eight
@@ -83,14 +52,15 @@ impl Tables {
         ensures answer { answered result self.new ≡ file_put name.now bytes.now self.old }
         ensures refused { OnErr result (self.new ≡ self.old) }
     {
-        self.files.put(name, bytes)
+        table_services_stay_sound();
+        self.registry.put_file(name, bytes)
     }
 
     /// The bytes of the file of a name.
     pub fn file(&self, name: &[u8]) -> Option<&[u8]>
         ensures { option_map (λ bytes. bytes.now) result ≡ held name.now self.now.files }
     {
-        self.files.find(name)
+        self.registry.file(name)
     }
 
     /// The seat has one table more, without images, for images of `size` bytes or of the other size. Error: `NoSlot`, where
@@ -107,20 +77,16 @@ impl Tables {
         ensures slot { IfOk result (λ slot. slot ≡ new_handle seat self.old) }
         ensures refused { OnErr result (self.new ≡ self.old) }
     {
-        if find(self.places.as_slice(), name).is_some() {
-            return Err(TableError::NoSlot);
-        }
-        match self.places[seat.index()].register(name, size, other) {
-            None => Err(TableError::NoSlot),
-            Some(number) => Ok(Slot::new(seat, number)),
-        }
+        table_services_stay_sound();
+        self.registry.register(seat, name, size, other)
     }
 
     /// The seat has no table from now on.
     pub fn unregister(&mut self, seat: Seat)
         ensures { self.new ≡ tables_unregistered seat self.old }
     {
-        self.places[seat.index()].clear();
+        table_services_stay_sound();
+        self.registry.unregister(seat);
     }
 
     /// The image of a stored file waits at the table that the file names. Errors, the first that stands: `NoFile`; `FileFault`
@@ -129,10 +95,8 @@ impl Tables {
         ensures answer { answered result self.new ≡ table_commanded (Load file.now) self.old }
         ensures refused { OnErr result (self.new ≡ self.old) }
     {
-        match self.files.find(file) {
-            None => Err(TableError::NoFile),
-            Some(bytes) => load_into(self.places.as_mut_slice(), bytes),
-        }
+        table_services_stay_sound();
+        self.registry.load(file)
     }
 
     /// The owner of the table is asked whether the image that waits is valid. Errors, the first that stands: `UnknownTable`,
@@ -141,7 +105,8 @@ impl Tables {
         ensures answer { answered result self.new ≡ table_commanded (Manage Validate table.now) self.old }
         ensures refused { OnErr result (self.new ≡ self.old) }
     {
-        change_among(self.places.as_mut_slice(), table, Move::Validate)
+        table_services_stay_sound();
+        self.registry.request_validate(table)
     }
 
     /// The owner of the table is to take the valid image that waits. Errors, the first that stands: `UnknownTable`,
@@ -150,7 +115,8 @@ impl Tables {
         ensures answer { answered result self.new ≡ table_commanded (Manage Activate table.now) self.old }
         ensures refused { OnErr result (self.new ≡ self.old) }
     {
-        change_among(self.places.as_mut_slice(), table, Move::Activate)
+        table_services_stay_sound();
+        self.registry.request_activate(table)
     }
 
     /// The image that waits goes. Errors, the first that stands: `UnknownTable`, `NothingLoaded`.
@@ -158,7 +124,8 @@ impl Tables {
         ensures answer { answered result self.new ≡ table_commanded (Manage Abort table.now) self.old }
         ensures refused { OnErr result (self.new ≡ self.old) }
     {
-        change_among(self.places.as_mut_slice(), table, Move::Abort)
+        table_services_stay_sound();
+        self.registry.abort(table)
     }
 
     /// The image that waits, and how far it has come.
@@ -166,7 +133,7 @@ impl Tables {
         requires { IsTrue (is_some (table_at slot self.now.places)) }
         ensures { option_map (λ pending. waiting_seen pending.0 pending.1.now) result ≡ (slot_at slot self.now).waiting }
     {
-        self.table(slot).pending()
+        self.registry.pending(slot)
     }
 
     /// The image in use.
@@ -174,7 +141,7 @@ impl Tables {
         requires { IsTrue (is_some (table_at slot self.now.places)) }
         ensures { option_map (λ image. image.now) result ≡ (slot_at slot self.now).active }
     {
-        self.table(slot).active()
+        self.registry.active(slot)
     }
 
     /// The owner's verdict on the image that it is asked about: it is valid, or it is loaded as before.
@@ -183,7 +150,8 @@ impl Tables {
         requires asked { IsTrue (is_some (waiting_at Asked (slot_at slot self.old))) }
         ensures { self.new ≡ verdict_set slot valid self.old }
     {
-        self.places[slot.seat.index()].judge(slot.number, valid);
+        table_services_stay_sound();
+        self.registry.set_verdict(slot, valid);
     }
 
     /// The activated image comes into use; no byte is copied.
@@ -192,7 +160,8 @@ impl Tables {
         requires activated { IsTrue (is_some (waiting_at Activated (slot_at slot self.old))) }
         ensures { self.new ≡ image_taken slot self.old }
     {
-        self.places[slot.seat.index()].take(slot.number);
+        table_services_stay_sound();
+        self.registry.take(slot);
     }
 
     /// The image of a stored file comes into use; the one that waits stays. The file opens, and its image has one of the
@@ -202,97 +171,15 @@ impl Tables {
         requires fits { IsSomeAnd (stored_image file.now self.old) (λ image. IsTrue (fits_at slot self.old image)) }
         ensures { IfSome (stored_image file.now self.old) (λ image. self.new ≡ image_installed slot image self.old) }
     {
-        if let Some(bytes) = self.files.find(file) {
-            install_into(self.places.as_mut_slice(), slot, bytes);
-        }
+        table_services_stay_sound();
+        self.registry.install(slot, file);
     }
 
-    /// The table of a slot.
-    fn table(&self, slot: Slot) -> &Table
-        requires { IsTrue (is_some (table_at slot self.now.places)) }
-        ensures { Some result.now ≡ table_at slot self.now.places }
+    /// The files are at most eight, each within its bound and under a name of its own, and no seat has over two tables, nor two
+    /// tables one name. It does nothing.
+    pub fn is_service(&self)
+        ensures { IsTableService self.now }
     {
-        let tables = self.places[slot.seat.index()].tables();
-        &tables[slot.number]
+        let _registry = &self.registry;
     }
-}
-
-/// The first table of a name.
-fn find(places: &[Place], name: &[u8]) -> Option<Slot>
-    requires { length places.now ≡ 8 }
-    ensures slot { result ≡ handle_named name.now places.now }
-    ensures there { IfSome result (λ slot. IsTrue (is_some (table_at slot places.now))) }
-{
-    for index in 0..8u8 {
-        if let Some(number) = number_of(places[index as usize].tables(), name) {
-            return Some(Slot::new(Seat::new(index), number));
-        }
-    }
-    None
-}
-
-/// Loads a file onto the table that it names.
-fn load_into(places: &mut [Place], bytes: &[u8]) -> Result<(), TableError>
-    requires seats { length places.old ≡ 8 }
-    requires fits { length bytes.now ≤ 32768 }
-    ensures answer { answered result places.new ≡ loaded_among bytes.now places.old }
-    ensures seats { length places.new ≡ 8 }
-    ensures refused { OnErr result (places.new ≡ places.old) }
-{
-    match open(bytes) {
-        Err(fault) => Err(TableError::FileFault(fault)),
-        Ok(file) => load_among(places, file.name(), file.image()),
-    }
-}
-
-/// Loads an image onto the table of a name.
-fn load_among(places: &mut [Place], table: &[u8], image: &[u8]) -> Result<(), TableError>
-    requires seats { length places.old ≡ 8 }
-    requires fits { length image.now ≤ 32768 }
-    ensures answer { answered result places.new ≡ image_loaded_among image.now table.now places.old }
-    ensures seats { length places.new ≡ 8 }
-    ensures refused { OnErr result (places.new ≡ places.old) }
-{
-    let Some(slot) = find(places, table) else {
-        return Err(TableError::UnknownTable);
-    };
-    places[slot.seat.index()].load(slot.number, image)
-}
-
-/// The image of a file comes into use at a slot's table, where the file opens.
-fn install_into(places: &mut [Place], slot: Slot, bytes: &[u8])
-    requires seats { length places.old ≡ 8 }
-    requires registered { IsTrue (is_some (table_at slot places.old)) }
-    requires fits { length bytes.now ≤ 32768 }
-    ensures opened { IfSome (image_in (opened bytes.now)) (λ image. places.new ≡ changed_among (installed image) slot places.old) }
-    ensures seats { length places.new ≡ 8 }
-{
-    match open(bytes) {
-        Err(_fault) => {}
-        Ok(file) => install_image(places, slot, file.image()),
-    }
-}
-
-/// An image comes into use at a slot's table.
-fn install_image(places: &mut [Place], slot: Slot, image: &[u8])
-    requires seats { length places.old ≡ 8 }
-    requires registered { IsTrue (is_some (table_at slot places.old)) }
-    requires fits { length image.now ≤ 32768 }
-    ensures installed { places.new ≡ changed_among (installed image.now) slot places.old }
-    ensures seats { length places.new ≡ 8 }
-{
-    places[slot.seat.index()].install(slot.number, image);
-}
-
-/// Moves the waiting image of the table of a name.
-fn change_among(places: &mut [Place], table: &[u8], change: Move) -> Result<(), TableError>
-    requires seats { length places.old ≡ 8 }
-    ensures answer { answered result places.new ≡ moved_among (move_of change) table.now places.old }
-    ensures seats { length places.new ≡ 8 }
-    ensures refused { OnErr result (places.new ≡ places.old) }
-{
-    let Some(slot) = find(places, table) else {
-        return Err(TableError::UnknownTable);
-    };
-    places[slot.seat.index()].change(slot.number, change)
 }

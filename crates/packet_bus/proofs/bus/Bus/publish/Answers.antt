@@ -30,7 +30,7 @@ invariant_of-self c =
     let hearers = hearers_are _ _ _ _ _ c.self.invariant c.args.packet.now c.in-Ok.mid c.index.result.now c.copy-hearers.result c.in-Ok.ensures.exact c.in-Ok.ensures.value c.index.ensures c.copy-hearers.ensures in
     let room = with_room _ _ _ _ _ c.self.invariant c.args.packet.now c.in-Ok.mid c.index.result.now c.copy-hearers.result c.in-Ok.ensures.exact c.in-Ok.ensures.value c.index.ensures c.copy-hearers.ensures (sym c.if-meets.ensures) in
     rw c.deliver.ensures.pool
-    (published_together _ _ _ _ _ c.self.invariant c.deliver.result c.args.packet.now (count_by is_in c.copy-hearers.result) c.deliver.ensures.within c.deliver.ensures.free c.deliver.new.places.items
+    (published_together _ _ _ _ _ c.self.invariant c.deliver.result c.args.packet.now (count_by is_in c.copy-hearers.result) c.deliver.ensures.within c.deliver.ensures.free (sym c.in-Ok.ensures.exact) c.deliver.new.places.items
     c.deliver.new.ready c.deliver.new.full (c.deliver.ensures.places ∙ ap (λ (seats : List Bool). delivered c.deliver.result seats c.self.inside.places.items) hearers)
     (ap (count_by is_in) hearers) room c.deliver.ensures.ready c.deliver.ensures.full)
 

@@ -1,7 +1,8 @@
-use Rattle.std.proofs.Common.{◌∙◌, ap, sym}
-use Rattle.lc_model.specs.Services.Bus.{without_oldest}
+use Rattle.std.proofs.Common.{◌∙◌, ap, sym, subst, IfSome, None, ◌≡◌}
+use Rattle.lc_model.specs.Packet.{header_fault}
+use Rattle.lc_model.specs.Services.Bus.{Bus, oldest_at, without_oldest}
 use Rattle.packet_bus.specs.Inside.{shown, changed}
-use Rattle.packet_bus.proofs.Places.{is_slot, waits_here, popped, shown_popped}
+use Rattle.packet_bus.proofs.Places.{is_slot, waits_here, popped, shown_popped, untouched, good_oldest}
 use Rattle.packet_bus.proofs.bus.Bus.take_packet.Goals as goal
 
 pub take-requires-clause-within : goal.take-requires-clause-within
@@ -27,3 +28,13 @@ returns-clause-after c =
     (ap (shown _) oldest.places
     ∙ shown_popped _ _ _ _ _ c.self.invariant c.args.seat oldest.below c.in_ok-slot.slot (sym oldest.slot ∙ c.in_ok-slot.was)
     ∙ ap (changed c.args.seat without_oldest) c.self.view_is)
+
+pub returns-clause-good : goal.returns-clause-good
+returns-clause-good c =
+    subst (λ (bus : Bus). IfSome (oldest_at c.args.seat bus) (λ packet. header_fault packet ≡ None)) c.self.view_is
+    (good_oldest _ _ _ _ _ c.self.invariant c.args.seat c.take_oldest.ensures.below)
+
+pub invariant_of-self : goal.invariant_of-self
+invariant_of-self c =
+    let oldest = c.take_oldest.ensures in
+    untouched _ _ _ _ _ c.self.invariant c.args.seat oldest.below (sym oldest.slot ∙ c.in_err-slot.was) _ _ _ oldest.places oldest.ready oldest.full

@@ -1,6 +1,6 @@
 use Rattle.std.proofs.Common.{rules}
 use Rattle.tbl_service.proofs.Handles.{found_here, is_there, not_here, nowhere}
-use Rattle.tbl_service.proofs.service.find.Goals as goal
+use Rattle.tbl_service.proofs.registry.find.Goals as goal
 
 pub returns-in-Some-clause-slot : goal.returns-in-Some-clause-slot
 returns-in-Some-clause-slot c =

@@ -1,0 +1,131 @@
+-- The loop of the deliveries.
+use Rattle.std.proofs.Common.{◌≡◌, refl, ap, ap₂, sym, ◌∙◌, subst, ℕ, suc, ◌+◌, ◌*◌, ◌<◌, ◌≤◌, true, List, [], length, take, map, arith, Option, Some, None, Result, Ok, Err}
+use Rattle.std.specs.Prelude.{option_map, IsErrAnd}
+use Rattle.std.specs.Io.KnownBytes.{Appends}
+use Rattle.lc_model.specs.Device.{Sink}
+use Rattle.lc_model.specs.Kept.Executive.{Written, ready_seat, delivered_at, drained}
+use Rattle.lc_model.specs.Kept.Stations.{Station, delivery_stations, last_calls}
+use Rattle.lc_model.specs.Services.Bus.{seen}
+use Rattle.app_host.specs.declared.services.Services.{Services}
+use Rattle.app_host.specs.declared.error.WriteFault.{WriteFault}
+use Rattle.app_host.specs.Shared.{on_board, shared}
+use Rattle.app_host.specs.Hosted.{Hosted, member_of}
+use Rattle.app_host.specs.Whole.{IsWhole, AreKnown}
+use Rattle.app_host.specs.Load.{IsLight, load}
+use Rattle.app_host.specs.Delivered.{executive_in, Becomes, HasDelivered}
+use Rattle.app_host.specs.Writing.{written_off, IsFlushed, IsAllSent, IsPartSent, IsCut, HandlesAll, HandlesPart, Handles}
+use Rattle.app_host.proofs.Flushed.{same_shared}
+use Rattle.app_host.proofs.Course.{SoFar, so_far_first, so_far_more, cut_here, all_done}
+
+pub record Draining (first now : Hosted) (sent : ℕ) (before after : Sink) : Type 0 where
+  pub whole : IsWhole now
+  pub light : IsLight (seen now.services.bus)
+  pub few : now.calls + load (seen now.services.bus) ≤ 520
+  pub small : sent ≤ 65536 * now.calls
+  pub is_closed : now.is_closed ≡ first.is_closed
+  pub moment : now.services.moment ≡ first.services.moment
+  pub fine : after.failed ≡ before.failed
+  pub exact : AreKnown first → SoFar first.services.moment (executive_in first) now sent before.gained after.gained
+
+pub draining_first : (h : Hosted) (sink : Sink) → IsWhole h → IsLight (seen h.services.bus) → load (seen h.services.bus) ≤ 520 → h.calls ≡ 0 → Draining h h 0 sink sink
+draining_first h sink whole light few none = record {
+  whole = whole;
+  light = light;
+  few = omega (arith, few, none);
+  small = omega arith;
+  is_closed = refl;
+  moment = refl;
+  fine = refl;
+  exact = λ known. so_far_first h.services.moment h sink.gained known few none;
+}
+
+-- nothing waits to be written any more
+module _ (given later : Hosted) (flushed : IsFlushed given later) where
+  pub same_executive : executive_in later ≡ executive_in given
+  same_executive = λ i. record {
+    stock = map member_of (flushed.stock i);
+    seats = map (option_map member_of) (flushed.seats i);
+    pipes = seen (flushed.services i).bus;
+    services = (ap shared flushed.services ∙ same_shared given.services (written_off given.services) (record { bus = refl; events = refl; tables = refl; counts = refl })) i;
+  }
+
+  pub still_known : AreKnown given → AreKnown later
+  still_known known = record { spares = rw flushed.stock known.spares; seated = λ seat. rw flushed.seats (known.seated seat) }
+
+module _ (first now given later : Hosted) (sent seat : ℕ) (before mid after : Sink) (far : Draining first now sent before mid) (ready : ready_seat (seen now.services.bus) ≡ Some seat)
+    (delivered : HasDelivered seat now given) (flushed : IsFlushed given later) where
+  whole_then : IsWhole later
+  whole_then = record {
+    seated = flushed.seated;
+    spares = rw (flushed.stock, delivered.stock) far.whole.spares;
+    idle = ap (λ (s : Services). s.outgoing) flushed.services;
+  }
+
+  bus_then : seen later.services.bus ≡ seen given.services.bus
+  bus_then = ap (λ (s : Services). seen s.bus) flushed.services
+
+  calls_then : later.calls ≡ now.calls + 1
+  calls_then = flushed.calls ∙ delivered.calls
+
+  few_then : later.calls + load (seen later.services.bus) ≤ 520
+  few_then = omega (arith, calls_then, ap load bus_then, delivered.falls, far.few)
+
+  module _ (known : AreKnown first) where
+    so_far : SoFar first.services.moment (executive_in first) now sent before.gained mid.gained
+    so_far = far.exact known
+
+    becomes : Becomes given (delivered_at on_board first.services.moment seat (executive_in now))
+    becomes = subst (λ m. Becomes given (delivered_at on_board m seat (executive_in now))) far.moment (delivered.exact so_far.known)
+
+    more : Appends mid.gained after.gained given.services.outgoing → SoFar first.services.moment (executive_in first) later (sent + length given.services.outgoing) before.gained after.gained
+    more gains =
+        so_far_more first.services.moment (executive_in first) now given sent before.gained mid.gained so_far seat ready becomes delivered.falls
+        later after.gained (still_known given later flushed becomes.known) (same_executive given later flushed) calls_then (ap load bus_then) gains
+
+    cut : (taken : ℕ) → taken < length given.services.outgoing → Appends mid.gained after.gained (take taken given.services.outgoing) →
+        IsCut (delivery_stations on_board first.services.moment 0 520 (executive_in first)) (drained on_board first.services.moment 520 (executive_in first)) (sent + taken) later before.gained after.gained
+    cut taken fewer gains =
+        cut_here first.services.moment (executive_in first) now given sent before.gained mid.gained so_far seat ready becomes delivered.falls
+        later after.gained (still_known given later flushed becomes.known) (same_executive given later flushed) calls_then (ap load bus_then) taken fewer gains
+
+  pub draining_next : (total : ℕ) → IsAllSent sent given later mid after total → Draining first later total before after
+  draining_next total all = record {
+    whole = whole_then;
+    light = rw bus_then delivered.light;
+    few = few_then;
+    small = omega (arith, all.count, delivered.fits, far.small, calls_then);
+    is_closed = all.is_closed ∙ delivered.is_closed ∙ far.is_closed;
+    moment = ap (λ (s : Services). s.moment) flushed.services ∙ delivered.moment ∙ far.moment;
+    fine = all.fine ∙ far.fine;
+    exact = λ known. subst (λ n. SoFar first.services.moment (executive_in first) later n before.gained after.gained) (sym all.count) (more known all.gains);
+  }
+
+  pub draining_cut : (total : ℕ) → IsPartSent sent given later mid after total →
+      HandlesPart (delivery_stations on_board first.services.moment 0 520 (executive_in first)) (drained on_board first.services.moment 520 (executive_in first)) total first later before after
+  draining_cut total part = record {
+    whole = whole_then;
+    is_closed = part.is_closed;
+    calls = omega (arith, few_then);
+    failed = part.failed;
+    exact = λ known.
+        subst (λ n. IsCut (delivery_stations on_board first.services.moment 0 520 (executive_in first)) (drained on_board first.services.moment 520 (executive_in first)) n later before.gained after.gained)
+        (sym part.count) (cut known part.taken part.fewer part.gains);
+  }
+
+pub draining_end : (first now : Hosted) (sent : ℕ) (before after : Sink) → Draining first now sent before after → ready_seat (seen now.services.bus) ≡ None →
+    HandlesAll (delivery_stations on_board first.services.moment 0 520 (executive_in first)) (drained on_board first.services.moment 520 (executive_in first))
+    (last_calls on_board first.services.moment (delivery_stations on_board first.services.moment 0 520 (executive_in first))) first now before after
+draining_end first now sent before after far none = record {
+  whole = far.whole;
+  quiet = none;
+  is_closed = far.is_closed;
+  calls = omega (arith, far.few);
+  fine = far.fine;
+  exact = λ known. all_done first.services.moment (executive_in first) now sent before.gained after.gained (far.exact known) none;
+}
+
+-- an error that is passed on
+pub cut_short : (stations : List (Station (List ℕ))) (step : Written (List ℕ)) (last : ℕ) (old new : Hosted) (before now : Sink) (result : Result (Unit {0}) WriteFault) (fault : WriteFault) →
+    IsErrAnd result (λ e. e ≡ fault) → HandlesPart stations step fault.sent old new before now → Handles stations step last old new before now result
+cut_short stations step last old new before now (Ok done) fault is part = absurd is
+cut_short stations step last old new before now (Err e) fault is part = subst (λ f. HandlesPart stations step f.sent old new before now) (sym is) part

@@ -1,0 +1,120 @@
+-- An event of HOST.
+use Rattle.std.proofs.Common.{◌≡◌, ◌≢◌, refl, ap, sym, ◌∙◌, subst, ℕ, ◌+◌, ◌-◌, ◌<◌, ◌≤◌, true, List, [], ◌∷◌, ◌++◌, length, take, map, arith, Option, Some, None}
+use Rattle.std.specs.Prelude.{option_map, slice_index_or}
+use Rattle.std.specs.List.{concat}
+use Rattle.std.specs.Io.KnownBytes.{Appends}
+use Rattle.lc_model.specs.declared.record.Moment.{Moment}
+use Rattle.lc_model.specs.Device.{Sink}
+use Rattle.lc_model.specs.Name.{host_name}
+use Rattle.lc_model.specs.Events.Request.{Request}
+use Rattle.lc_model.specs.Kept.Call.{ServicesNow, sent_by}
+use Rattle.lc_model.specs.Kept.Executive.{Pipe, Written, ready_seat, told_by_host}
+use Rattle.lc_model.specs.Kept.Stations.{Station, size_at, stop_at, written_once}
+use Rattle.lc_model.specs.Laws.TablesByName.{TablesAreFound}
+use Rattle.lc_model.specs.Services.Bus.{Bus, seen}
+use Rattle.lc_model.specs.Services.Tables.{TableService, IsTableService, tables_at}
+use Rattle.lc_model.specs.Services.Interface.{seen_at}
+use Rattle.app_host.specs.declared.services.Services.{Services}
+use Rattle.app_host.specs.Shared.{held_by, shared}
+use Rattle.app_host.specs.Telling.{Tells, name_of}
+use Rattle.app_host.specs.Hosted.{Hosted, member_of}
+use Rattle.app_host.specs.Whole.{AreSeated, AreKnown, IsWhole, IsQuiet}
+use Rattle.app_host.specs.Delivered.{executive_in}
+use Rattle.app_host.specs.Writing.{written_off, IsFlushed, IsAllSent, IsPartSent, IsDone, IsCut, HandlesAll, HandlesPart}
+use Rattle.app_host.specs.Told.{telling, HasTold}
+use Rattle.app_host.proofs.Frames.{StaysAt, seated_still}
+use Rattle.app_host.proofs.Course.{passes, stops_here, none_stops}
+use Rattle.app_host.proofs.Draining.{same_executive, still_known}
+
+module _ (law : TablesAreFound) (request : Request) (old new : Hosted) (told : Tells None host_name (request ∷ []) old.services new.services) (sound : IsTableService old.services.tables)
+    (seated : AreSeated old.seats old.services) (idle : old.services.outgoing ≡ []) (stock : new.stock ≡ old.stock) (seats : new.seats ≡ old.seats) (closed : new.is_closed ≡ old.is_closed)
+    (calls : new.calls ≡ old.calls) where
+  stays : (seat : ℕ) → StaysAt seat old.services new.services
+  stays seat = record {
+    sender = ap (option_map name_of) (told.others (Some seat) (λ e. cc));
+    tables = ap (λ (t : TableService). tables_at seat t.places) told.tables;
+    subscriptions = ap (λ (b : Bus). option_map (λ (pipe : Pipe). pipe.subscriptions) (slice_index_or (seen b) seat None)) told.bus;
+  }
+
+  pub has_told : length new.services.outgoing ≤ length old.services.outgoing + 168 → HasTold request old new
+  has_told size = record {
+    stock = stock;
+    seats = seats;
+    is_closed = closed;
+    calls = calls;
+    seated = rw seats (seated_still law old.seats old.services new.services sound (subst IsTableService (sym told.tables) sound) stays seated);
+    pipes = ap seen told.bus;
+    fits = omega (arith, size, ap length idle);
+    executive = λ i. record {
+      stock = map member_of (stock i);
+      seats = map (option_map member_of) (seats i);
+      pipes = seen (told.bus i);
+      services = told.services i;
+    };
+    outgoing = told.outgoing ∙ ap (λ bytes. bytes ++ concat (telling request old).1) idle;
+  }
+
+-- ---- one write
+
+module _ (request : Request) (old mid new : Hosted) (before after : Sink) (whole : IsWhole old) (quiet : IsQuiet old) (none_yet : old.calls ≡ 0) (told : HasTold request old mid)
+    (flushed : IsFlushed mid new) where
+  abbrev step : Written (List ℕ)
+  step = telling request old
+
+  abbrev station : Station (List ℕ)
+  station = record { executive = step.0; calls = 0; packets = step.1 }
+
+  whole_then : IsWhole new
+  whole_then = record {
+    seated = flushed.seated;
+    spares = rw (flushed.stock, told.stock) whole.spares;
+    idle = ap (λ (s : Services). s.outgoing) flushed.services;
+  }
+
+  calls_then : new.calls ≡ 0
+  calls_then = flushed.calls ∙ told.calls ∙ none_yet
+
+  known_then : AreKnown old → AreKnown new
+  known_then known = still_known mid new flushed (record { spares = rw told.stock known.spares; seated = λ seat. rw told.seats (known.seated seat) })
+
+  executive_then : executive_in new ≡ step.0
+  executive_then = same_executive mid new flushed ∙ told.executive
+
+  all_room : (room : ℕ) → length (concat step.1) ≤ room → stop_at room (written_once step) ≡ None
+  all_room room enough =
+      ap (λ n. stop_at n (written_once step)) (let rest : room ≡ size_at station + (room - size_at station) = omega (arith, enough) in rest)
+      ∙ passes (room - size_at station) station []
+      ∙ none_stops (room - size_at station)
+
+  pub told_all : (total : ℕ) → IsAllSent 0 mid new before after total → HandlesAll (written_once step) step 0 old new before after
+  told_all total all = record {
+    whole = whole_then;
+    quiet = ap (λ (s : Services). ready_seat (seen s.bus)) flushed.services ∙ ap ready_seat told.pipes ∙ quiet;
+    is_closed = all.is_closed ∙ told.is_closed;
+    calls = omega (arith, calls_then);
+    fine = all.fine;
+    exact = λ known. record {
+      known = known_then known;
+      executive = executive_then;
+      calls = calls_then;
+      gains = subst (Appends before.gained after.gained) told.outgoing all.gains;
+      fits = all_room;
+    };
+  }
+
+  pub told_part : (total : ℕ) → IsPartSent 0 mid new before after total → HandlesPart (written_once step) step total old new before after
+  told_part total part = record {
+    whole = whole_then;
+    is_closed = part.is_closed;
+    calls = omega (arith, calls_then);
+    failed = part.failed;
+    exact = λ known. record {
+      known = known_then known;
+      station = station;
+      stops = stops_here total station [] (omega (arith, part.fewer, ap length told.outgoing, part.count));
+      executive = executive_then;
+      calls = calls_then;
+      gains = subst (λ n. Appends before.gained after.gained (take n (concat step.1))) (let same : part.taken ≡ total = omega (arith, part.count) in same)
+          (subst (λ bytes. Appends before.gained after.gained (take part.taken bytes)) told.outgoing part.gains);
+    };
+  }

@@ -1,0 +1,108 @@
+-- All deliveries behind a publication.
+use Rattle.std.proofs.Common.{◌≡◌, refl, ap, sym, ◌∙◌, subst, ℕ, ◌≤◌, List, [], length, map, arith, Option, Some, None, Result, Ok, Err}
+use Rattle.std.specs.Prelude.{IsOk, OnOk, option_map, slice_index_or}
+use Rattle.std.proofs.lemmas.List.{length-map}
+use Rattle.lc_model.specs.declared.record.Moment.{Moment}
+use Rattle.lc_model.specs.Device.{Sink}
+use Rattle.lc_model.specs.Kept.Executive.{Pipe, Executive, Written, ready_seat, published_to, drained}
+use Rattle.lc_model.specs.Kept.Stations.{Station, delivery_stations, last_calls}
+use Rattle.lc_model.specs.Laws.TablesByName.{TablesAreFound}
+use Rattle.lc_model.specs.Services.Bus.{Bus, seen, seen_pipe, IsPublished}
+use Rattle.lc_model.specs.Services.Events.{EventService, sender_at}
+use Rattle.lc_model.specs.Services.Tables.{TableService, IsTableService, tables_at}
+use Rattle.lc_model.specs.Services.Interface.{seen_at}
+use Rattle.lc_model.specs.Services.Seen.{services_seen}
+use Rattle.packet_bus.specs.declared.error.BusError.{BusError}
+use Rattle.app_host.specs.declared.services.Services.{Services}
+use Rattle.app_host.specs.declared.error.WriteFault.{WriteFault}
+use Rattle.app_host.specs.Shared.{on_board, held_by, shared}
+use Rattle.app_host.specs.Telling.{name_of}
+use Rattle.app_host.specs.Hosted.{Hosted, member_of}
+use Rattle.app_host.specs.Whole.{AreSeated, AreKnown, IsWhole, IsQuiet}
+use Rattle.app_host.specs.Load.{IsLight, load}
+use Rattle.app_host.specs.Delivered.{executive_in}
+use Rattle.app_host.specs.Writing.{IsDone, IsCut, HandlesAll, HandlesPart, Handles, Drains, PassesOn}
+use Rattle.app_host.proofs.Delivery.{shared_still}
+use Rattle.app_host.proofs.Frames.{StaysAt, seated_still}
+use Rattle.app_host.proofs.Publishing.{seen_published, offered_at, offered_keeps, light_first, load_first}
+
+module _ (packet : List ℕ) (old new : Bus) (published : IsPublished packet old new) (eight : length old ≡ 8) (quiet : ready_seat (seen old) ≡ None) where
+  pipes_after : seen new ≡ published_to (seen old) packet
+  pipes_after = ap seen published.published ∙ seen_published published.number packet old
+
+  size : length (seen old) ≡ 8
+  size = length-map old (option_map seen_pipe) ∙ eight
+
+  pub light_after : IsLight (seen new)
+  light_after = rw pipes_after (light_first packet (seen old) size quiet)
+
+  pub load_after : load (seen new) ≤ 520
+  load_after = rw pipes_after (load_first packet (seen old) size quiet)
+
+module _ (law : TablesAreFound) (old mid : Hosted) (packet : List ℕ) (whole : IsWhole old) (quiet : IsQuiet old) (sound : IsTableService old.services.tables)
+    (stock : mid.stock ≡ old.stock) (seats : mid.seats ≡ old.seats) (closed : mid.is_closed ≡ old.is_closed)
+    (events : mid.services.events ≡ old.services.events) (tables : mid.services.tables ≡ old.services.tables) (counts : mid.services.counts ≡ old.services.counts)
+    (moment : mid.services.moment ≡ old.services.moment) (outgoing : mid.services.outgoing ≡ old.services.outgoing)
+    (published : IsPublished packet old.services.bus mid.services.bus) where
+  pipes_then : seen mid.services.bus ≡ published_to (seen old.services.bus) packet
+  pipes_then = ap seen published.published ∙ seen_published published.number packet old.services.bus
+
+  stays : (seat : ℕ) → StaysAt seat old.services mid.services
+  stays seat = record {
+    sender = ap (λ (e : EventService). option_map name_of (sender_at (Some seat) e)) events;
+    tables = ap (λ (t : TableService). tables_at seat t.places) tables;
+    subscriptions =
+        ap (λ (pipes : List (Option Pipe)). option_map (λ (pipe : Pipe). pipe.subscriptions) (slice_index_or pipes seat None)) pipes_then
+        ∙ ap (option_map (λ (pipe : Pipe). pipe.subscriptions)) (offered_at packet (seen old.services.bus) seat)
+        ∙ offered_keeps packet (slice_index_or (seen old.services.bus) seat None);
+  }
+
+  pub whole_mid : IsWhole mid
+  whole_mid = record {
+    seated = rw seats (seated_still law old.seats old.services mid.services sound (subst IsTableService (sym tables) sound) stays whole.seated);
+    spares = rw stock whole.spares;
+    idle = outgoing ∙ whole.idle;
+  }
+
+  -- the drain of what there is then is that of the definitions
+  abbrev first : Executive (List ℕ)
+  first = record (executive_in old) { pipes = published_to (seen old.services.bus) packet }
+
+  executive_mid : executive_in mid ≡ first
+  executive_mid = λ i. record {
+    stock = map member_of (stock i);
+    seats = map (option_map member_of) (seats i);
+    pipes = pipes_then i;
+    services = shared_still law old.services mid.services sound events tables counts moment outgoing i;
+  }
+
+  known_mid : AreKnown old → AreKnown mid
+  known_mid known = record { spares = rw stock known.spares; seated = λ seat. rw seats (known.seated seat) }
+
+  pub passes_on : (new : Hosted) (before now : Sink) (result : Result (Unit {0}) WriteFault) → Drains mid new before now result → PassesOn packet old new before now result
+  passes_on new before now (Ok done) all = record {
+    whole = all.whole;
+    quiet = all.quiet;
+    is_closed = all.is_closed ∙ closed;
+    calls = all.calls;
+    fine = all.fine;
+    exact = λ known. subst (λ (p : Moment × Executive (List ℕ)). IsDone (delivery_stations on_board p.0 0 520 p.1) (drained on_board p.0 520 p.1) (last_calls on_board p.0 (delivery_stations on_board p.0 0 520 p.1)) new before.gained now.gained)
+        (λ i. (moment i, executive_mid i)) (all.exact (known_mid known));
+  }
+  passes_on new before now (Err fault) part = record {
+    whole = part.whole;
+    is_closed = part.is_closed;
+    calls = part.calls;
+    failed = part.failed;
+    exact = λ known. subst (λ (p : Moment × Executive (List ℕ)). IsCut (delivery_stations on_board p.0 0 520 p.1) (drained on_board p.0 520 p.1) fault.sent new before.gained now.gained)
+        (λ i. (moment i, executive_mid i)) (part.exact (known_mid known));
+  }
+
+-- what was answered, where it is not refused
+pub published_so : (packet : List ℕ) (old new : Bus) (result : Result (Unit {0}) BusError) → IsOk result → OnOk result (IsPublished packet old new) → IsPublished packet old new
+published_so packet old new (Ok done) is published = published
+published_so packet old new (Err e) is published = cc
+
+pub ok_holds : {P : Type 0} (result : Result (Unit {0}) BusError) → IsOk result → OnOk result P → P
+ok_holds (Ok done) is holds = holds
+ok_holds (Err e) is holds = cc

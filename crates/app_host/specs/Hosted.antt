@@ -1,0 +1,66 @@
+-- The host as contracts see it: its objects by what they mean, and its services.
+use Rattle.std.specs.Prelude.{ℕ, Bool, List, [], map, slice_index_or, Option, None, option_map}
+use Rattle.std.specs.Global.{Global}
+use Rattle.std.specs.declared.dyn_box.DynBox.{DynBox}
+use Rattle.lc_model.specs.Name.{Name}
+use Rattle.lc_model.specs.Kept.Summary.{AppState, Other}
+use Rattle.lc_model.specs.Kept.Executive.{Member, Executive}
+use Rattle.lc_model.specs.Kept.Stations as model
+use Rattle.lc_model.specs.Services.Bus.{seen}
+use Rattle.app_host.specs.declared.services.Services.{Services}
+use Rattle.app_host.specs.declared.host.Host.{Host}
+use Rattle.app_host.specs.Shared.{shared}
+
+-- an object: its name, what it is by now, and the seat that it holds
+pub record Object : Type 0 where
+  pub called : Name
+  pub state : AppState
+  pub held : Option ℕ
+
+-- an object by its meanings
+abbrev pub object : {B : Type 0} → (B → AppState) → (B → Name) → (B → Option ℕ) → B → Object
+object state called held b = record { called = called b; state = state b; held = held b }
+
+-- no object
+abbrev pub no_object : Object
+no_object = record { called = []; state = Other; held = None }
+
+-- the object of a seat, and a spare
+abbrev pub object_at : ℕ → List (Option Object) → Option Object
+object_at seat seats = slice_index_or seats seat None
+
+abbrev pub spare_in : List Object → ℕ → Object
+spare_in stock i = slice_index_or stock i no_object
+
+-- the host: the objects in stock and on the seats, the services, whether a write has failed, and the calls of `on_packet` for
+-- the last record that it handled
+pub record Hosted : Type 0 where
+  pub stock : List Object
+  pub seats : List (Option Object)
+  pub services : Services
+  pub is_closed : Bool
+  pub calls : ℕ
+
+-- a host by the meanings of its objects
+abbrev pub shown : {X : Type 0} {D : X → Type 0} → (DynBox X Global D → AppState) → (DynBox X Global D → Name) → (DynBox X Global D → Option ℕ) → Host X D → Hosted
+shown state called held h = record {
+  stock = map (object state called held) h.stock.items;
+  seats = map (option_map (object state called held)) h.seats;
+  services = h.services;
+  is_closed = h.closed;
+  calls = h.calls;
+}
+
+-- ---- in numbers
+
+-- an object without its seat
+abbrev pub member_of : Object → Member
+member_of o = record { called = o.called; state = o.state }
+
+-- the objects and services of a host, in numbers
+abbrev pub executive_of : List Object → List (Option Object) → Services → Executive (List ℕ)
+executive_of stock seats s = record { stock = map member_of stock; seats = map (option_map member_of) seats; pipes = seen s.bus; services = shared s }
+
+-- the host in numbers
+abbrev pub in_numbers : Hosted → model.Host (List ℕ)
+in_numbers h = record { executive = executive_of h.stock h.seats h.services; is_closed = h.is_closed; calls = h.calls }

@@ -1,0 +1,38 @@
+-- What there is when an object gave its seat back.
+use Rattle.std.specs.Prelude.{◌≡◌, ◌≢◌, ℕ, ◌≤◌, List, [], length, Option, Some, None, IfSome, slice_set}
+use Rattle.lc_model.specs.Kept.Summary.{Other}
+use Rattle.lc_model.specs.Kept.Call.{next_retire}
+use Rattle.lc_model.specs.Kept.Executive.{left_from}
+use Rattle.lc_model.specs.Services.Interface.{IsRetired}
+use Rattle.app_host.specs.declared.services.Services.{Services}
+use Rattle.app_host.specs.Shared.{held_by, shared}
+use Rattle.app_host.specs.Calls.{LeavesEmpty}
+use Rattle.app_host.specs.Hosted.{Object, Hosted, object_at}
+use Rattle.app_host.specs.Whole.{AreSeated}
+use Rattle.app_host.specs.Delivered.{executive_in}
+
+-- what was at the seat is gone
+pub record HasLeft (seat : ℕ) (before after : Services) (o : Object) : Type 0 where
+  pub rules : IsRetired seat o.called (held_by before) (held_by after)
+  pub exact : IfSome (next_retire o.state (shared before)) (LeavesEmpty seat before after)
+
+-- if there was an object; else nothing changed
+abbrev pub LeftBy : ℕ → Services → Services → Option Object → Type 0
+LeftBy seat before after None = after ≡ before
+LeftBy seat before after (Some o) = HasLeft seat before after o
+
+-- an object of this profile leaves as in numbers, and nothing is to be written
+pub record LeavesExactly (seat : ℕ) (old new : Hosted) : Type 0 where
+  pub executive : executive_in new ≡ left_from seat (executive_in old)
+  pub outgoing : new.services.outgoing ≡ []
+
+-- the seat is free
+pub record HasVacated (seat : ℕ) (old new : Hosted) : Type 0 where
+  pub stock : new.stock ≡ old.stock
+  pub seats : new.seats ≡ slice_set old.seats seat None
+  pub is_closed : new.is_closed ≡ old.is_closed
+  pub calls : new.calls ≡ old.calls
+  pub moment : new.services.moment ≡ old.services.moment
+  pub seated : AreSeated new.seats new.services
+  pub fits : length new.services.outgoing ≤ 65536
+  pub exact : IfSome (object_at seat old.seats) (λ (o : Object). o.state ≢ Other → LeavesExactly seat old new)

@@ -1,0 +1,44 @@
+-- What an event of HOST leaves.
+use Rattle.std.specs.Prelude.{◌≡◌, ℕ, ◌≤◌, List, [], ◌∷◌, length, Result}
+use Rattle.std.specs.List.{concat}
+use Rattle.lc_model.specs.declared.record.Moment.{Moment}
+use Rattle.lc_model.specs.Device.{Sink}
+use Rattle.lc_model.specs.Name.{Name}
+use Rattle.lc_model.specs.Host.React.{stored}
+use Rattle.lc_model.specs.Services.Seen.{meaning_of}
+use Rattle.lc_model.specs.Events.Request.{Request}
+use Rattle.lc_model.specs.Kept.Executive.{Executive, Written, told_by_host, filed_now}
+use Rattle.lc_model.specs.Kept.Stations.{written_once}
+use Rattle.lc_model.specs.Services.Bus.{seen}
+use Rattle.app_host.specs.declared.error.WriteFault.{WriteFault}
+use Rattle.app_host.specs.Hosted.{Hosted}
+use Rattle.app_host.specs.Whole.{AreSeated}
+use Rattle.app_host.specs.Delivered.{executive_in}
+use Rattle.app_host.specs.Writing.{Handles}
+
+-- HOST's request, as the host in numbers sends it
+abbrev pub telling : Request → Hosted → Written (List ℕ)
+telling request h = told_by_host h.services.moment (request ∷ []) (executive_in h)
+
+-- the event that was asked for waits to be written, if it is sent; nothing else changed
+pub record HasTold (request : Request) (old new : Hosted) : Type 0 where
+  pub stock : new.stock ≡ old.stock
+  pub seats : new.seats ≡ old.seats
+  pub is_closed : new.is_closed ≡ old.is_closed
+  pub calls : new.calls ≡ old.calls
+  pub seated : AreSeated new.seats new.services
+  pub pipes : seen new.services.bus ≡ seen old.services.bus
+  pub fits : length new.services.outgoing ≤ 65536
+  pub executive : executive_in new ≡ (telling request old).0
+  pub outgoing : new.services.outgoing ≡ concat (telling request old).1
+
+-- the event is written, and that is all
+abbrev pub TellsAlone : Request → Hosted → Hosted → Sink → Sink → Result (Unit {0}) WriteFault → Type 0
+TellsAlone request old new before now result = Handles (written_once (telling request old)) (telling request old) 0 old new before now result
+
+-- a file is stored or refused, and that is written
+abbrev pub Files : Name → List ℕ → Hosted → Hosted → Sink → Sink → Result (Unit {0}) WriteFault → Type 0
+Files name bytes old new before now result =
+    let e : Executive (List ℕ) = executive_in old in
+    let step : Written (List ℕ) = filed_now old.services.moment e (stored name (length bytes) (meaning_of bytes) e.services.files) in
+    Handles (written_once step) step 0 old new before now result

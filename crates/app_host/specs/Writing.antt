@@ -1,0 +1,103 @@
+-- What a part of a step writes, and where it stops if a write fails.
+use Rattle.std.specs.Prelude.{◌≡◌, ℕ, ◌+◌, ◌<◌, ◌≤◌, Bool, true, false, List, [], ◌∷◌, length, take, Option, Some, None, Result, Ok, Err}
+use Rattle.std.specs.List.{concat}
+use Rattle.std.specs.Io.KnownBytes.{Appends}
+use Rattle.lc_model.specs.Device.{Sink, IsCutShort}
+use Rattle.lc_model.specs.Kept.Executive.{Executive, Written, most_deliveries, drained, passed_on}
+use Rattle.lc_model.specs.Kept.Stations.{Station, stop_at, delivery_stations, passing_stations, last_calls}
+use Rattle.app_host.specs.declared.services.Services.{Services}
+use Rattle.app_host.specs.declared.error.WriteFault.{WriteFault}
+use Rattle.app_host.specs.Shared.{on_board}
+use Rattle.app_host.specs.Hosted.{Hosted}
+use Rattle.app_host.specs.Whole.{AreSeated, AreKnown, IsWhole, IsQuiet}
+use Rattle.app_host.specs.Delivered.{executive_in}
+
+-- ---- one write
+
+-- the services with nothing that waits to be written
+abbrev pub written_off : Services → Services
+written_off s = record s { outgoing = [] }
+
+-- the host is as before, but that nothing waits to be written
+pub record IsFlushed (old new : Hosted) : Type 0 where
+  pub stock : new.stock ≡ old.stock
+  pub seats : new.seats ≡ old.seats
+  pub services : new.services ≡ written_off old.services
+  pub seated : AreSeated new.seats new.services
+  pub calls : new.calls ≡ old.calls
+
+-- all of it was written
+pub record IsAllSent (sent : ℕ) (old new : Hosted) (before now : Sink) (total : ℕ) : Type 0 where
+  pub count : total ≡ sent + length old.services.outgoing
+  pub gains : Appends before.gained now.gained old.services.outgoing
+  pub fine : now.failed ≡ before.failed
+  pub is_closed : new.is_closed ≡ old.is_closed
+
+-- the first bytes only, and the host is closed
+pub record IsPartSent (sent : ℕ) (old new : Hosted) (before now : Sink) (total : ℕ) : Type 0 where
+  pub taken : ℕ
+  pub count : total ≡ sent + taken
+  pub fewer : taken < length old.services.outgoing
+  pub gains : Appends before.gained now.gained (take taken old.services.outgoing)
+  pub failed : now.failed ≡ true
+  pub is_closed : new.is_closed ≡ true
+
+-- one of the two, by the answer
+abbrev pub IsSent : ℕ → Hosted → Hosted → Sink → Sink → Result ℕ WriteFault → Type 0
+IsSent sent old new before now (Ok total) = IsAllSent sent old new before now total
+IsSent sent old new before now (Err fault) = IsPartSent sent old new before now fault.sent
+
+-- ---- several writes
+
+-- all was written that this step writes
+pub record IsDone (stations : List (Station (List ℕ))) (step : Written (List ℕ)) (last : ℕ) (new : Hosted) (before now : Option (List ℕ)) : Type 0 where
+  pub known : AreKnown new
+  pub executive : executive_in new ≡ step.0
+  pub calls : new.calls ≡ last
+  pub gains : Appends before now (concat step.1)
+  pub fits : (room : ℕ) → length (concat step.1) ≤ room → stop_at room stations ≡ None
+
+-- the first bytes only, and the host stays as it is at that write
+pub record IsCut (stations : List (Station (List ℕ))) (step : Written (List ℕ)) (sent : ℕ) (new : Hosted) (before now : Option (List ℕ)) : Type 0 where
+  pub known : AreKnown new
+  pub station : Station (List ℕ)
+  pub stops : stop_at sent stations ≡ Some station
+  pub executive : executive_in new ≡ station.executive
+  pub calls : new.calls ≡ station.calls
+  pub gains : Appends before now (take sent (concat step.1))
+
+-- ---- a step, or a part of one
+
+-- all is written, no packet waits, and the host is as open as before
+pub record HandlesAll (stations : List (Station (List ℕ))) (step : Written (List ℕ)) (last : ℕ) (old new : Hosted) (before now : Sink) : Type 0 where
+  pub whole : IsWhole new
+  pub quiet : IsQuiet new
+  pub is_closed : new.is_closed ≡ old.is_closed
+  pub calls : new.calls ≤ most_deliveries
+  pub fine : now.failed ≡ before.failed
+  pub exact : AreKnown old → IsDone stations step last new before.gained now.gained
+
+-- a write failed, and the host is closed
+pub record HandlesPart (stations : List (Station (List ℕ))) (step : Written (List ℕ)) (sent : ℕ) (old new : Hosted) (before now : Sink) : Type 0 where
+  pub whole : IsWhole new
+  pub is_closed : new.is_closed ≡ true
+  pub calls : new.calls ≤ most_deliveries
+  pub failed : now.failed ≡ true
+  pub exact : AreKnown old → IsCut stations step sent new before.gained now.gained
+
+-- one of the two, by the answer
+abbrev pub Handles : List (Station (List ℕ)) → Written (List ℕ) → ℕ → Hosted → Hosted → Sink → Sink → Result (Unit {0}) WriteFault → Type 0
+Handles stations step last old new before now (Ok done) = HandlesAll stations step last old new before now
+Handles stations step last old new before now (Err fault) = HandlesPart stations step fault.sent old new before now
+
+-- all deliveries
+abbrev pub Drains : Hosted → Hosted → Sink → Sink → Result (Unit {0}) WriteFault → Type 0
+Drains old new before now result =
+    let stations : List (Station (List ℕ)) = delivery_stations on_board old.services.moment 0 most_deliveries (executive_in old) in
+    Handles stations (drained on_board old.services.moment most_deliveries (executive_in old)) (last_calls on_board old.services.moment stations) old new before now result
+
+-- a packet is published, and all deliveries are made
+abbrev pub PassesOn : List ℕ → Hosted → Hosted → Sink → Sink → Result (Unit {0}) WriteFault → Type 0
+PassesOn packet old new before now result =
+    let stations : List (Station (List ℕ)) = passing_stations on_board old.services.moment packet (executive_in old) in
+    Handles stations (passed_on on_board old.services.moment packet (executive_in old)) (last_calls on_board old.services.moment stations) old new before now result

@@ -1,0 +1,86 @@
+//! The delivery of packets, one at a time, each followed by a write.
+
+ghost use Rattle.std.specs.Prelude.{◌≡◌, ◌+◌, ◌≤◌, length, Some};
+ghost use Rattle.lc_model.specs.Kept.Executive.{ready_seat};
+ghost use Rattle.lc_model.specs.Services.Bus.{seen};
+ghost use Rattle.app_host.specs.Hosted.{shown};
+ghost use Rattle.app_host.specs.Whole.{IsWhole, AreSeated};
+ghost use Rattle.app_host.specs.Load.{IsLight, load};
+ghost use Rattle.app_host.specs.Delivered.{HasDelivered};
+ghost use Rattle.app_host.specs.Writing.{IsFlushed, IsSent, Drains};
+
+use crate::error::WriteFault;
+use crate::host::Host;
+use crate::places::give_at;
+use lc_model::laws::table_services::table_services_go_by_names;
+use lc_model::{ByteSink, Seat, write_all};
+use packet_bus::PACKET_SIZE;
+
+impl Host {
+    /// The object of a seat answers the first packet of its pipe. Condition: that is the least seat with a packet. Answers the
+    /// next such seat.
+    fn deliver(&mut self, seat: Seat) -> Option<Seat>
+        requires whole { IsWhole (shown state called held self.old) }
+        requires light { IsLight (seen self.old.services.bus) }
+        requires few { self.old.calls + load (seen self.old.services.bus) ≤ 520 }
+        requires ready { ready_seat (seen self.old.services.bus) ≡ Some seat }
+        ensures delivered { HasDelivered seat (shown state called held self.old) (shown state called held self.new) }
+        ensures next { result ≡ ready_seat (seen self.new.services.bus) }
+    {
+        table_services_go_by_names();
+        let mut buffer = [0; PACKET_SIZE];
+        let size = self
+            .services
+            .bus
+            .receive(seat, &mut buffer)
+            .unwrap()
+            .unwrap();
+        self.services.tables.is_service();
+        give_at(&mut self.seats, seat, &mut self.services, &buffer[..size]);
+        self.services.tables.is_service();
+        self.calls += 1;
+        self.services.bus.least_ready()
+    }
+
+    /// What waits to be written is written, behind so many bytes of this step; answers how many these are then. Where the write
+    /// fails the host is closed.
+    pub(crate) fn flush<W: ByteSink>(&mut self, out: &mut W, sent: u64) -> Result<u64, WriteFault>
+        requires seated { AreSeated (shown state called held self.old).seats (shown state called held self.old).services }
+        requires room { sent + length self.old.services.outgoing ≤ 1000000000000 }
+        ensures flushed { IsFlushed (shown state called held self.old) (shown state called held self.new) }
+        ensures sent { IsSent sent (shown state called held self.old) (shown state called held self.new) (W.sink out.old) (W.sink out.new) result }
+    {
+        table_services_go_by_names();
+        self.services.tables.is_service();
+        let waiting = self.services.outgoing.as_slice();
+        let size = waiting.len() as u64;
+        let written = write_all(out, waiting);
+        self.services.outgoing.clear();
+        match written {
+            Ok(()) => Ok(sent + size),
+            Err(taken) => {
+                self.closed = true;
+                Err(WriteFault {
+                    sent: sent + taken as u64,
+                })
+            }
+        }
+    }
+
+    /// Delivers until no packet waits. What each call asks for is written behind it.
+    pub(crate) fn drain<W: ByteSink>(&mut self, out: &mut W) -> Result<(), WriteFault>
+        requires whole { IsWhole (shown state called held self.old) }
+        requires light { IsLight (seen self.old.services.bus) }
+        requires few { load (seen self.old.services.bus) ≤ 520 }
+        requires none_yet { self.old.calls ≡ 0 }
+        ensures { Drains (shown state called held self.old) (shown state called held self.new) (W.sink out.old) (W.sink out.new) result }
+    {
+        let mut next = self.services.bus.least_ready();
+        let mut sent = 0;
+        while let Some(seat) = next {
+            next = self.deliver(seat);
+            sent = self.flush(out, sent)?;
+        }
+        Ok(())
+    }
+}

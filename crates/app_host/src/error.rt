@@ -1,0 +1,48 @@
+//! Why the executive refuses.
+
+ghost use Rattle.std.specs.Prelude.{◌≡◌};
+ghost use Rattle.app_host.specs.Error.{error_code};
+
+use thiserror::Error;
+
+/// Why a command to an application is refused, or no host is made.
+#[derive(Clone, Copy, Debug, PartialEq, Eq, Error)]
+pub enum HostError {
+    /// No application of that name runs.
+    #[error("no such application runs")]
+    NoSuchApp,
+    /// There is no spare of that name.
+    #[error("no spare of that name")]
+    NoSpare,
+    /// An application of that name runs.
+    #[error("the application runs already")]
+    AlreadyRunning,
+    /// Eight applications run.
+    #[error("eight applications run")]
+    TooManyApps,
+    /// No memory for the services; only `Host::new` answers it.
+    #[error("out of memory")]
+    Memory,
+}
+
+impl HostError {
+    /// The refusal's number, 121 to 124. Want of memory has none.
+    pub fn code(self) -> Option<u8>
+        ensures { result ≡ error_code self }
+    {
+        match self {
+            HostError::NoSuchApp => Some(121),
+            HostError::NoSpare => Some(122),
+            HostError::AlreadyRunning => Some(123),
+            HostError::TooManyApps => Some(124),
+            HostError::Memory => None,
+        }
+    }
+}
+
+/// A write failed. In the step in which it did, `sent` is how many bytes of this step the writer took.
+#[derive(Clone, Copy, Debug, PartialEq, Eq, Error)]
+#[error("a write failed behind {sent} bytes")]
+pub struct WriteFault {
+    pub sent: u64,
+}

@@ -1,0 +1,45 @@
+//! Files that a record brings.
+
+ghost use Rattle.std.specs.Prelude.{◌≡◌, ◌≤◌, length};
+ghost use Rattle.app_host.specs.Hosted.{shown};
+ghost use Rattle.app_host.specs.Whole.{IsWhole, IsQuiet};
+ghost use Rattle.app_host.specs.Told.{Files};
+
+use crate::error::WriteFault;
+use crate::host::Host;
+use crate::numbers::of_tables;
+use event_service::host;
+use lc_model::laws::table_services::table_services_go_by_names;
+use lc_model::{ByteSink, EventKind};
+
+impl Host {
+    /// A file is stored, or refused. Condition: a name of at most 40 bytes.
+    pub(crate) fn store_file<W: ByteSink>(
+        &mut self,
+        name: &[u8],
+        bytes: &[u8],
+        out: &mut W,
+    ) -> Result<(), WriteFault>
+        requires whole { IsWhole (shown state called held self.old) }
+        requires quiet { IsQuiet (shown state called held self.old) }
+        requires none_yet { self.old.calls ≡ 0 }
+        requires short { length name.now ≤ 40 }
+        ensures { Files name.now bytes.now (shown state called held self.old) (shown state called held self.new) (W.sink out.old) (W.sink out.new) result }
+    {
+        table_services_go_by_names();
+        self.services.tables.is_service();
+        let stored = self.services.tables.put_file(name, bytes);
+        self.services.tables.is_service();
+        match stored {
+            Ok(()) => {
+                let text = host::file_stored();
+                self.tell_alone(2, EventKind::Information, &text, out)
+            }
+            Err(error) => {
+                let numbers = of_tables(error);
+                let text = host::file_refused(numbers.as_slice());
+                self.tell_alone(3, EventKind::Error, &text, out)
+            }
+        }
+    }
+}

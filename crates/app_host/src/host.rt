@@ -1,0 +1,74 @@
+//! The executive.
+
+ghost use Rattle.std.specs.Prelude.{◌≡◌, map, is_some, count_by, IfOk, IfErr, false};
+ghost use Rattle.lc_model.specs.Kept.Executive as model;
+ghost use Rattle.lc_model.specs.Kept.Executive.{is_called};
+ghost use Rattle.lc_model.specs.Kept.Stations.{first_host};
+ghost use Rattle.app_host.specs.Hosted.{Object, object, shown, member_of, in_numbers};
+ghost use Rattle.app_host.specs.Whole.{AreSpares, IsWhole, IsQuiet};
+
+use crate::app::App;
+use crate::error::HostError;
+use crate::objects::{seat_of, spares_of};
+use crate::services::Services;
+use lc_model::Seat;
+use std::alloc::Global;
+
+/// The host: applications in stock and on eight seats, and what they share.
+#[derive(Drop)]
+pub struct Host {
+    pub(crate) stock: Vec<Box<dyn App>>,
+    pub(crate) seats: [Option<Box<dyn App>>; Seat::COUNT],
+    pub(crate) services: Services,
+    /// Whether a write has failed.
+    pub(crate) closed: bool,
+    /// The calls of `on_packet` for the last record that was handled.
+    pub(crate) calls: u32,
+}
+
+impl Host {
+    /// A host that runs nothing; these are its spares. It takes all the memory there will ever be; out of memory is the only
+    /// error, and gives the stock back. Condition: no object holds a seat.
+    pub fn new(
+        alloc: Global,
+        stock: Vec<Box<dyn App>>,
+    ) -> Result<Host, (HostError, Vec<Box<dyn App>>)>
+        requires spares { AreSpares (map (object state called held) stock.items) }
+        ensures whole { IfOk result (λ host. IsWhole (shown state called held host)) }
+        ensures quiet { IfOk result (λ host. IsQuiet (shown state called held host)) }
+        ensures first { IfOk result (λ host. in_numbers (shown state called held host) ≡ first_host (map member_of (map (object state called held) stock.items))) }
+        ensures stock_back { IfErr result (λ refused. refused.1 ≡ stock) }
+    {
+        match Services::new(alloc) {
+            Err(_) => Err((HostError::Memory, stock)),
+            Ok(services) => Ok(Host {
+                stock,
+                seats: [None, None, None, None, None, None, None, None],
+                services,
+                closed: false,
+                calls: 0,
+            }),
+        }
+    }
+
+    /// Whether an application of the name runs.
+    pub fn running(&self, name: &[u8]) -> bool
+        ensures { result ≡ is_some (model.seat_of name.now (in_numbers (shown state called held self.now)).executive.seats) }
+    {
+        seat_of(&self.seats, name).is_some()
+    }
+
+    /// How many spares of the name there are.
+    pub fn spares(&self, name: &[u8]) -> usize
+        ensures { result ≡ count_by (is_called name.now) (in_numbers (shown state called held self.now)).executive.stock }
+    {
+        spares_of(self.stock.as_slice(), name)
+    }
+
+    /// The calls of `on_packet` in the last `step` that began on an open host; 0 before the first.
+    pub fn calls(&self) -> u32
+        ensures { result ≡ (in_numbers (shown state called held self.now)).calls }
+    {
+        self.calls
+    }
+}

@@ -1,0 +1,79 @@
+//! The numbers of a refusal, which HOST's event names.
+
+ghost use Rattle.std.specs.Prelude.{◌≡◌, ◌≤◌, [], ◌∷◌, length};
+ghost use Rattle.tbl_service.specs.Error as tables;
+
+use std::marker::Model;
+use tbl_service::TableError;
+
+/// At most two numbers. Contracts see the list.
+#[derive(Debug, Drop)]
+pub(crate) struct Numbers {
+    numbers: [u16; 2],
+    count: usize,
+}
+
+impl Model for Numbers {
+    ghost use Rattle.std.specs.Prelude.{List, ℕ, take, length, ◌≤◌, ◌≡◌};
+
+    ghost Value = { List ℕ };
+
+    ghost view = { λ n. take n.count n.numbers };
+
+    ghost invariant = { λ n. (n.count ≤ 2) × (length n.numbers ≡ 2) };
+}
+
+impl Numbers {
+    fn none() -> Numbers
+        ensures { result ≡ [] }
+    {
+        Numbers {
+            numbers: [0, 0],
+            count: 0,
+        }
+    }
+
+    pub(crate) fn one(number: u16) -> Numbers
+        ensures { result ≡ number ∷ [] }
+    {
+        Numbers {
+            numbers: [number, 0],
+            count: 1,
+        }
+    }
+
+    fn two(first: u16, second: u16) -> Numbers
+        ensures { result ≡ first ∷ second ∷ [] }
+    {
+        Numbers {
+            numbers: [first, second],
+            count: 2,
+        }
+    }
+
+    pub(crate) fn as_slice(&self) -> &[u16]
+        ensures numbers { result.now ≡ self.now }
+        ensures few { length result.now ≤ 2 }
+    {
+        &self.numbers[..self.count]
+    }
+}
+
+/// The numbers of a refusal of the table services: its own, and behind 112 the file's.
+pub(crate) fn of_tables(error: TableError) -> Numbers
+    ensures { result ≡ tables.refusal_of error }
+{
+    match error {
+        TableError::NoFile => Numbers::one(111),
+        TableError::FileFault(fault) => Numbers::two(112, u16::from(fault.code().unwrap_or(0))),
+        TableError::UnknownTable => Numbers::one(113),
+        TableError::WrongSize => Numbers::one(114),
+        TableError::UpdatePending => Numbers::one(115),
+        TableError::NothingLoaded => Numbers::one(116),
+        TableError::NotValidated => Numbers::one(117),
+        TableError::StoreFull => Numbers::one(118),
+        TableError::FileTooLong => Numbers::one(119),
+        TableError::NoSlot => Numbers::one(120),
+        TableError::Memory => Numbers::none(),
+    }
+}

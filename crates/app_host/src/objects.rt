@@ -1,0 +1,117 @@
+//! One call of one object, and the search among objects.
+
+ghost use Rattle.std.specs.Prelude.{◌≡◌, ◌<◌, count_by, is_none, length, map, option_map, IfSome, Some};
+ghost use Rattle.std.specs.List.{position_from};
+ghost use Rattle.lc_model.specs.Kept.Executive.{is_called, is_seated};
+ghost use Rattle.app_host.specs.Calls.{IsObject};
+ghost use Rattle.app_host.specs.Hosted.{Object, object, object_at, spare_in, member_of};
+ghost use Rattle.app_host.specs.Objects.{IfBoth, MayStartOn, HasStarted, MayAnswer, HasAnswered, MayRetire, HasRetired};
+
+use crate::app::App;
+use crate::laws::objects_are_at_home;
+use crate::services::Services;
+use lc_model::Seat;
+
+/// The object takes a free seat.
+pub(crate) fn start(app: &mut Box<dyn App>, seat: Seat, services: &mut Services)
+    requires { MayStartOn seat services.old (object state called held app.old) }
+    ensures { HasStarted seat services.old services.new (object state called held app.old) (object state called held app.new) }
+{
+    objects_are_at_home();
+    app.start(seat, services);
+}
+
+/// The object of a seat answers a packet.
+pub(crate) fn give(app: &mut Box<dyn App>, seat: Seat, services: &mut Services, packet: &[u8])
+    requires { MayAnswer seat packet.now services.old (object state called held app.old) }
+    ensures { HasAnswered seat packet.now services.old services.new (object state called held app.old) (object state called held app.new) }
+{
+    objects_are_at_home();
+    app.on_packet(services, packet);
+}
+
+/// The object of a seat gives it back.
+pub(crate) fn retire(app: &mut Box<dyn App>, seat: Seat, services: &mut Services)
+    requires { MayRetire seat services.old (object state called held app.old) }
+    ensures { HasRetired seat services.old services.new (object state called held app.old) (object state called held app.new) }
+{
+    app.retire(services);
+}
+
+/// Whether the object goes by the name.
+fn is_called(app: &Box<dyn App>, name: &[u8]) -> bool
+    ensures called { result ≡ is_called name.now (member_of (object state called held app.now)) }
+    ensures kind { IsObject (object state called held app.now).state (object state called held app.now).called }
+{
+    name == app.name()
+}
+
+/// Whether there is an object that goes by the name.
+fn is_seated(place: &Option<Box<dyn App>>, name: &[u8]) -> bool
+    ensures { result ≡ is_seated name.now (option_map member_of (option_map (object state called held) place.now)) }
+{
+    match place {
+        Some(app) => is_called(app, name),
+        None => false,
+    }
+}
+
+/// Whether there is no object.
+fn is_free(place: &Option<Box<dyn App>>) -> bool
+    ensures { result ≡ is_none (option_map member_of (option_map (object state called held) place.now)) }
+{
+    match place {
+        Some(_) => false,
+        None => true,
+    }
+}
+
+/// The first spare of a name.
+pub(crate) fn spare_of(stock: &[Box<dyn App>], name: &[u8]) -> Option<usize>
+    ensures first { result ≡ position_from (λ o. is_called name.now (member_of o)) 0 (map (object state called held) stock.now) }
+    ensures kind { IfSome result (λ i. IsObject (spare_in (map (object state called held) stock.now) i).state (spare_in (map (object state called held) stock.now) i).called) }
+{
+    for (i, app) in stock.iter().enumerate() {
+        if is_called(app, name) {
+            return Some(i);
+        }
+    }
+    None
+}
+
+/// How many spares have a name.
+pub(crate) fn spares_of(stock: &[Box<dyn App>], name: &[u8]) -> usize
+    ensures { result ≡ count_by (λ o. is_called name.now (member_of o)) (map (object state called held) stock.now) }
+{
+    let mut count = 0;
+    for app in stock {
+        if is_called(app, name) {
+            count += 1;
+        }
+    }
+    count
+}
+
+/// The seat of a name.
+pub(crate) fn seat_of(seats: &[Option<Box<dyn App>>], name: &[u8]) -> Option<usize>
+    ensures { result ≡ position_from (λ o. is_seated name.now (option_map member_of o)) 0 (map (option_map (object state called held)) seats.now) }
+{
+    for (k, place) in seats.iter().enumerate() {
+        if is_seated(place, name) {
+            return Some(k);
+        }
+    }
+    None
+}
+
+/// The least free seat.
+pub(crate) fn free_seat(seats: &[Option<Box<dyn App>>]) -> Option<usize>
+    ensures { result ≡ position_from (λ o. is_none (option_map member_of o)) 0 (map (option_map (object state called held)) seats.now) }
+{
+    for (k, place) in seats.iter().enumerate() {
+        if is_free(place) {
+            return Some(k);
+        }
+    }
+    None
+}

@@ -1,0 +1,60 @@
+//! The events of the host itself.
+
+ghost use Rattle.std.specs.Prelude.{◌≡◌, []};
+ghost use Rattle.lc_model.specs.Name.{host_name};
+ghost use Rattle.lc_model.specs.Events.Request.{Event, bad_packet};
+ghost use Rattle.app_host.specs.Hosted.{shown};
+ghost use Rattle.app_host.specs.Whole.{AreSeated, IsWhole, IsQuiet};
+ghost use Rattle.app_host.specs.Told.{HasTold, TellsAlone};
+
+use crate::error::WriteFault;
+use crate::host::Host;
+use event_service::{EventText, host};
+use lc_model::laws::table_services::table_services_go_by_names;
+use lc_model::{ByteSink, EventKind};
+
+impl Host {
+    /// `HOST` asks for an event; where it is sent its packet waits to be written.
+    pub(crate) fn tell(&mut self, id: u16, kind: EventKind, text: &EventText)
+        requires seated { AreSeated (shown state called held self.old).seats (shown state called held self.old).services }
+        requires idle { self.old.services.outgoing ≡ [] }
+        ensures { HasTold (Event host_name id kind text.now) (shown state called held self.old) (shown state called held self.new) }
+    {
+        table_services_go_by_names();
+        self.services.tables.is_service();
+        self.services.tell(None, id, kind, text.as_bytes());
+    }
+
+    /// The same, and it is written, which is all that a record leads to.
+    pub(crate) fn tell_alone<W: ByteSink>(
+        &mut self,
+        id: u16,
+        kind: EventKind,
+        text: &EventText,
+        out: &mut W,
+    ) -> Result<(), WriteFault>
+        requires whole { IsWhole (shown state called held self.old) }
+        requires quiet { IsQuiet (shown state called held self.old) }
+        requires none_yet { self.old.calls ≡ 0 }
+        ensures { TellsAlone (Event host_name id kind text.now) (shown state called held self.old) (shown state called held self.new) (W.sink out.old) (W.sink out.new) result }
+    {
+        self.tell(id, kind, text);
+        self.flush(out, 0)?;
+        Ok(())
+    }
+
+    /// A packet that is none is refused, for this reason.
+    pub(crate) fn refuse_packet<W: ByteSink>(
+        &mut self,
+        reason: u8,
+        out: &mut W,
+    ) -> Result<(), WriteFault>
+        requires whole { IsWhole (shown state called held self.old) }
+        requires quiet { IsQuiet (shown state called held self.old) }
+        requires none_yet { self.old.calls ≡ 0 }
+        ensures { TellsAlone (bad_packet reason) (shown state called held self.old) (shown state called held self.new) (W.sink out.old) (W.sink out.new) result }
+    {
+        let text = host::bad_packet(u16::from(reason));
+        self.tell_alone(1, EventKind::Error, &text, out)
+    }
+}

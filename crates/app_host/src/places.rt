@@ -1,0 +1,65 @@
+//! One call of the object of a seat.
+
+ghost use Rattle.std.specs.Prelude.{◌≡◌, ◌<◌, map, option_map, slice_set, IfSome, None};
+ghost use Rattle.app_host.specs.Hosted.{Object, object, object_at};
+ghost use Rattle.app_host.specs.Left.{LeftBy};
+ghost use Rattle.app_host.specs.Objects.{IfBoth, MayAnswer, HasAnswered, MayRetire};
+
+use crate::app::App;
+use crate::objects::{give, retire};
+use crate::services::Services;
+use lc_model::Seat;
+
+/// The object of a place answers a packet.
+fn give_in(
+    place: &mut Option<Box<dyn App>>,
+    seat: Seat,
+    services: &mut Services,
+    packet: &[u8],
+)
+    requires { IfSome (option_map (object state called held) place.old) (MayAnswer seat packet.now services.old) }
+    ensures { IfBoth (option_map (object state called held) place.old) (option_map (object state called held) place.new) (HasAnswered seat packet.now services.old services.new) }
+{
+    if let Some(app) = place {
+        give(app, seat, services, packet);
+    }
+}
+
+/// The object of a seat answers a packet.
+pub(crate) fn give_at(
+    seats: &mut [Option<Box<dyn App>>; Seat::COUNT],
+    seat: Seat,
+    services: &mut Services,
+    packet: &[u8],
+)
+    requires { IfSome (object_at seat (map (option_map (object state called held)) seats.old)) (MayAnswer seat packet.now services.old) }
+    ensures answered { IfBoth (object_at seat (map (option_map (object state called held)) seats.old)) (object_at seat (map (option_map (object state called held)) seats.new)) (HasAnswered seat packet.now services.old services.new) }
+    ensures others { map (option_map (object state called held)) seats.new ≡ slice_set (map (option_map (object state called held)) seats.old) seat (object_at seat (map (option_map (object state called held)) seats.new)) }
+{
+    give_in(&mut seats[seat.index()], seat, services, packet);
+}
+
+/// The object of a place gives its seat back, and is dropped.
+fn retire_in(place: &mut Option<Box<dyn App>>, seat: Seat, services: &mut Services)
+    requires { IfSome (option_map (object state called held) place.old) (MayRetire seat services.old) }
+    ensures gone { place.new ≡ None }
+    ensures left { LeftBy seat services.old services.new (option_map (object state called held) place.old) }
+{
+    if let Some(mut app) = place.take() {
+        retire(&mut app, seat, services);
+    }
+}
+
+/// The object of a seat gives it back, and is dropped.
+pub(crate) fn retire_at(
+    seats: &mut [Option<Box<dyn App>>; Seat::COUNT],
+    seat: Seat,
+    services: &mut Services,
+)
+    requires { IfSome (object_at seat (map (option_map (object state called held)) seats.old)) (MayRetire seat services.old) }
+    ensures gone { map (option_map (object state called held)) seats.new ≡ slice_set (map (option_map (object state called held)) seats.old) seat None }
+    ensures below { seat < 8 }
+    ensures left { LeftBy seat services.old services.new (object_at seat (map (option_map (object state called held)) seats.old)) }
+{
+    retire_in(&mut seats[seat.index()], seat, services);
+}
