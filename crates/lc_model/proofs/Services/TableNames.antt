@@ -254,7 +254,7 @@ added_among other (tables ∷ places) (suc seat) new inside none =
     by_test false h = refl
 
 -- a name without a handle has no slot
-no_number : (name : Name) (n : ℕ) (tables : List Table) → position_from (λ (table : Table). is_named name table.name) n tables ≡ None → slot_in tables name ≡ None
+pub no_number : (name : Name) (n : ℕ) (tables : List Table) → position_from (λ (table : Table). is_named name table.name) n tables ≡ None → slot_in tables name ≡ None
 no_number name n [] e = refl
 no_number name n (table ∷ tables) e = by_test (is_named name table.name) e (no_number name (n + 1) tables)
   where
@@ -263,7 +263,7 @@ no_number name n (table ∷ tables) e = by_test (is_named name table.name) e (no
     by_test true e others = cc
     by_test false e others = others e
 
-no_handle : (name : Name) (n : ℕ) (places : Places) → handle_from name n places ≡ None → slot_among places name ≡ None
+pub no_handle : (name : Name) (n : ℕ) (places : Places) → handle_from name n places ≡ None → slot_among places name ≡ None
 unfolding handle_from
 no_handle name n [] e = refl
 no_handle name n (tables ∷ places) e = by_number (number_named name tables) refl e (no_handle name (n + 1) places)

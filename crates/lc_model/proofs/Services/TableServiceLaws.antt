@@ -193,7 +193,7 @@ changes_stay_sound change handle service is = by_table (table_at handle service.
 
 -- ---- commands
 
-then_ok : {A B : Type 0} (P : B → Type 0) (r : Result A Refusal) (next : A → Result B Refusal) → ((a : A) → r ≡ Ok a → IfOk (next a) P) → IfOk (r >>= next) P
+pub then_ok : {A B : Type 0} (P : B → Type 0) (r : Result A Refusal) (next : A → Result B Refusal) → ((a : A) → r ≡ Ok a → IfOk (next a) P) → IfOk (r >>= next) P
 then_ok P (Ok a) next each = each a refl
 then_ok P (Err refusal) next each = tt
 
