@@ -12,10 +12,10 @@ use Rattle.lc_model.specs.Kept.Summary.{EventState}
 use Rattle.lc_model.specs.Kept.Call.{ServicesNow, with_at}
 use Rattle.lc_model.specs.Kept.Executive.{Pipe, Executive, Written, joined_now, told_by_host, answered_now, with_services, event_service_now}
 use Rattle.lc_model.specs.Kept.Stations.{written_once}
-use Rattle.lc_model.specs.Laws.Senders.{CommandsByName, counts_with}
+use Rattle.lc_model.specs.Laws.Senders.{CommandsByName}
 use Rattle.lc_model.specs.Laws.TablesByName.{TablesAreFound}
 use Rattle.lc_model.specs.Services.Bus.{Bus, seen}
-use Rattle.lc_model.specs.Services.Events.{EventService, Sender, Origin, origin_named, sender_at, sender_named, with_events, commanded}
+use Rattle.lc_model.specs.Services.Events.{counts_with, EventService, Sender, Origin, origin_named, sender_at, sender_named, with_events, commanded}
 use Rattle.lc_model.specs.Services.Tables.{TableService, IsTableService, tables_at}
 use Rattle.lc_model.specs.Services.Seen.{files_seen, slot_among, count_among}
 use Rattle.app_host.specs.declared.services.Services.{Services}

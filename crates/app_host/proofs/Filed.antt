@@ -10,10 +10,9 @@ use Rattle.lc_model.specs.Tables.Interpretation.{FileMeaning}
 use Rattle.lc_model.specs.Events.Request.{Request, file_stored, file_refused}
 use Rattle.lc_model.specs.Kept.Executive.{Pipe, Executive, Written, ready_seat, told_by_host, filed_now}
 use Rattle.lc_model.specs.Kept.Stations.{written_once}
-use Rattle.lc_model.specs.Laws.Senders.{counts_with}
 use Rattle.lc_model.specs.Laws.TablesByName.{TablesAreFound, StoringFiles}
 use Rattle.lc_model.specs.Services.Bus.{Bus, seen}
-use Rattle.lc_model.specs.Services.Events.{EventService, sender_at, sender_named}
+use Rattle.lc_model.specs.Services.Events.{counts_with, EventService, sender_at, sender_named}
 use Rattle.lc_model.specs.Services.Tables.{TableService, IsTableService, tables_at, files_with, file_put}
 use Rattle.lc_model.specs.Services.Seen.{files_seen, meaning_of, slot_among, count_among}
 use Rattle.app_host.specs.declared.services.Services.{Services}

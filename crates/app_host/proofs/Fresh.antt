@@ -4,9 +4,8 @@ use Rattle.std.specs.Prelude.{IfSome, slice_index_or}
 use Rattle.lc_model.specs.Packet.{event_mid}
 use Rattle.lc_model.specs.Kept.Executive.{first_executive, ready_seat}
 use Rattle.lc_model.specs.Kept.Stations.{first_host}
-use Rattle.lc_model.specs.Laws.Senders.{counts_with}
 use Rattle.lc_model.specs.Services.Bus.{Bus, no_pipes, pipe_at, seen}
-use Rattle.lc_model.specs.Services.Events.{first_events, sender_at}
+use Rattle.lc_model.specs.Services.Events.{counts_with, first_events, sender_at}
 use Rattle.lc_model.specs.Services.Tables.{TableService, first_tables, tables_at}
 use Rattle.lc_model.specs.Services.Interface.{IsFreeSeat}
 use Rattle.lc_model.specs.Services.Seen.{services_seen, count_among}

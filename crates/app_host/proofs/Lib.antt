@@ -14,7 +14,7 @@ pub mod Course
 pub mod Draining
 pub mod Deliver
 pub mod OwnEvents
-pub mod Publishing
+pub mod FirstPublished
 pub mod PassedOn
 pub mod Departed
 pub mod Filed

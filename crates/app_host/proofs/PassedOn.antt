@@ -21,7 +21,7 @@ use Rattle.app_host.specs.Delivered.{executive_in}
 use Rattle.app_host.specs.Writing.{IsDone, IsCut, Drains, PassesOn}
 use Rattle.app_host.proofs.Delivery.{shared_still}
 use Rattle.app_host.proofs.Frames.{StaysAt, seated_still}
-use Rattle.app_host.proofs.Publishing.{seen_published, offered_at, offered_keeps, light_first, load_first}
+use Rattle.app_host.proofs.FirstPublished.{seen_published, offered_at, offered_keeps, light_first, load_first}
 
 module _ (packet : List ℕ) (old new : Bus) (published : IsPublished packet old new) (eight : length old ≡ 8) (quiet : ready_seat (seen old) ≡ None) where
   pipes_after : seen new ≡ published_to (seen old) packet

@@ -9,9 +9,8 @@ use Rattle.lc_model.specs.Kept.Summary.{AppState, EventState}
 use Rattle.lc_model.specs.Kept.Call.{Called, new_sender, with_at, registered, silent, told, sent_by}
 use Rattle.lc_model.specs.Kept.Executive.{Pipe, hears, all_published_to}
 use Rattle.lc_model.specs.Services.Bus.{Bus, Queue, seen, seen_pipe, pipe_at}
-use Rattle.lc_model.specs.Services.Events.{EventService, Sender, Origin, sender_at, sender_named}
+use Rattle.lc_model.specs.Services.Events.{counts_with, EventService, Sender, Origin, sender_at, sender_named}
 use Rattle.lc_model.specs.Tables.Slot.{Slot}
-use Rattle.lc_model.specs.Laws.Senders.{counts_with}
 use Rattle.lc_model.specs.Services.Tables.{Table, TableService, tables_at, tables_unregistered}
 use Rattle.lc_model.specs.Services.Interface.{LeavesOthersAlone, PipesHear, MayBeStarted, IsStarted, MayPublish, IsOwnPipe, IsGiven, IsRetired, BelongsTo, seen_at, waiting_in, is_table_of}
 use Rattle.lc_model.proofs.Facts.{some_same}

@@ -11,7 +11,7 @@ use Rattle.lc_model.specs.Laws.Senders.{RegisteringByName, UnregisteringByName}
 use Rattle.lc_model.specs.Services.Bus.{Bus, Queue, new_pipe, pipe_at, with_pipe, pipe_added, pipe_removed, subscribed, joined, is_subscribed, most_subscriptions, after, refusal_of}
 use Rattle.lc_model.specs.Services.Events.{Sender, EventService, IsEventService, is_sender, events_among, sender_named, origin_named, sender_at, registered_at, unregistered_at}
 use Rattle.lc_model.proofs.Facts.{or_true, test_less}
-use Rattle.lc_model.proofs.SenderNames.{IsFirst, first, first_is_some, first_has}
+use Rattle.lc_model.proofs.Services.SenderNames.{IsFirst, first, first_is_some, first_has}
 use Rattle.lc_model.specs.Services.Seen.{services_seen}
 use Rattle.packet_bus.specs.declared.error.BusError.{BusError}
 use Rattle.packet_bus.specs.Error.{refusal_in}

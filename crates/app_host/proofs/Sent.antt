@@ -18,8 +18,7 @@ use Rattle.lc_model.specs.Kept.Next.{Accounts, next_delivered, next_all_delivere
 use Rattle.lc_model.specs.Kept.Call.{ServicesNow, with_at, accounted, sent_by}
 use Rattle.lc_model.specs.Kept.GoesWith.{IsSender}
 use Rattle.lc_model.proofs.Facts.{tested_equal, tested_unequal}
-use Rattle.lc_model.specs.Laws.Senders.{counts_with}
-use Rattle.lc_model.specs.Services.Events.{Origin, sender_at}
+use Rattle.lc_model.specs.Services.Events.{counts_with, Origin, sender_at}
 use Rattle.lc_model.specs.Services.Seen.{services_seen, count_among}
 use Rattle.app_host.specs.declared.services.Services.{Services}
 use Rattle.app_host.specs.Shared.{shared}

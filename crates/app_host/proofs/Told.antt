@@ -8,8 +8,8 @@ use Rattle.lc_model.specs.declared.rule.EventKind.{EventKind}
 use Rattle.lc_model.specs.Packet.{event_mid}
 use Rattle.lc_model.specs.Events.Request.{Event}
 use Rattle.lc_model.specs.Kept.Call.{sent_by}
-use Rattle.lc_model.specs.Laws.Senders.{EventsByName, counts_with}
-use Rattle.lc_model.specs.Services.Events.{Sender, EventService, Origin, IsEventService, Asked, sender_at, sender_named, asked_by, accounted_at, event_asked}
+use Rattle.lc_model.specs.Laws.Senders.{EventsByName}
+use Rattle.lc_model.specs.Services.Events.{counts_with, Sender, EventService, Origin, IsEventService, Asked, sender_at, sender_named, asked_by, accounted_at, event_asked}
 use Rattle.lc_model.specs.Services.Seen.{services_seen, count_among, files_seen, slot_among}
 use Rattle.app_host.specs.declared.services.Services.{Services}
 use Rattle.app_host.specs.Shared.{shared}

@@ -9,6 +9,7 @@ use Rattle.std.proofs.lemmas.Bool.Decides.{nat_tests}
 use Rattle.std.proofs.lemmas.List.Folds.{find-append, list_any-append}
 use Rattle.std.proofs.lemmas.List.Elements.{filter_map-append}
 use Rattle.std.proofs.lemmas.Slice.Eq.{bytes_eq-Decides}
+use Rattle.lc_model.proofs.Facts.{or_false}
 use Rattle.lc_model.specs.Text.Token.{Token}
 use Rattle.lc_model.specs.Text.Syntax as model
 use Rattle.lc_model.specs.Text.Meaning.{name_of, packet_of, field_of, is_earlier, packet_named, field_named}
@@ -21,10 +22,6 @@ use Rattle.field_checker.specs.Index.{at_name, is_before, IsIndexOf}
 or_none : {A : Type 0} (a : Option A) → a ≡ option_or a None
 or_none None = refl
 or_none (Some x) = refl
-
-or_false : (b : Bool) → (b || false) ≡ b
-or_false true = refl
-or_false false = refl
 
 -- ---- one name
 

@@ -1,8 +1,8 @@
 -- Records taken off a stream are those of the whole.
 use Rattle.std.proofs.Common.{◌≡◌, refl, sym, ◌∙◌, ap, subst, ℕ, ◌+◌, min, true, List, [], ◌∷◌, ◌++◌, length, arith, append_assoc, append-nil, length-append}
 use Rattle.lc_model.specs.Host.Stream.{StreamEntry, End, Whole, Bad, Truncated, Front, EndOfStream, Record, NoRecord, CutRecord, all_kinds, front, records_by_front, records_numbered, records_of}
-use Rattle.lc_model.proofs.Streams.{front_decides}
-use Rattle.lc_model.proofs.StreamsGoOn.{all_fronts_stay}
+use Rattle.lc_model.proofs.Host.Streams.{front_decides}
+use Rattle.lc_model.proofs.Host.StreamsGoOn.{all_fronts_stay}
 use Rattle.flight_core.specs.Records.{Held, after_by, fed, front_of, most_counted, nothing_held, taken_of}
 use Rattle.flight_core.specs.Cutting.{behind, IsHandedOut, Begins, Comes, Goes, EndsBadly, EndsWhole, EndsCut, Call, Feed, Next, Course, after_call, after_calls, entry_in_front, joined, course_of, EveryCutting}
 

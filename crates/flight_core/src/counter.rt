@@ -7,11 +7,9 @@ ghost use Rattle.lc_model.specs.Command.{answer_of, bare_request};
 use app_host::laws::seats_are_kept_by_the_rules;
 use app_host::{App, Services};
 use event_service::counter;
+use lc_model::mids;
 use lc_model::packet::{function_code, message_id};
 use lc_model::{CommandRefusal, EventKind, Seat};
-
-/// The message id of its commands.
-const COUNTER: u16 = 0x18C1;
 
 const NAME: &[u8] = b"COUNTER";
 
@@ -57,14 +55,14 @@ impl App for Counter {
 
     fn start(&mut self, seat: Seat, services: &mut Services) {
         seats_are_kept_by_the_rules();
-        services.open(seat, NAME, &[COUNTER]);
+        services.open(seat, NAME, &[mids::COUNTER]);
         self.count = 0;
         self.seat = Some(seat);
     }
 
     fn on_packet(&mut self, services: &mut Services, packet: &[u8]) {
         seats_are_kept_by_the_rules();
-        if message_id(packet) != COUNTER {
+        if message_id(packet) != mids::COUNTER {
             return;
         }
         match accepted(packet) {

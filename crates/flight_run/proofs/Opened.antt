@@ -8,6 +8,7 @@ use Rattle.lc_model.specs.Tables.File.{TableFile, wrapped}
 use Rattle.lc_model.specs.Tables.Image.{IsSound, fault_of}
 use Rattle.lc_model.specs.Tables.InForce.{layouts}
 use Rattle.lc_model.specs.Tables.Interpretation.{compiled_size}
+use Rattle.lc_model.proofs.Tables.HalfFiles.{is_table_file}
 use Rattle.table_file.specs.declared.error.FileError.{FileError}
 use Rattle.table_validator.specs.declared.fault.TableFault.{TableFault}
 use Rattle.table_validator.specs.Fault.{refusal}
@@ -25,28 +26,8 @@ taken (Err fault) e = absurd (cc e)
 
 -- what was wrapped fits the fields of a file
 pub fits : (kind : Kind) (image : List ℕ) → length image ≡ compiled_size layouts kind → IsTableFile (wrapped kind image)
-fits Wdt image size = record {
-  spacecraft = omega arith;
-  processor = omega arith;
-  application = omega arith;
-  seconds = omega arith;
-  subseconds = omega arith;
-  reserved = omega arith;
-  description = refl;
-  name_field = refl;
-  image = omega arith;
-}
-fits Adt image size = record {
-  spacecraft = omega arith;
-  processor = omega arith;
-  application = omega arith;
-  seconds = omega arith;
-  subseconds = omega arith;
-  reserved = omega arith;
-  description = refl;
-  name_field = refl;
-  image = omega arith;
-}
+fits Wdt image size = is_table_file Wdt image (omega (arith, size))
+fits Adt image size = is_table_file Adt image (omega (arith, size))
 
 module _ (kind : Kind) (opened : Result TableFile FileError) (file : TableFile) (image : List ℕ) (opens : opened ≡ Ok file)
     (is_wrapped : opened ≡ Ok (wrapped kind image)) where

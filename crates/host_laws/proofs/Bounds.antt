@@ -37,9 +37,9 @@ use Rattle.lc_model.specs.Kept.Summary.{WatchResult, Tally, LcNow, rules_in, LcS
 use Rattle.lc_model.specs.Kept.Next.{is_last, next_turn_reports, next_on_failure, next_reaction, by_counts, next_answer, next_count, next_tick, next_all_delivered}
 use Rattle.lc_model.specs.Kept.Call.{ServicesNow, Called, lc_with, with_tables, registered, accounted, sent_by, silent, sch_told, counter_told, sch_subscriptions, counter_subscriptions, next_lc_packet}
 use Rattle.lc_model.specs.Kept.GoesWith.{IsInStep}
-use Rattle.lc_model.proofs.SaidLaws.{all_append}
-use Rattle.lc_model.proofs.SoundImages.{SoundParts, sound_parts}
-use Rattle.lc_model.proofs.ImageParts.{SoundPreamble, sound_preamble}
+use Rattle.lc_model.proofs.Tables.SaidLaws.{all_append}
+use Rattle.lc_model.proofs.Tables.SoundImages.{SoundParts, sound_parts}
+use Rattle.lc_model.proofs.Tables.ImageParts.{SoundPreamble, sound_preamble}
 use Rattle.host_laws.specs.Calls.{WritesLittle, StartsWriteLittle}
 use Rattle.host_laws.proofs.Sizes.{Bounded, nothing, wider, one_more, both, either, all_size, decimal_few, numbered_one, behind_text, five_digits}
 use Rattle.host_laws.proofs.InStep.{housekeeping_in_step}

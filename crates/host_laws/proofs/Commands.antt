@@ -20,8 +20,10 @@ use Rattle.lc_model.specs.Laws.TablesByName.{TablesAreFound, ChangingTables}
 use Rattle.lc_model.specs.Services.Seen.{files_seen, meaning_of, slot_in, slot_among}
 use Rattle.lc_model.specs.Services.Settled.{Form, form_of}
 use Rattle.lc_model.specs.Services.Tables.{Table, TableService, Places, Handle, IsTableService, tables_at, table_at, number_named, handle_from, handle_named, fits_table, with_slot, with_places, file_refusal, moved_among, image_loaded_among, loaded_among, table_commanded}
-use Rattle.lc_model.proofs.LogLaws.{eq_either_way}
-use Rattle.lc_model.proofs.SenderNames.{same_name}
+use Rattle.lc_model.proofs.Events.LogLaws.{eq_either_way}
+use Rattle.lc_model.proofs.Services.SenderNames.{same_name}
+use Rattle.lc_model.proofs.Services.TableNames.{no_handle}
+use Rattle.lc_model.proofs.Services.TableServiceLaws.{then_ok}
 use Rattle.host_laws.specs.Commands.{HasKnownForm, MovesByName, LoadsByName, CommandsKeepForms}
 
 -- ---- what a handle of a name finds
@@ -78,29 +80,6 @@ named_finds : (name : Name) (places : Places) (handle : Handle) → handle_named
 named_finds name places handle e =
     let found = handle_finds name 0 places handle e in
     subst (λ seat. Finds name (tables_at seat places) handle.number) (let at = found.1 in let own : found.0 ≡ handle.seat = omega (arith, at) in own) found.2
-
--- ---- a name without one
-
-no_number : (name : Name) (from : ℕ) (tables : List Table) → position_from (λ (table : Table). is_named name table.name) from tables ≡ None → slot_in tables name ≡ None
-no_number name from [] e = refl
-no_number name from (table ∷ tables) e = by_test (is_named name table.name) e (no_number name (from + 1) tables)
-  where
-    by_test : (test : Bool) → cond test (Some from) (position_from (λ (table : Table). is_named name table.name) (from + 1) tables) ≡ None →
-        (position_from (λ (table : Table). is_named name table.name) (from + 1) tables ≡ None → slot_in tables name ≡ None) →
-        (if test then Some table.slot else slot_in tables name) ≡ None
-    by_test true e behind = absurd (cc e)
-    by_test false e behind = behind e
-
-no_handle : (name : Name) (seat : ℕ) (places : Places) → handle_from name seat places ≡ None → slot_among places name ≡ None
-unfolding handle_from
-no_handle name seat [] e = refl
-no_handle name seat (tables ∷ places) e = by_number (number_named name tables) refl e (no_handle name (seat + 1) places)
-  where
-    by_number : (o : Option ℕ) → number_named name tables ≡ o →
-        option_map_or (λ number. Some (record { seat = seat; number = number })) o (handle_from name (seat + 1) places) ≡ None →
-        (handle_from name (seat + 1) places ≡ None → slot_among places name ≡ None) → option_or (slot_in tables name) (slot_among places name) ≡ None
-    by_number (Some number) is e rest = absurd (cc e)
-    by_number None is e rest = ap (λ o. option_or o (slot_among places name)) (no_number name 0 tables is) ∙ rest e
 
 -- ---- a change of one table's images that may be refused
 
@@ -205,10 +184,6 @@ forms_among : (places : Places) (seat : ℕ) (after : List Table) → map form_o
 forms_among [] seat after same = refl
 forms_among (tables ∷ places) zero after same = ap (λ forms. forms ∷ map (map form_of) places) same
 forms_among (tables ∷ places) (suc seat) after same = ap (λ forms. map form_of tables ∷ forms) (forms_among places seat after same)
-
-then_ok : {A B : Type 0} (P : B → Type 0) (r : Result A Refusal) (next : A → Result B Refusal) → ((a : A) → r ≡ Ok a → IfOk (next a) P) → IfOk (r >>= next) P
-then_ok P (Ok a) next each = each a refl
-then_ok P (Err refusal) next each = tt
 
 module _ (places : Places) where
   abbrev HasItsForms : Places → Type 0

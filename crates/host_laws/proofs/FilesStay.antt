@@ -14,7 +14,7 @@ use Rattle.lc_model.specs.LimitChecker.Steps.{by_lists, lc_start, lc_packet}
 use Rattle.lc_model.specs.Host.Schedule.{Schedule, entry_packet, slot_number, entries_at}
 use Rattle.lc_model.specs.Host.World.{max_files, World, Application, Running, Lc, IsFileMap, logged, changed_at, runs, spares_of, log_of, with_log, begun, become, ended, with_one_spare_less}
 use Rattle.lc_model.specs.Host.React.{Input, Packet, Tick, File, Step, max_file_size, stored, filed, answered, event_service, opened_file, slot_of, table_named, left, spare_taken, lc_begun, lc_become, counter_become, counter_packet, to_counter, managed, table_service, started, ordered, executive_service, to_lc, routed, on_packet, on_packets, scheduled, react}
-use Rattle.lc_model.proofs.NamedLists.{put_distinct, put_length}
+use Rattle.lc_model.proofs.Services.NamedLists.{put_distinct, put_length}
 use Rattle.host_laws.specs.Keeping.{Standing}
 use Rattle.host_laws.specs.Invariants.{FilesStayAMap}
 use Rattle.host_laws.proofs.Deliveries.{all_stand}

@@ -12,10 +12,10 @@ use Rattle.lc_model.specs.Host.Schedule.{Schedule}
 use Rattle.lc_model.specs.Host.Stream.{StreamEntry, Contents, Packet, Tick, File, Half}
 use Rattle.lc_model.specs.Host.Run.{input_of}
 use Rattle.lc_model.specs.Laws.Correspondence.{MeaningAlike}
-use Rattle.lc_model.proofs.HalfBytes.{wdt_is_bytes, adt_is_bytes}
-use Rattle.lc_model.proofs.HalfFiles.{half_file_opens}
-use Rattle.lc_model.proofs.RunsKept.{files_of_halves}
-use Rattle.lc_model.proofs.WholeRuns.{numbered}
+use Rattle.lc_model.proofs.Tables.HalfBytes.{wdt_is_bytes, adt_is_bytes}
+use Rattle.lc_model.proofs.Tables.HalfFiles.{half_file_opens}
+use Rattle.lc_model.proofs.Host.RunsKept.{files_of_halves}
+use Rattle.lc_model.proofs.Host.WholeRuns.{numbered}
 use Rattle.host_laws.specs.Statements.{IsOne, IsFineInput, AreFineInputs, AreBytes, IsBrought, AreBrought, RecordsAreFine}
 
 pub dropped : (n : ℕ) (bytes : List ℕ) → AreBytes bytes → AreBytes (drop n bytes)

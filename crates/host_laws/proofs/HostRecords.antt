@@ -17,7 +17,7 @@ use Rattle.lc_model.specs.Kept.Summary.{EventState, event_state, counts_of}
 use Rattle.lc_model.specs.Kept.Call.{with_at}
 use Rattle.lc_model.specs.Kept.Executive.{Member, told_by_host, filed_now, with_services, joined_now, event_service_now}
 use Rattle.lc_model.specs.Laws.Events.{IsOfFourTypes}
-use Rattle.lc_model.proofs.LogLaws.{another_item, same_fullness}
+use Rattle.lc_model.proofs.Events.LogLaws.{another_item, same_fullness}
 use Rattle.host_laws.specs.Keeping.{App, no_packets, Standing, standing_of, events_of, numbers_by, numbers_of, executive_of, IsSeated}
 use Rattle.host_laws.proofs.Deliveries.{events_with, log_stands}
 use Rattle.host_laws.proofs.Steps.{kept, StepKept, told, BothKept}

@@ -21,7 +21,7 @@ use Rattle.lc_model.specs.LimitChecker.Steps.{Point, in_force, paired, is_disabl
 use Rattle.lc_model.specs.Kept.Summary.{WatchResult, Tally, LcNow}
 use Rattle.lc_model.specs.Kept.Next.{unseen_result, seen_result, aged_result, results_by, by_counts}
 use Rattle.lc_model.specs.Kept.GoesWith.{IsFoundSound, IsJudged, IsInStep}
-use Rattle.lc_model.proofs.StepLaws.{AsLong, one_as_long, states_as_long, sampled_as_long, validated_active, adopted_pair}
+use Rattle.lc_model.proofs.LimitChecker.StepLaws.{AsLong, one_as_long, states_as_long, sampled_as_long, validated_active, adopted_pair}
 
 -- as many results as watchpoints stay as many
 as_many_results : (f : Term → WatchResult → WatchResult) (terms : List Term) (results : List WatchResult) → length results ≡ length terms →

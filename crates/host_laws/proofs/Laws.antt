@@ -8,7 +8,7 @@ use Rattle.lc_model.specs.Host.Schedule.{Schedule}
 use Rattle.lc_model.specs.Host.World.{World, first_world}
 use Rattle.lc_model.specs.Host.Run.{handled}
 use Rattle.lc_model.specs.Kept.Executive.{Member, first_executive, step_by}
-use Rattle.lc_model.proofs.SoundSensible.{sound_bytes_are_sensible}
+use Rattle.lc_model.proofs.Tables.SoundSensible.{sound_bytes_are_sensible}
 use Rattle.host_laws.specs.Statements.{PairsAreSensible, EachRecordKeeps, WritesWhatIsCalledFor, AreBytes}
 use Rattle.host_laws.proofs.Telemetry.{terms_are_telemetry}
 use Rattle.host_laws.proofs.Whole.{agrees}

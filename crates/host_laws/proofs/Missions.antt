@@ -7,8 +7,8 @@ use Rattle.lc_model.specs.Host.Schedule.{ScheduleEntry, AreEntries}
 use Rattle.lc_model.specs.Host.Stream.{StreamEntry, Contents, Packet, Tick, File, Half, records_of}
 use Rattle.lc_model.specs.Host.Run.{packets_of}
 use Rattle.lc_model.specs.Host.Promise.{Mission}
-use Rattle.lc_model.proofs.RunsKept.{files_of_halves, are_read, bytes_run_as_fixed_text}
-use Rattle.lc_model.proofs.WholeRuns.{IsHalfBelow, AreHalvesBelow, same_packets}
+use Rattle.lc_model.proofs.Host.RunsKept.{files_of_halves, are_read, bytes_run_as_fixed_text}
+use Rattle.lc_model.proofs.Host.WholeRuns.{IsHalfBelow, AreHalvesBelow, same_packets}
 use Rattle.host_laws.specs.Statements.{AreBytes, IsShort, IsBrought, AreBrought, WritesByBytes, WritesByTexts, WritesWithFixedTables}
 use Rattle.host_laws.proofs.Brought.{streams_bring}
 use Rattle.host_laws.proofs.FineFiles.{records_are_fine}

@@ -26,9 +26,9 @@ use Rattle.lc_model.specs.Kept.Next.{next_count}
 use Rattle.lc_model.specs.Kept.Call.{effort_after, with_at, Called, leaving, sent_by, counter_told, lc_told, lc_subscriptions, counter_subscriptions}
 use Rattle.lc_model.specs.Kept.Executive.{Member, Executive, Written, all_published_to, followed, drained, most_deliveries, passed_on}
 use Rattle.lc_model.specs.Laws.LimitChecker.{IsSettled, InForceIsSensible}
-use Rattle.lc_model.proofs.SendLaws.{same_count}
-use Rattle.lc_model.proofs.StepLaws.{same_packet_step}
-use Rattle.lc_model.proofs.UnheardLaws.{unheard_packet}
+use Rattle.lc_model.proofs.Events.SendLaws.{same_count}
+use Rattle.lc_model.proofs.LimitChecker.StepLaws.{same_packet_step}
+use Rattle.lc_model.proofs.Host.UnheardLaws.{unheard_packet}
 use Rattle.host_laws.specs.Keeping.{App, LimitChecker, Scheduler, Counter, holds, times, no_packets, pipe_with, Standing, standing_of, events_of, Numbers, numbers_by, numbers_of, slot_now, slots_in, subscriptions_in, executive_of, IsSeated}
 use Rattle.host_laws.proofs.Copies.{world_so}
 use Rattle.host_laws.proofs.Deliveries.{all_stand, services_with, sent_alike}

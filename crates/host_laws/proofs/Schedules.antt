@@ -5,7 +5,7 @@ use Rattle.std.proofs.lemmas.List.{length-set, length-replicate}
 use Rattle.lc_model.specs.Command.{is_range}
 use Rattle.lc_model.specs.Host.Schedule.{Schedule, ScheduleEntry, Sample, Housekeeping, IsEntry, AreEntries, IsSchedule}
 use Rattle.lc_model.specs.Host.ScheduleText.{ScheduleFault, decimal_number, lines_of, words_of, slots_in, ages_in, entry_in, is_silent, empty_slots, entry_added, line_read, lines_read}
-use Rattle.lc_model.proofs.SaidLaws.{all_append}
+use Rattle.lc_model.proofs.Tables.SaidLaws.{all_append}
 use Rattle.host_laws.specs.Statements.{SchedulesFit}
 
 -- ---- what a line says

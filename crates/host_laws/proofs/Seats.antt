@@ -23,7 +23,7 @@ use Rattle.lc_model.specs.Kept.Effort.{Effort, no_effort}
 use Rattle.lc_model.specs.Kept.Summary.{LcNow, LcOwn, lc_now, lc_own, LcState, SchState, CounterState, Other, event_state, counts_of}
 use Rattle.lc_model.specs.Kept.Call.{with_at, ServicesNow, Called, registered, leaving, sent_by, lc_told, lc_subscriptions, next_start, next_retire}
 use Rattle.lc_model.specs.Kept.Executive.{Member, Executive, no_member, after_call, left_from, begun_on, all_published_to}
-use Rattle.lc_model.proofs.StepLaws.{same_start}
+use Rattle.lc_model.proofs.LimitChecker.StepLaws.{same_start}
 use Rattle.host_laws.specs.Keeping.{App, LimitChecker, Scheduler, Counter, name_of, holds, times, no_packets, seat_with, pipe_with, Standing, standing_of, events_of, Numbers, numbers_by, numbers_of, slot_now, slots_in, state_in, subscriptions_in, executive_of}
 use Rattle.host_laws.proofs.Names.{four, lc_changed, sch_changed, counter_changed, pushed}
 use Rattle.host_laws.proofs.Deliveries.{AreOf, all_stand, services_with, sent_alike}

@@ -13,7 +13,7 @@ use Rattle.lc_model.specs.Codes.{event_code, table_entries}
 use Rattle.lc_model.specs.Events.Request.{Request, Event, Sequence, Housekeeping, numbered}
 use Rattle.lc_model.specs.Events.Outgoing.{event_packet, sequence_request, housekeeping_packet}
 use Rattle.lc_model.specs.Kept.Next.{next_chosen, Accounts, next_delivered, next_all_delivered}
-use Rattle.lc_model.proofs.SendLaws.{housekeeping_has_192_bytes}
+use Rattle.lc_model.proofs.Events.SendLaws.{housekeeping_has_192_bytes}
 
 -- ---- requests
 

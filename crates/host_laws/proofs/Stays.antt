@@ -20,8 +20,8 @@ use Rattle.lc_model.specs.Host.React.{Input, Packet, Tick, File, Step, stored, f
 use Rattle.lc_model.specs.Host.Run.{handled}
 use Rattle.lc_model.specs.Laws.LimitChecker.{IsSettled}
 use Rattle.lc_model.specs.Laws.Correspondence.{BothOrNone, Agrees, SlotAlike, LcAlike, MeaningAlike, WorldAlike}
-use Rattle.lc_model.proofs.CorrespondenceLaws.{each_input_keeps}
-use Rattle.lc_model.proofs.StepLaws.{stays_settled, starts_settled}
+use Rattle.lc_model.proofs.Host.CorrespondenceLaws.{each_input_keeps}
+use Rattle.lc_model.proofs.LimitChecker.StepLaws.{stays_settled, starts_settled}
 use Rattle.host_laws.specs.Keeping.{state_of, Standing, standing_of}
 use Rattle.host_laws.specs.Statements.{IsOne, IsWhole, IsFineInput}
 use Rattle.host_laws.proofs.Deliveries.{log_stands, all_stand}

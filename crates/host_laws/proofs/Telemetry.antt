@@ -12,11 +12,11 @@ use Rattle.lc_model.specs.Codes.{is_kind, table_entries}
 use Rattle.lc_model.specs.Field.{full_mask, is_in_type}
 use Rattle.lc_model.specs.Tables.Image.{Layout, Watchpoints, Actionpoints, WideActionpoints, kind_of, own_count, watchpoint_count, entry_at, used_code, numbers_below, type_of_code, twos_complement_32, watchpoint_code}
 use Rattle.lc_model.specs.Tables.Spelled.{spelled_term}
-use Rattle.lc_model.proofs.SoundWords.{none_stands}
+use Rattle.lc_model.proofs.Tables.SoundWords.{none_stands}
 use Rattle.lc_model.proofs.Facts.{or_first}
-use Rattle.lc_model.proofs.SoundImages.{SoundParts, sound_parts}
-use Rattle.lc_model.proofs.SaidLaws.{all_append}
-use Rattle.lc_model.proofs.ImageParts.{SoundPreamble, sound_preamble, used_is_sound}
+use Rattle.lc_model.proofs.Tables.SoundImages.{SoundParts, sound_parts}
+use Rattle.lc_model.proofs.Tables.SaidLaws.{all_append}
+use Rattle.lc_model.proofs.Tables.ImageParts.{SoundPreamble, sound_preamble, used_is_sound}
 use Rattle.host_laws.specs.Statements.{TermsAreTelemetry}
 
 each_listed : {A : Type 0} (P : A → Type 0) (f : ℕ → A) (k : ℕ) → ((n : ℕ) → n < k → P (f n)) → AllByRecursion P (map f (numbers_below k))

@@ -22,7 +22,7 @@ use Rattle.lc_model.specs.Kept.Effort.{Effort}
 use Rattle.lc_model.specs.Kept.Summary.{LcNow, lc_now}
 use Rattle.lc_model.specs.Kept.Call.{sch_told, lc_subscriptions}
 use Rattle.lc_model.specs.Kept.Executive.{Member, Written, all_published_to, followed, drained, most_deliveries, passed_on, tick_packet}
-use Rattle.lc_model.proofs.SendLaws.{same_tick}
+use Rattle.lc_model.proofs.Events.SendLaws.{same_tick}
 use Rattle.host_laws.specs.Keeping.{App, LimitChecker, Scheduler, Counter, holds, no_packets, pipe_with, state_of, Standing, standing_of, Numbers, numbers_of, subscriptions_in, executive_of, IsSeated}
 use Rattle.host_laws.proofs.Deliveries.{all_stand}
 use Rattle.host_laws.proofs.Places.{Stands, stands}

@@ -14,8 +14,8 @@ use Rattle.lc_model.specs.Host.World.{World, Running, Lc}
 use Rattle.lc_model.specs.Laws.LimitChecker.{IsSettled}
 use Rattle.lc_model.specs.Laws.Tables.{IsSameRule}
 use Rattle.lc_model.specs.Laws.Correspondence.{BothOrNone, SoundAlike, Agrees, LcAlike}
-use Rattle.lc_model.proofs.StepLaws.{stays_settled}
-use Rattle.lc_model.proofs.LcAlikes.{States, packet_alike}
+use Rattle.lc_model.proofs.LimitChecker.StepLaws.{stays_settled}
+use Rattle.lc_model.proofs.LimitChecker.LimitCheckerOfTwo.{States, packet_alike}
 use Rattle.host_laws.specs.Statements.{IsOne, PairsAreSensible, IsWhole}
 use Rattle.host_laws.proofs.PacketRecords.{LcFits, Fits}
 

@@ -19,3 +19,6 @@ pub const TICK: u16 = 0x18C0;
 
 /// Requests to sample the Limit Checker's rules.
 pub const SAMPLE: u16 = 0x18A6;
+
+/// Commands to the counter.
+pub const COUNTER: u16 = 0x18C1;

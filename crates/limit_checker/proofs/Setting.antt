@@ -16,10 +16,10 @@ use Rattle.lc_model.specs.Laws.Equations.{IsSpelled}
 use Rattle.lc_model.specs.LimitChecker.Steps.{Point}
 use Rattle.lc_model.specs.Kept.Summary.{Tally}
 use Rattle.lc_model.specs.Kept.Next.{unseen_result, by_counts}
-use Rattle.lc_model.proofs.ImageParts.{length_listed}
-use Rattle.lc_model.proofs.SaidLaws.{all_append}
-use Rattle.lc_model.proofs.SpelledEquations.{condition_of_equation}
-use Rattle.lc_model.proofs.SpellsOnce.{computed}
+use Rattle.lc_model.proofs.Tables.ImageParts.{length_listed}
+use Rattle.lc_model.proofs.Tables.SaidLaws.{all_append}
+use Rattle.lc_model.proofs.Tables.SpelledEquations.{condition_of_equation}
+use Rattle.lc_model.proofs.Tables.SpellsOnce.{computed}
 use Rattle.table_validator.specs.Sound.{adt_layout, IsSoundEquation, HasSoundWatchpoints, HasSoundActionpoints}
 use Rattle.limit_checker.specs.declared.actionpoint.Entry.{Entry}
 use Rattle.limit_checker.specs.Entry.{rule_with, rule_in, no_condition, IsRunnable}

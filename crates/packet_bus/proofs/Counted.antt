@@ -5,18 +5,18 @@ use Rattle.std.proofs.lemmas.List.{get_or-set_same, get_or-set_other}
 use Rattle.std.proofs.lemmas.List.Sums.{sum_by-set}
 use Rattle.std.proofs.lemmas.Grind.{common_steps}
 use Rattle.lc_model.specs.Services.Bus.{Publication, waiting_numbers, is_among, distinct_count}
-use Rattle.packet_bus.specs.Slots.{Kept, slot_at, no_packet, occurrences, used_slots, is_used, released}
+use Rattle.packet_bus.specs.Slots.{PooledPacket, slot_at, no_packet, occurrences, used_slots, is_used, released}
 use Rattle.packet_bus.specs.Line.{Line, slots_in}
 use Rattle.packet_bus.specs.Inside.{publication_in, shown, waiting_slots}
 use Rattle.packet_bus.proofs.Places.{occurs_cons, sum_by_cons}
 
 -- ---- the numbers that wait are the slots
 
-numbers_are : (pool : List Kept) (slots : List ℕ) → map (λ (publication : Publication). publication.number) (map (publication_in pool) slots) ≡ slots
+numbers_are : (pool : List PooledPacket) (slots : List ℕ) → map (λ (publication : Publication). publication.number) (map (publication_in pool) slots) ≡ slots
 numbers_are pool [] = refl
 numbers_are pool (slot ∷ slots) = ap (λ rest. slot ∷ rest) (numbers_are pool slots)
 
-pub waiting_are : (pool : List Kept) (places : List (Option Line)) → waiting_numbers (shown pool places) ≡ waiting_slots places
+pub waiting_are : (pool : List PooledPacket) (places : List (Option Line)) → waiting_numbers (shown pool places) ≡ waiting_slots places
 waiting_are pool [] = refl
 waiting_are pool (None ∷ places) = waiting_are pool places
 waiting_are pool (Some line ∷ places) = ap₂ (λ xs ys. xs ++ ys) (numbers_are pool line.slots) (waiting_are pool places)
@@ -39,21 +39,21 @@ among_occurs n (first ∷ numbers) = among_more n first numbers (n == first) ref
 -- ---- used slots
 
 -- no slot is used where none is waited for
-none_used : (pool : List Kept) → ((slot : ℕ) → 0 ≡ (slot_at pool slot).readers) → used_slots pool ≡ 0
+none_used : (pool : List PooledPacket) → ((slot : ℕ) → 0 ≡ (slot_at pool slot).readers) → used_slots pool ≡ 0
 none_used [] none = refl
 none_used (kept ∷ pool) none =
     let first : is_used kept ≡ false = let zero_there : 0 ≡ kept.readers = none 0 in grind (arith, zero_there) in
     sum_by_cons (λ slot. if is_used slot then 1 else 0) kept pool ∙ rw first (omega (arith, none_used pool (λ slot. none (suc slot))))
 
 -- where one number less waits
-module _ (pool : List Kept) (n : ℕ) (numbers : List ℕ) (readers : (slot : ℕ) → occurrences slot (n ∷ numbers) ≡ (slot_at pool slot).readers) where
+module _ (pool : List PooledPacket) (n : ℕ) (numbers : List ℕ) (readers : (slot : ℕ) → occurrences slot (n ∷ numbers) ≡ (slot_at pool slot).readers) where
   waited_for : (slot_at pool n).readers ≡ suc (occurrences n numbers)
   waited_for = let same : (n == n) ≡ true = grind arith in sym (readers n) ∙ occurs_cons n n numbers ∙ rw same (omega arith)
 
   within : n < length pool
   within = grind (arith, common_steps, waited_for)
 
-  abbrev less : List Kept
+  abbrev less : List PooledPacket
   less = slice_set pool n (released (slot_at pool n))
 
   readers_less : (slot : ℕ) → occurrences slot numbers ≡ (slot_at less slot).readers
@@ -78,7 +78,7 @@ module _ (pool : List Kept) (n : ℕ) (numbers : List ℕ) (readers : (slot : �
       grind (arith, sums, waited_for, among_occurs n numbers)
 
 -- as many slots are used as different numbers wait
-pub used_are : (pool : List Kept) (numbers : List ℕ) → ((slot : ℕ) → occurrences slot numbers ≡ (slot_at pool slot).readers) → used_slots pool ≡ distinct_count numbers
+pub used_are : (pool : List PooledPacket) (numbers : List ℕ) → ((slot : ℕ) → occurrences slot numbers ≡ (slot_at pool slot).readers) → used_slots pool ≡ distinct_count numbers
 used_are pool [] readers = none_used pool readers
 used_are pool (n ∷ numbers) readers =
     used_less pool n numbers readers
@@ -114,7 +114,7 @@ waiting_shorter (place ∷ places) (suc seat) short within room =
     let rest : length (waiting_slots places) < 72 * length places = waiting_shorter places seat (λ seat. short (suc seat)) less room in
     omega (arith, length-append (slots_in place) (waiting_slots places), first, rest)
 
-pub slot_left : (pool : List Kept) (places : List (Option Line)) (seat : ℕ) → length places ≡ 8 →
+pub slot_left : (pool : List PooledPacket) (places : List (Option Line)) (seat : ℕ) → length places ≡ 8 →
     ((slot : ℕ) → occurrences slot (waiting_slots places) ≡ (slot_at pool slot).readers) → ((seat : ℕ) → length (slots_in (slice_index_or places seat None)) ≤ 72) →
     seat < length places → length (slots_in (slice_index_or places seat None)) < 72 → used_slots pool < 576
 slot_left pool places seat eight readers short within room =

@@ -3,7 +3,7 @@ use Rattle.std.proofs.Common.{◌≡◌, ◌∙◌, ap, ap₂, sym, refl, ℕ, z
 use Rattle.std.specs.Prelude.{Option, Some, None, option_map, slice_set, slice_get, is_some, cond}
 use Rattle.std.proofs.lemmas.List.{get_or-set_same, set-get_or}
 use Rattle.lc_model.specs.Services.Bus.{Publication, Queue, Bus, new_pipe, pipe_at, oldest, oldest_at, without_oldest, parted, after, pipe_removed}
-use Rattle.packet_bus.specs.Slots.{Kept}
+use Rattle.packet_bus.specs.Slots.{PooledPacket}
 use Rattle.packet_bus.specs.Line.{Line, new_line, mids_in}
 use Rattle.packet_bus.specs.Inside.{publication_in, queue_over, changed, without_packets, without_subscriptions}
 
@@ -98,7 +98,7 @@ no_mids seat bus none = sym (ap (slice_set bus seat) (sym (by_pipe (pipe_at seat
     by_pipe (Some queue) e = by_mids queue queue.subscriptions e
 
 -- a place has the subscriptions of its pipe
-pub same_mids : (pool : List Kept) (place : Option Line) → mids_of (option_map (queue_over pool) place) ≡ mids_in place
+pub same_mids : (pool : List PooledPacket) (place : Option Line) → mids_of (option_map (queue_over pool) place) ≡ mids_in place
 same_mids pool None = refl
 same_mids pool (Some line) = refl
 
@@ -117,7 +117,7 @@ nothing_left seat bus below some =
     by_pipe (Some queue) e = refl
 
 -- nor has its place
-pub place_is_new : (pool : List Kept) (place : Option Line) → option_map (queue_over pool) place ≡ Some new_pipe → place ≡ Some new_line
+pub place_is_new : (pool : List PooledPacket) (place : Option Line) → option_map (queue_over pool) place ≡ Some new_pipe → place ≡ Some new_line
 place_is_new pool None e = cc
 place_is_new pool (Some line) e =
     let subscriptions : line.subscriptions ≡ [] = ap mids_of e in

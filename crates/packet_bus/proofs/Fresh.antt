@@ -1,7 +1,7 @@
 -- A bus without pipes.
 use Rattle.std.proofs.Common.{◌≡◌, ◌∙◌, ap, sym, refl, ℕ, zero, suc, length, map, replicate, arith}
 use Rattle.std.specs.Prelude.{None, slice_index_or}
-use Rattle.packet_bus.specs.Slots.{Kept, slot_at, no_packet}
+use Rattle.packet_bus.specs.Slots.{PooledPacket, slot_at, no_packet}
 use Rattle.packet_bus.specs.Line.{hears_mid}
 use Rattle.packet_bus.specs.Inside.{no_lines, nobody, place_at, audience_of, IsBus}
 
@@ -22,7 +22,7 @@ nobody_hears : (n mid : ℕ) → audience_of (replicate n nobody) mid ≡ map (h
 nobody_hears n mid = same_at n mid nobody
 
 nothing_kept : (n slot : ℕ) → 0 ≡ (slot_at (replicate n no_packet) slot).readers
-nothing_kept n slot = ap (λ (kept : Kept). kept.readers) (sym (same_at n slot no_packet))
+nothing_kept n slot = ap (λ (kept : PooledPacket). kept.readers) (sym (same_at n slot no_packet))
 
 module _ (slots rows : ℕ) (all_rows : rows ≡ 8192) where
   pub fresh : IsBus no_lines (replicate slots no_packet) (replicate rows nobody) nobody nobody

@@ -6,7 +6,7 @@ use Rattle.std.proofs.lemmas.List.{map-set, get_or-set_same, get_or-set_other, g
 use Rattle.std.proofs.lemmas.List.Folds.{list_any-append}
 use Rattle.std.proofs.lemmas.Map.Views.{any-filter_same}
 use Rattle.std.proofs.Math.Seq.{map-set_same}
-use Rattle.packet_bus.specs.Slots.{Kept}
+use Rattle.packet_bus.specs.Slots.{PooledPacket}
 use Rattle.packet_bus.specs.Line.{Line, slots_in, hears_mid, with_subscription, without_subscription}
 use Rattle.packet_bus.specs.Inside.{place_at, audience_of, nobody, IsBus}
 use Rattle.packet_bus.proofs.Places.{resubscribed}
@@ -65,7 +65,7 @@ hears_others_still mid other (Some line) not_same =
 
 -- ---- the rows
 
-module _ (places : List (Option Line)) (pool : List Kept) (audience : List (List Bool)) (ready full : List Bool) (bus : IsBus places pool audience ready full) (seat : ℕ)
+module _ (places : List (Option Line)) (pool : List PooledPacket) (audience : List (List Bool)) (ready full : List Bool) (bus : IsBus places pool audience ready full) (seat : ℕ)
     (below : seat < 8) (place : Option Line) (slots : slots_in place ≡ slots_in (place_at places seat)) where
   -- a row that a seat hears as before
   row_kept : (mid : ℕ) → mid < 8192 → hears_mid mid place ≡ hears_mid mid (place_at places seat) →

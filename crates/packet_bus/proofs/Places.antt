@@ -8,7 +8,7 @@ use Rattle.std.proofs.lemmas.Grind.{common_steps}
 use Rattle.std.proofs.Math.Seq.{map-set_same}
 use Rattle.lc_model.specs.Packet.{header_fault}
 use Rattle.lc_model.specs.Services.Bus.{Publication, Queue, Bus, pipe_at, oldest, oldest_at, without_oldest}
-use Rattle.packet_bus.specs.Slots.{Kept, slot_at, no_packet, occurrences, released}
+use Rattle.packet_bus.specs.Slots.{PooledPacket, slot_at, no_packet, occurrences, released}
 use Rattle.packet_bus.specs.Line.{Line, slots_in, mids_in, first_slot, behind_first, has_slots, is_long, hears_mid}
 use Rattle.packet_bus.specs.Inside.{publication_in, queue_over, shown, place_at, waiting_slots, audience_of, IsBus, changed}
 
@@ -55,7 +55,7 @@ pub is_place_at : (places : List (Option Line)) (seat : ℕ) (place : Option Lin
 is_place_at places seat place below e = e ∙ get_or_default places seat place None below
 
 -- the view, where one place changes as its pipe does
-pub shown_changed : (pool : List Kept) (places : List (Option Line)) (seat : ℕ) (line_change : Line → Line) (change : Queue → Queue) → seat < length places →
+pub shown_changed : (pool : List PooledPacket) (places : List (Option Line)) (seat : ℕ) (line_change : Line → Line) (change : Queue → Queue) → seat < length places →
     ((line : Line) → queue_over pool (line_change line) ≡ change (queue_over pool line)) →
     shown pool (slice_set places seat (option_map line_change (place_at places seat))) ≡ changed seat change (shown pool places)
 shown_changed pool places seat line_change change below same =
@@ -67,11 +67,11 @@ shown_changed pool places seat line_change change below same =
     by_place (Some line) = ap Some (same line)
 
 -- a pipe of the view is the place's
-pub shown_pipe : (pool : List Kept) (places : List (Option Line)) (seat : ℕ) → seat < length places →
+pub shown_pipe : (pool : List PooledPacket) (places : List (Option Line)) (seat : ℕ) → seat < length places →
     pipe_at seat (shown pool places) ≡ option_map (queue_over pool) (place_at places seat)
 shown_pipe pool places seat below = get_or-map (option_map (queue_over pool)) places seat None None below
 
-pub pipe_is : (pool : List Kept) (places : List (Option Line)) (bus : Bus) (seat at : ℕ) (place : Option Line) → at < length places →
+pub pipe_is : (pool : List PooledPacket) (places : List (Option Line)) (bus : Bus) (seat at : ℕ) (place : Option Line) → at < length places →
     place ≡ slice_index_or places at place → at ≡ seat → shown pool places ≡ bus → option_map (queue_over pool) place ≡ pipe_at seat bus
 pipe_is pool places bus seat at place below found index view =
     ap (option_map (queue_over pool)) (is_place_at places at place below found)
@@ -79,7 +79,7 @@ pipe_is pool places bus seat at place below found index view =
     ∙ ap₂ pipe_at index view
 
 -- whether there is a pipe, on a place and in the view
-pub has_queue : (pool : List Kept) (place : Option Line) → is_some (option_map (queue_over pool) place) ≡ is_some place
+pub has_queue : (pool : List PooledPacket) (place : Option Line) → is_some (option_map (queue_over pool) place) ≡ is_some place
 has_queue pool None = refl
 has_queue pool (Some line) = refl
 
@@ -88,13 +88,13 @@ no_place None e = refl
 no_place (Some line) e = cc
 
 -- the view, where a place is written
-pub shown_set : (pool : List Kept) (places : List (Option Line)) (bus : Bus) (seat at : ℕ) (new : Option Line) → at ≡ seat → shown pool places ≡ bus →
+pub shown_set : (pool : List PooledPacket) (places : List (Option Line)) (bus : Bus) (seat at : ℕ) (new : Option Line) → at ≡ seat → shown pool places ≡ bus →
     shown pool (slice_set places at new) ≡ slice_set bus seat (option_map (queue_over pool) new)
 shown_set pool places bus seat at new index view =
     map-set (option_map (queue_over pool)) places at new ∙ ap₂ (λ (b : Bus) k. slice_set b k (option_map (queue_over pool) new)) view index
 
 -- and where it is written as the pipe changes
-pub shown_new : (pool : List Kept) (places : List (Option Line)) (bus : Bus) (seat at : ℕ) (old new : Option Line) (line_change : Line → Line) (change : Queue → Queue) →
+pub shown_new : (pool : List PooledPacket) (places : List (Option Line)) (bus : Bus) (seat at : ℕ) (old new : Option Line) (line_change : Line → Line) (change : Queue → Queue) →
     at < length places → old ≡ slice_index_or places at old → at ≡ seat → shown pool places ≡ bus → new ≡ option_map line_change old →
     ((line : Line) → queue_over pool (line_change line) ≡ change (queue_over pool line)) → shown pool (slice_set places at new) ≡ changed seat change bus
 shown_new pool places bus seat at old new line_change change below found index view e same =
@@ -102,7 +102,7 @@ shown_new pool places bus seat at old new line_change change below found index v
     ∙ shown_changed pool places at line_change change below same
     ∙ ap₂ (λ k (b : Bus). changed k change b) index view
 
-module _ (places : List (Option Line)) (pool : List Kept) (audience : List (List Bool)) (ready full : List Bool) (bus : IsBus places pool audience ready full) (seat : ℕ)
+module _ (places : List (Option Line)) (pool : List PooledPacket) (audience : List (List Bool)) (ready full : List Bool) (bus : IsBus places pool audience ready full) (seat : ℕ)
     (below : seat < 8) where
   pub in_places : seat < length places
   in_places = omega (arith, below, bus.eight)
@@ -131,7 +131,7 @@ module _ (places : List (Option Line)) (pool : List Kept) (audience : List (List
     abbrev behind : Option Line
     behind = option_map behind_first (place_at places seat)
 
-    abbrev pool_after : List Kept
+    abbrev pool_after : List PooledPacket
     pool_after = slice_set pool slot (released (slot_at pool slot))
 
     -- the slots of the seat are this one and the others
@@ -164,10 +164,10 @@ module _ (places : List (Option Line)) (pool : List Kept) (audience : List (List
         by_slot : (b : Bool) → (other == slot) ≡ b → (slot_at pool_after other).packet ≡ (slot_at pool other).packet
         by_slot true is =
             let same : other ≡ slot = grind (arith, is) in
-            rw same (ap (λ (kept : Kept). kept.packet) (get_or-set_same pool slot (released (slot_at pool slot)) no_packet is_slot))
+            rw same (ap (λ (kept : PooledPacket). kept.packet) (get_or-set_same pool slot (released (slot_at pool slot)) no_packet is_slot))
         by_slot false is =
             let another : other ≢ slot = grind (arith, is) in
-            ap (λ (kept : Kept). kept.packet) (get_or-set_other pool slot other (released (slot_at pool slot)) no_packet another)
+            ap (λ (kept : PooledPacket). kept.packet) (get_or-set_other pool slot other (released (slot_at pool slot)) no_packet another)
 
     readers_then : (other : ℕ) → (slot_at pool_after other).readers + (if slot == other then 1 else 0) ≡ (slot_at pool other).readers
     readers_then other = by_slot (other == slot) refl

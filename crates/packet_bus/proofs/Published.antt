@@ -6,7 +6,7 @@ use Rattle.std.proofs.Math.ListN.{get_or-eq_default}
 use Rattle.lc_model.specs.Packet.{header_fault, message_id}
 use Rattle.lc_model.specs.Services.Bus.{Publication, Bus, waiting_numbers, is_among, offered_as, published_as, IsPublished}
 use Rattle.packet_bus.specs.Seats.{is_in}
-use Rattle.packet_bus.specs.Slots.{Kept, slot_at, no_packet, occurrences}
+use Rattle.packet_bus.specs.Slots.{PooledPacket, slot_at, no_packet, occurrences}
 use Rattle.packet_bus.specs.Line.{Line, slots_in, with_slot, has_slots, is_long, hears_mid}
 use Rattle.packet_bus.specs.Inside.{publication_in, queue_over, shown, waiting_slots, delivered, HaveRoom, IsBus}
 use Rattle.packet_bus.proofs.Places.{sum_by_cons, occurs_cons, occurs_append}
@@ -96,21 +96,21 @@ still_short slot (false ∷ hearers) (place ∷ places) room short (suc seat) =
 
 -- ---- the whole
 
-module _ (places : List (Option Line)) (pool : List Kept) (slot : ℕ) (packet : List ℕ) (readers : ℕ) (within : slot < length pool) where
-  abbrev kept : Kept
+module _ (places : List (Option Line)) (pool : List PooledPacket) (slot : ℕ) (packet : List ℕ) (readers : ℕ) (within : slot < length pool) where
+  abbrev kept : PooledPacket
   kept = record { packet = packet; readers = readers }
 
-  abbrev pool_then : List Kept
+  abbrev pool_then : List PooledPacket
   pool_then = slice_set pool slot kept
 
   -- a slot that isn't this one
   same_publication : (other : ℕ) → (other == slot) ≡ false → publication_in pool_then other ≡ publication_in pool other
   same_publication other is =
       let another : other ≢ slot = grind (arith, is) in
-      ap (λ (it : Kept). record { number = other; bytes = it.packet }) (get_or-set_other pool slot other kept no_packet another)
+      ap (λ (it : PooledPacket). record { number = other; bytes = it.packet }) (get_or-set_other pool slot other kept no_packet another)
 
   new_publication : publication_in pool_then slot ≡ record { number = slot; bytes = packet }
-  new_publication = ap (λ (it : Kept). record { number = slot; bytes = it.packet }) (get_or-set_same pool slot kept no_packet within)
+  new_publication = ap (λ (it : PooledPacket). record { number = slot; bytes = it.packet }) (get_or-set_same pool slot kept no_packet within)
 
   -- slots among which it isn't
   same_publications : (slots : List ℕ) → occurrences slot slots ≡ 0 → map (publication_in pool_then) slots ≡ map (publication_in pool) slots
@@ -162,29 +162,29 @@ module _ (places : List (Option Line)) (pool : List Kept) (slot : ℕ) (packet :
       by_hearing false is nowhere others = ap₂ (λ first others. first ∷ others) (one_place place false is nowhere) others
 
 -- a slot that no pipe waits for is not among those that wait
-pub not_among : (places : List (Option Line)) (pool : List Kept) (slot : ℕ) → ((slot : ℕ) → occurrences slot (waiting_slots places) ≡ (slot_at pool slot).readers) →
+pub not_among : (places : List (Option Line)) (pool : List PooledPacket) (slot : ℕ) → ((slot : ℕ) → occurrences slot (waiting_slots places) ≡ (slot_at pool slot).readers) →
     (slot_at pool slot).readers ≡ 0 → is_among slot (waiting_numbers (shown pool places)) ≡ false
 not_among places pool slot readers free =
     ap (is_among slot) (waiting_are pool places) ∙ among_occurs slot (waiting_slots places) ∙ ap (nat_lt 0) (readers slot ∙ free)
 
 -- beyond the pool there is none either
-pub beyond : (pool : List Kept) → (slot_at pool (length pool)).readers ≡ 0
-beyond pool = ap (λ (it : Kept). it.readers) (get_or-eq_default pool no_packet (omega arith))
+pub beyond : (pool : List PooledPacket) → (slot_at pool (length pool)).readers ≡ 0
+beyond pool = ap (λ (it : PooledPacket). it.readers) (get_or-eq_default pool no_packet (omega arith))
 
 -- a slot that is taken, and then filled
-pub kept_then : (pool taken filled : List Kept) (slot readers : ℕ) (packet : List ℕ) → slot < length pool →
+pub kept_then : (pool taken filled : List PooledPacket) (slot readers : ℕ) (packet : List ℕ) → slot < length pool →
     taken ≡ slice_set pool slot (record { packet = (slot_at pool slot).packet; readers = readers }) →
     filled ≡ slice_set taken slot (record { packet = packet; readers = (slot_at taken slot).readers }) →
     filled ≡ slice_set pool slot (record { packet = packet; readers = readers })
 kept_then pool taken filled slot readers packet within first second =
     let held : (slot_at taken slot).readers ≡ readers =
-    ap (λ (slots : List Kept). (slot_at slots slot).readers) first
-    ∙ ap (λ (kept : Kept). kept.readers) (get_or-set_same pool slot (record { packet = (slot_at pool slot).packet; readers = readers }) no_packet within) in
+    ap (λ (slots : List PooledPacket). (slot_at slots slot).readers) first
+    ∙ ap (λ (kept : PooledPacket). kept.readers) (get_or-set_same pool slot (record { packet = (slot_at pool slot).packet; readers = readers }) no_packet within) in
     second
-    ∙ ap₂ (λ (slots : List Kept) count. slice_set slots slot (record { packet = packet; readers = count })) first held
+    ∙ ap₂ (λ (slots : List PooledPacket) count. slice_set slots slot (record { packet = packet; readers = count })) first held
     ∙ set-set pool slot (record { packet = (slot_at pool slot).packet; readers = readers }) (record { packet = packet; readers = readers })
 
-module _ (places : List (Option Line)) (pool : List Kept) (audience : List (List Bool)) (ready full : List Bool) (bus : IsBus places pool audience ready full) (slot : ℕ) (packet : List ℕ)
+module _ (places : List (Option Line)) (pool : List PooledPacket) (audience : List (List Bool)) (ready full : List Bool) (bus : IsBus places pool audience ready full) (slot : ℕ) (packet : List ℕ)
     (readers : ℕ) (within : slot < length pool) (free : (slot_at pool slot).readers ≡ 0) where
   -- each slot has its readers
   readers_then : readers ≡ count_by is_in (map (hears_mid (message_id packet)) places) → (other : ℕ) →
@@ -222,7 +222,7 @@ module _ (places : List (Option Line)) (pool : List Kept) (audience : List (List
           let another : other ≢ slot = grind (arith, is) in
           let at : slot_at (slice_set pool slot (record { packet = packet; readers = readers })) other ≡ slot_at pool other =
           get_or-set_other pool slot other (record { packet = packet; readers = readers }) no_packet another in
-          rw at (bus.good other (omega (arith, less, ap (λ (kept : Kept). kept.readers) at)))
+          rw at (bus.good other (omega (arith, less, ap (λ (kept : PooledPacket). kept.readers) at)))
 
   -- the bus belongs together
   pub published_together : header_fault packet ≡ None → (places' : List (Option Line)) (ready' full' : List Bool) → places' ≡ delivered slot (map (hears_mid (message_id packet)) places) places →
@@ -254,12 +254,12 @@ module _ (places : List (Option Line)) (pool : List Kept) (audience : List (List
 
 -- ---- nobody hears
 
-heard_by_none : (pool : List Kept) (number : ℕ) (packet : List ℕ) (place : Option Line) → hears_mid (message_id packet) place ≡ false →
+heard_by_none : (pool : List PooledPacket) (number : ℕ) (packet : List ℕ) (place : Option Line) → hears_mid (message_id packet) place ≡ false →
     option_map (queue_over pool) place ≡ option_map (offered_as number packet) (option_map (queue_over pool) place)
 heard_by_none pool number packet None e = refl
 heard_by_none pool number packet (Some line) e = rw e refl
 
-none_hear : (pool : List Kept) (number : ℕ) (packet : List ℕ) (places : List (Option Line)) → count_by is_in (map (hears_mid (message_id packet)) places) ≡ 0 →
+none_hear : (pool : List PooledPacket) (number : ℕ) (packet : List ℕ) (places : List (Option Line)) → count_by is_in (map (hears_mid (message_id packet)) places) ≡ 0 →
     shown pool places ≡ published_as number packet (shown pool places)
 none_hear pool number packet [] none = refl
 none_hear pool number packet (place ∷ places) none =
@@ -269,7 +269,7 @@ none_hear pool number packet (place ∷ places) none =
     let rest : count_by is_in (map (hears_mid (message_id packet)) places) ≡ 0 = omega (arith, sum) in
     ap₂ (λ first others. first ∷ others) (heard_by_none pool number packet place first) (none_hear pool number packet places rest)
 
-pub unheard : (places : List (Option Line)) (pool : List Kept) (packet : List ℕ) (old : Bus) → ((slot : ℕ) → occurrences slot (waiting_slots places) ≡ (slot_at pool slot).readers) →
+pub unheard : (places : List (Option Line)) (pool : List PooledPacket) (packet : List ℕ) (old : Bus) → ((slot : ℕ) → occurrences slot (waiting_slots places) ≡ (slot_at pool slot).readers) →
     count_by is_in (map (hears_mid (message_id packet)) places) ≡ 0 → shown pool places ≡ old → IsPublished packet old old
 unheard places pool packet old readers none view = record {
   number = length pool;

@@ -7,7 +7,7 @@ use Rattle.lc_model.specs.Packet.{header_fault, message_id}
 use Rattle.lc_model.specs.Refusal.{Refusal}
 use Rattle.lc_model.specs.Services.Bus.{Bus, is_blocked, publish_refusal}
 use Rattle.packet_bus.specs.Seats.{is_in, meet}
-use Rattle.packet_bus.specs.Slots.{Kept, used_slots}
+use Rattle.packet_bus.specs.Slots.{PooledPacket, used_slots}
 use Rattle.packet_bus.specs.Line.{Line, slots_in, is_long, hears_mid}
 use Rattle.packet_bus.specs.Inside.{shown, place_at, nobody, HaveRoom, IsBus}
 use Rattle.packet_bus.proofs.Ready.{blocked_is, have_room, one_is_in, length_map}
@@ -45,7 +45,7 @@ answer_if packet bus b good is =
     by_test true = refl
     by_test false = refl
 
-module _ (places : List (Option Line)) (pool : List Kept) (audience : List (List Bool)) (ready full : List Bool) (bus : IsBus places pool audience ready full) (packet : List ℕ)
+module _ (places : List (Option Line)) (pool : List PooledPacket) (audience : List (List Bool)) (ready full : List Bool) (bus : IsBus places pool audience ready full) (packet : List ℕ)
     (mid : ℕ) (row hearers : List Bool) (good : None ≡ header_fault packet) (value : mid ≡ message_id packet) (found : row ≡ slice_index_or audience mid row)
     (copied : hearers ≡ row) where
   pub hearers_are : hearers ≡ map (hears_mid (message_id packet)) places

@@ -6,14 +6,14 @@ use Rattle.lc_model.specs.Packet.{message_id}
 use Rattle.lc_model.specs.Kept.Executive.{ready_seat, is_ready}
 use Rattle.lc_model.specs.Services.Bus.{seen, seen_pipe, hears_packet, is_blocked, is_full}
 use Rattle.packet_bus.specs.Seats.{is_in, meet}
-use Rattle.packet_bus.specs.Slots.{Kept}
+use Rattle.packet_bus.specs.Slots.{PooledPacket}
 use Rattle.packet_bus.specs.Line.{Line, slots_in, has_slots, is_long, hears_mid}
 use Rattle.packet_bus.specs.Inside.{publication_in, queue_over, shown, HaveRoom}
 use Rattle.packet_bus.proofs.Places.{sum_by_cons}
 
 -- ---- the least seat with a packet
 
-ready_place : (pool : List Kept) (place : Option Line) → has_slots place ≡ is_ready (option_map seen_pipe (option_map (queue_over pool) place))
+ready_place : (pool : List PooledPacket) (place : Option Line) → has_slots place ≡ is_ready (option_map seen_pipe (option_map (queue_over pool) place))
 ready_place pool None = refl
 ready_place pool (Some line) = by_slots line.slots
   where
@@ -22,13 +22,13 @@ ready_place pool (Some line) = by_slots line.slots
     by_slots [] = refl
     by_slots (slot ∷ slots) = grind arith
 
-ready_from : (pool : List Kept) (i : ℕ) (places : List (Option Line)) →
+ready_from : (pool : List PooledPacket) (i : ℕ) (places : List (Option Line)) →
     position_from is_in i (map has_slots places) ≡ position_from is_ready i (seen (shown pool places))
 ready_from pool i [] = refl
 ready_from pool i (place ∷ places) =
     ap₂ (λ b o. if b then Some i else o) (ready_place pool place) (ready_from pool (i + 1) places)
 
-pub least_is : (pool : List Kept) (places : List (Option Line)) → position_from is_in 0 (map has_slots places) ≡ ready_seat (seen (shown pool places))
+pub least_is : (pool : List PooledPacket) (places : List (Option Line)) → position_from is_in 0 (map has_slots places) ≡ ready_seat (seen (shown pool places))
 least_is pool places = ready_from pool 0 places
 
 -- ---- who hears, and who has no room
@@ -37,16 +37,16 @@ pub length_map : {X Y : Type 0} (f : X → Y) (xs : List X) → length (map f xs
 length_map f [] = refl
 length_map f (x ∷ xs) = ap suc (length_map f xs)
 
-full_place : (pool : List Kept) (place : Option Line) → length (slots_in place) ≤ 72 → is_long place ≡ is_full (option_map (queue_over pool) place)
+full_place : (pool : List PooledPacket) (place : Option Line) → length (slots_in place) ≤ 72 → is_long place ≡ is_full (option_map (queue_over pool) place)
 full_place pool None short = refl
 full_place pool (Some line) short = grind (arith, short, length_map (publication_in pool) line.slots)
 
-heard_place : (pool : List Kept) (packet : List ℕ) (place : Option Line) →
+heard_place : (pool : List PooledPacket) (packet : List ℕ) (place : Option Line) →
     hears_mid (message_id packet) place ≡ hears_packet packet (option_map (queue_over pool) place)
 heard_place pool packet None = refl
 heard_place pool packet (Some line) = refl
 
-pub blocked_is : (pool : List Kept) (packet : List ℕ) (places : List (Option Line)) → ((seat : ℕ) → length (slots_in (slice_index_or places seat None)) ≤ 72) →
+pub blocked_is : (pool : List PooledPacket) (packet : List ℕ) (places : List (Option Line)) → ((seat : ℕ) → length (slots_in (slice_index_or places seat None)) ≤ 72) →
     meet (map (hears_mid (message_id packet)) places) (map is_long places) ≡ is_blocked packet (shown pool places)
 blocked_is pool packet [] short = refl
 blocked_is pool packet (place ∷ places) short =

@@ -3,21 +3,21 @@ use Rattle.std.specs.Prelude.{◌≡◌, ℕ, ◌<◌, ◌≤◌, Bool, true, fa
 use Rattle.std.specs.List.{flat_map}
 use Rattle.lc_model.specs.Packet.{header_fault}
 use Rattle.lc_model.specs.Services.Bus.{Publication, Queue, Bus, pipe_at}
-use Rattle.packet_bus.specs.Slots.{Kept, slot_at, occurrences}
+use Rattle.packet_bus.specs.Slots.{PooledPacket, slot_at, occurrences}
 use Rattle.packet_bus.specs.Line.{Line, slots_in, has_slots, is_long, hears_mid, with_slot}
 
 -- ---- what the bus is
 
 -- what waits in a slot: the slot's number serves as the publication's
-abbrev pub publication_in : List Kept → ℕ → Publication
+abbrev pub publication_in : List PooledPacket → ℕ → Publication
 publication_in pool slot = record { number = slot; bytes = (slot_at pool slot).packet }
 
 -- a pipe by its slots
-abbrev pub queue_over : List Kept → Line → Queue
+abbrev pub queue_over : List PooledPacket → Line → Queue
 queue_over pool line = record { subscriptions = line.subscriptions; waiting = map (publication_in pool) line.slots }
 
 -- the bus by its pool and its places
-abbrev pub shown : List Kept → List (Option Line) → Bus
+abbrev pub shown : List PooledPacket → List (Option Line) → Bus
 shown pool places = map (option_map (queue_over pool)) places
 
 -- ---- how its parts belong together
@@ -42,7 +42,7 @@ nobody = replicate 8 false
 abbrev pub audience_of : List (List Bool) → ℕ → List Bool
 audience_of audience mid = slice_index_or audience mid nobody
 
-pub record IsBus (places : List (Option Line)) (pool : List Kept) (audience : List (List Bool)) (ready full : List Bool) : Type 0 where
+pub record IsBus (places : List (Option Line)) (pool : List PooledPacket) (audience : List (List Bool)) (ready full : List Bool) : Type 0 where
   pub eight : length places ≡ 8
   -- each slot has as many readers as pipes wait for it
   pub readers : (slot : ℕ) → occurrences slot (waiting_slots places) ≡ (slot_at pool slot).readers

@@ -1,7 +1,7 @@
 //! The pool: each packet that waits, kept once (this project's own).
 
 ghost use Rattle.std.specs.Prelude.{◌≡◌, ◌<◌, ◌≤◌, ◌-◌, ◌+◌, ◌++◌, ◌==◌, length, take, drop, slice_set, replicate, IfOk, slice_index_or};
-ghost use Rattle.packet_bus.specs.Slots.{Kept, no_packet, no_slots, slot_at, used_slots, released};
+ghost use Rattle.packet_bus.specs.Slots.{PooledPacket, no_packet, no_slots, slot_at, used_slots, released};
 
 use std::alloc::{AllocError, Global};
 use std::marker::Model;
@@ -22,9 +22,9 @@ struct Slot {
 
 impl Model for Slot {
     ghost use Rattle.std.specs.Prelude.{take, ◌≤◌, ◌≡◌, length};
-    ghost use Rattle.packet_bus.specs.Slots.{Kept};
+    ghost use Rattle.packet_bus.specs.Slots.{PooledPacket};
 
-    ghost Value = { Kept };
+    ghost Value = { PooledPacket };
 
     ghost view = { λ s. record { packet = take s.size s.bytes; readers = s.readers } };
 
@@ -88,9 +88,9 @@ pub(crate) struct Pool {
 
 impl Model for Pool {
     ghost use Rattle.std.specs.Prelude.{List, vec_capacity};
-    ghost use Rattle.packet_bus.specs.Slots.{Kept, IsPool};
+    ghost use Rattle.packet_bus.specs.Slots.{PooledPacket, IsPool};
 
-    ghost Value = { List Kept };
+    ghost Value = { List PooledPacket };
 
     ghost view = { λ p. p.slots.items };
 

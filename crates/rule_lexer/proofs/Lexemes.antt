@@ -2,23 +2,11 @@
 use Rattle.std.proofs.Common.{◌≡◌, refl, sym, ◌∙◌, ap, ℕ, Bool, true, false, ◌||◌, ◌==◌, List, [], ◌∷◌, bytes_eq, arith}
 use Rattle.std.specs.List.{list_any}
 use Rattle.std.specs.Char.{is_ascii_digit}
-use Rattle.std.proofs.lemmas.Slice.Eq.{bytes_eq-Decides}
 use Rattle.lc_model.specs.Text.Token.{is_letter, is_word, is_numeral, is_string, is_sign, is_lexeme, signs}
 use Rattle.rule_lexer.specs.Front.{begins, begins_numeral, is_quote}
 use Rattle.rule_lexer.proofs.Booleans.{only_first, only_second, only_third}
 use Rattle.lc_model.proofs.Facts.{and_first_false}
-
--- what passes a test that none of these texts passes is none of them
-pub none_of : (f : List ℕ → Bool) (texts : List (List ℕ)) → list_any f texts ≡ false →
-    (text : List ℕ) → f text ≡ true → list_any (bytes_eq text) texts ≡ false
-none_of f [] none text fit = refl
-none_of f (w ∷ ws) none text fit = step (bytes_eq text w) (f w) refl refl none (λ others. none_of f ws others text fit)
-  where
-    step : (b p : Bool) → bytes_eq text w ≡ b → f w ≡ p → (p || list_any f ws) ≡ false →
-        (list_any f ws ≡ false → list_any (bytes_eq text) ws ≡ false) → (b || list_any (bytes_eq text) ws) ≡ false
-    step b true e p none go = absurd (cc none)
-    step false false e p none go = go none
-    step true false e p none go = let same : text ≡ w = (bytes_eq-Decides text w).0 e in absurd (cc (sym fit ∙ ap f same ∙ p))
+use Rattle.lc_model.proofs.Texts.OneClass.{none_of}
 
 -- ---- each kind begins in its way
 

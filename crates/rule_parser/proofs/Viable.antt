@@ -10,7 +10,7 @@ use Rattle.lc_model.specs.Text.Class.{Class, Name, Number, Operand, Compare, Wor
 use Rattle.lc_model.specs.Text.Grammar as grammar
 use Rattle.lc_model.specs.Text.Grammar.{DerivesFile, number_of}
 use Rattle.lc_model.specs.Text.Reading.{IsViable, Wants, optional_words, is_optional}
-use Rattle.lc_model.proofs.OneClass.{none_of}
+use Rattle.lc_model.proofs.Texts.OneClass.{none_of}
 use Rattle.lc_model.proofs.Facts.{and_first, and_second, and_true}
 use Rattle.rule_parser.specs.Stack.{Symbol, one, option, operand, after, ones, packet_left, field_left, rule_left, joins, step, wanted}
 use Rattle.rule_parser.proofs.Levels.{Operands, no_tail, operand_then}

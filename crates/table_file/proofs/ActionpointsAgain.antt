@@ -15,9 +15,9 @@ use Rattle.lc_model.specs.Tables.Equation.{equal_word}
 use Rattle.lc_model.specs.Tables.Image.{Layout, entry_length, words_in, TableEntry, entry_bytes, FitsEntry, adt_image, entry_at, numbers_below, filled, words_from, words_before_equal}
 use Rattle.lc_model.specs.Tables.Spelled.{state_of_code, event_of_code, read_entry}
 use Rattle.table_file.specs.Laws.{FitsTable, ActionpointsAreReadAgain}
-use Rattle.lc_model.proofs.EntryLengths.{AreLong, entries_long_of, long_entry, length-zero_filled}
-use Rattle.lc_model.proofs.WrittenEntries.{before_at, holds_equation}
-use Rattle.lc_model.proofs.EntriesAgain.{entry_again, listed, at_place, preamble_again}
+use Rattle.lc_model.proofs.Tables.EntryLengths.{AreLong, entries_long_of, long_entry, length-zero_filled}
+use Rattle.lc_model.proofs.Tables.WrittenEntries.{before_at, holds_equation}
+use Rattle.lc_model.proofs.Tables.EntriesAgain.{entry_again, listed, at_place, preamble_again}
 
 state_again : (m : ApMode) → m ≢ PermOff → state_of_code (state_code m) ≡ m
 state_again Active begins = refl

@@ -1,10 +1,8 @@
 -- The headers that are written, and the file that they make with an image.
 use Rattle.std.proofs.Common.{◌≡◌, refl, ℕ, ◌-◌, ◌≤◌, List, [], ◌++◌, length, replicate, arith, append_assoc}
 use Rattle.lc_model.specs.declared.kind.Kind.{Kind}
-use Rattle.lc_model.specs.declared.kind.Kind.TheVariants.{Wdt, Adt}
 use Rattle.lc_model.specs.Bytes.{u32, zero_filled}
 use Rattle.lc_model.specs.Tables.File.{content_type, subtype, file_header_length, file_bytes, table_name, wrapped}
-use Rattle.lc_model.specs.Laws.Tables.{IsTableFile}
 use Rattle.table_file.specs.Parts.{file_header, table_header}
 
 pub file_header_written : (s₀ s₁ s₂ s₃ s₄ s₅ s₆ : List ℕ) → s₁ ≡ s₀ ++ u32 content_type → s₂ ≡ s₁ ++ u32 subtype → s₃ ≡ s₂ ++ u32 file_header_length →
@@ -14,23 +12,6 @@ file_header_written s₀ s₁ s₂ s₃ s₄ s₅ s₆ e₁ e₂ e₃ e₄ e₅ 
 pub table_header_written : (kind : Kind) (size : ℕ) (name s₀ s₁ s₂ s₃ s₄ : List ℕ) → name ≡ table_name kind → s₁ ≡ s₀ ++ replicate 8 0 → s₂ ≡ s₁ ++ u32 size →
     s₃ ≡ s₂ ++ name → s₄ ≡ s₃ ++ replicate (40 - length name) 0 → s₄ ≡ s₀ ++ table_header kind size
 table_header_written kind size name s₀ s₁ s₂ s₃ s₄ is e₁ e₂ e₃ e₄ = rw (e₄, e₃, e₂, e₁, is) (simp append_assoc)
-
-name_fills : (kind : Kind) → length (zero_filled 40 (table_name kind)) ≡ 40
-name_fills Wdt = refl
-name_fills Adt = refl
-
-pub is_table_file : (kind : Kind) (image : List ℕ) → length image ≤ 32652 → IsTableFile (wrapped kind image)
-is_table_file kind image short = record {
-  spacecraft = omega arith;
-  processor = omega arith;
-  application = omega arith;
-  seconds = omega arith;
-  subseconds = omega arith;
-  reserved = omega arith;
-  description = refl;
-  name_field = name_fills kind;
-  image = omega (arith, short);
-}
 
 pub file_written : (kind : Kind) (image s₀ s₁ s₂ s₃ : List ℕ) → s₀ ≡ [] → s₁ ≡ s₀ ++ file_header → s₂ ≡ s₁ ++ table_header kind (length image) →
     s₃ ≡ s₂ ++ image → s₃ ≡ file_bytes (wrapped kind image)

@@ -8,10 +8,10 @@ use Rattle.lc_model.specs.declared.field.Term.{Term}
 use Rattle.lc_model.specs.Codes.{type_code}
 use Rattle.lc_model.specs.Tables.Image.{Watchpoints, bits_32, twos_complement_32, term_bytes, type_of_code, FitsWatchpoint, wdt_image, entry_at, numbers_below, filled}
 use Rattle.lc_model.specs.Tables.Spelled.{spelled_term}
-use Rattle.lc_model.proofs.NumbersIn32Bits.{bits_small, value_again}
+use Rattle.lc_model.proofs.Tables.NumbersIn32Bits.{bits_small, value_again}
 use Rattle.table_file.specs.Laws.{WatchpointsAreReadAgain}
-use Rattle.lc_model.proofs.EntryLengths.{terms_long}
-use Rattle.lc_model.proofs.EntriesAgain.{entry_again, listed, at_place, preamble_again}
+use Rattle.lc_model.proofs.Tables.EntryLengths.{terms_long}
+use Rattle.lc_model.proofs.Tables.EntriesAgain.{entry_again, listed, at_place, preamble_again}
 use Rattle.lc_model.proofs.CodesAgain.{operator_again}
 
 type_again : (k : FieldType) → unwrap_or (type_of_code (type_code k)) U8 ≡ k

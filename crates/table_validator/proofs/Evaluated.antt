@@ -5,7 +5,7 @@ use Rattle.lc_model.specs.Codes.{table_entries}
 use Rattle.lc_model.specs.Condition.{Operator, And, Or, Xor}
 use Rattle.lc_model.specs.Tables.Equation.{operator_word, equal_word, waiting, IsEquation}
 use Rattle.lc_model.specs.Tables.Image.{first_code, equation_tests, with_words_before, most_waiting}
-use Rattle.lc_model.proofs.SoundWords.{IsWord, number, negated, joined, none_stands, classified, each_front, unknown, missing, too_few, sound_words_spell}
+use Rattle.lc_model.proofs.Tables.SoundWords.{IsWord, number, negated, joined, none_stands, classified, each_front, unknown, missing, too_few, sound_words_spell}
 use Rattle.lc_model.proofs.Facts.{tested_not_less, or_second, or_first}
 use Rattle.table_validator.specs.Sound.{IsSoundEquation}
 

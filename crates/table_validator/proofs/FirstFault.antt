@@ -9,7 +9,7 @@ use Rattle.lc_model.specs.declared.kind.Kind.TheVariants.{Wdt, Adt}
 use Rattle.lc_model.specs.Codes.{is_kind, table_entries}
 use Rattle.lc_model.specs.Tables.Image.{Layout, kind_of, image_length, ImageFault, numbers_below, entry_code, first_entry_fault, preamble_code, image_fault, layout_of, fault_of, wrong_size, IsSound}
 use Rattle.lc_model.specs.Tables.InForce.{layouts}
-use Rattle.lc_model.proofs.SoundImages.{found_passes}
+use Rattle.lc_model.proofs.Tables.SoundImages.{found_passes}
 use Rattle.lc_model.proofs.Facts.{tested_equal, and_second, and_first}
 
 module _ {X : Type 0} (f : ℕ → Option X) where

@@ -4,7 +4,7 @@ use Rattle.std.specs.List.{list_any, list_all, position_or_len}
 use Rattle.std.proofs.lemmas.List.Sums.{sum_by-append}
 use Rattle.lc_model.specs.Tables.Equation.{equal_word, is_mention, is_binary, waiting}
 use Rattle.lc_model.specs.Tables.Image.{first_code, most_waiting, operands_of, with_words_before, words_before_equal, words_after_equal}
-use Rattle.lc_model.proofs.SoundWords.{unknown, missing, too_few, too_many}
+use Rattle.lc_model.proofs.Tables.SoundWords.{unknown, missing, too_few, too_many}
 use Rattle.lc_model.proofs.Facts.{or_false, tested_equal}
 use Rattle.table_validator.specs.declared.operands.OperandCount.{OperandCount}
 use Rattle.table_validator.specs.declared.words.WordScan.{WordScan}

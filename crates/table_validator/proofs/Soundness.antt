@@ -16,9 +16,9 @@ use Rattle.lc_model.specs.Tables.Image as model
 use Rattle.lc_model.specs.Tables.Image.{Watchpoints, Actionpoints, WideActionpoints, image_length, own_count, watchpoint_count, entry_at, entry_code, used_code, preamble_code, IsSound, all_words, words_before_equal, words_after_equal, type_of_code, twos_complement_32, is_text_field, first_code, equation_tests, most_waiting, actionpoint_code, watchpoint_code, watchpoint_tests, actionpoint_tests}
 use Rattle.lc_model.specs.Tables.InForce.{layouts}
 use Rattle.lc_model.specs.Tables.Spelled.{spelled_term}
-use Rattle.lc_model.proofs.SoundWords.{none_stands, stands_none}
+use Rattle.lc_model.proofs.Tables.SoundWords.{none_stands, stands_none}
 use Rattle.lc_model.proofs.Facts.{tested_not_less, or_second, or_first, not_false, and_first, and_second, tested_at_most, test_less, tested_equal, tested_unequal}
-use Rattle.lc_model.proofs.SoundImages.{SoundParts, sound_parts, operator_again}
+use Rattle.lc_model.proofs.Tables.SoundImages.{SoundParts, sound_parts, operator_again}
 use Rattle.lc_model.proofs.CodesAgain.{state_again, event_again}
 use Rattle.table_validator.specs.Sound.{adt_layout, IsSoundWatchpoint, IsSoundActionpoint, HasSoundWatchpoints, HasSoundActionpoints}
 use Rattle.table_validator.proofs.FirstFault.{same_kind}

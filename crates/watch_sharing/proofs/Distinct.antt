@@ -7,8 +7,8 @@ use Rattle.std.proofs.lemmas.Bool.{lt-ltb}
 use Rattle.lc_model.specs.declared.field.Term.{Term}
 use Rattle.lc_model.specs.Rule.{NamedRule}
 use Rattle.lc_model.specs.Tables.Equation.{same_term, mentions, distinct, number_in, mention_numbers, terms_of}
-use Rattle.lc_model.proofs.ResultLaws.{one_term}
-use Rattle.lc_model.proofs.SensibleLaws.{same_as}
+use Rattle.lc_model.proofs.LimitChecker.ResultLaws.{one_term}
+use Rattle.lc_model.proofs.Tables.SensibleLaws.{same_as}
 use Rattle.lc_model.proofs.Facts.{or_other}
 use Rattle.watch_sharing.specs.Numbering.{added, added_all, all_mentions, number_among, numbers_among, numbers_by_rule}
 use Rattle.watch_sharing.proofs.Numbers.{added_all_append}

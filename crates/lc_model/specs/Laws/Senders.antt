@@ -11,7 +11,7 @@ use Rattle.lc_model.specs.Events.Request.{Event}
 use Rattle.lc_model.specs.Kept.Summary.{EventState}
 use Rattle.lc_model.specs.Kept.Call.{ServicesNow, with_at, new_sender, sent_by}
 use Rattle.lc_model.specs.Kept.Executive.{seat_count, joined_now}
-use Rattle.lc_model.specs.Services.Events.{Sender, EventService, Origin, IsEventService, first_events, sender_named, sender_at, with_events, registered_at, unregistered_at, commanded, event_asked}
+use Rattle.lc_model.specs.Services.Events.{counts_with, Sender, EventService, Origin, IsEventService, first_events, sender_named, sender_at, with_events, registered_at, unregistered_at, commanded, event_asked}
 use Rattle.lc_model.specs.Services.EventCalls.{EventCall, HasFourTypes, EventHistory, called, happened, all_after, first_history, service_of}
 
 -- ---- seats, names and counts are as they should be between any two calls
@@ -55,10 +55,6 @@ abbrev pub CommandsByName : Type 0
 CommandsByName = (name : Name) (item : LogItem) (service : EventService) →
     (commanded name item service >>= (λ after. Ok (sender_named after)))
     ≡ (found (sender_named service name) 101 >>= (λ events. joined_now item events >>= (λ after. Ok (with_at name (Some after) (sender_named service)))))
-
--- the sequence counts of all message ids, where that of event packets is this
-abbrev pub counts_with : ℕ → (ℕ → ℕ) → ℕ → ℕ
-counts_with sent counts mid = if mid == event_mid then sent else counts mid
 
 -- a sender's event is sent as the host in numbers sends it, with the same packet
 abbrev pub EventsByName : (Image : Type 0) → Type 0

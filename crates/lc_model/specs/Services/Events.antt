@@ -1,11 +1,12 @@
 -- Who sends events, and what each call of the event services answers and changes. Types and filters are those of the cFE
 -- user's guide (event services); that senders have seats, and the numbers of the refusals, are this project's own.
-use Rattle.std.specs.Prelude.{◌≡◌, ℕ, ◌+◌, ◌%◌, ◌<◌, Bool, false, ◌||◌, List, [], ◌∷◌, length, replicate, slice_index_or, slice_set, if◌then◌else◌, Option, Some, None, is_some, option_map, Result, Ok}
+use Rattle.std.specs.Prelude.{◌≡◌, ℕ, ◌+◌, ◌%◌, ◌<◌, Bool, false, ◌||◌, List, [], ◌∷◌, length, replicate, slice_index_or, slice_set, if◌then◌else◌, Option, Some, None, is_some, option_map, Result, Ok, ◌==◌}
 use Rattle.std.specs.Option.{option_map_or}
 use Rattle.std.specs.List.{position_from}
 use Rattle.lc_model.specs.declared.record.Moment.{Moment}
 use Rattle.lc_model.specs.declared.rule.EventKind.{EventKind}
 use Rattle.lc_model.specs.Name.{Name, is_named, AreDistinct, host_name}
+use Rattle.lc_model.specs.Packet.{event_mid}
 use Rattle.lc_model.specs.Refusal.{Refusal, ◌>>=◌, refused, found}
 use Rattle.lc_model.specs.Events.Log.{LogItem, Requested}
 use Rattle.lc_model.specs.Events.Outgoing.{event_packet}
@@ -29,6 +30,10 @@ pub record EventService : Type 0 where
 -- HOST alone is registered, and nothing was sent
 abbrev pub first_events : EventService
 first_events = record { host = new_sender; places = replicate seat_count None; sent = 0 }
+
+-- the sequence counts of all message ids, where that of event packets is this
+abbrev pub counts_with : ℕ → (ℕ → ℕ) → ℕ → ℕ
+counts_with sent counts mid = if mid == event_mid then sent else counts mid
 
 -- ---- who is registered
 

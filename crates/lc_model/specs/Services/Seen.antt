@@ -8,8 +8,7 @@ use Rattle.lc_model.specs.Tables.Slot.{Slot}
 use Rattle.lc_model.specs.Tables.Interpretation.{FileMeaning}
 use Rattle.lc_model.specs.Tables.HalvesAndBytes.{meaning_by}
 use Rattle.lc_model.specs.Kept.Call.{ServicesNow}
-use Rattle.lc_model.specs.Laws.Senders.{counts_with}
-use Rattle.lc_model.specs.Services.Events.{EventService, sender_named}
+use Rattle.lc_model.specs.Services.Events.{counts_with, EventService, sender_named}
 use Rattle.lc_model.specs.Services.Tables.{Table, Places, TableService}
 
 -- ---- files

@@ -4,6 +4,7 @@ use Rattle.std.specs.Prelude.{◌≡◌, ℕ, ⊤, List, [], ◌∷◌, map, Opt
 use Rattle.lc_model.specs.declared.kind.Kind.TheVariants.{Wdt, Adt}
 use Rattle.lc_model.specs.Name.{Name}
 use Rattle.lc_model.specs.Tables.File.{table_name}
+use Rattle.lc_model.specs.Tables.Image.{Watchpoints, Actionpoints, WideActionpoints, image_length}
 use Rattle.lc_model.specs.Kept.Summary.{AppState, LcState, SchState, CounterState, Other}
 use Rattle.lc_model.specs.Kept.Executive.{Pipe}
 use Rattle.lc_model.specs.Kept.GoesWith.{own_name, subscriptions_of}
@@ -23,10 +24,10 @@ form_of table = record { name = table.name; size = table.size; other = table.oth
 
 -- the Limit Checker's two tables: watchpoints, and actionpoints in either version
 abbrev pub wdt_form : Form
-wdt_form = record { name = table_name Wdt; size = 4264; other = None }
+wdt_form = record { name = table_name Wdt; size = image_length Watchpoints; other = None }
 
 abbrev pub adt_form : Form
-adt_form = record { name = table_name Adt; size = 15176; other = Some 19400 }
+adt_form = record { name = table_name Adt; size = image_length Actionpoints; other = Some (image_length WideActionpoints) }
 
 -- an application's tables, in the order in which it registers them
 abbrev pub own_forms : AppState → List Form

@@ -1,4 +1,4 @@
-use Rattle.lc_model.proofs.RequestBytes.{request_bytes}
+use Rattle.lc_model.proofs.Events.RequestBytes.{request_bytes}
 use Rattle.lc_model.proofs.packet.sequence_request.Goals as goal
 
 pub returns : goal.returns

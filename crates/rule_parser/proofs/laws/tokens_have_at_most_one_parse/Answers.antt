@@ -1,5 +1,5 @@
-use Rattle.lc_model.proofs.OneFile.{one_file}
-use Rattle.lc_model.proofs.OneParse.{parses_has_no_fault}
+use Rattle.lc_model.proofs.Texts.OneFile.{one_file}
+use Rattle.lc_model.proofs.Texts.OneParse.{parses_has_no_fault}
 use Rattle.rule_parser.proofs.laws.tokens_have_at_most_one_parse.Goals as goal
 
 pub returns : goal.returns

@@ -3,7 +3,7 @@ use Rattle.lc_model.specs.Tables.Image.{Layout, TableEntry, preamble, entry_byte
 use Rattle.table_file.specs.Layout.{layout_of, layout_of_version}
 use Rattle.table_file.proofs.Appending.{filled_up}
 use Rattle.table_file.proofs.Versions.{of_actionpoints}
-use Rattle.lc_model.proofs.EntryLengths.{adt_long}
+use Rattle.lc_model.proofs.Tables.EntryLengths.{adt_long}
 use Rattle.table_file.proofs.encode.encode_adt.Goals as goal
 
 pub returns-clause-bytes : goal.returns-clause-bytes

@@ -2,7 +2,7 @@ use Rattle.std.proofs.Common.{◌≡◌, ◌∙◌, ap, refl, subst, ℕ, List, 
 use Rattle.lc_model.specs.declared.field.Term.{Term}
 use Rattle.lc_model.specs.Tables.Image.{Watchpoints, preamble, term_bytes, wdt_image}
 use Rattle.table_file.proofs.Appending.{filled_up}
-use Rattle.lc_model.proofs.EntryLengths.{wdt_long}
+use Rattle.lc_model.proofs.Tables.EntryLengths.{wdt_long}
 use Rattle.table_file.proofs.encode.encode_wdt.Goals as goal
 
 pub returns-clause-bytes : goal.returns-clause-bytes

@@ -1,5 +1,5 @@
 use Rattle.std.proofs.Common.{refl}
-use Rattle.app_host.proofs.Publishing.{is_published}
+use Rattle.app_host.proofs.FirstPublished.{is_published}
 use Rattle.app_host.proofs.PassedOn.{whole_mid, light_after, load_after, passes_on, published_so, ok_holds}
 use Rattle.app_host.proofs.host.Host.pass_on.Goals as goal
 

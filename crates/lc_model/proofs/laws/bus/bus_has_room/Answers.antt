@@ -1,4 +1,4 @@
-use Rattle.lc_model.proofs.BusLaws.{has_room, fills_by_one}
+use Rattle.lc_model.proofs.Services.BusLaws.{has_room, fills_by_one}
 use Rattle.lc_model.proofs.laws.bus.bus_has_room.Goals as goal
 
 pub returns-clause-room : goal.returns-clause-room

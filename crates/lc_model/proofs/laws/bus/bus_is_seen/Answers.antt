@@ -1,4 +1,4 @@
-use Rattle.lc_model.proofs.BusLaws.{publication_is_seen, pipe_is_seen, removal_is_seen, receipt_is_seen}
+use Rattle.lc_model.proofs.Services.BusLaws.{publication_is_seen, pipe_is_seen, removal_is_seen, receipt_is_seen}
 use Rattle.lc_model.proofs.laws.bus.bus_is_seen.Goals as goal
 
 pub returns-clause-publication : goal.returns-clause-publication

@@ -1,4 +1,4 @@
-use Rattle.lc_model.proofs.SpellingLaws.{bytes_agree_with_texts}
+use Rattle.lc_model.proofs.Tables.SpellingLaws.{bytes_agree_with_texts}
 use Rattle.lc_model.proofs.laws.correspondence.bytes_agree_with_texts.Goals as goal
 
 pub returns : goal.returns

@@ -1,4 +1,4 @@
-use Rattle.lc_model.proofs.EffortLaws.{samples_are_bounded, searches_are_bounded, probes_are_few}
+use Rattle.lc_model.proofs.LimitChecker.EffortLaws.{samples_are_bounded, searches_are_bounded, probes_are_few}
 use Rattle.lc_model.proofs.laws.effort.effort_is_bounded.Goals as goal
 
 pub returns-clause-words : goal.returns-clause-words

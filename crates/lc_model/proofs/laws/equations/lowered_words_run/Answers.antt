@@ -1,4 +1,4 @@
-use Rattle.lc_model.proofs.LoweredRules.{lowered_words_run}
+use Rattle.lc_model.proofs.Tables.LoweredRules.{lowered_words_run}
 use Rattle.lc_model.proofs.laws.equations.lowered_words_run.Goals as goal
 
 pub returns : goal.returns

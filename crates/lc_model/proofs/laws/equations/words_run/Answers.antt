@@ -1,8 +1,8 @@
 use Rattle.lc_model.specs.Tables.Equation.{need, words}
 use Rattle.lc_model.specs.Laws.Equations.{WordsSpell}
-use Rattle.lc_model.proofs.SoundWords.{sound_words_spell}
-use Rattle.lc_model.proofs.SpellsOnce.{computed}
-use Rattle.lc_model.proofs.WordsSpell.{words_spell}
+use Rattle.lc_model.proofs.Tables.SoundWords.{sound_words_spell}
+use Rattle.lc_model.proofs.Tables.SpellsOnce.{computed}
+use Rattle.lc_model.proofs.Tables.WordsSpell.{words_spell}
 use Rattle.lc_model.proofs.laws.equations.words_run.Goals as goal
 use Rattle.std.proofs.Common.{length, arith}
 

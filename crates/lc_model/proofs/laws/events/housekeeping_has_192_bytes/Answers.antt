@@ -1,4 +1,4 @@
-use Rattle.lc_model.proofs.SendLaws.{housekeeping_has_192_bytes}
+use Rattle.lc_model.proofs.Events.SendLaws.{housekeeping_has_192_bytes}
 use Rattle.lc_model.proofs.laws.events.housekeeping_has_192_bytes.Goals as goal
 
 pub returns : goal.returns

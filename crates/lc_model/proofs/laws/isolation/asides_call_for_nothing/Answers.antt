@@ -1,7 +1,7 @@
 use Rattle.std.proofs.Common.{length}
 use Rattle.lc_model.specs.Tables.HalvesAndBytes.{as_bytes, as_halves, byte_meanings, text_meanings}
 use Rattle.lc_model.specs.Host.Stream.{records_of}
-use Rattle.lc_model.proofs.AsideLaws.{asides_do_not_count}
+use Rattle.lc_model.proofs.Host.AsideLaws.{asides_do_not_count}
 use Rattle.lc_model.proofs.laws.isolation.asides_call_for_nothing.Goals as goal
 
 pub returns-clause-texts : goal.returns-clause-texts

@@ -1,6 +1,6 @@
 use Rattle.lc_model.specs.Tables.HalvesAndBytes.{as_halves}
-use Rattle.lc_model.proofs.StepLaws.{same_packet_step, same_start, stays_settled, starts_settled}
-use Rattle.lc_model.proofs.UnheardLaws.{unheard_packet}
+use Rattle.lc_model.proofs.LimitChecker.StepLaws.{same_packet_step, same_start, stays_settled, starts_settled}
+use Rattle.lc_model.proofs.Host.UnheardLaws.{unheard_packet}
 use Rattle.lc_model.proofs.laws.limit_checker.limit_checker_agrees_on_texts.Goals as goal
 
 pub returns-clause-packet : goal.returns-clause-packet

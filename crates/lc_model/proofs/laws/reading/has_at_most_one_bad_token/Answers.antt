@@ -1,4 +1,4 @@
-use Rattle.lc_model.proofs.OneBadToken.{one_bad_token, splits_has_no_bad_token}
+use Rattle.lc_model.proofs.Texts.OneBadToken.{one_bad_token, splits_has_no_bad_token}
 use Rattle.lc_model.proofs.laws.reading.has_at_most_one_bad_token.Goals as goal
 
 pub returns : goal.returns

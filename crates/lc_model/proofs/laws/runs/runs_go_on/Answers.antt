@@ -1,5 +1,5 @@
 use Rattle.lc_model.specs.Tables.HalvesAndBytes.{as_bytes, as_halves}
-use Rattle.lc_model.proofs.RunsGoOn.{runs_go_on}
+use Rattle.lc_model.proofs.Host.RunsGoOn.{runs_go_on}
 use Rattle.lc_model.proofs.laws.runs.runs_go_on.Goals as goal
 
 pub returns-clause-halves : goal.returns-clause-halves

@@ -1,4 +1,4 @@
-use Rattle.lc_model.proofs.RunsKept.{carried_by_the_stream, runs_tell_failures, runs_follow_texts, runs_write_what_is_called_for, runs_write_what_bytes_call_for, runs_write_with_fixed_tables}
+use Rattle.lc_model.proofs.Host.RunsKept.{carried_by_the_stream, runs_tell_failures, runs_follow_texts, runs_write_what_is_called_for, runs_write_what_bytes_call_for, runs_write_with_fixed_tables}
 use Rattle.lc_model.proofs.laws.runs.runs_write_what_is_called_for.Goals as goal
 
 pub returns-clause-failures : goal.returns-clause-failures

@@ -1,4 +1,4 @@
-use Rattle.lc_model.proofs.SenderLaws.{registering_by_name, unregistering_by_name, commands_by_name, events_by_name}
+use Rattle.lc_model.proofs.Services.SenderLaws.{registering_by_name, unregistering_by_name, commands_by_name, events_by_name}
 use Rattle.lc_model.proofs.laws.senders.event_services_go_by_names.Goals as goal
 
 pub returns-clause-registering : goal.returns-clause-registering

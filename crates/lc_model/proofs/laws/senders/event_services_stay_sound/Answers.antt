@@ -1,4 +1,4 @@
-use Rattle.lc_model.proofs.SenderLaws.{registering_keeps, unregistering_keeps, commands_keep, events_keep, with_events_keeps}
+use Rattle.lc_model.proofs.Services.SenderLaws.{registering_keeps, unregistering_keeps, commands_keep, events_keep, with_events_keeps}
 use Rattle.lc_model.proofs.laws.senders.event_services_stay_sound.Goals as goal
 
 pub returns-clause-registering : goal.returns-clause-registering

@@ -1,4 +1,4 @@
-use Rattle.lc_model.proofs.Streams.{front_decides}
+use Rattle.lc_model.proofs.Host.Streams.{front_decides}
 use Rattle.lc_model.proofs.laws.stream.front_decides.Goals as goal
 
 pub returns : goal.returns

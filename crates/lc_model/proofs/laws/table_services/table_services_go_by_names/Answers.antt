@@ -1,4 +1,4 @@
-use Rattle.lc_model.proofs.TableNames.{tables_are_found, registering_tables, unregistering_tables, changing_tables, storing_files}
+use Rattle.lc_model.proofs.Services.TableNames.{tables_are_found, registering_tables, unregistering_tables, changing_tables, storing_files}
 use Rattle.lc_model.proofs.laws.table_services.table_services_go_by_names.Goals as goal
 
 pub returns-clause-found : goal.returns-clause-found

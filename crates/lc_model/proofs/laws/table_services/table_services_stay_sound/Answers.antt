@@ -1,4 +1,4 @@
-use Rattle.lc_model.proofs.TableServiceLaws.{first_is_sound, files_stay_sound, registering_stays_sound, unregistering_stays_sound, commands_stay_sound, changes_stay_sound}
+use Rattle.lc_model.proofs.Services.TableServiceLaws.{first_is_sound, files_stay_sound, registering_stays_sound, unregistering_stays_sound, commands_stay_sound, changes_stay_sound}
 use Rattle.lc_model.proofs.laws.table_services.table_services_stay_sound.Goals as goal
 
 pub returns-clause-first : goal.returns-clause-first

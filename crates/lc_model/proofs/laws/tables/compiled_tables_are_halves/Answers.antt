@@ -1,4 +1,4 @@
-use Rattle.lc_model.proofs.CompiledTables.{compiled_tables_are_halves}
+use Rattle.lc_model.proofs.Tables.CompiledTables.{compiled_tables_are_halves}
 use Rattle.lc_model.proofs.laws.tables.compiled_tables_are_halves.Goals as goal
 
 pub returns : goal.returns

@@ -1,7 +1,7 @@
 use Rattle.std.proofs.Common.{◌≡◌, ◌∙◌, ap, sym, refl, ℕ, ◌≢◌, arith, length, List, true}
 use Rattle.std.specs.Prelude.{option_map, Option, Some, None, slice_set, is_some}
 use Rattle.lc_model.specs.Services.Bus.{Queue, pipe_at}
-use Rattle.packet_bus.specs.Slots.{Kept}
+use Rattle.packet_bus.specs.Slots.{PooledPacket}
 use Rattle.packet_bus.specs.Line.{Line, slots_in, mids_in, hears_mid, with_subscription}
 use Rattle.packet_bus.specs.Inside.{place_at, queue_over}
 use Rattle.packet_bus.proofs.Places.{in_places, is_place_at, shown_new, pipe_is, has_queue}
@@ -15,11 +15,11 @@ slots_stay mid None = refl
 slots_stay mid (Some line) = refl
 
 -- a place has the subscriptions of its pipe
-heard_in : (pool : List Kept) (mid : ℕ) (place : Option Line) → hears_in mid (option_map (queue_over pool) place) ≡ hears_mid mid place
+heard_in : (pool : List PooledPacket) (mid : ℕ) (place : Option Line) → hears_in mid (option_map (queue_over pool) place) ≡ hears_mid mid place
 heard_in pool mid None = refl
 heard_in pool mid (Some line) = refl
 
-same_subscriptions : (pool : List Kept) (place : Option Line) → subscriptions_in (option_map (queue_over pool) place) ≡ mids_in place
+same_subscriptions : (pool : List PooledPacket) (place : Option Line) → subscriptions_in (option_map (queue_over pool) place) ≡ mids_in place
 same_subscriptions pool None = refl
 same_subscriptions pool (Some line) = refl
 

@@ -2,7 +2,7 @@ use Rattle.std.proofs.Common.{◌≡◌, ◌∙◌, ap, ap₂, refl, ℕ, ◌+�
 use Rattle.std.specs.Prelude.{nat_lt, if◌then◌else◌}
 use Rattle.std.proofs.lemmas.Grind.{common_steps}
 use Rattle.std.proofs.lemmas.List.{replicate-append-replicate}
-use Rattle.packet_bus.specs.Slots.{Kept, no_packet, occurrences}
+use Rattle.packet_bus.specs.Slots.{PooledPacket, no_packet, occurrences}
 use Rattle.packet_bus.proofs.Slots.{last_occurs, others_occur}
 use Rattle.packet_bus.proofs.pool.Pool.new.Goals as goal
 
@@ -16,7 +16,7 @@ pub loop-number-preserved : goal.loop-number-preserved
 loop-number-preserved c = record {
   slots =
       c.push_reserved.ensures.items
-      ∙ ap₂ (λ (slots : List Kept) (slot : Kept). slots ++ slot ∷ []) c.loop-number.invariant.slots c.new.ensures
+      ∙ ap₂ (λ (slots : List PooledPacket) (slot : PooledPacket). slots ++ slot ∷ []) c.loop-number.invariant.slots c.new.ensures
       ∙ replicate-append-replicate c.loop-number.number 1 no_packet;
   free = λ number. ap (occurrences number) c.push_reserved-in-loop-number.ensures.items ∙ numbered c.loop-number.free.items c.loop-number.number c.loop-number.invariant.free number _ refl;
   slots_len = grind (arith, common_steps);

@@ -1,0 +1,8 @@
+-- The Limit Checker over counts, over whole lists, and over two readings.
+pub mod WatchLaws
+pub mod ResultLaws
+pub mod PastLaws
+pub mod EffortLaws
+pub mod StepLaws
+pub mod Reordered
+pub mod LimitCheckerOfTwo
