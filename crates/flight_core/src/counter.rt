@@ -7,9 +7,8 @@ ghost use Rattle.lc_model.specs.Command.{answer_of, bare_request};
 use app_host::laws::seats_are_kept_by_the_rules;
 use app_host::{App, Services};
 use event_service::counter;
-use lc_model::mids;
 use lc_model::packet::{function_code, message_id};
-use lc_model::{CommandRefusal, EventKind, Seat};
+use lc_model::{CommandRefusal, EventKind, Seat, mids};
 
 const NAME: &[u8] = b"COUNTER";
 
