@@ -10,7 +10,6 @@ use Rattle.lc_model.specs.Host.Outcome.{Devices, IsUntouched, TookAndWrote}
 use Rattle.lc_model.specs.Host.Stream.{StreamEntry, End, Whole, Bad}
 use Rattle.lc_model.specs.Host.Stream as stream
 use Rattle.lc_model.specs.Laws.Reading.{AtMostOneReading, AtMostOneVerdict}
-use Rattle.lc_model.proofs.Host.RunsKept.{Begins, took_all, took_known, wrote_known}
 use Rattle.rpn_compiler.specs.declared.error.CompileError.{CompileError}
 use Rattle.rpn_compiler.specs.declared.error.CompileError.TheVariants as compiler
 use Rattle.rpn_compiler.specs.Fault.{Refuses}
@@ -56,6 +55,30 @@ begun source rules d (Err ReadBound) reads outcome = record { rules = rules; com
 begun source rules d (Err (Write sent)) reads outcome = record { rules = rules; compiles = reads; outcome = outcome }
 begun source rules d (Err (Compile number error)) reads outcome = absurd outcome
 begun source rules d (Err Memory) reads outcome = absurd outcome
+
+-- ---- known bytes
+
+wrote_known : (before : List ℕ) (gained now : Option (List ℕ)) (more : List ℕ) → gained ≡ Some before → Appends gained now more → now ≡ Some (before ++ more)
+wrote_known before None now more is wrote = absurd (cc is)
+wrote_known before (Some old) None more is wrote = absurd wrote
+wrote_known before (Some old) (Some new) more is wrote = let same : old ≡ before = cc is in ap (λ (bytes : List ℕ). Some bytes) (wrote ∙ ap (λ front. front ++ more) same)
+
+-- the stream is what was taken and some rest
+pub record Begins (stream taken : List ℕ) (left : Option (List ℕ)) : Type 0 where
+  rest : List ℕ
+  all : stream ≡ taken ++ rest
+  is_left : left ≡ Some rest
+
+took_known : (whole : List ℕ) (left now : Option (List ℕ)) (taken : List ℕ) → left ≡ Some whole → Consumes left now taken → Begins whole taken now
+took_known whole None now taken is took = absurd (cc is)
+took_known whole (Some old) None taken is took = absurd took
+took_known whole (Some old) (Some new) taken is took = let same : old ≡ whole = cc is in record { rest = new; all = sym same ∙ took; is_left = refl }
+
+took_all : (whole taken : List ℕ) (now : Option (List ℕ)) → Begins whole taken now → IsAtEnd now → taken ≡ whole
+took_all whole taken None begins ended = absurd (cc begins.is_left)
+took_all whole taken (Some rest) begins ended =
+    let none : begins.rest ≡ [] = (let same : rest ≡ begins.rest = cc begins.is_left in sym same ∙ ended) in
+    sym (begins.all ∙ ap (λ (r : List ℕ). taken ++ r) none ∙ append-nil taken)
 
 -- ---- the theorem
 
