@@ -22,4 +22,3 @@ pub mod EventsObeyed
 pub mod EventsRead
 pub mod Published
 pub mod Sent
-pub mod Unused
