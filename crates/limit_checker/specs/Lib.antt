@@ -17,3 +17,4 @@ pub mod Application
 pub mod Commands
 pub mod Sending
 pub mod Standings
+pub mod Starting

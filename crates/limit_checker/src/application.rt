@@ -21,6 +21,7 @@ mod asked;
 mod command;
 mod reacting;
 mod standings;
+mod starting;
 
 use crate::application::asked::AskedList;
 use crate::checker::LimitChecker as Engine;

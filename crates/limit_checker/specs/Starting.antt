@@ -1,0 +1,78 @@
+-- How the application begins on a seat: its two tables, the default files, and what is in force then. From the cFS Limit Checker
+-- user's guide, table definitions; the default files' names are this project's own.
+use Rattle.std.specs.Prelude.{◌≡◌, ℕ, List, [], ◌∷◌, length, Option, Some, None, IsTrue, IsFalse, slice_set}
+use Rattle.std.specs.List.{AllByRecursion}
+use Rattle.lc_model.specs.declared.kind.Kind.{Kind}
+use Rattle.lc_model.specs.declared.kind.Kind.TheVariants.{Wdt, Adt}
+use Rattle.lc_model.specs.Name.{lc_name}
+use Rattle.lc_model.specs.Tables.File.{table_name}
+use Rattle.lc_model.specs.Tables.Image.{Watchpoints, Actionpoints, WideActionpoints, image_length}
+use Rattle.lc_model.specs.Tables.Interpretation.{Pair, default_file}
+use Rattle.lc_model.specs.LimitChecker.Steps.{default_image, default_pair}
+use Rattle.lc_model.specs.Kept.Summary.{LcOwn}
+use Rattle.lc_model.specs.Services.Interface.{is_table_of}
+use Rattle.lc_model.specs.Services.Seen.{files_seen}
+use Rattle.lc_model.specs.Services.Tables.{Table, TableService, Handle, new_table, fits_table, tables_at, stored_image, image_installed}
+use Rattle.table_validator.specs.Sound.{TableImage}
+use Rattle.app_host.specs.Shared.{on_board}
+use Rattle.limit_checker.specs.Engine.{without_tables, with_tables}
+
+-- ---- the two tables
+
+-- a table of watchpoints, and one of actionpoints in either version, without images
+abbrev pub new_wdt : Table
+new_wdt = new_table (table_name Wdt) (image_length Watchpoints) None
+
+abbrev pub new_adt : Table
+new_adt = new_table (table_name Adt) (image_length Actionpoints) (Some (image_length WideActionpoints))
+
+-- the new table of a kind
+abbrev pub new_of : Kind → Table
+new_of Wdt = new_wdt
+new_of Adt = new_adt
+
+-- their handles at a seat, in the order in which they are registered
+abbrev pub wdt_of : ℕ → Handle
+wdt_of seat = record { seat = seat; number = 0 }
+
+abbrev pub adt_of : ℕ → Handle
+adt_of seat = record { seat = seat; number = 1 }
+
+-- the services of tables with both at a seat that had none
+abbrev pub with_both : ℕ → TableService → TableService
+with_both seat service = record service { places = slice_set service.places seat (new_wdt ∷ new_adt ∷ []) }
+
+-- no table has a name that begins with the application's and a dot
+abbrev pub AreUnused : TableService → Type 0
+AreUnused service = AllByRecursion (λ (tables : List Table). AllByRecursion (λ (table : Table). IsFalse (is_table_of lc_name table.name)) tables) service.places
+
+-- ---- the default files
+
+-- the image that a table starts with, and the pair that is in force from the start, if any
+abbrev pub start_image : Kind → TableService → Option (List ℕ)
+start_image kind service = default_image on_board kind (files_seen service.files)
+
+abbrev pub start_pair : TableService → Option (Pair (List ℕ))
+start_pair service = default_pair on_board (files_seen service.files)
+
+-- an image is that of its table's default file, and has one of the table's sizes
+pub record IsDefault (service : TableService) (image : TableImage) : Type 0 where
+  pub stored : stored_image (default_file image.kind) service ≡ Some image.bytes
+  pub fits : IsTrue (fits_table (new_of image.kind) (length image.bytes))
+
+-- so are both
+pub record AreDefaults (service : TableService) (images : TableImage × TableImage) : Type 0 where
+  pub wdt : IsDefault service images.0
+  pub adt : IsDefault service images.1
+
+-- ---- what is in force
+
+-- the object with this pair in force, or with none
+abbrev pub own_started : Option (Pair (List ℕ)) → LcOwn
+own_started None = without_tables
+own_started (Some pair) = with_tables (on_board.terms pair) (on_board.rules pair) without_tables
+
+-- the services of tables with this pair in use, or with none
+abbrev pub tables_started : ℕ → Option (Pair (List ℕ)) → TableService → TableService
+tables_started seat None service = service
+tables_started seat (Some pair) service = image_installed (adt_of seat) pair.adt (image_installed (wdt_of seat) pair.wdt service)
