@@ -17,3 +17,5 @@ pub mod Application
 pub mod Commands
 pub mod Sending
 pub mod Standings
+pub mod Housekeeping
+pub mod Adoption
