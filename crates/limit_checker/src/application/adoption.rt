@@ -1,6 +1,6 @@
 //! The tables in force change where a pair of images is activated that belong together (cFS Limit Checker user's guide, tables).
 
-ghost use Rattle.std.specs.Prelude.{◌≡◌, IfSome, IsSomeAnd, IsTrue, is_some, if◌then◌else◌, option_map};
+ghost use Rattle.std.specs.Prelude.{◌≡◌, ◌||◌, IfSome, IsTrue, is_some, if◌then◌else◌, option_map};
 ghost use Rattle.lc_model.specs.declared.kind.Kind.TheVariants.{Wdt, Adt};
 ghost use Rattle.lc_model.specs.LimitChecker.Steps.{pair_to_adopt};
 ghost use Rattle.lc_model.specs.Tables.Slot as model;
@@ -10,7 +10,7 @@ ghost use Rattle.lc_model.specs.Kept.Summary.{LcState};
 ghost use Rattle.lc_model.specs.Services.Bus.{Queue, pipe_at, with_pipe};
 ghost use Rattle.lc_model.specs.Services.Tables.{slot_at, slot_changed, table_at};
 ghost use Rattle.app_host.specs.Shared.{on_board};
-ghost use Rattle.limit_checker.specs.Housekeeping.{adt_of, both_taken, own_adopted, pair_at, wdt_of};
+ghost use Rattle.limit_checker.specs.Housekeeping.{both_taken, own_adopted, pair_at, MayRenew};
 ghost use Rattle.limit_checker.specs.Adoption.{are_matching, pair_of, HasSoundSlot, IsSoundPair};
 
 use crate::checker::LimitChecker as Engine;
@@ -43,6 +43,15 @@ fn is_activated(tables: &Tables, slot: Slot) -> bool
         Some((Stage::Activated, _image)) => true,
         _other => false,
     }
+}
+
+/// Whether an activated image waits at one of two tables.
+fn is_one_activated(tables: &Tables, wdt: Slot, adt: Slot) -> bool
+    requires wdt { IsTrue (is_some (table_at wdt tables.now.places)) }
+    requires adt { IsTrue (is_some (table_at adt tables.now.places)) }
+    ensures { result ≡ (is_some (waiting_at Activated (slot_at wdt tables.now)) || is_some (waiting_at Activated (slot_at adt tables.now))) }
+{
+    is_activated(tables, wdt) || is_activated(tables, adt)
 }
 
 /// The image that a table would have, which is sound.
@@ -82,7 +91,7 @@ fn pair_to_adopt<'a>(
     ensures pair { option_map pair_of result ≡ pair_to_adopt on_board (slot_at wdt tables.now) (slot_at adt tables.now) }
     ensures sound { IfSome result IsSoundPair }
 {
-    if !is_activated(tables, wdt) && !is_activated(tables, adt) {
+    if !is_one_activated(tables, wdt, adt) {
         return None;
     }
     let Some(wdt_image) = sound_candidate(tables, wdt, Kind::Wdt) else {
@@ -110,14 +119,9 @@ fn take_activated(tables: &mut Tables, slot: Slot)
 
 /// Adopts the pair of images that is activated at a seat, if there is one that belongs together, and answers whether there is:
 /// the engine has these tables, without any history, what waits activated is taken, and the pipe hears the message ids of
-/// requests and of the new watchpoints alone. Conditions: the seat has its two tables, what is active or activated there is sound,
-/// and the pipe hears the message ids of requests and of the engine's watchpoints.
+/// requests and of the new watchpoints alone.
 pub(crate) fn adopt(engine: &mut Engine, services: &mut Services, seat: Seat) -> bool
-    requires wdt { IsTrue (is_some (table_at (wdt_of seat) services.old.tables.places)) }
-    requires adt { IsTrue (is_some (table_at (adt_of seat) services.old.tables.places)) }
-    requires sound_wdt { HasSoundSlot Wdt (slot_at (wdt_of seat) services.old.tables) }
-    requires sound_adt { HasSoundSlot Adt (slot_at (adt_of seat) services.old.tables) }
-    requires pipe { IsSomeAnd (pipe_at seat services.old.bus) (λ (queue : Queue). queue.subscriptions ≡ subscriptions_of (LcState engine.old)) }
+    requires { MayRenew seat engine.old services.old }
     ensures answer { result ≡ is_some (pair_at seat services.old.tables) }
     ensures engine { engine.new ≡ own_adopted (pair_at seat services.old.tables) engine.old }
     ensures tables { services.new.tables ≡ (if result then both_taken seat services.old.tables else services.old.tables) }
