@@ -22,3 +22,4 @@ pub mod EventsObeyed
 pub mod EventsRead
 pub mod Published
 pub mod Sent
+pub mod Resubscribed

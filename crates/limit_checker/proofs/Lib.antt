@@ -21,3 +21,6 @@ mod Requesting
 mod SampleTaken
 mod Leaving
 mod Stands
+pub mod Judging
+pub mod TwoTables
+pub mod Adopting

@@ -18,3 +18,5 @@ pub mod Commands
 pub mod Sending
 pub mod Standings
 pub mod Starting
+pub mod Housekeeping
+pub mod Adoption

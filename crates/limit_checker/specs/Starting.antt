@@ -12,10 +12,11 @@ use Rattle.lc_model.specs.LimitChecker.Steps.{default_image, default_pair}
 use Rattle.lc_model.specs.Kept.Summary.{LcOwn}
 use Rattle.lc_model.specs.Services.Interface.{is_table_of}
 use Rattle.lc_model.specs.Services.Seen.{files_seen}
-use Rattle.lc_model.specs.Services.Tables.{Table, TableService, Handle, new_table, fits_table, tables_at, stored_image, image_installed}
+use Rattle.lc_model.specs.Services.Tables.{Table, TableService, new_table, fits_table, tables_at, stored_image, image_installed}
 use Rattle.table_validator.specs.Sound.{TableImage}
 use Rattle.app_host.specs.Shared.{on_board}
 use Rattle.limit_checker.specs.Engine.{without_tables, with_tables}
+use Rattle.limit_checker.specs.Housekeeping.{wdt_of, adt_of}
 
 -- ---- the two tables
 
@@ -30,13 +31,6 @@ new_adt = new_table (table_name Adt) (image_length Actionpoints) (Some (image_le
 abbrev pub new_of : Kind → Table
 new_of Wdt = new_wdt
 new_of Adt = new_adt
-
--- their handles at a seat, in the order in which they are registered
-abbrev pub wdt_of : ℕ → Handle
-wdt_of seat = record { seat = seat; number = 0 }
-
-abbrev pub adt_of : ℕ → Handle
-adt_of seat = record { seat = seat; number = 1 }
 
 -- the services of tables with both at a seat that had none
 abbrev pub with_both : ℕ → TableService → TableService

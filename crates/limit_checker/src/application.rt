@@ -17,11 +17,14 @@ ghost use Rattle.app_host.specs.Shared.{held_by, shared};
 ghost use Rattle.limit_checker.specs.Engine.{without_tables};
 ghost use Rattle.limit_checker.specs.Application.{IsHome, MayHave, Answers};
 
+mod adoption;
 mod asked;
 mod command;
+mod housekeeping;
 mod reacting;
 mod standings;
 mod starting;
+mod verdict;
 
 use crate::application::asked::AskedList;
 use crate::checker::LimitChecker as Engine;

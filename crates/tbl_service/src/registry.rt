@@ -36,7 +36,8 @@ impl Model for Slot {
 }
 
 impl Slot {
-    fn new(seat: Seat, number: usize) -> Slot
+    /// The table that a seat registered as this one, 0 or 1. Each call asks that it is there.
+    pub fn new(seat: Seat, number: usize) -> Slot
         ensures { result ≡ record { seat = seat; number = number } }
     {
         Slot { seat, number }

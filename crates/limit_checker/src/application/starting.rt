@@ -14,23 +14,19 @@ ghost use Rattle.app_host.specs.Calls.{Leaves};
 ghost use Rattle.limit_checker.specs.Adoption.{are_matching, pair_of, IsSoundPair};
 ghost use Rattle.limit_checker.specs.Starting.{new_wdt, new_adt, with_both, AreUnused, start_image, start_pair, IsDefault, AreDefaults, own_started, tables_started};
 
-use crate::application::adoption::belong_together;
-use crate::application::hearing::hear;
+use crate::application::adoption::{REQUESTS, belong_together};
 use crate::checker::LimitChecker as Engine;
-use app_host::Services;
+use app_host::{Services, subscribe_to};
 use app_host::laws::seats_are_kept_by_the_rules;
 use event_service::limit_checker as texts;
 use lc_model::laws::table_services::table_services_go_by_names;
-use lc_model::{EventKind, Kind, Seat, mids};
+use lc_model::{EventKind, Kind, Seat};
 use table_file::{Layout, open, table_name};
 use table_validator::{ValidImage, validate};
 use tbl_service::{Slot, Tables};
 
 /// The application's name.
 const NAME: &[u8] = b"LC";
-
-/// The message ids of commands, housekeeping requests and sample requests.
-const REQUESTS: [u16; 3] = [0x18A4, 0x18A5, mids::SAMPLE];
 
 /// The file that a table is started from.
 fn default_file(kind: Kind) -> &'static [u8]
@@ -135,10 +131,10 @@ pub(super) fn take_seat(engine: &mut Engine, seat: Seat, services: &mut Services
 {
     seats_are_kept_by_the_rules();
     table_services_go_by_names();
-    services.open(seat, NAME, &REQUESTS);
+    services.open(seat, NAME, &[]);
     register_both(&mut services.tables, seat);
     let has_tables = begin(engine, &mut services.tables, seat);
-    hear(&mut services.bus, seat, engine.watchpoints());
+    subscribe_to(&mut services.bus, seat, &REQUESTS, engine.watchpoints());
     let text = texts::started(has_tables);
     services.tell(Some(seat), 1, EventKind::Information, text.as_bytes());
 }
