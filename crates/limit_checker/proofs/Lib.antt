@@ -24,3 +24,5 @@ mod Stands
 pub mod Judging
 pub mod TwoTables
 pub mod Adopting
+pub mod DefaultTables
+pub mod TablesBegun

@@ -8,15 +8,15 @@ use Rattle.lc_model.specs.Name.{lc_name}
 use Rattle.lc_model.specs.Tables.File.{table_name}
 use Rattle.lc_model.specs.Tables.Image.{Watchpoints, Actionpoints, WideActionpoints, image_length}
 use Rattle.lc_model.specs.Tables.Interpretation.{Pair, default_file}
+use Rattle.lc_model.specs.Tables.Slot.{in_use}
 use Rattle.lc_model.specs.LimitChecker.Steps.{default_image, default_pair}
 use Rattle.lc_model.specs.Kept.Summary.{LcOwn}
 use Rattle.lc_model.specs.Services.Interface.{is_table_of}
 use Rattle.lc_model.specs.Services.Seen.{files_seen}
-use Rattle.lc_model.specs.Services.Tables.{Table, TableService, new_table, fits_table, tables_at, stored_image, image_installed}
+use Rattle.lc_model.specs.Services.Tables.{Table, TableService, new_table, fits_table, stored_image}
 use Rattle.table_validator.specs.Sound.{TableImage}
 use Rattle.app_host.specs.Shared.{on_board}
 use Rattle.limit_checker.specs.Engine.{without_tables, with_tables}
-use Rattle.limit_checker.specs.Housekeeping.{wdt_of, adt_of}
 
 -- ---- the two tables
 
@@ -66,7 +66,11 @@ abbrev pub own_started : Option (Pair (List ℕ)) → LcOwn
 own_started None = without_tables
 own_started (Some pair) = with_tables (on_board.terms pair) (on_board.rules pair) without_tables
 
--- the services of tables with this pair in use, or with none
+-- both tables with this pair in use, or without images
+abbrev pub started_tables : Option (Pair (List ℕ)) → List Table
+started_tables None = new_wdt ∷ new_adt ∷ []
+started_tables (Some pair) = record new_wdt { slot = in_use pair.wdt } ∷ record new_adt { slot = in_use pair.adt } ∷ []
+
+-- the services of tables with these at the seat
 abbrev pub tables_started : ℕ → Option (Pair (List ℕ)) → TableService → TableService
-tables_started seat None service = service
-tables_started seat (Some pair) service = image_installed (adt_of seat) pair.adt (image_installed (wdt_of seat) pair.wdt service)
+tables_started seat pair service = record service { places = slice_set service.places seat (started_tables pair) }

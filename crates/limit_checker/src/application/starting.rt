@@ -1,9 +1,10 @@
 //! How the application begins on a seat (cFS Limit Checker user's guide, tables; the default files are this project's own).
 
-ghost use Rattle.std.specs.Prelude.{◌≡◌, ◌∷◌, [], IfSome, is_some, option_map};
+ghost use Rattle.std.specs.Prelude.{◌≡◌, ◌<◌, ◌∷◌, [], IfSome, is_some, option_map};
 ghost use Rattle.lc_model.specs.declared.kind.Kind.TheVariants.{Wdt, Adt};
 ghost use Rattle.lc_model.specs.Name.{lc_name};
 ghost use Rattle.lc_model.specs.Kept.Call.{next_start};
+ghost use Rattle.lc_model.specs.Kept.Executive.{seat_count};
 ghost use Rattle.lc_model.specs.Kept.Summary.{LcState};
 ghost use Rattle.lc_model.specs.Services.Interface.{MayBeStarted, IsStarted};
 ghost use Rattle.lc_model.specs.Services.Settled.{IsSettled};
@@ -16,8 +17,8 @@ ghost use Rattle.limit_checker.specs.Starting.{new_wdt, new_adt, with_both, AreU
 
 use crate::application::adoption::{REQUESTS, belong_together};
 use crate::checker::LimitChecker as Engine;
-use app_host::{Services, subscribe_to};
 use app_host::laws::seats_are_kept_by_the_rules;
+use app_host::{Services, subscribe_to};
 use event_service::limit_checker as texts;
 use lc_model::laws::table_services::table_services_go_by_names;
 use lc_model::{EventKind, Kind, Seat};
@@ -81,10 +82,12 @@ fn default_pair(tables: &Tables) -> Option<(ValidImage<'_>, ValidImage<'_>)>
 
 /// Registers both tables at a seat. Conditions: the seat has no table, and nobody has a table of the application's names.
 fn register_both(tables: &mut Tables, seat: Seat)
+    requires seat { seat < seat_count }
     requires free { tables_at seat tables.old.places ≡ [] }
     requires unused { AreUnused tables.old }
     ensures { tables.new ≡ with_both seat tables.old }
 {
+    tables.is_service();
     tables
         .register(
             seat,
