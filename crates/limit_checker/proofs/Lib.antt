@@ -24,3 +24,4 @@ mod Stands
 pub mod Judging
 pub mod TwoTables
 pub mod Adopting
+pub mod Renewing
