@@ -25,3 +25,5 @@ pub mod Judging
 pub mod TwoTables
 pub mod Adopting
 pub mod Renewing
+pub mod Rearranged
+pub mod Attending
