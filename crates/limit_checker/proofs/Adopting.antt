@@ -116,14 +116,14 @@ heard_anew seat first between last terms old new has was is same =
 
 -- ---- the two tables, and the engine
 
-pub second_still_there : (seat : ℕ) (before after : TableService) (wdt adt : Handle) → map form_of (tables_at seat before.places) ≡ wdt_form ∷ adt_form ∷ [] → wdt ≡ wdt_of seat → adt ≡ adt_of seat →
-    after ≡ slot_changed taken wdt before → IsTrue (is_some (table_at adt after.places))
-second_still_there seat before after wdt adt forms first second is =
+pub second_still_there : (change : Slot (List ℕ) → Slot (List ℕ)) (seat : ℕ) (before after : TableService) (wdt adt : Handle) → map form_of (tables_at seat before.places) ≡ wdt_form ∷ adt_form ∷ [] → wdt ≡ wdt_of seat → adt ≡ adt_of seat →
+    after ≡ slot_changed change wdt before → IsTrue (is_some (table_at adt after.places))
+second_still_there change seat before after wdt adt forms first second is =
     let two : HasTwo seat before = two_tables seat before forms in
     subst (λ handle. IsTrue (is_some (table_at handle after.places))) (sym second)
     (subst (λ (service : TableService). IsTrue (is_some (table_at (adt_of seat) service.places)))
-    (sym (is ∙ (λ i. slot_changed taken (first i) (as_is seat before two i)) ∙ first_changed seat before two taken two.first.slot two.second.slot))
-    (second_registered seat before two (taken two.first.slot) two.second.slot))
+    (sym (is ∙ (λ i. slot_changed change (first i) (as_is seat before two i)) ∙ first_changed seat before two change two.first.slot two.second.slot))
+    (second_registered seat before two (change two.first.slot) two.second.slot))
 
 pub engine_has : (seat : ℕ) (service : TableService) (first second : Handle) (wdt adt : TableImage) (old new : LcOwn) → first ≡ wdt_of seat → second ≡ adt_of seat →
     Some (pair_of (wdt, adt)) ≡ pair_to_adopt on_board (slot_at first service) (slot_at second service) →

@@ -26,3 +26,6 @@ pub mod TwoTables
 pub mod Adopting
 pub mod DefaultTables
 pub mod TablesBegun
+pub mod Renewing
+pub mod Rearranged
+pub mod Attending

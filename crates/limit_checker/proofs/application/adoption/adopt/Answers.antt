@@ -1,4 +1,5 @@
 use Rattle.std.proofs.Common.{length}
+use Rattle.lc_model.specs.Tables.Slot.{taken}
 use Rattle.lc_model.specs.Kept.GoesWith.{subscriptions_of}
 use Rattle.lc_model.specs.Kept.Summary.{LcState}
 use Rattle.limit_checker.proofs.Adopting.{engine_has, has_room, heard_anew, second_still_there}
@@ -11,7 +12,7 @@ subscribe_to-requires c =
 
 pub take_activated-requires-2 : goal.take_activated-requires-2
 take_activated-requires-2 c =
-    second_still_there c.args.seat c.args.services.now.tables c.take_activated.new.tables c.new-wdt_slot.result c.new-adt_slot.result c.requires.tables c.new-wdt_slot.ensures c.new-adt_slot.ensures
+    second_still_there taken c.args.seat c.args.services.now.tables c.take_activated.new.tables c.new-wdt_slot.result c.new-adt_slot.result c.requires.tables c.new-wdt_slot.ensures c.new-adt_slot.ensures
     c.take_activated.ensures
 
 pub returns-clause-engine : goal.returns-clause-engine
