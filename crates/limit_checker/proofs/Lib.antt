@@ -29,3 +29,4 @@ pub mod TablesBegun
 pub mod Renewing
 pub mod Rearranged
 pub mod Attending
+pub mod SeatTaken

@@ -35,10 +35,10 @@ answered_by (Err error) now x e = cc
 -- ---- names that nobody has
 
 -- no table of these has the name
-abbrev AreOthers : Name → List Table → Type 0
+abbrev pub AreOthers : Name → List Table → Type 0
 AreOthers name tables = AllByRecursion (λ (table : Table). IsFalse (is_named name table.name)) tables
 
-no_number : (name : Name) (n : ℕ) (tables : List Table) → AreOthers name tables → position_from (λ (table : Table). is_named name table.name) n tables ≡ None
+pub no_number : (name : Name) (n : ℕ) (tables : List Table) → AreOthers name tables → position_from (λ (table : Table). is_named name table.name) n tables ≡ None
 no_number name n [] others = refl
 no_number name n (table ∷ tables) others =
     ap (λ b. if b then Some n else position_from (λ (table : Table). is_named name table.name) (n + 1) tables) others.0 ∙ no_number name (n + 1) tables others.1
@@ -64,11 +64,11 @@ module _ (name : Name) (own : is_table_of lc_name name ≡ true) where
       by_test false e = refl
       by_test true e = absurd (true≢false (sym own ∙ ap (is_table_of lc_name) ((bytes_eq-Decides name table.name).0 e) ∙ apart))
 
-  others_at : (tables : List Table) → AllByRecursion (λ (table : Table). IsFalse (is_table_of lc_name table.name)) tables → AreOthers name tables
+  pub others_at : (tables : List Table) → AllByRecursion (λ (table : Table). IsFalse (is_table_of lc_name table.name)) tables → AreOthers name tables
   others_at [] unused = tt
   others_at (table ∷ tables) unused = (another table unused.0, others_at tables unused.1)
 
-  others_among : (places : Places) → AllByRecursion (λ (tables : List Table). AllByRecursion (λ (table : Table). IsFalse (is_table_of lc_name table.name)) tables) places →
+  pub others_among : (places : Places) → AllByRecursion (λ (tables : List Table). AllByRecursion (λ (table : Table). IsFalse (is_table_of lc_name table.name)) tables) places →
       AllByRecursion (AreOthers name) places
   others_among [] unused = tt
   others_among (tables ∷ places) unused = (others_at tables unused.0, others_among places unused.1)
@@ -123,7 +123,7 @@ module _ (seat : ℕ) (service : TableService) (sound : IsTableService service) 
 
 -- ---- images come into use
 
-inside : (places : Places) (seat : ℕ) (table : Table) (tables : List Table) → slice_index_or places seat [] ≡ table ∷ tables → seat < length places
+pub inside : (places : Places) (seat : ℕ) (table : Table) (tables : List Table) → slice_index_or places seat [] ≡ table ∷ tables → seat < length places
 inside [] seat table tables e = cc
 inside (place ∷ places) zero table tables e = omega arith
 inside (place ∷ places) (suc seat) table tables e = let further = inside places seat table tables e in omega (arith, further)

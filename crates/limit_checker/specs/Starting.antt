@@ -66,10 +66,17 @@ abbrev pub own_started : Option (Pair (List ℕ)) → LcOwn
 own_started None = without_tables
 own_started (Some pair) = with_tables (on_board.terms pair) (on_board.rules pair) without_tables
 
--- both tables with this pair in use, or without images
+-- the table of watchpoints with this pair in use, or without an image; and that of actionpoints
+abbrev pub started_wdt : Option (Pair (List ℕ)) → Table
+started_wdt None = new_wdt
+started_wdt (Some pair) = record new_wdt { slot = in_use pair.wdt }
+
+abbrev pub started_adt : Option (Pair (List ℕ)) → Table
+started_adt None = new_adt
+started_adt (Some pair) = record new_adt { slot = in_use pair.adt }
+
 abbrev pub started_tables : Option (Pair (List ℕ)) → List Table
-started_tables None = new_wdt ∷ new_adt ∷ []
-started_tables (Some pair) = record new_wdt { slot = in_use pair.wdt } ∷ record new_adt { slot = in_use pair.adt } ∷ []
+started_tables pair = started_wdt pair ∷ started_adt pair ∷ []
 
 -- the services of tables with these at the seat
 abbrev pub tables_started : ℕ → Option (Pair (List ℕ)) → TableService → TableService

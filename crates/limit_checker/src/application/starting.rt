@@ -20,7 +20,6 @@ use crate::checker::LimitChecker as Engine;
 use app_host::laws::seats_are_kept_by_the_rules;
 use app_host::{Services, subscribe_to};
 use event_service::limit_checker as texts;
-use lc_model::laws::table_services::table_services_go_by_names;
 use lc_model::{EventKind, Kind, Seat};
 use table_file::{Layout, open, table_name};
 use table_validator::{ValidImage, validate};
@@ -133,7 +132,7 @@ pub(super) fn take_seat(engine: &mut Engine, seat: Seat, services: &mut Services
     ensures settled { IsSettled (LcState engine.new) seat (held_by services.new) }
 {
     seats_are_kept_by_the_rules();
-    table_services_go_by_names();
+    services.tables.is_service();
     services.open(seat, NAME, &[]);
     register_both(&mut services.tables, seat);
     let has_tables = begin(engine, &mut services.tables, seat);
