@@ -27,3 +27,4 @@ pub mod Adopting
 pub mod Renewing
 pub mod Rearranged
 pub mod Attending
+pub mod Dispatching

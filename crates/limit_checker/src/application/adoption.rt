@@ -21,7 +21,7 @@ use table_validator::{ValidImage, validate};
 use tbl_service::{Slot, Stage, Tables};
 
 /// The message ids of commands, housekeeping requests and sample requests.
-const REQUESTS: [u16; 3] = [0x18A4, 0x18A5, mids::SAMPLE];
+pub(super) const REQUESTS: [u16; 3] = [0x18A4, 0x18A5, mids::SAMPLE];
 
 /// The image that a table would have: the activated one, or else the active one.
 fn candidate(tables: &Tables, slot: Slot) -> Option<&[u8]>
@@ -68,7 +68,7 @@ fn sound_candidate<'a>(tables: &'a Tables, slot: Slot, kind: Kind) -> Option<Val
 }
 
 /// Whether a table of watchpoints and one of actionpoints belong together: they have one hash and one count of watchpoints.
-fn belong_together(wdt: &ValidImage<'_>, adt: &ValidImage<'_>) -> bool
+pub(super) fn belong_together(wdt: &ValidImage<'_>, adt: &ValidImage<'_>) -> bool
     requires wdt { wdt.now.kind ≡ Wdt }
     requires adt { adt.now.kind ≡ Adt }
     ensures { result ≡ are_matching wdt.now.bytes adt.now.bytes }
