@@ -1,5 +1,5 @@
 -- A packet of another message id than the application's changes nothing.
-use Rattle.std.proofs.Common.{◌≡◌, ◌≢◌, refl, ap, sym, ◌∙◌, ℕ, Bool, true, false, ◌==◌, List, [], length, arith, if◌then◌else◌, Option, Some, None}
+use Rattle.std.proofs.Common.{◌≡◌, ◌≢◌, refl, ap, sym, ◌∙◌, ℕ, Bool, true, false, ◌==◌, List, [], arith, if◌then◌else◌, Option, Some, None}
 use Rattle.std.specs.Prelude.{IfSome}
 use Rattle.lc_model.specs.Name.{lc_name}
 use Rattle.lc_model.specs.Packet.{message_id, function_code, payload, lc_command_mid, lc_housekeeping_request_mid, sample_mid, is_telemetry_mid}
