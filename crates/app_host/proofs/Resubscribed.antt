@@ -1,15 +1,14 @@
 -- The subscriptions of a pipe change, and what waits in it stays.
-use Rattle.std.proofs.Common.{◌≡◌, refl, ap, sym, ◌∙◌, subst, ℕ, zero, suc, ◌+◌, ◌≤◌, ◌<◌, Bool, true, false, not, ◌&&◌, ◌||◌, ◌==◌, List, [], ◌∷◌, ◌++◌, length, length-append, map, arith, pos, if◌then◌else◌, Option, Some, None, Result, Ok, true≢false, get_or}
+use Rattle.std.proofs.Common.{◌≡◌, refl, ap, sym, ◌∙◌, subst, ℕ, zero, suc, ◌+◌, ◌≤◌, ◌<◌, Bool, true, false, not, ◌&&◌, ◌||◌, ◌==◌, List, [], ◌∷◌, ◌++◌, length, length-append, arith, pos, if◌then◌else◌, Option, Some, None, Ok, true≢false, get_or}
 use Rattle.std.specs.Prelude.{IfSome, IsSomeAnd, drop, filter, IsTrue, is_some, slice_index_or, slice_set}
 use Rattle.std.specs.List.{list_any}
-use Rattle.std.proofs.lemmas.Bool.Decides.{Decides-eqb}
 use Rattle.std.proofs.lemmas.List.{get_or-set_same, set-get_or, set-set, drop_all, drop_more, get_or-map, length-map}
 use Rattle.std.proofs.lemmas.List.Folds.{list_any-append}
 use Rattle.std.proofs.lemmas.Map.Views.{any-filter_same}
 use Rattle.lc_model.specs.declared.field.CmpOp.TheVariants.{Less}
 use Rattle.lc_model.specs.declared.field.FieldType.TheVariants.{U8}
 use Rattle.lc_model.specs.declared.field.Term.{Term}
-use Rattle.lc_model.specs.Refusal.{Refusal, ◌>>=◌, found}
+use Rattle.lc_model.specs.Refusal.{◌>>=◌, found}
 use Rattle.lc_model.specs.Kept.Call.{with_mid, with_mids}
 use Rattle.lc_model.specs.Services.Bus.{Bus, Queue, pipe_at, with_pipe, unsubscribed, parted, after, refusal_of}
 use Rattle.lc_model.proofs.Facts.{equal_itself, or_false, or_true, test_equal, tested_equal}

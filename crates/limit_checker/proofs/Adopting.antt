@@ -1,12 +1,12 @@
 -- The pair of images that is adopted, and what is there once it is.
-use Rattle.std.proofs.Common.{◌≡◌, refl, ap, sym, ◌∙◌, subst, ℕ, ◌+◌, ◌≤◌, Bool, true, false, ◌&&◌, ◌||◌, ◌==◌, List, [], ◌∷◌, length, map, arith, if◌then◌else◌, Option, Some, None, Result, Ok, Err}
+use Rattle.std.proofs.Common.{◌≡◌, refl, ap, sym, ◌∙◌, subst, ℕ, ◌+◌, ◌≤◌, Bool, true, false, ◌||◌, ◌==◌, List, [], ◌∷◌, length, map, arith, if◌then◌else◌, Option, Some, None, Result, Ok, Err}
 use Rattle.std.specs.Prelude.{IfSome, IsOk, IsSomeAnd, IsTrue, is_some, bytes_eq}
-use Rattle.std.specs.Option.{option_map_or, option_or}
+use Rattle.std.specs.Option.{option_map_or}
 use Rattle.std.proofs.lemmas.Slice.Eq.{bytes_eq-Decides}
 use Rattle.lc_model.specs.declared.field.Term.{Term}
 use Rattle.lc_model.specs.declared.kind.Kind.{Kind}
 use Rattle.lc_model.specs.Tables.Half.{IsMatch}
-use Rattle.lc_model.specs.Tables.Image.{ImageFault, fault_of, hash_of, watchpoint_count}
+use Rattle.lc_model.specs.Tables.Image.{fault_of, hash_of, watchpoint_count}
 use Rattle.lc_model.specs.Tables.InForce.{layouts}
 use Rattle.lc_model.specs.Tables.Spelled.{spelled_terms, spelled_rules}
 use Rattle.lc_model.specs.Tables.Slot.{Slot, Waiting, Stage, Loaded, Asked, Valid, Activated, candidate, in_use, taken, waiting_at}
@@ -24,7 +24,7 @@ use Rattle.table_validator.specs.Fault.{refusal}
 use Rattle.table_validator.specs.Sound.{TableImage}
 use Rattle.app_host.specs.Shared.{on_board}
 use Rattle.app_host.proofs.Resubscribed.{both_changes, is_there, still_there}
-use Rattle.limit_checker.specs.Adoption.{are_matching, pair_of, HasSoundSlot, IsSoundPair}
+use Rattle.limit_checker.specs.Adoption.{are_matching, pair_of, HasSoundSlot}
 use Rattle.limit_checker.specs.Engine.{with_tables}
 use Rattle.limit_checker.specs.Housekeeping.{adt_of, wdt_of, own_adopted, pair_at}
 use Rattle.limit_checker.proofs.TwoTables.{HasTwo, two_tables, as_is, first_changed, second_registered}

@@ -1,11 +1,9 @@
 -- A housekeeping request, as the application answers it.
-use Rattle.std.proofs.Common.{◌≡◌, ◌≢◌, refl, ap, sym, ◌∙◌, subst, ℕ, ◌+◌, ◌≤◌, Bool, true, false, ◌==◌, List, [], ◌∷◌, ◌++◌, length, map, arith, append_assoc, if◌then◌else◌, Option, Some, None, Result, Ok, Err}
+use Rattle.std.proofs.Common.{◌≡◌, refl, ap, sym, ◌∙◌, subst, ℕ, ◌+◌, ◌≤◌, Bool, true, false, ◌==◌, List, [], ◌∷◌, ◌++◌, length, map, arith, append_assoc, if◌then◌else◌, Option, Some, None, Result, Ok, Err}
 use Rattle.std.specs.Prelude.{IfSome, option_map, IsSomeAnd, is_some, unwrap_or}
 use Rattle.std.specs.Option.{option_map_or}
 use Rattle.lc_model.specs.declared.kind.Kind.TheVariants.{Wdt, Adt}
-use Rattle.lc_model.specs.declared.field.Term.{Term}
 use Rattle.lc_model.specs.Name.{Name, lc_name}
-use Rattle.lc_model.specs.Rule.{Actionpoint}
 use Rattle.lc_model.specs.Packet.{function_code, payload, message_id, lc_command_mid, lc_housekeeping_request_mid, sample_mid, is_telemetry_mid}
 use Rattle.lc_model.specs.Refusal.{Refusal, ◌>>=◌}
 use Rattle.lc_model.specs.Command.{bare_request, sample_request}
@@ -13,11 +11,11 @@ use Rattle.lc_model.specs.Events.Request.{Request, Housekeeping, lc_command_refu
 use Rattle.lc_model.specs.Tables.File.{table_name}
 use Rattle.lc_model.specs.Tables.Interpretation.{Pair}
 use Rattle.lc_model.specs.Tables.Slot.{Slot, no_images, taken}
-use Rattle.lc_model.specs.LimitChecker.Steps.{LcStep, adopted, housekeeping_of, lc_housekeeping, lc_commanded, pair_to_adopt, paired, standing, unless_refused, validated}
+use Rattle.lc_model.specs.LimitChecker.Steps.{LcStep, adopted, housekeeping_of, lc_housekeeping, lc_commanded, pair_to_adopt, paired, standing, unless_refused}
 use Rattle.lc_model.specs.Kept.GoesWith.{IsJudged, IsSender, subscriptions_of}
-use Rattle.lc_model.specs.Kept.Summary.{LcNow, LcOwn, LcState, Tally, WatchResult, lc_own, terms_in, rules_in}
+use Rattle.lc_model.specs.Kept.Summary.{LcNow, LcOwn, LcState, Tally, WatchResult, lc_own}
 use Rattle.lc_model.specs.Kept.Next.{by_counts}
-use Rattle.lc_model.specs.Kept.Call.{ServicesNow, with_at, with_tables, lc_with, slot_named, sample_effort, telemetry_effort, effort_after, sample_taken, telemetry_seen, next_lc_packet}
+use Rattle.lc_model.specs.Kept.Call.{with_at, lc_with, sample_effort, telemetry_effort, effort_after, sample_taken, telemetry_seen, next_lc_packet}
 use Rattle.lc_model.specs.Laws.TableServices.{ChangesStaySound}
 use Rattle.lc_model.specs.Laws.TablesByName.{ChangingTables, TablesAreFound}
 use Rattle.lc_model.specs.Services.Interface.{MayBeGiven}
@@ -33,9 +31,8 @@ use Rattle.app_host.specs.Statements.{TellingAnswers, TellingLeaves, TellingSett
 use Rattle.app_host.specs.Telling.{Tells, name_of}
 use Rattle.app_host.specs.Calls.{IsAtHome}
 use Rattle.limit_checker.specs.declared.application.housekeeping.Renewal.{Renewal}
-use Rattle.limit_checker.specs.declared.application.verdict.Verdict.TheVariants.{Unasked}
 use Rattle.limit_checker.specs.Application.{IsHome, MayHave, Answers}
-use Rattle.limit_checker.specs.Housekeeping.{adoption_requests, adt_of, both_judged, both_taken, own_adopted, pair_at, renewal_requests, requested_by, requests_of, tables_after, validation, wdt_of, MayRenew, Renews}
+use Rattle.limit_checker.specs.Housekeeping.{adoption_requests, both_judged, both_taken, own_adopted, pair_at, renewal_requests, requested_by, requests_of, tables_after, validation, MayRenew, Renews}
 use Rattle.limit_checker.specs.Sending.{MaySend}
 use Rattle.limit_checker.proofs.Answering.{answers, little_after}
 use Rattle.limit_checker.proofs.Rearranged.{Rearranges, HasQueue, queue_there, rearranged}
@@ -118,8 +115,7 @@ shared_with before between slots rest files is =
     (λ i. services_seen (rest i).events between.tables (rest i).counts)
     ∙ (λ i. record (services_seen before.events between.tables before.counts) { files = files_seen (files i); slots = is i })
 
-module _ (seat : ℕ) (own new : LcOwn) (packet : List ℕ) (renewal : Renewal) (before between : Services) (changing : ChangingTables) (stays : ChangesStaySound) (found : TablesAreFound)
-    (home : IsAtHome (LcState own) lc_name seat before) (sound : IsTableService before.tables) where
+module _ (seat : ℕ) (own : LcOwn) (before : Services) (found : TablesAreFound) (home : IsAtHome (LcState own) lc_name seat before) (sound : IsTableService before.tables) where
   two : HasTwo seat before.tables
   two = two_tables seat before.tables home.settled.tables
 
@@ -149,7 +145,7 @@ module _ (seat : ℕ) (own new : LcOwn) (packet : List ℕ) (renewal : Renewal) 
         subst (λ (place : Option Queue). IsSomeAnd place (λ (q : Queue). q.subscriptions ≡ subscriptions_of (LcState own))) (sym queue.there) queue.heard;
   }
 
-  module _ (renews : Renews seat own new before between renewal) where
+  module _ (new : LcOwn) (renewal : Renewal) (between : Services) (changing : ChangingTables) (stays : ChangesStaySound) (renews : Renews seat own new before between renewal) where
     abbrev v : Slot (List ℕ)
     v = validation Wdt w
 
@@ -220,11 +216,11 @@ module _ (seat : ℕ) (own new : LcOwn) (packet : List ℕ) (renewal : Renewal) 
         last : Housekeeping new.mode (map (standing by_counts) new.points) ≡ housekeeping_of by_counts after
         last = ap (λ (o : LcOwn). Housekeeping o.mode (map (standing by_counts) o.points)) (renews.engine ∙ ap (λ o. own_adopted o own) pair_is) ∙ stands_so own v b pair
 
-    pub attended : (after_all : Services) → MayBeGiven seat lc_name packet (held_by before) → message_id packet ≡ lc_housekeeping_request_mid →
+    pub attended : (packet : List ℕ) (after_all : Services) → MayBeGiven seat lc_name packet (held_by before) → message_id packet ≡ lc_housekeeping_request_mid →
         bare_request 0 (function_code packet) (payload packet) ≡ Ok tt →
         Tells (Some seat) lc_name (renewal_requests renewal ++ Housekeeping new.mode (map (standing by_counts) new.points) ∷ []) between after_all →
         length after_all.outgoing ≤ 65536 → Answers (Some seat) own new packet before after_all
-    attended after_all given kind request tells little =
+    attended packet after_all given kind request tells little =
         rearranged seat own new packet after (step_by own w a).1 before between after_all home given
         (new_is ∙ ap (λ effort. lc_own on_board effort after) (sym (effort_stays packet own (lc_by own w a) kind)))
         (ap (next_lc_packet on_board packet own) lc_is ∙ step_of_request packet own (lc_by own w a) kind ∙ ap (unless_refused (lc_by own w a)) (asked_so packet own w a request))
@@ -235,21 +231,14 @@ module _ (seat : ℕ) (own new : LcOwn) (packet : List ℕ) (renewal : Renewal) 
 pub seat_of : (place : Option ℕ) (own : LcOwn) (s : Services) (seat : ℕ) → place ≡ Some seat → IsHome place own s → IsAtHome (LcState own) lc_name seat s
 seat_of place own s seat is home = subst (λ p. IsHome p own s) is home
 
-pub may_send_still : (place : Option ℕ) (own new : LcOwn) (renewal : Renewal) (before between : Services) (seat : ℕ) → place ≡ Some seat → IsHome place own before → Renews seat own new before between renewal →
-    shared between ≡ record (shared before) { slots = (shared between).slots } → MaySend place between
-may_send_still place own new renewal before between seat is home renews same = subst (λ p. MaySend p between) (sym is) (record {
-  named = ap (λ (s : Services). option_map name_of (sender_at (Some seat) s.events)) renews.rest ∙ (seat_of place own before seat is home).settled.sender;
-  sends = subst (λ services. IsSender lc_name services) (sym same) (seat_of place own before seat is home).goes.sender;
-})
-
-shared_same : (before between : Services) → between ≡ record before { tables = between.tables; bus = between.bus } → between.tables.files ≡ before.tables.files →
-    shared between ≡ record (shared before) { slots = (shared between).slots }
-shared_same before between rest files = shared_with before between (shared between).slots rest files (slots_are between)
-
 pub sends_still : (place : Option ℕ) (own new : LcOwn) (renewal : Renewal) (before between : Services) (seat : ℕ) → place ≡ Some seat → IsHome place own before → Renews seat own new before between renewal →
     MaySend place between
 sends_still place own new renewal before between seat is home renews =
-    may_send_still place own new renewal before between seat is home renews (shared_same before between renews.rest (ap (λ (s : TableService). s.files) renews.tables ∙ by_test renewal.adopted))
+    let there = seat_of place own before seat is home in
+    subst (λ p. MaySend p between) (sym is) (record {
+      named = ap (λ (s : Services). option_map name_of (sender_at (Some seat) s.events)) renews.rest ∙ there.settled.sender;
+      sends = subst (IsSender lc_name) (sym (shared_with before between (shared between).slots renews.rest (ap (λ (s : TableService). s.files) renews.tables ∙ by_test renewal.adopted) (slots_are between))) there.goes.sender;
+    })
   where
     by_test : (test : Bool) → (tables_after test seat before.tables).files ≡ before.tables.files
     by_test true = refl
@@ -264,12 +253,12 @@ attended_there place seat own new packet renewal before between after changing s
     let given_here : MayBeGiven seat lc_name packet (held_by before) = subst (λ p. MayHave p packet before) is given in
     let none : length between.outgoing ≡ 0 = ap length (ap (λ (s : Services). s.outgoing) renews.rest ∙ given_here.idle) in
     subst (λ p. Answers p own new packet before after) (sym is)
-    (attended seat own new packet renewal before between changing stays found (seat_of place own before seat is home) sound renews after given_here kind (sym request)
+    (attended seat own before found (seat_of place own before seat is home) sound new renewal between changing stays renews packet after given_here kind (sym request)
     (subst (λ p. Tells p lc_name (renewal_requests renewal ++ Housekeeping new.mode (map (standing by_counts) new.points) ∷ []) between after) is tells)
     (omega (arith, none, little)))
 
-pub may_renew_there : (place : Option ℕ) (seat : ℕ) (own : LcOwn) (s : Services) → TablesAreFound → ChangingTables → ChangesStaySound → place ≡ Some seat → IsHome place own s → IsTableService s.tables → MayRenew seat own s
-may_renew_there place seat own s found changing stays is home sound = may_renew seat own own [] (record { wdt = Unasked; adt = Unasked; adopted = false }) s s changing stays found (seat_of place own s seat is home) sound
+pub may_renew_there : (place : Option ℕ) (seat : ℕ) (own : LcOwn) (s : Services) → TablesAreFound → place ≡ Some seat → IsHome place own s → IsTableService s.tables → MayRenew seat own s
+may_renew_there place seat own s found is home sound = may_renew seat own s found (seat_of place own s seat is home) sound
 
 -- ---- a request that is refused
 

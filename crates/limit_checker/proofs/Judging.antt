@@ -8,7 +8,7 @@ use Rattle.lc_model.specs.Tables.Image.{ImageFault, fault_of}
 use Rattle.lc_model.specs.Tables.InForce.{layouts}
 use Rattle.lc_model.specs.Tables.Slot.{Slot, Waiting, Asked, is_at, no_images, waiting_at}
 use Rattle.lc_model.specs.LimitChecker.Steps.{told_verdict}
-use Rattle.lc_model.specs.Services.Tables.{Table, TableService, Handle, Places, tables_at, table_at, slot_at, with_slot, slot_changed}
+use Rattle.lc_model.specs.Services.Tables.{Table, TableService, Handle, tables_at, table_at, slot_at, with_slot, slot_changed}
 use Rattle.tbl_service.specs.declared.slot.Stage.{Stage}
 use Rattle.tbl_service.specs.declared.slot.Stage.TheVariants as stage
 use Rattle.tbl_service.specs.Images.{waiting_seen}

@@ -30,3 +30,4 @@ pub mod Renewing
 pub mod Rearranged
 pub mod Attending
 pub mod SeatTaken
+pub mod Dispatching

@@ -4,20 +4,18 @@ use Rattle.std.proofs.Common.{◌≡◌, ◌≢◌, inl, refl, ap, sym, ◌∙�
 use Rattle.std.specs.Prelude.{IfSome, IsTrue, option_map, filter, slice_index_or, slice_set}
 use Rattle.std.specs.List.{AllByRecursion, concat}
 use Rattle.std.proofs.lemmas.List.{append-nil, get_or-set_same, get_or-set_other, length-map}
-use Rattle.lc_model.specs.declared.kind.Kind.TheVariants.{Wdt, Adt}
 use Rattle.lc_model.specs.declared.field.Term.{Term}
 use Rattle.lc_model.specs.Name.{Name, lc_name}
 use Rattle.lc_model.specs.Packet.{lc_command_mid, lc_housekeeping_request_mid, sample_mid}
 use Rattle.lc_model.specs.Events.Request.{Request}
-use Rattle.lc_model.specs.Tables.File.{table_name}
 use Rattle.lc_model.specs.Kept.Summary.{LcNow, LcOwn, LcState, lc_own, EventState}
-use Rattle.lc_model.specs.Kept.Call.{Called, new_sender, with_mids, with_tables, lc_with, lc_told, sent_by, effort_after, next_lc_packet, next_on_packet}
+use Rattle.lc_model.specs.Kept.Call.{Called, new_sender, with_mids, with_tables, lc_with, lc_told, sent_by, effort_after, next_lc_packet}
 use Rattle.lc_model.specs.Kept.Executive.{Pipe, hears, all_published_to}
 use Rattle.lc_model.specs.Kept.GoesWith.{subscriptions_of}
 use Rattle.lc_model.specs.Services.Bus.{Queue, Publication, seen, seen_pipe, pipe_at, with_pipe}
 use Rattle.lc_model.specs.Services.Events.{Sender, Origin, sender_at}
-use Rattle.lc_model.specs.Services.Interface.{MayBeGiven, MayPublish, IsOwnPipe, IsGiven, BelongsTo, seen_at, waiting_in, is_table_of}
-use Rattle.lc_model.specs.Services.Settled.{IsSettled, form_of, own_forms, wdt_form, adt_form}
+use Rattle.lc_model.specs.Services.Interface.{MayBeGiven, MayPublish, IsOwnPipe, IsGiven, seen_at, waiting_in, is_table_of}
+use Rattle.lc_model.specs.Services.Settled.{IsSettled, form_of, wdt_form, adt_form}
 use Rattle.lc_model.specs.Services.Tables.{Table, TableService, tables_at}
 use Rattle.lc_model.proofs.Facts.{some_same}
 use Rattle.app_host.specs.declared.services.Services.{Services}

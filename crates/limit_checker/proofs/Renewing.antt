@@ -1,10 +1,8 @@
 -- Both tables of a seat are judged, and what is activated is adopted.
-use Rattle.std.proofs.Common.{◌≡◌, refl, ap, sym, ◌∙◌, subst, ℕ, Bool, true, false, List, [], ◌∷◌, map, if◌then◌else◌, Option, Some, None}
-use Rattle.std.specs.Prelude.{IfSome, IsTrue, is_some}
+use Rattle.std.proofs.Common.{◌≡◌, ap, sym, ◌∙◌, subst, ℕ, Bool, List, map, if◌then◌else◌}
+use Rattle.std.specs.Prelude.{IfSome, is_some}
 use Rattle.lc_model.specs.declared.kind.Kind.{Kind}
 use Rattle.lc_model.specs.declared.kind.Kind.TheVariants.{Wdt, Adt}
-use Rattle.lc_model.specs.Events.Request.{Request}
-use Rattle.lc_model.specs.Tables.Interpretation.{Pair}
 use Rattle.lc_model.specs.Tables.Slot.{Slot}
 use Rattle.lc_model.specs.Kept.GoesWith.{IsJudged, subscriptions_of}
 use Rattle.lc_model.specs.Kept.Summary.{LcOwn, LcState}
@@ -16,7 +14,7 @@ use Rattle.app_host.specs.declared.services.Services.{Services}
 use Rattle.app_host.specs.Shared.{on_board}
 use Rattle.limit_checker.specs.declared.application.verdict.Verdict.{Verdict}
 use Rattle.limit_checker.specs.Housekeeping.{adt_of, both_judged, both_taken, own_adopted, pair_at, requested_by, requests_of, validation, wdt_of, MayRenew, Renews}
-use Rattle.limit_checker.proofs.TwoTables.{HasTwo, two_tables, as_is, first_changed, second_changed, first_slot, second_slot, first_slot_is, second_slot_is, forms_stay, judged_are}
+use Rattle.limit_checker.proofs.TwoTables.{HasTwo, two_tables, as_is, first_changed, first_slot, second_slot, first_slot_is, second_slot_is, forms_stay, judged_are}
 
 module _ (seat : ℕ) (old : LcOwn) (before : Services) (first_judged second_judged : TableService) (first second : Handle) (may : MayRenew seat old before)
     (one : first ≡ wdt_of seat) (other : second ≡ adt_of seat) (then_first : first_judged ≡ slot_changed (validation Wdt) first before.tables)

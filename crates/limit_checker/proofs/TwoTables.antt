@@ -1,10 +1,9 @@
 -- The two tables of a seat, with whatever images: what changes at one of them leaves the other, and all other seats.
-use Rattle.std.proofs.Common.{◌≡◌, ◌≢◌, refl, ap, sym, ◌∙◌, subst, ℕ, zero, suc, ◌<◌, true, true≢false, List, [], ◌∷◌, length, map, arith, Option, Some, None}
+use Rattle.std.proofs.Common.{◌≡◌, ◌≢◌, refl, ap, sym, ◌∙◌, subst, ℕ, zero, suc, ◌<◌, List, [], ◌∷◌, length, map, arith, Option, Some}
 use Rattle.std.specs.Prelude.{IsTrue, is_some, slice_get, slice_index_or, slice_set}
 use Rattle.std.specs.Option.{option_map_or}
 use Rattle.std.proofs.lemmas.List.{get_or-set_same, get_or-set_other, set-get_or, set-set}
 use Rattle.lc_model.specs.declared.kind.Kind.TheVariants.{Wdt, Adt}
-use Rattle.lc_model.specs.Name.{Name}
 use Rattle.lc_model.specs.Tables.File.{table_name}
 use Rattle.lc_model.specs.Tables.Slot.{Slot, no_images, taken}
 use Rattle.lc_model.specs.Kept.Call.{with_at}

@@ -20,6 +20,7 @@ ghost use Rattle.limit_checker.specs.Application.{IsHome, MayHave, Answers};
 mod adoption;
 mod asked;
 mod command;
+mod dispatch;
 mod housekeeping;
 mod reacting;
 mod standings;

@@ -1,4 +1,4 @@
-use Rattle.std.proofs.Common.{◌≡◌, ap, ◌∙◌, arith}
+use Rattle.std.proofs.Common.{ap, ◌∙◌, arith}
 use Rattle.lc_model.specs.Services.Bus.{after, unsubscribed}
 use Rattle.app_host.specs.Resubscribing.{mids_of}
 use Rattle.app_host.proofs.Resubscribed.{none_gone, one_less_left, all_gone, mid_there, as_many, all_done}

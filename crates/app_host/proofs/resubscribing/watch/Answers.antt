@@ -1,7 +1,7 @@
-use Rattle.std.proofs.Common.{◌≡◌, ap, ◌∙◌, arith}
+use Rattle.std.proofs.Common.{ap, ◌∙◌, arith}
 use Rattle.lc_model.specs.Services.Bus.{after, subscribed}
 use Rattle.app_host.specs.Resubscribing.{mids_of}
-use Rattle.app_host.proofs.Seats.{none_yet, one_more, all_made}
+use Rattle.app_host.proofs.Seats.{one_more, all_made}
 use Rattle.app_host.proofs.Resubscribed.{mid_there, as_many, all_done}
 use Rattle.app_host.proofs.resubscribing.watch.Goals as goal
 

@@ -1,4 +1,4 @@
-use Rattle.std.proofs.Common.{sym, ◌∙◌, ap, [], ◌∷◌}
+use Rattle.std.proofs.Common.{◌∙◌, ap, [], ◌∷◌}
 use Rattle.lc_model.specs.declared.rule.EventKind.TheVariants.{Error}
 use Rattle.lc_model.specs.Command.{refusal_number}
 use Rattle.lc_model.specs.Events.Request.{Event, lc_command_refused}
@@ -9,8 +9,7 @@ use Rattle.limit_checker.proofs.application.LimitChecker.housekeeping.Goals as g
 
 pub renew-renewal-requires : goal.renew-renewal-requires
 renew-renewal-requires c =
-    may_renew_there c.args.self.now.seat c.unwrap-seat.result c.args.self.now.engine c.args.services.now c.table_services_go_by_names.ensures.found c.table_services_go_by_names.ensures.changes
-    c.table_services_stay_sound.ensures.changes c.unwrap-seat.ensures c.requires.home c.is_service.ensures
+    may_renew_there c.args.self.now.seat c.unwrap-seat.result c.args.self.now.engine c.args.services.now c.table_services_go_by_names.ensures.found c.unwrap-seat.ensures c.requires.home c.is_service.ensures
 
 pub report-requires-clause-sends : goal.report-requires-clause-sends
 report-requires-clause-sends c =
