@@ -22,3 +22,7 @@ pub mod EventsObeyed
 pub mod EventsRead
 pub mod Published
 pub mod Sent
+pub mod Unused
+pub mod Begun
+pub mod Withdrawn
+pub mod Followed

@@ -15,3 +15,4 @@ pub mod Left
 pub mod Obeyed
 pub mod Publishing
 pub mod Sending
+pub mod Ordered
