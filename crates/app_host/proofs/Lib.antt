@@ -26,3 +26,4 @@ pub mod Unused
 pub mod Begun
 pub mod Withdrawn
 pub mod Followed
+pub mod Searched

@@ -6,7 +6,7 @@ use Rattle.std.specs.declared.dyn_box.DynBox.{DynBox}
 use Rattle.std.specs.Io.KnownBytes.{Appends}
 use Rattle.lc_model.specs.declared.record.Moment.{Moment}
 use Rattle.lc_model.specs.Device.{Sink}
-use Rattle.lc_model.specs.Name.{Name, is_named}
+use Rattle.lc_model.specs.Name.{Name, is_named, name_in}
 use Rattle.lc_model.specs.Refusal.{Refusal}
 use Rattle.lc_model.specs.Command as model
 use Rattle.lc_model.specs.Events.Request.{executive_services}
@@ -111,6 +111,10 @@ order_of order.Start = model.Start
 order_of order.Stop = model.Stop
 order_of order.Restart = model.Restart
 order_of order.Reload = model.Reload
+
+-- an order and the name in a payload of 20 bytes
+abbrev pub named_by : Order → List ℕ → Result (model.Order × Name) Refusal
+named_by order payload = model.of_length 20 payload (order_of order, name_in payload)
 
 -- the numbers of a refusal
 abbrev pub refusal_of : HostError → Refusal
