@@ -27,3 +27,4 @@ pub mod Begun
 pub mod Withdrawn
 pub mod Followed
 pub mod Searched
+pub mod Prepared
