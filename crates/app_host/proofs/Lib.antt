@@ -28,3 +28,4 @@ pub mod Withdrawn
 pub mod Followed
 pub mod Searched
 pub mod Prepared
+pub mod CameIn
