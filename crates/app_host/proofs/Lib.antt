@@ -29,3 +29,4 @@ pub mod Followed
 pub mod Searched
 pub mod Prepared
 pub mod CameIn
+pub mod OrdersObeyed
