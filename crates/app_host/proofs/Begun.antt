@@ -13,7 +13,7 @@ use Rattle.lc_model.specs.Kept.Executive.{Pipe, Executive, hears, is_ready, has_
 use Rattle.lc_model.specs.Laws.TablesByName.{TablesAreFound}
 use Rattle.lc_model.specs.Services.Bus.{seen, seen_pipe}
 use Rattle.lc_model.specs.Services.Tables.{IsTableService}
-use Rattle.lc_model.specs.Services.Interface.{IsApplicationName, IsFreeSeat, PipesHear, seen_at, waiting_in}
+use Rattle.lc_model.specs.Services.Interface.{IsApplicationName, PipesHear, seen_at, waiting_in}
 use Rattle.app_host.specs.declared.services.Services.{Services}
 use Rattle.app_host.specs.Shared.{on_board, held_by, shared}
 use Rattle.app_host.specs.Calls.{IsObject, Leaves}
@@ -21,7 +21,7 @@ use Rattle.app_host.specs.Hosted.{Object, Hosted, object_at, member_of}
 use Rattle.app_host.specs.Objects.{MayStartOn, HasStarted}
 use Rattle.app_host.specs.Whole.{IsRunning, AreSeated, AreKnown, name_at}
 use Rattle.app_host.specs.Delivered.{executive_in, Becomes}
-use Rattle.app_host.specs.Ordered.{MayBegin, StaysWhole, HasBegun}
+use Rattle.app_host.specs.Ordered.{MayBegin, HasBegun}
 use Rattle.app_host.proofs.Found.{placed, nowhere}
 use Rattle.app_host.proofs.Rules.{seen_of_place}
 use Rattle.app_host.proofs.Frames.{fact_at_set, others_stay, seated_with}

@@ -1,51 +1,27 @@
 -- The next one took its seat, and what it asked for is written.
-use Rattle.std.proofs.Common.{◌≡◌, refl, ap, ap₂, sym, ◌∙◌, subst, ℕ, ◌+◌, ◌<◌, ◌≤◌, List, [], length, take, arith, Some, None, Result, Ok, Err}
+use Rattle.std.proofs.Common.{◌≡◌, ap, ap₂, sym, ◌∙◌, subst, ℕ, ◌≤◌, List, [], length, take, arith, Result, Ok, Err}
 use Rattle.std.specs.Prelude.{IsErrAnd}
 use Rattle.std.specs.List.{concat}
 use Rattle.std.specs.Io.KnownBytes.{Appends}
 use Rattle.lc_model.specs.declared.record.Moment.{Moment}
 use Rattle.lc_model.specs.Device.{Sink}
-use Rattle.lc_model.specs.Kept.Executive.{Executive, Written, ready_seat}
-use Rattle.lc_model.specs.Services.Bus.{seen}
+use Rattle.lc_model.specs.Kept.Executive.{Executive, Written}
 use Rattle.app_host.specs.declared.services.Services.{Services}
 use Rattle.app_host.specs.declared.error.WriteFault.{WriteFault}
-use Rattle.app_host.specs.Hosted.{Object, Hosted, spare_in}
-use Rattle.app_host.specs.Whole.{AreSeated, AreSpares, AreKnown, IsQuiet}
+use Rattle.app_host.specs.Hosted.{Hosted}
+use Rattle.app_host.specs.Whole.{AreSpares, AreKnown}
 use Rattle.app_host.specs.Delivered.{executive_in, Becomes}
 use Rattle.app_host.specs.Writing.{IsFlushed, IsAllSent, IsPartSent}
-use Rattle.app_host.specs.Ordered.{Next, Nobody, Spare, Same, MayBegin, MayFollow, IsKnownNext, followed_by, StaysWhole, HasFollowed, IsWritten, IsBroken, HasComeIn, HasFailed, ComesIn}
+use Rattle.app_host.specs.Ordered.{Next, IsKnownNext, followed_by, HasFollowed, HasComeIn, HasFailed, ComesIn}
 use Rattle.app_host.proofs.Course.{taken_both}
 use Rattle.app_host.proofs.Draining.{same_executive, still_known}
 
--- what a write leaves
-pub may_begin_still : (old new : Hosted) (seat : ℕ) (o : Object) → new.seats ≡ old.seats → MayBegin seat old o → MayBegin seat new o
-may_begin_still old new seat o seats may = record { free = rw seats may.free; spare = may.spare; unused = rw seats may.unused }
-
-pub may_follow_still : (old new : Hosted) (next : Next) → IsFlushed old new → MayFollow old next → MayFollow new next
-may_follow_still old new Nobody flushed may = tt
-may_follow_still old new (Spare place seat) flushed may =
-    subst (λ (stock : List Object). (place < length stock) × MayBegin seat new (spare_in stock place)) (sym flushed.stock) (may.0, may_begin_still old new seat (spare_in old.stock place) flushed.seats may.1)
-may_follow_still old new (Same o seat) flushed may = may_begin_still old new seat o flushed.seats may
-
+-- what a write leaves alone
 pub spares_still : (old new : Hosted) → IsFlushed old new → AreSpares old.stock → AreSpares new.stock
 spares_still old new flushed spares = rw flushed.stock spares
 
 pub idle_then : (old new : Hosted) → IsFlushed old new → new.services.outgoing ≡ []
 idle_then old new flushed = ap (λ (s : Services). s.outgoing) flushed.services
-
--- a write of nothing does not fail
-none_failed : (old new : Hosted) (before now : Sink) (total : ℕ) → IsPartSent 0 old new before now total → old.services.outgoing ≡ [] → ⊥
-none_failed old new before now total part none = let less = part.fewer in let nothing : length old.services.outgoing ≡ 0 = ap length none in omega (arith, less, nothing)
-
--- the first write failed
-pub failed_first : (next : Next) (old new : Hosted) (before now : Sink) (total : ℕ) → AreSpares old.stock → IsFlushed old new → IsPartSent 0 old new before now total → HasFailed next total old new before now
-failed_first next old new before now total spares flushed part = record {
-  whole = record { seated = flushed.seated; spares = spares_still old new flushed spares; idle = idle_then old new flushed };
-  is_closed = part.is_closed;
-  calls = flushed.calls;
-  failed = part.failed;
-  exact = λ known its_own none. absurd (none_failed old new before now total part none);
-}
 
 module _ (next : Next) (old one two new : Hosted) (sent : ℕ) (before mid now : Sink) (fits : length old.services.outgoing ≤ 65536) (first : IsFlushed old one)
     (all : IsAllSent 0 old one before mid sent) (followed : HasFollowed next one two) (second : IsFlushed two new) where

@@ -1,5 +1,5 @@
 -- The next one took its seat.
-use Rattle.std.proofs.Common.{◌≡◌, ◌≢◌, refl, ap, ap₂, sym, ◌∙◌, subst, ℕ, suc, ◌+◌, ◌<◌, ◌≤◌, List, [], ◌∷◌, ◌++◌, length, map, take, drop, arith, Option, Some, None, get_or}
+use Rattle.std.proofs.Common.{◌≡◌, ◌≢◌, refl, ap, ap₂, sym, ◌∙◌, subst, ℕ, suc, ◌<◌, List, [], ◌++◌, length, map, take, drop, arith, Option, None, get_or}
 use Rattle.std.specs.Prelude.{option_map, All}
 use Rattle.std.specs.List.{remove}
 use Rattle.std.proofs.lemmas.List.{take-map, drop-map, map-append, length-map}
@@ -8,7 +8,7 @@ use Rattle.std.specs.Global.{Global}
 use Rattle.std.specs.declared.dyn_box.DynBox.{DynBox}
 use Rattle.lc_model.specs.Name.{Name}
 use Rattle.lc_model.specs.Kept.Summary.{AppState, Other}
-use Rattle.lc_model.specs.Kept.Executive.{Member, Executive, Written, no_member, spare_at, begun_on, without_spare}
+use Rattle.lc_model.specs.Kept.Executive.{no_member, spare_at, begun_on, without_spare}
 use Rattle.lc_model.specs.Services.Bus.{seen}
 use Rattle.app_host.specs.declared.services.Services.{Services}
 use Rattle.app_host.specs.declared.succession.Successor.{Successor}

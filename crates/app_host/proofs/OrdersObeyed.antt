@@ -1,16 +1,15 @@
 -- A command to the executive services: what the application asks for is written, and then HOST's event.
-use Rattle.std.proofs.Common.{◌≡◌, refl, ap, ap₂, sym, ◌∙◌, subst, ℕ, ◌+◌, ◌-◌, ◌<◌, ◌≤◌, List, [], ◌∷◌, ◌++◌, length, take, arith, length-append, Option, Some, None, Result, Ok, Err}
+use Rattle.std.proofs.Common.{◌≡◌, ap, ap₂, sym, ◌∙◌, subst, ℕ, ◌+◌, ◌-◌, ◌<◌, ◌≤◌, List, [], ◌∷◌, ◌++◌, length, take, arith, length-append, Option, None, Result, Err}
 use Rattle.std.specs.List.{concat}
 use Rattle.std.specs.Io.KnownBytes.{Appends}
 use Rattle.std.proofs.lemmas.List.{take-append-le}
 use Rattle.std.proofs.lemmas.List.Folds.{concat-append}
 use Rattle.std.proofs.Math.Seq.{take-append-add}
-use Rattle.lc_model.specs.declared.record.Moment.{Moment}
 use Rattle.lc_model.specs.Device.{Sink}
 use Rattle.lc_model.specs.Packet.{function_code}
 use Rattle.lc_model.specs.Refusal.{Refusal}
 use Rattle.lc_model.specs.Events.Request.{Request, executive_services, command_done, command_refused}
-use Rattle.lc_model.specs.Kept.Executive.{Executive, Written, ready_seat, told_by_host, answered_now, executive_service_now}
+use Rattle.lc_model.specs.Kept.Executive.{Written, ready_seat, told_by_host, answered_now, executive_service_now}
 use Rattle.lc_model.specs.Kept.Stations.{Station, size_at, stop_at, written_once, order_stations}
 use Rattle.lc_model.specs.Services.Bus.{seen}
 use Rattle.app_host.specs.declared.services.Services.{Services}
@@ -24,7 +23,6 @@ use Rattle.app_host.specs.Told.{telling, HasTold, TellsAlone}
 use Rattle.app_host.specs.Ordered.{Next, followed_by, IsPrepared, LeadsTo, IsWritten, IsBroken, HasComeIn, HasFailed, ObeysOrders}
 use Rattle.app_host.proofs.Course.{taken_both, passes, stops_here, none_stops}
 use Rattle.app_host.proofs.Draining.{same_executive, still_known}
-use Rattle.app_host.proofs.Filed.{told_behind}
 
 -- ---- two writes
 

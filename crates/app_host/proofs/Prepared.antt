@@ -1,5 +1,5 @@
 -- An order is begun: who is to leave a seat has left it.
-use Rattle.std.proofs.Common.{◌≡◌, ◌≢◌, refl, ap, sym, ◌∙◌, subst, ℕ, zero, suc, ◌<◌, Bool, true, false, List, [], ◌∷◌, length, map, arith, Option, Some, None, Result, Ok, Err, get_or}
+use Rattle.std.proofs.Common.{◌≡◌, ◌≢◌, refl, ap, sym, ◌∙◌, subst, ℕ, zero, suc, ◌<◌, Bool, true, false, List, [], ◌∷◌, length, map, Option, Some, None, Result, Ok, get_or}
 use Rattle.std.specs.Prelude.{IfSome, IsSome, option_map, is_some, is_none, not, if◌then◌else◌}
 use Rattle.std.proofs.lemmas.List.{get_or-set_same, length-map}
 use Rattle.std.proofs.lemmas.List.Elements.{All-get_or}
@@ -9,13 +9,12 @@ use Rattle.lc_model.specs.Refusal.{Refusal, ◌>>=◌, refused, found as found_o
 use Rattle.lc_model.specs.Command.{Start, Stop, Restart, Reload}
 use Rattle.lc_model.specs.Kept.Summary.{Other}
 use Rattle.lc_model.specs.Kept.Executive.{Member, Executive, Written, no_member, is_called, is_seated, seat_of, spare_of, free_seat, spare_at, seated, begun_on, left_from, without_spare}
-use Rattle.app_host.specs.declared.services.Services.{Services}
 use Rattle.app_host.specs.Shared.{on_board}
 use Rattle.app_host.specs.Hosted.{Object, Hosted, object_at, spare_in, no_object, member_of}
-use Rattle.app_host.specs.Whole.{AreSeated, AreKnown, IsWhole, name_at}
+use Rattle.app_host.specs.Whole.{AreKnown, IsWhole}
 use Rattle.app_host.specs.Delivered.{executive_in}
 use Rattle.app_host.specs.Left.{LeavesExactly}
-use Rattle.app_host.specs.Ordered.{Nobody, Spare, Same, MayBegin, HasWithdrawn, wanted, LeadsTo, IsPrepared}
+use Rattle.app_host.specs.Ordered.{Nobody, Spare, Same, MayBegin, HasWithdrawn, wanted, IsPrepared}
 use Rattle.app_host.proofs.Found.{shown_in, found, nowhere}
 use Rattle.app_host.proofs.Frames.{fact_at_set}
 use Rattle.app_host.proofs.Answered.{seated_is}
@@ -90,13 +89,6 @@ module _ (h : Hosted) (name : Name) (whole : IsWhole h) where
       else (found_or i 122 >>= (λ i. found_or k 124 >>= (λ k. Ok (begun_on on_board h.services.moment k (spare_at e.stock i) (without_spare i e)))))
 
   module _ (s : Option ℕ) (searched : s ≡ seat_of name e.seats) where
-    pub start_running : is_some s ≡ true → wanted Start name h ≡ Err (123 ∷ [])
-    start_running is = ap (λ x. started_by x (spare_of name e.stock) (free_seat e.seats)) (sym searched) ∙ by_place s is
-      where
-        by_place : (x : Option ℕ) → is_some x ≡ true → started_by x (spare_of name e.stock) (free_seat e.seats) ≡ Err (123 ∷ [])
-        by_place None is = cc
-        by_place (Some k) is = refl
-
     nowhere_so : is_some s ≡ false → s ≡ None
     nowhere_so is = by_place s is
       where
@@ -107,22 +99,19 @@ module _ (h : Hosted) (name : Name) (whole : IsWhole h) where
     start_by : is_some s ≡ false → (i k : Option ℕ) → i ≡ spare_of name e.stock → k ≡ free_seat e.seats → wanted Start name h ≡ started_by None i k
     start_by is i k spares free = λ j. started_by ((sym searched ∙ nowhere_so is) j) (sym spares j) (sym free j)
 
-    pub start_without : is_some s ≡ false → (i : Option ℕ) → i ≡ spare_of name e.stock → i ≡ None → wanted Start name h ≡ Err (122 ∷ [])
-    start_without is i spares none = start_by is i (free_seat e.seats) spares refl ∙ ap (λ x. started_by None x (free_seat e.seats)) none
-
     module _ (is : is_some s ≡ false) (i k : Option ℕ) (place : ℕ) (spares : i ≡ spare_of name e.stock) (there : i ≡ Some place) (free : k ≡ free_seat e.seats) where
-      pub start_no_seat : k ≡ None → wanted Start name h ≡ Err (124 ∷ [])
-      start_no_seat none = start_by is i k spares free ∙ (λ j. started_by None (there j) (none j))
-
       pub start_ready : (seat : ℕ) → k ≡ Some seat → IsPrepared (wanted Start name h) h h (Spare place seat)
       start_ready seat at = record {
         whole = stays_so h h whole.seated whole.idle refl refl refl refl;
         stock = refl;
-        may = (spare.less, record {
-          free = is_free seat (sym at ∙ free);
-          spare = spare.holds_none;
-          unused = λ other. subst (λ n. IfSome (object_at other h.seats) (λ (there : Object). is_named n there.called ≡ false)) spare.named (unlike (sym (nowhere_so is) ∙ searched) other);
-        });
+        may = (
+          spare.less,
+          record {
+            free = is_free seat (sym at ∙ free);
+            spare = spare.holds_none;
+            unused = λ other. subst (λ n. IfSome (object_at other h.seats) (λ (there : Object). is_named n there.called ≡ false)) spare.named (unlike (sym (nowhere_so is) ∙ searched) other);
+          },
+        );
         exact = λ known. record { known = known; next_known = tt; outgoing = whole.idle; step = start_by is i k spares free ∙ (λ j. started_by None (there j) (at j)) };
       }
         where
@@ -141,19 +130,7 @@ module _ (h : Hosted) (name : Name) (whole : IsWhole h) where
     abbrev reloaded_by : Option ℕ → Option ℕ → Result (Written (List ℕ)) Refusal
     reloaded_by s i = found_or s 121 >>= (λ k. found_or i 122 >>= (λ i. Ok (begun_on on_board h.services.moment k (spare_at e.stock i) (without_spare i (left_from k e)))))
 
-    pub stop_nowhere : s ≡ None → wanted Stop name h ≡ Err (121 ∷ [])
-    stop_nowhere none = ap stopped_by (sym searched ∙ none)
-
-    pub restart_nowhere : s ≡ None → wanted Restart name h ≡ Err (121 ∷ [])
-    restart_nowhere none = ap restarted_by (sym searched ∙ none)
-
-    pub reload_nowhere : s ≡ None → wanted Reload name h ≡ Err (121 ∷ [])
-    reload_nowhere none = ap (λ x. reloaded_by x (spare_of name e.stock)) (sym searched ∙ none)
-
     module _ (k : ℕ) (there : s ≡ Some k) where
-      pub reload_without : (i : Option ℕ) → i ≡ spare_of name e.stock → i ≡ None → wanted Reload name h ≡ Err (122 ∷ [])
-      reload_without i spares none = λ j. reloaded_by ((sym searched ∙ there) j) ((sym spares ∙ none) j)
-
       runs : RunsAt k
       runs = runs_there k (sym there ∙ searched)
 

@@ -1,13 +1,12 @@
 -- A name that no seat has is unused.
-use Rattle.std.proofs.Common.{◌≡◌, ◌≢◌, refl, ap, sym, ◌∙◌, subst, ℕ, zero, suc, ◌+◌, Bool, true, false, List, [], ◌∷◌, ◌++◌, length, take, drop, arith, Option, Some, None}
-use Rattle.std.specs.Prelude.{IfSome, IsTrue, IsFalse, bytes_eq, option_map, slice_index_or, if◌then◌else◌}
+use Rattle.std.proofs.Common.{◌≡◌, ◌≢◌, refl, ap, sym, ◌∙◌, subst, ℕ, suc, ◌+◌, Bool, true, false, List, [], ◌∷◌, ◌++◌, length, take, arith, Option, Some, None}
+use Rattle.std.specs.Prelude.{IfSome, IsTrue, IsFalse, slice_index_or, if◌then◌else◌}
 use Rattle.std.specs.List.{AllByRecursion}
 use Rattle.std.proofs.lemmas.Slice.Eq.{bytes_eq-Decides}
-use Rattle.lc_model.specs.Name.{Name, is_named, host_name}
-use Rattle.lc_model.specs.Kept.Summary.{EventState}
-use Rattle.lc_model.specs.Services.Events.{EventService, Sender, events_among, sender_named, sender_at}
+use Rattle.lc_model.specs.Name.{Name, is_named}
+use Rattle.lc_model.specs.Services.Events.{Sender, events_among, sender_at}
 use Rattle.lc_model.specs.Services.Tables.{Table, tables_at}
-use Rattle.lc_model.specs.Services.Interface.{dot, IsApplicationName, is_table_of, IsUnusedName, IsFreeSeat, BelongsTo}
+use Rattle.lc_model.specs.Services.Interface.{dot, IsApplicationName, is_table_of, IsUnusedName}
 use Rattle.app_host.specs.declared.services.Services.{Services}
 use Rattle.app_host.specs.Shared.{held_by}
 use Rattle.app_host.specs.Hosted.{Object, object_at}

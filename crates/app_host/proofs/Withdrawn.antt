@@ -1,14 +1,12 @@
 -- An object gave its seat back, and may take it again.
-use Rattle.std.proofs.Common.{◌≡◌, ◌≢◌, refl, ap, sym, ◌∙◌, subst, ℕ, ◌<◌, [], Option, Some, None}
+use Rattle.std.proofs.Common.{◌≡◌, ◌≢◌, ap, sym, ◌∙◌, subst, ℕ, ◌<◌, [], Option, Some, None}
 use Rattle.std.specs.Prelude.{IfSome, IsSomeAnd, IsSome, option_map, slice_set}
-use Rattle.lc_model.specs.Kept.Summary.{AppState, Other}
-use Rattle.lc_model.specs.Kept.Executive.{Member, is_ready}
+use Rattle.lc_model.specs.Kept.Summary.{Other}
+use Rattle.lc_model.specs.Kept.Executive.{is_ready}
 use Rattle.lc_model.specs.Laws.TablesByName.{TablesAreFound}
 use Rattle.lc_model.specs.Services.Bus.{seen_pipe}
 use Rattle.lc_model.specs.Services.Tables.{IsTableService}
-use Rattle.lc_model.specs.Services.Interface.{seen_at}
 use Rattle.app_host.specs.declared.services.Services.{Services}
-use Rattle.app_host.specs.Shared.{held_by}
 use Rattle.app_host.specs.Hosted.{Object, Hosted, object_at, member_of}
 use Rattle.app_host.specs.Objects.{MayRetire, HasRetired}
 use Rattle.app_host.specs.Whole.{IsRunning, AreSeated}
