@@ -22,3 +22,7 @@ pub mod EventsObeyed
 pub mod EventsRead
 pub mod Published
 pub mod Sent
+pub mod Commanded
+pub mod SeatsCommanded
+pub mod KnownTables
+pub mod TablesObeyed

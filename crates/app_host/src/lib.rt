@@ -21,6 +21,7 @@ pub mod publishing;
 mod seat;
 pub mod sending;
 mod services;
+mod table_commands;
 
 pub use app::App;
 pub use counts::Counts;
