@@ -17,7 +17,7 @@ use Rattle.lc_model.specs.Kept.GoesWith.{GoesWith, IsJudged}
 use Rattle.lc_model.specs.Laws.TablesByName.{TablesAreFound, ChangingTables}
 use Rattle.lc_model.specs.Services.Events.{counts_with, sender_named}
 use Rattle.lc_model.specs.Services.Seen.{files_seen, slot_among, count_among}
-use Rattle.lc_model.specs.Services.Tables.{Table, TableService, Places, Handle, IsTableService, table_at, handle_named, fits_table, with_slot, with_places, slot_changed, file_refusal, moved_among, image_loaded_among, loaded_among, table_commanded}
+use Rattle.lc_model.specs.Services.Tables.{Table, TableService, Places, Handle, IsTableService, table_at, handle_named, fits_table, with_slot, with_places, file_refusal, moved_among, image_loaded_among, loaded_among, table_commanded}
 use Rattle.lc_model.proofs.Services.TableServiceLaws.{then_ok}
 use Rattle.host_laws.proofs.HostRecords as host
 use Rattle.host_laws.proofs.InStep.{loaded_judged, moved_judged}

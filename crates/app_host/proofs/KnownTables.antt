@@ -1,9 +1,9 @@
 -- Where all objects are this profile's, each registered table is one of the Limit Checker's two.
-use Rattle.std.proofs.Common.{◌≡◌, ◌≢◌, refl, ap, ℕ, zero, suc, List, [], ◌∷◌, map, Option, Some, None, inl, inr, subst, sym}
+use Rattle.std.proofs.Common.{◌≡◌, ◌≢◌, refl, ap, ℕ, suc, List, [], ◌∷◌, map, Option, Some, None, inl, inr, subst, sym}
 use Rattle.std.specs.Prelude.{◌⊎◌, IfSome, slice_index_or}
 use Rattle.std.specs.List.{AllByRecursion}
 use Rattle.lc_model.specs.Kept.Summary.{AppState, LcState, SchState, CounterState, Other}
-use Rattle.lc_model.specs.Services.Settled.{Form, form_of, wdt_form, adt_form, own_forms, Settled}
+use Rattle.lc_model.specs.Services.Settled.{Form, form_of, wdt_form, adt_form, Settled}
 use Rattle.lc_model.specs.Services.Tables.{Table, tables_at}
 use Rattle.lc_model.specs.Services.Interface.{IsFreeSeat}
 use Rattle.host_laws.specs.Commands.{HasKnownForm}

@@ -1,5 +1,5 @@
 -- All seats keep what is theirs where a table of one has other images.
-use Rattle.std.proofs.Common.{◌≡◌, ◌≢◌, refl, ap, sym, ◌∙◌, subst, ℕ, zero, suc, List, [], ◌∷◌, map, Option, Some, None}
+use Rattle.std.proofs.Common.{◌≡◌, refl, ap, sym, ◌∙◌, subst, ℕ, zero, suc, List, [], ◌∷◌, map, Option, Some, None}
 use Rattle.std.specs.Prelude.{IfSome, IsTrue, option_map, slice_index_or}
 use Rattle.std.specs.List.{AllByRecursion}
 use Rattle.lc_model.specs.Name.{Name}
@@ -9,10 +9,10 @@ use Rattle.lc_model.specs.Laws.TablesByName.{TablesAreFound, ChangingTables}
 use Rattle.lc_model.specs.Services.Bus.{Bus, seen, pipe_at}
 use Rattle.lc_model.specs.Services.Events.{EventService, Sender, sender_at}
 use Rattle.lc_model.specs.Services.Settled.{Form, form_of, Settled, IsSettled}
-use Rattle.lc_model.specs.Services.Tables.{Table, Places, TableService, IsTableService, tables_at}
+use Rattle.lc_model.specs.Services.Tables.{Table, Places, IsTableService, tables_at}
 use Rattle.lc_model.specs.Services.Interface.{BelongsTo, IsFreeSeat, is_table_of}
 use Rattle.app_host.specs.declared.services.Services.{Services}
-use Rattle.app_host.specs.Shared.{on_board, held_by, shared}
+use Rattle.app_host.specs.Shared.{held_by}
 use Rattle.app_host.specs.Calls.{IsAtHome}
 use Rattle.app_host.specs.Hosted.{Object, object_at}
 use Rattle.app_host.specs.Whole.{IsRunning, AreSeated}

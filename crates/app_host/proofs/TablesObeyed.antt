@@ -1,22 +1,20 @@
 -- A command to the table services, by names.
-use Rattle.std.proofs.Common.{◌≡◌, refl, ap, sym, ◌∙◌, subst, ℕ, List, [], ◌∷◌, map, Option, Some, None, Result, Ok, Err}
+use Rattle.std.proofs.Common.{◌≡◌, refl, ap, sym, ◌∙◌, subst, ℕ, List, [], ◌∷◌, map, Result, Ok, Err}
 use Rattle.std.specs.Prelude.{IfOk, option_map}
 use Rattle.std.specs.List.{AllByRecursion}
 use Rattle.lc_model.specs.Device.{Sink}
 use Rattle.lc_model.specs.Packet.{function_code, payload}
 use Rattle.lc_model.specs.Refusal.{Refusal, ◌>>=◌}
-use Rattle.lc_model.specs.Tables.HalvesAndBytes.{as_bytes}
-use Rattle.lc_model.specs.Tables.InForce.{layouts}
 use Rattle.lc_model.specs.Command.{TableCommand, Load, Manage, table_command}
 use Rattle.lc_model.specs.Events.Request.{Request, table_services, command_done, command_refused}
 use Rattle.lc_model.specs.Kept.Call.{ServicesNow}
-use Rattle.lc_model.specs.Kept.Executive.{Executive, Written, ready_seat, told_by_host, answered_now, with_services, managed_now, table_service_now}
+use Rattle.lc_model.specs.Kept.Executive.{Executive, Written, told_by_host, answered_now, with_services, managed_now, table_service_now}
 use Rattle.lc_model.specs.Kept.Stations.{written_once}
 use Rattle.lc_model.specs.Laws.TablesByName.{TablesAreFound, ChangingTables}
-use Rattle.lc_model.specs.Services.Bus.{Bus, seen}
+use Rattle.lc_model.specs.Services.Bus.{seen}
 use Rattle.lc_model.specs.Services.Tables.{Table, TableService, IsTableService, table_commanded}
 use Rattle.lc_model.specs.Services.Settled.{form_of}
-use Rattle.lc_model.specs.Services.Seen.{files_seen, slot_among}
+use Rattle.lc_model.specs.Services.Seen.{slot_among}
 use Rattle.host_laws.specs.Commands.{HasKnownForm, MovesByName, LoadsByName, CommandsKeepForms}
 use Rattle.app_host.specs.declared.services.Services.{Services}
 use Rattle.app_host.specs.declared.error.WriteFault.{WriteFault}
