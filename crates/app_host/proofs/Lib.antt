@@ -30,3 +30,7 @@ pub mod Searched
 pub mod Prepared
 pub mod CameIn
 pub mod OrdersObeyed
+pub mod Commanded
+pub mod SeatsCommanded
+pub mod KnownTables
+pub mod TablesObeyed

@@ -23,6 +23,7 @@ mod seat;
 pub mod sending;
 mod services;
 mod succession;
+mod table_commands;
 
 pub use app::App;
 pub use counts::Counts;
