@@ -20,5 +20,6 @@ pub mod Departed
 pub mod Filed
 pub mod EventsObeyed
 pub mod EventsRead
+pub mod Stepping
 pub mod Published
 pub mod Sent

@@ -13,5 +13,7 @@ pub mod Writing
 pub mod Told
 pub mod Left
 pub mod Obeyed
+pub mod Ordered
+pub mod Step
 pub mod Publishing
 pub mod Sending

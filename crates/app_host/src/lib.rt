@@ -21,6 +21,8 @@ pub mod publishing;
 mod seat;
 pub mod sending;
 mod services;
+mod step;
+mod stubs;
 
 pub use app::App;
 pub use counts::Counts;
