@@ -20,6 +20,7 @@ pub mod Departed
 pub mod Filed
 pub mod EventsObeyed
 pub mod EventsRead
+pub mod Stepping
 pub mod Published
 pub mod Sent
 pub mod Unused

@@ -17,3 +17,4 @@ pub mod ObeyedTables
 pub mod Publishing
 pub mod Sending
 pub mod Ordered
+pub mod Step

@@ -22,6 +22,7 @@ pub mod publishing;
 mod seat;
 pub mod sending;
 mod services;
+mod step;
 mod succession;
 mod table_commands;
 
