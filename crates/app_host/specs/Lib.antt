@@ -13,6 +13,9 @@ pub mod Writing
 pub mod Told
 pub mod Left
 pub mod Obeyed
+pub mod ObeyedTables
 pub mod Publishing
 pub mod Sending
 pub mod Resubscribing
+pub mod Ordered
+pub mod Step

@@ -13,6 +13,7 @@ mod host;
 pub mod laws;
 mod numbers;
 mod objects;
+mod orders;
 mod outgoing;
 mod own_events;
 mod places;
@@ -22,6 +23,9 @@ mod resubscribing;
 mod seat;
 pub mod sending;
 mod services;
+mod step;
+mod succession;
+mod table_commands;
 
 pub use app::App;
 pub use counts::Counts;
