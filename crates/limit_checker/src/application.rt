@@ -11,7 +11,6 @@ ghost use Rattle.lc_model.specs.Name.{lc_name};
 ghost use Rattle.lc_model.specs.Kept.Call.{next_retire};
 ghost use Rattle.lc_model.specs.Kept.Summary.{LcState};
 ghost use Rattle.lc_model.specs.Services.Interface.{IsRetired};
-ghost use Rattle.lc_model.specs.Services.Tables.{IsTableService};
 ghost use Rattle.app_host.specs.Calls.{LeavesEmpty};
 ghost use Rattle.app_host.specs.Shared.{held_by, shared};
 ghost use Rattle.limit_checker.specs.Engine.{without_tables};
@@ -29,16 +28,19 @@ mod verdict;
 
 use crate::application::asked::AskedList;
 use crate::checker::LimitChecker as Engine;
-use app_host::Services;
 use app_host::laws::seats_are_kept_by_the_rules;
 use app_host::sending::telling_goes_on;
+use app_host::{App, Services};
 use event_service::limit_checker as texts;
 use lc_model::laws::table_services::table_services_go_by_names;
 use lc_model::packet::{function_code, message_id};
 use lc_model::{EventKind, Seat, sample_request};
 use std::alloc::{AllocError, Global};
 
-/// The Limit Checker with the seat that it holds.
+/// The application's name.
+const NAME: &[u8] = b"LC";
+
+/// The Limit Checker with the seat that it holds: the application `LC`.
 #[derive(Debug, Drop)]
 pub struct LimitChecker {
     engine: Engine,
@@ -144,12 +146,11 @@ impl LimitChecker {
         services.send_housekeeping(self.engine.mode(), standings.as_slice());
     }
 
-    /// The seat is given back, with the pipe, the sender of events and the tables that are there. Conditions: nothing waits to be
-    /// written, and no name stands at two tables.
+    /// The seat is given back, with the pipe, the sender of events and the tables that are there. Condition: nothing waits to be
+    /// written.
     fn leave(&mut self, services: &mut Services)
         requires home { IsHome self.old.seat self.old.engine services.old }
         requires idle { services.old.outgoing ≡ [] }
-        requires sound { IsTableService services.old.tables }
         ensures seat { self.new.seat ≡ None }
         ensures own { self.new.engine ≡ self.old.engine }
         ensures rules { IfSome self.old.seat (λ seat. IsRetired seat lc_name (held_by services.old) (held_by services.new)) }
@@ -157,8 +158,37 @@ impl LimitChecker {
     {
         seats_are_kept_by_the_rules();
         table_services_go_by_names();
+        services.tables.is_service();
         if let Some(seat) = self.seat.take() {
             services.close(seat);
         }
+    }
+}
+
+impl App for LimitChecker {
+    ghost use Rattle.lc_model.specs.Name.{lc_name};
+    ghost use Rattle.lc_model.specs.Kept.Summary.{LcState};
+
+    ghost state = { λ lc. LcState lc.engine };
+
+    ghost called = { λ lc. lc_name };
+
+    ghost held = { λ lc. lc.seat };
+
+    fn name(&self) -> &[u8] {
+        NAME
+    }
+
+    fn start(&mut self, seat: Seat, services: &mut Services) {
+        starting::take_seat(&mut self.engine, seat, services);
+        self.seat = Some(seat);
+    }
+
+    fn on_packet(&mut self, services: &mut Services, packet: &[u8]) {
+        self.answer(services, packet);
+    }
+
+    fn retire(&mut self, services: &mut Services) {
+        self.leave(services);
     }
 }

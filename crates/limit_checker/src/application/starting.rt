@@ -15,6 +15,7 @@ ghost use Rattle.app_host.specs.Calls.{Leaves};
 ghost use Rattle.limit_checker.specs.Adoption.{are_matching, pair_of, IsSoundPair};
 ghost use Rattle.limit_checker.specs.Starting.{new_wdt, new_adt, with_both, AreUnused, start_image, start_pair, IsDefault, AreDefaults, own_started, tables_started};
 
+use crate::application::NAME;
 use crate::application::adoption::{REQUESTS, belong_together};
 use crate::checker::LimitChecker as Engine;
 use app_host::laws::seats_are_kept_by_the_rules;
@@ -24,9 +25,6 @@ use lc_model::{EventKind, Kind, Seat};
 use table_file::{Layout, open, table_name};
 use table_validator::{ValidImage, validate};
 use tbl_service::{Slot, Tables};
-
-/// The application's name.
-const NAME: &[u8] = b"LC";
 
 /// The file that a table is started from.
 fn default_file(kind: Kind) -> &'static [u8]

@@ -12,5 +12,5 @@ returns-in-Some-clause-rules c =
 pub returns-in-Some-clause-exact : goal.returns-in-Some-clause-exact
 returns-in-Some-clause-exact c =
     leaves_empty c.seats_are_kept_by_the_rules.ensures.closing_leaves c.table_services_go_by_names.ensures.unregistering c.args.self.now.seat c.args.self.now.engine
-    c.args.services.now c.close.new.self c.requires.sound c.requires.home
+    c.args.services.now c.close.new.self c.is_service.ensures c.requires.home
     (subst (λ place. IfSome place (λ seat. IsClosed seat c.args.services.now c.close.new.self)) (sym c.in-Some.is ∙ c.take.ensures.value) c.close.ensures) c.requires.idle
