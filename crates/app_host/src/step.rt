@@ -11,16 +11,7 @@ use crate::error::WriteFault;
 use crate::host::Host;
 use lc_model::laws::table_services::table_services_go_by_names;
 use lc_model::packet::{message_id, stream_fault};
-use lc_model::{Body, ByteSink, Moment, Record};
-
-/// Commands to the event services (cFE user's guide).
-const EVENT_SERVICES: u16 = 0x1801;
-
-/// Commands to the table services.
-const TABLE_SERVICES: u16 = 0x1804;
-
-/// Commands to the executive services.
-const EXECUTIVE_SERVICES: u16 = 0x1806;
+use lc_model::{Body, ByteSink, Moment, Record, mids};
 
 impl Host {
     /// Handles a record, and writes what it leads to: the output of each call of an application behind that call, and each
@@ -90,9 +81,9 @@ impl Host {
         ensures { Takes (Packet packet.now) (shown state called held self.old) (shown state called held self.new) (W.sink out.old) (W.sink out.new) result }
     {
         match message_id(packet) {
-            EVENT_SERVICES => self.obey_events(packet, out),
-            TABLE_SERVICES => self.obey_tables(packet, out),
-            EXECUTIVE_SERVICES => self.obey_orders(packet, out),
+            mids::EVENT_SERVICES => self.obey_events(packet, out),
+            mids::TABLE_SERVICES => self.obey_tables(packet, out),
+            mids::EXECUTIVE_SERVICES => self.obey_orders(packet, out),
             _ => self.pass_on(packet, out),
         }
     }
