@@ -20,6 +20,7 @@ pub mod Departed
 pub mod Filed
 pub mod EventsObeyed
 pub mod EventsRead
+pub mod Stepping
 pub mod Published
 pub mod Sent
 pub mod Unused
@@ -30,3 +31,7 @@ pub mod Searched
 pub mod Prepared
 pub mod CameIn
 pub mod OrdersObeyed
+pub mod Commanded
+pub mod SeatsCommanded
+pub mod KnownTables
+pub mod TablesObeyed

@@ -13,6 +13,8 @@ pub mod Writing
 pub mod Told
 pub mod Left
 pub mod Obeyed
+pub mod ObeyedTables
 pub mod Publishing
 pub mod Sending
 pub mod Ordered
+pub mod Step

@@ -5,8 +5,8 @@ use Rattle.lc_model.specs.Device.{Sink}
 use Rattle.lc_model.specs.Name.{Name}
 use Rattle.lc_model.specs.Host.React.{stored}
 use Rattle.lc_model.specs.Services.Seen.{meaning_of}
-use Rattle.lc_model.specs.Events.Request.{Request, event_services}
-use Rattle.lc_model.specs.Kept.Executive.{Executive, Written, told_by_host, filed_now, answered_now, with_services, event_service_now}
+use Rattle.lc_model.specs.Events.Request.{Request, event_services, table_services}
+use Rattle.lc_model.specs.Kept.Executive.{Executive, Written, told_by_host, filed_now, answered_now, with_services, event_service_now, table_service_now}
 use Rattle.lc_model.specs.Kept.Stations.{written_once}
 use Rattle.lc_model.specs.Services.Bus.{seen}
 use Rattle.app_host.specs.declared.error.WriteFault.{WriteFault}
@@ -48,4 +48,11 @@ abbrev pub ObeysEvents : List ℕ → Hosted → Hosted → Sink → Sink → Re
 ObeysEvents packet old new before now result =
     let e : Executive (List ℕ) = executive_in old in
     let step : Written (List ℕ) = answered_now on_board old.services.moment event_services packet e (with_services e (event_service_now packet e.services)) in
+    Handles (written_once step) step 0 old new before now result
+
+-- a command to the table services is obeyed or refused, and that is written
+abbrev pub ObeysTables : List ℕ → Hosted → Hosted → Sink → Sink → Result (Unit {0}) WriteFault → Type 0
+ObeysTables packet old new before now result =
+    let e : Executive (List ℕ) = executive_in old in
+    let step : Written (List ℕ) = answered_now on_board old.services.moment table_services packet e (with_services e (table_service_now on_board packet e.services)) in
     Handles (written_once step) step 0 old new before now result

@@ -22,7 +22,9 @@ pub mod publishing;
 mod seat;
 pub mod sending;
 mod services;
+mod step;
 mod succession;
+mod table_commands;
 
 pub use app::App;
 pub use counts::Counts;

@@ -1,0 +1,127 @@
+//! Commands to the table services (cFE user's guide, table services).
+
+ghost use Rattle.std.specs.Prelude.{◌≡◌, ◌≤◌, length, OnErr};
+ghost use Rattle.lc_model.specs.Name.{name_in};
+ghost use Rattle.lc_model.specs.Packet.{function_code, payload};
+ghost use Rattle.lc_model.specs.Tables.Slot.{Validate, Activate, Abort};
+ghost use Rattle.lc_model.specs.Command.{Load, Manage, of_length, table_command};
+ghost use Rattle.app_host.specs.Hosted.{shown};
+ghost use Rattle.app_host.specs.Whole.{IsWhole, IsQuiet};
+ghost use Rattle.app_host.specs.Told.{ObeysTables};
+ghost use Rattle.app_host.specs.Obeyed.{obeyed_by};
+ghost use Rattle.app_host.specs.ObeyedTables.{tables_by};
+
+use crate::error::WriteFault;
+use crate::event_commands::name_in;
+use crate::host::Host;
+use crate::numbers::{Numbers, of_tables};
+use event_service::host::{self, Service};
+use host_laws::table_commands_go_by_names;
+use lc_model::laws::table_services::table_services_go_by_names;
+use lc_model::packet::function_code;
+use lc_model::{ByteSink, EventKind};
+use tbl_service::Tables;
+
+/// A file is loaded: 40 bytes of its name.
+fn load(tables: &mut Tables, payload: &[u8]) -> Result<(), Numbers>
+    ensures answer { obeyed_by result tables.new ≡ tables_by (of_length 40 payload.now (Load (name_in payload.now))) tables.old }
+    ensures refused { OnErr result (tables.new ≡ tables.old) }
+{
+    if payload.len() != 40 {
+        return Err(Numbers::one(152));
+    }
+    match tables.load(name_in(payload)) {
+        Ok(()) => Ok(()),
+        Err(error) => Err(of_tables(error)),
+    }
+}
+
+/// The image that waits for a table is to be validated: 40 bytes of the table's name.
+fn validate(tables: &mut Tables, payload: &[u8]) -> Result<(), Numbers>
+    ensures answer { obeyed_by result tables.new ≡ tables_by (of_length 40 payload.now (Manage Validate (name_in payload.now))) tables.old }
+    ensures refused { OnErr result (tables.new ≡ tables.old) }
+{
+    if payload.len() != 40 {
+        return Err(Numbers::one(152));
+    }
+    match tables.request_validate(name_in(payload)) {
+        Ok(()) => Ok(()),
+        Err(error) => Err(of_tables(error)),
+    }
+}
+
+/// It is to come into use: 40 bytes of the table's name.
+fn activate(tables: &mut Tables, payload: &[u8]) -> Result<(), Numbers>
+    ensures answer { obeyed_by result tables.new ≡ tables_by (of_length 40 payload.now (Manage Activate (name_in payload.now))) tables.old }
+    ensures refused { OnErr result (tables.new ≡ tables.old) }
+{
+    if payload.len() != 40 {
+        return Err(Numbers::one(152));
+    }
+    match tables.request_activate(name_in(payload)) {
+        Ok(()) => Ok(()),
+        Err(error) => Err(of_tables(error)),
+    }
+}
+
+/// It goes: 40 bytes of the table's name.
+fn abort(tables: &mut Tables, payload: &[u8]) -> Result<(), Numbers>
+    ensures answer { obeyed_by result tables.new ≡ tables_by (of_length 40 payload.now (Manage Abort (name_in payload.now))) tables.old }
+    ensures refused { OnErr result (tables.new ≡ tables.old) }
+{
+    if payload.len() != 40 {
+        return Err(Numbers::one(152));
+    }
+    match tables.abort(name_in(payload)) {
+        Ok(()) => Ok(()),
+        Err(error) => Err(of_tables(error)),
+    }
+}
+
+/// A command to the table services is obeyed. It is refused with 151 for its code, 152 for its length, and then for what the
+/// services refuse it for; then nothing changes.
+pub(crate) fn obey(tables: &mut Tables, packet: &[u8]) -> Result<(), Numbers>
+    requires { 8 ≤ length packet.now }
+    ensures answer { obeyed_by result tables.new ≡ tables_by (table_command (function_code packet.now) (payload packet.now)) tables.old }
+    ensures refused { OnErr result (tables.new ≡ tables.old) }
+{
+    let payload = &packet[8..];
+    match function_code(packet) {
+        1 => load(tables, payload),
+        2 => validate(tables, payload),
+        3 => activate(tables, payload),
+        4 => abort(tables, payload),
+        _ => Err(Numbers::one(151)),
+    }
+}
+
+impl Host {
+    /// A command to the table services is obeyed or refused, and `HOST` tells which.
+    pub(crate) fn obey_tables<W: ByteSink>(
+        &mut self,
+        packet: &[u8],
+        out: &mut W,
+    ) -> Result<(), WriteFault>
+        requires whole { IsWhole (shown state called held self.old) }
+        requires quiet { IsQuiet (shown state called held self.old) }
+        requires none_yet { self.old.calls ≡ 0 }
+        requires headers { 8 ≤ length packet.now }
+        ensures { ObeysTables packet.now (shown state called held self.old) (shown state called held self.new) (W.sink out.old) (W.sink out.new) result }
+    {
+        table_services_go_by_names();
+        table_commands_go_by_names();
+        self.services.tables.is_service();
+        let obeyed = obey(&mut self.services.tables, packet);
+        self.services.tables.is_service();
+        match obeyed {
+            Ok(()) => {
+                let text = host::command_done(Service::Tables, function_code(packet));
+                self.tell_alone(4, EventKind::Information, &text, out)
+            }
+            Err(numbers) => {
+                let text = host::command_refused(Service::Tables, numbers.as_slice());
+                self.tell_alone(5, EventKind::Error, &text, out)
+            }
+        }
+    }
+}
