@@ -189,7 +189,7 @@ ComesIn next old new before now (Ok sent) = HasComeIn next sent old new before n
 ComesIn next old new before now (Err fault) = HasFailed next fault.sent old new before now
 
 -- a command to the executive services is obeyed or refused, and what the application and HOST ask for is written
-abbrev pub ObeysOrders : List ℕ → Hosted → Hosted → Sink → Sink → Result (Unit {0}) WriteFault → Type 0
+abbrev pub ObeysOrders : List ℕ → Hosted → Hosted → Sink → Sink → Result ℕ WriteFault → Type 0
 ObeysOrders packet old new before now result =
     let e : Executive (List ℕ) = executive_in old in
     let answer : Result (Written (List ℕ)) Refusal = executive_service_now on_board old.services.moment packet e in

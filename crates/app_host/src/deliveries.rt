@@ -70,8 +70,8 @@ impl Host {
         }
     }
 
-    /// Delivers until no packet waits. What each call asks for is written behind it.
-    pub(crate) fn drain<W: ByteSink>(&mut self, out: &mut W) -> Result<(), WriteFault>
+    /// Delivers until no packet waits. What each call asks for is written behind it. Answers how many bytes these were.
+    pub(crate) fn drain<W: ByteSink>(&mut self, out: &mut W) -> Result<u64, WriteFault>
         requires whole { IsWhole (shown state called held self.old) }
         requires light { IsLight (seen self.old.services.bus) }
         requires few { load (seen self.old.services.bus) ≤ 520 }
@@ -84,6 +84,6 @@ impl Host {
             next = self.deliver(seat);
             sent = self.flush(out, sent)?;
         }
-        Ok(())
+        Ok(sent)
     }
 }

@@ -199,7 +199,7 @@ impl Host {
         &mut self,
         packet: &[u8],
         out: &mut W,
-    ) -> Result<(), WriteFault>
+    ) -> Result<u64, WriteFault>
         requires whole { IsWhole (shown state called held self.old) }
         requires quiet { IsQuiet (shown state called held self.old) }
         requires none_yet { self.old.calls ≡ 0 }
@@ -211,8 +211,8 @@ impl Host {
                 let sent = self.come_in(next, out)?;
                 let text = host::command_done(Service::Applications, function_code(packet));
                 self.tell(8, EventKind::Information, &text);
-                self.flush(out, sent)?;
-                Ok(())
+                let total = self.flush(out, sent)?;
+                Ok(total)
             }
             Err(numbers) => {
                 let text = host::command_refused(Service::Applications, numbers.as_slice());

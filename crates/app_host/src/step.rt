@@ -5,7 +5,7 @@ ghost use Rattle.lc_model.specs.Packet.{stream_fault};
 ghost use Rattle.lc_model.specs.Host.React.{Packet};
 ghost use Rattle.app_host.specs.Hosted.{shown};
 ghost use Rattle.app_host.specs.Whole.{IsWhole, IsQuiet};
-ghost use Rattle.app_host.specs.Step.{input_by, IsNamed, HasBegun, Takes, IsBetween, IsTurnedAway, Steps};
+ghost use Rattle.app_host.specs.Step.{input_by, IsNamed, HasBegun, Takes, IsBetween, IsTurnedAway, Steps, Counts, without_count};
 
 use crate::error::WriteFault;
 use crate::host::Host;
@@ -24,6 +24,25 @@ impl Host {
         ensures between { IsBetween (shown state called held self.new) }
         ensures closed { (shown state called held self.old).is_closed ≡ true → IsTurnedAway (shown state called held self.old) (shown state called held self.new) (W.sink out.old) (W.sink out.new) result }
         ensures open { (shown state called held self.old).is_closed ≡ false → Steps entry.now.moment (input_by entry.now.body) (shown state called held self.old) (shown state called held self.new) (W.sink out.old) (W.sink out.new) result }
+    {
+        match self.step_counted(entry, out) {
+            Ok(_total) => Ok(()),
+            Err(fault) => Err(fault),
+        }
+    }
+
+    /// The same, and answers how many bytes were written, for writers that don't tell.
+    pub fn step_counted<W: ByteSink>(
+        &mut self,
+        entry: &Record<'_>,
+        out: &mut W,
+    ) -> Result<u64, WriteFault>
+        requires between { IsBetween (shown state called held self.old) }
+        requires named { IsNamed entry.now.body }
+        ensures between { IsBetween (shown state called held self.new) }
+        ensures closed { (shown state called held self.old).is_closed ≡ true → IsTurnedAway (shown state called held self.old) (shown state called held self.new) (W.sink out.old) (W.sink out.new) (without_count result) }
+        ensures open { (shown state called held self.old).is_closed ≡ false → Steps entry.now.moment (input_by entry.now.body) (shown state called held self.old) (shown state called held self.new) (W.sink out.old) (W.sink out.new) (without_count result) }
+        ensures count { (shown state called held self.old).is_closed ≡ false → Counts entry.now.moment (input_by entry.now.body) (shown state called held self.old) result }
     {
         if self.closed {
             return Err(WriteFault { sent: 0 });
@@ -44,7 +63,7 @@ impl Host {
     }
 
     /// What a record brings is handled.
-    fn handle<W: ByteSink>(&mut self, body: &Body<'_>, out: &mut W) -> Result<(), WriteFault>
+    fn handle<W: ByteSink>(&mut self, body: &Body<'_>, out: &mut W) -> Result<u64, WriteFault>
         requires whole { IsWhole (shown state called held self.old) }
         requires quiet { IsQuiet (shown state called held self.old) }
         requires none_yet { self.old.calls ≡ 0 }
@@ -59,7 +78,7 @@ impl Host {
     }
 
     /// A packet is refused, obeyed as a command to a service, or passed on to the applications.
-    fn take_packet<W: ByteSink>(&mut self, packet: &[u8], out: &mut W) -> Result<(), WriteFault>
+    fn take_packet<W: ByteSink>(&mut self, packet: &[u8], out: &mut W) -> Result<u64, WriteFault>
         requires whole { IsWhole (shown state called held self.old) }
         requires quiet { IsQuiet (shown state called held self.old) }
         requires none_yet { self.old.calls ≡ 0 }
@@ -72,7 +91,7 @@ impl Host {
     }
 
     /// A packet is obeyed as a command to a service, or passed on to the applications. Condition: a stream may bring it.
-    fn route<W: ByteSink>(&mut self, packet: &[u8], out: &mut W) -> Result<(), WriteFault>
+    fn route<W: ByteSink>(&mut self, packet: &[u8], out: &mut W) -> Result<u64, WriteFault>
         requires whole { IsWhole (shown state called held self.old) }
         requires quiet { IsQuiet (shown state called held self.old) }
         requires none_yet { self.old.calls ≡ 0 }
