@@ -20,8 +20,17 @@ pub mod Departed
 pub mod Filed
 pub mod EventsObeyed
 pub mod EventsRead
+pub mod Stepping
 pub mod Published
 pub mod Sent
+pub mod Unused
+pub mod Begun
+pub mod Withdrawn
+pub mod Followed
+pub mod Searched
+pub mod Prepared
+pub mod CameIn
+pub mod OrdersObeyed
 pub mod Commanded
 pub mod SeatsCommanded
 pub mod KnownTables

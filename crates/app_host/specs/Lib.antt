@@ -16,3 +16,5 @@ pub mod Obeyed
 pub mod ObeyedTables
 pub mod Publishing
 pub mod Sending
+pub mod Ordered
+pub mod Step

@@ -13,6 +13,7 @@ mod host;
 pub mod laws;
 mod numbers;
 mod objects;
+mod orders;
 mod outgoing;
 mod own_events;
 mod places;
@@ -21,6 +22,8 @@ pub mod publishing;
 mod seat;
 pub mod sending;
 mod services;
+mod step;
+mod succession;
 mod table_commands;
 
 pub use app::App;

@@ -3,7 +3,9 @@
 ghost use Rattle.std.specs.Prelude.{◌≡◌, ◌≤◌, [], ◌∷◌, length};
 ghost use Rattle.event_service.specs.Error as events;
 ghost use Rattle.tbl_service.specs.Error as tables;
+ghost use Rattle.app_host.specs.Ordered as orders;
 
+use crate::error::HostError;
 use event_service::EventError;
 use std::marker::Model;
 use tbl_service::TableError;
@@ -89,5 +91,15 @@ pub(crate) fn of_events(error: EventError) -> Numbers
         EventError::FilterFull => Numbers::one(102),
         EventError::AppsFull => Numbers::one(103),
         EventError::Memory => Numbers::none(),
+    }
+}
+
+/// The number of a refusal of the executive services.
+pub(crate) fn of_host(error: HostError) -> Numbers
+    ensures { result ≡ orders.refusal_of error }
+{
+    match error.code() {
+        Some(code) => Numbers::one(u16::from(code)),
+        None => Numbers::none(),
     }
 }

@@ -1,0 +1,93 @@
+-- The next one took its seat, and what it asked for is written.
+use Rattle.std.proofs.Common.{◌≡◌, ap, ap₂, sym, ◌∙◌, subst, ℕ, ◌≤◌, List, [], length, take, arith, Result, Ok, Err}
+use Rattle.std.specs.Prelude.{IsErrAnd}
+use Rattle.std.specs.List.{concat}
+use Rattle.std.specs.Io.KnownBytes.{Appends}
+use Rattle.lc_model.specs.declared.record.Moment.{Moment}
+use Rattle.lc_model.specs.Device.{Sink}
+use Rattle.lc_model.specs.Kept.Executive.{Executive, Written}
+use Rattle.app_host.specs.declared.services.Services.{Services}
+use Rattle.app_host.specs.declared.error.WriteFault.{WriteFault}
+use Rattle.app_host.specs.Hosted.{Hosted}
+use Rattle.app_host.specs.Whole.{AreSpares, AreKnown}
+use Rattle.app_host.specs.Delivered.{executive_in, Becomes}
+use Rattle.app_host.specs.Writing.{IsFlushed, IsAllSent, IsPartSent}
+use Rattle.app_host.specs.Ordered.{Next, IsKnownNext, followed_by, HasFollowed, HasComeIn, HasFailed, ComesIn}
+use Rattle.app_host.proofs.Course.{taken_both}
+use Rattle.app_host.proofs.Draining.{same_executive, still_known}
+
+-- what a write leaves alone
+pub spares_still : (old new : Hosted) → IsFlushed old new → AreSpares old.stock → AreSpares new.stock
+spares_still old new flushed spares = rw flushed.stock spares
+
+pub idle_then : (old new : Hosted) → IsFlushed old new → new.services.outgoing ≡ []
+idle_then old new flushed = ap (λ (s : Services). s.outgoing) flushed.services
+
+module _ (next : Next) (old one two new : Hosted) (sent : ℕ) (before mid now : Sink) (fits : length old.services.outgoing ≤ 65536) (first : IsFlushed old one)
+    (all : IsAllSent 0 old one before mid sent) (followed : HasFollowed next one two) (second : IsFlushed two new) where
+  moment_one : one.services.moment ≡ old.services.moment
+  moment_one = ap (λ (s : Services). s.moment) first.services
+
+  module _ (known : AreKnown old) (its_own : IsKnownNext next) (none : old.services.outgoing ≡ []) where
+    abbrev step : Written (List ℕ)
+    step = followed_by old.services.moment next (executive_in old)
+
+    becomes : Becomes two step
+    becomes =
+        subst (Becomes two) (ap₂ (λ (m : Moment) (x : Executive (List ℕ)). followed_by m next x) moment_one (same_executive old one first)) (followed.exact (still_known old one first known) its_own)
+
+    nothing_sent : sent ≡ 0
+    nothing_sent = let count = all.count in let nothing : length old.services.outgoing ≡ 0 = ap length none in omega (arith, count, nothing)
+
+    executive_then : executive_in new ≡ step.0
+    executive_then = same_executive two new second ∙ becomes.executive
+
+    gains_nothing : Appends before.gained mid.gained []
+    gains_nothing = subst (Appends before.gained mid.gained) none all.gains
+
+  pub came_in : (total : ℕ) → IsAllSent sent two new mid now total → HasComeIn next total old new before now
+  came_in total rest = record {
+    whole = record {
+      is_closed = rest.is_closed ∙ followed.whole.is_closed ∙ all.is_closed;
+      calls = second.calls ∙ followed.whole.calls ∙ first.calls;
+      moment = ap (λ (s : Services). s.moment) second.services ∙ followed.whole.moment ∙ moment_one;
+      seated = second.seated;
+      quiet = λ quiet. rw second.services (followed.whole.quiet (rw first.services quiet));
+      fits = let nothing : length new.services.outgoing ≡ 0 = ap length (idle_then two new second) in omega (arith, nothing);
+    };
+    spares = spares_still two new second followed.spares;
+    idle = idle_then two new second;
+    small = let a = all.count in let b = rest.count in let c = followed.whole.fits in omega (arith, a, b, c, fits);
+    fine = rest.fine ∙ all.fine;
+    exact = λ known its_own none. record {
+      known = still_known two new second (becomes known its_own none).known;
+      executive = executive_then known its_own none;
+      count = let a = rest.count in let b = nothing_sent known its_own none in let size : length two.services.outgoing ≡ length (concat (step known its_own none).1) = ap length (becomes known its_own none).outgoing in omega (arith, a, b, size);
+      gains =
+          taken_both before.gained mid.gained now.gained [] (concat (step known its_own none).1) (gains_nothing known its_own none)
+          (subst (Appends mid.gained now.gained) (becomes known its_own none).outgoing rest.gains);
+    };
+  }
+
+  pub failed_then : (total : ℕ) → IsPartSent sent two new mid now total → HasFailed next total old new before now
+  failed_then total part = record {
+    whole = record { seated = second.seated; spares = spares_still two new second followed.spares; idle = idle_then two new second };
+    is_closed = part.is_closed;
+    calls = second.calls ∙ followed.whole.calls ∙ first.calls;
+    failed = part.failed;
+    exact = λ known its_own none. let so : total ≡ part.taken = (let a = part.count in let b = nothing_sent known its_own none in omega (arith, a, b)) in record {
+      known = still_known two new second (becomes known its_own none).known;
+      executive = executive_then known its_own none;
+      fewer = let less = part.fewer in let size : length two.services.outgoing ≡ length (concat (step known its_own none).1) = ap length (becomes known its_own none).outgoing in omega (arith, so, less, size);
+      gains =
+          taken_both before.gained mid.gained now.gained [] (take total (concat (step known its_own none).1)) (gains_nothing known its_own none)
+          (subst (λ n. Appends mid.gained now.gained (take n (concat (step known its_own none).1))) (sym so)
+          (subst (λ bytes. Appends mid.gained now.gained (take part.taken bytes)) (becomes known its_own none).outgoing part.gains));
+    };
+  }
+
+-- an error that is passed on
+pub failed_so : (next : Next) (old new : Hosted) (before now : Sink) (result : Result ℕ WriteFault) (fault : WriteFault) → IsErrAnd result (λ e. e ≡ fault) → HasFailed next fault.sent old new before now →
+    ComesIn next old new before now result
+failed_so next old new before now (Ok total) fault is part = absurd is
+failed_so next old new before now (Err e) fault is part = subst (λ (f : WriteFault). HasFailed next f.sent old new before now) (sym is) part

@@ -1,0 +1,133 @@
+-- The next one took its seat.
+use Rattle.std.proofs.Common.{◌≡◌, ◌≢◌, refl, ap, ap₂, sym, ◌∙◌, subst, ℕ, suc, ◌<◌, List, [], ◌++◌, length, map, take, drop, arith, Option, None, get_or}
+use Rattle.std.specs.Prelude.{option_map, All}
+use Rattle.std.specs.List.{remove}
+use Rattle.std.proofs.lemmas.List.{take-map, drop-map, map-append, length-map}
+use Rattle.std.proofs.lemmas.List.Elements.{All-get_or, All-append, All-take, All-drop}
+use Rattle.std.specs.Global.{Global}
+use Rattle.std.specs.declared.dyn_box.DynBox.{DynBox}
+use Rattle.lc_model.specs.Name.{Name}
+use Rattle.lc_model.specs.Kept.Summary.{AppState, Other}
+use Rattle.lc_model.specs.Kept.Executive.{no_member, spare_at, begun_on, without_spare}
+use Rattle.lc_model.specs.Services.Bus.{seen}
+use Rattle.app_host.specs.declared.services.Services.{Services}
+use Rattle.app_host.specs.declared.succession.Successor.{Successor}
+use Rattle.app_host.specs.declared.succession.Successor.TheVariants as successor
+use Rattle.app_host.specs.Shared.{on_board, shared}
+use Rattle.app_host.specs.Hosted.{Object, object, Hosted, spare_in, no_object, member_of}
+use Rattle.app_host.specs.Whole.{AreSeated, AreSpares, AreKnown}
+use Rattle.app_host.specs.Delivered.{executive_in, Becomes}
+use Rattle.app_host.specs.Ordered.{next_of, Nobody, Spare, Same, MayBegin, MayFollow, StaysWhole, HasBegun, HasFollowed}
+use Rattle.app_host.proofs.Found.{shown_at, shown_in}
+
+-- ---- one thing after the other
+
+pub stays_then : (a b c : Hosted) → StaysWhole a b → StaysWhole b c → StaysWhole a c
+stays_then a b c first second = record {
+  is_closed = second.is_closed ∙ first.is_closed;
+  calls = second.calls ∙ first.calls;
+  moment = second.moment ∙ first.moment;
+  seated = second.seated;
+  quiet = λ quiet. second.quiet (first.quiet quiet);
+  fits = second.fits;
+}
+
+-- where only the stock changes
+pub stays_so : (old mid : Hosted) → AreSeated old.seats old.services → old.services.outgoing ≡ [] → mid.seats ≡ old.seats → mid.services ≡ old.services → mid.is_closed ≡ old.is_closed → mid.calls ≡ old.calls →
+    StaysWhole old mid
+stays_so old mid seated idle seats services closed calls = record {
+  is_closed = closed;
+  calls = calls;
+  moment = ap (λ (s : Services). s.moment) services;
+  seated = rw (seats, services) seated;
+  quiet = λ quiet. rw services quiet;
+  fits = let none : length mid.services.outgoing ≡ 0 = ap (λ (s : Services). length s.outgoing) services ∙ ap length idle in omega (arith, none);
+}
+
+-- ---- nobody comes
+
+pub nobody_followed : (h : Hosted) → AreSeated h.seats h.services → AreSpares h.stock → h.services.outgoing ≡ [] → HasFollowed Nobody h h
+nobody_followed h seated spares idle = record {
+  whole = stays_so h h seated idle refl refl refl refl;
+  spares = spares;
+  exact = λ known its_own. record { known = known; executive = refl; outgoing = idle };
+}
+
+-- ---- one that was there before
+
+pub same_followed : (old new : Hosted) (seat : ℕ) (o : Object) → AreSpares old.stock → HasBegun seat o old new → HasFollowed (Same o seat) old new
+same_followed old new seat o spares begun = record { whole = begun.whole; spares = rw begun.stock spares; exact = begun.exact }
+
+-- ---- a spare
+
+map_removed : {A B : Type 0} (f : A → B) (xs : List A) (i : ℕ) → map f (remove xs i) ≡ remove (map f xs) i
+map_removed f xs i = map-append f (take i xs) (drop (suc i) xs) ∙ ap₂ (λ (front back : List _). front ++ back) (sym (take-map f i xs)) (sym (drop-map f (suc i) xs))
+
+-- the object that left the stock, and the stock without it
+pub spare_is : {B : Type 0} (f : B → Object) (xs : List B) (i : ℕ) (x : B) → i < length (map f xs) → x ≡ get_or xs i x → i < length xs → f x ≡ spare_in (map f xs) i
+spare_is f xs i x inside is less = sym (shown_at f xs i x no_object less is)
+
+pub stock_is : {B : Type 0} (f : B → Object) (xs ys : List B) (i : ℕ) → ys ≡ remove xs i → map f ys ≡ remove (map f xs) i
+stock_is f xs ys i is = ap (map f) is ∙ map_removed f xs i
+
+all_removed : {A : Type 0} (P : A → Type 0) (xs : List A) (i : ℕ) → All P xs → All P (remove xs i)
+all_removed P xs i all = All-append P (take i xs) (drop (suc i) xs) (All-take P i xs all) (All-drop P (suc i) xs all)
+
+module _ (old mid : Hosted) (place : ℕ) (less : place < length old.stock) (stock : mid.stock ≡ remove old.stock place) (seats : mid.seats ≡ old.seats) (services : mid.services ≡ old.services)
+    (closed : mid.is_closed ≡ old.is_closed) (calls : mid.calls ≡ old.calls) where
+  -- it may begin
+  pub may_begin : (seat : ℕ) (o : Object) → o ≡ spare_in old.stock place → MayBegin seat old (spare_in old.stock place) → MayBegin seat mid o
+  may_begin seat o is may = rw is (record { free = rw seats may.free; spare = may.spare; unused = rw seats may.unused })
+
+  pub seated_mid : AreSeated old.seats old.services → AreSeated mid.seats mid.services
+  seated_mid seated = rw (seats, services) seated
+
+  -- in numbers
+  stock_mid : map member_of mid.stock ≡ remove (map member_of old.stock) place
+  stock_mid = ap (map member_of) stock ∙ map_removed member_of old.stock place
+
+  executive_mid : executive_in mid ≡ without_spare place (executive_in old)
+  executive_mid = λ i. record {
+    stock = stock_mid i;
+    seats = map (option_map member_of) (seats i);
+    pipes = seen (services i).bus;
+    services = shared (services i);
+  }
+
+  spare_member : spare_at (map member_of old.stock) place ≡ member_of (spare_in old.stock place)
+  spare_member = shown_in member_of old.stock place no_object no_member less
+
+  known_mid : AreKnown old → AreKnown mid
+  known_mid known = record { spares = rw stock (all_removed (λ (spare : Object). spare.state ≢ Other) old.stock place known.spares); seated = λ seat. rw seats (known.seated seat) }
+
+  pub spare_followed : (seat : ℕ) (o : Object) (new : Hosted) → o ≡ spare_in old.stock place → AreSeated old.seats old.services → old.services.outgoing ≡ [] → AreSpares old.stock → HasBegun seat o mid new →
+      HasFollowed (Spare place seat) old new
+  spare_followed seat o new is seated idle spares begun = record {
+    whole = stays_then old mid new (stays_so old mid seated idle seats services closed calls) begun.whole;
+    spares = rw (begun.stock, stock) (all_removed (λ (spare : Object). spare.held ≡ None) old.stock place spares);
+    exact = λ known its_own. subst (Becomes new) (step_is) (begun.exact (known_mid known) (known_spare known));
+  }
+    where
+      known_spare : AreKnown old → o.state ≢ Other
+      known_spare known = rw is (All-get_or (λ (spare : Object). spare.state ≢ Other) old.stock place no_object less known.spares)
+
+      step_is : begun_on on_board mid.services.moment seat (member_of o) (executive_in mid)
+          ≡ begun_on on_board old.services.moment seat (spare_at (map member_of old.stock) place) (without_spare place (executive_in old))
+      step_is = λ i. begun_on on_board (services i).moment seat ((ap member_of is ∙ sym spare_member) i) (executive_mid i)
+
+-- by what was taken out of a list of boxes
+module _ {X : Type 0} {D : X → Type 0} (state : DynBox X Global D → AppState) (called : DynBox X Global D → Name) (held : DynBox X Global D → Option ℕ) where
+  abbrev f : DynBox X Global D → Object
+  f = object state called held
+
+  pub spare_came : (xs ys : List (DynBox X Global D)) (x : DynBox X Global D) (old mid new : Hosted) (place seat : ℕ) (next : Successor X D) → next ≡ successor.Spare place seat →
+      MayFollow old (next_of state called held next) → old.stock ≡ map f xs → mid.stock ≡ map f ys → x ≡ get_or xs place x → ys ≡ remove xs place → mid.seats ≡ old.seats → mid.services ≡ old.services →
+      mid.is_closed ≡ old.is_closed → mid.calls ≡ old.calls → AreSeated old.seats old.services → old.services.outgoing ≡ [] → AreSpares old.stock → HasBegun seat (f x) mid new →
+      HasFollowed (next_of state called held next) old new
+  spare_came xs ys x old mid new place seat next is may stock stock' at rest seats services closed calls seated idle spares begun =
+      let so : MayFollow old (Spare place seat) = subst (λ (n : Successor X D). MayFollow old (next_of state called held n)) is may in
+      let inside : place < length (map f xs) = subst (λ (objects : List Object). place < length objects) stock so.0 in
+      let spare : f x ≡ spare_in old.stock place = spare_is f xs place x inside at (subst (λ n. place < n) (length-map xs f) inside) ∙ ap (λ (objects : List Object). spare_in objects place) (sym stock) in
+      let left : mid.stock ≡ remove old.stock place = stock' ∙ stock_is f xs ys place rest ∙ ap (λ (objects : List Object). remove objects place) (sym stock) in
+      subst (λ (n : Successor X D). HasFollowed (next_of state called held n) old new) (sym is)
+      (spare_followed old mid place so.0 left seats services closed calls seat (f x) new spare seated idle spares begun)

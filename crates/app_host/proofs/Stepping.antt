@@ -1,0 +1,201 @@
+-- A step, by what is handled in it.
+use Rattle.std.proofs.Common.{◌≡◌, refl, ap, sym, ◌∙◌, subst, ℕ, ◌≤◌, ◌==◌, Bool, true, false, List, ◌∷◌, [], length, map, if◌then◌else◌, Option, Some, None, Result, Ok, Err}
+use Rattle.std.specs.Prelude.{option_map}
+use Rattle.std.specs.Option.{option_map_or}
+use Rattle.lc_model.specs.declared.record.Moment.{Moment}
+use Rattle.lc_model.specs.Device.{Sink}
+use Rattle.lc_model.specs.Name.{Name}
+use Rattle.lc_model.specs.Services.Seen.{meaning_of}
+use Rattle.lc_model.specs.Packet.{stream_fault, message_id, event_services_mid, table_services_mid, executive_services_mid}
+use Rattle.lc_model.specs.Refusal.{Refusal}
+use Rattle.lc_model.specs.Events.Request.{event_services, table_services, executive_services, bad_packet}
+use Rattle.lc_model.specs.Host.React.{Input, Packet, File, stored}
+use Rattle.lc_model.specs.Laws.TablesByName.{TablesAreFound}
+use Rattle.lc_model.specs.Services.Bus.{seen}
+use Rattle.lc_model.specs.Services.Tables.{IsTableService}
+use Rattle.lc_model.specs.Kept.Executive.{Executive, Written, ready_seat, told_by_host, filed_now, step_by, routed_now, answered_now, with_services, event_service_now, table_service_now, executive_service_now, passed_on}
+use Rattle.lc_model.specs.Kept.Stations.{Station, Host, stop_at, written_once, order_stations, routed_stations, passing_stations, stations_of, last_calls, host_after, host_step}
+use Rattle.app_host.specs.declared.services.Services.{Services}
+use Rattle.app_host.specs.declared.error.WriteFault.{WriteFault}
+use Rattle.app_host.specs.Shared.{on_board, shared}
+use Rattle.app_host.specs.Hosted.{Hosted, member_of, in_numbers}
+use Rattle.app_host.specs.Whole.{AreKnown, IsWhole, IsQuiet}
+use Rattle.app_host.specs.Delivered.{executive_in}
+use Rattle.app_host.specs.Writing.{IsDone, IsCut, Handles, PassesOn}
+use Rattle.app_host.specs.Told.{TellsAlone, Files, ObeysEvents, ObeysTables}
+use Rattle.app_host.specs.Ordered.{ObeysOrders}
+use Rattle.app_host.specs.Step.{at_moment, HasBegun, Takes, IsBetween, StepsSo, StopsSo, Steps}
+use Rattle.app_host.proofs.Flushed.{same_shared, same_seated}
+
+-- ---- it begins
+
+pub whole_begun : TablesAreFound → (moment : Moment) (old begun : Hosted) → IsTableService old.services.tables → IsWhole old → begun.stock ≡ old.stock → begun.seats ≡ old.seats → begun.services ≡ at_moment moment old.services → IsWhole begun
+whole_begun law moment old begun sound whole stock seats services = record {
+  seated = rw (seats, services) (same_seated law old.seats old.services (at_moment moment old.services) sound (record { bus = refl; events = refl; tables = refl; counts = refl }) whole.seated);
+  spares = rw stock whole.spares;
+  idle = ap (λ (s : Services). s.outgoing) services ∙ whole.idle;
+}
+
+-- ---- it is done
+
+-- a step of an is_open host, by the write that fails, if any
+open_step : (moment : Moment) (room : ℕ) (host : Host (List ℕ)) (input : Input (List ℕ)) (stop : Option (Station (List ℕ))) → host.is_closed ≡ false → stop_at room (stations_of on_board moment host.executive input) ≡ stop →
+    host_step on_board moment room host input
+    ≡ option_map_or (λ (station : Station (List ℕ)). (record { executive = station.executive; is_closed = true; calls = station.calls }, Some room)) stop (host_after on_board moment host input, None)
+open_step moment room host input stop is_open is =
+    ap (λ b. if b then (host, Some 0)
+    else option_map_or (λ (station : Station (List ℕ)). (record { executive = station.executive; is_closed = true; calls = station.calls }, Some room))
+    (stop_at room (stations_of on_board moment host.executive input)) (host_after on_board moment host input, None)) is_open
+    ∙ ap (λ o. option_map_or (λ (station : Station (List ℕ)). (record { executive = station.executive; is_closed = true; calls = station.calls }, Some room)) o (host_after on_board moment host input, None)) is
+
+module _ (moment : Moment) (input : Input (List ℕ)) (old begun : Hosted) (began : HasBegun moment old begun) where
+  executive_begun : executive_in begun ≡ executive_in old
+  executive_begun = λ i. record {
+    stock = map member_of (began.stock i);
+    seats = map (option_map member_of) (began.seats i);
+    pipes = seen (began.services i).bus;
+    services = (ap shared began.services ∙ same_shared old.services (at_moment moment old.services) (record { bus = refl; events = refl; tables = refl; counts = refl })) i;
+  }
+
+  moment_begun : begun.services.moment ≡ moment
+  moment_begun = ap (λ (s : Services). s.moment) began.services
+
+  known_begun : AreKnown old → AreKnown begun
+  known_begun known = record { spares = rw began.stock known.spares; seated = λ seat. rw began.seats (known.seated seat) }
+
+  pub quiet_begun : IsQuiet old → IsQuiet begun
+  quiet_begun quiet = ap (λ (s : Services). ready_seat (seen s.bus)) began.services ∙ quiet
+
+  abbrev stations_by : Moment × Executive (List ℕ) → List (Station (List ℕ))
+  stations_by from = stations_of on_board from.0 from.1 input
+
+  steps_so : (new : Hosted) (before now : Option (List ℕ)) → new.is_closed ≡ false → old.is_closed ≡ false →
+      IsDone (stations_by (begun.services.moment, executive_in begun)) (step_by on_board begun.services.moment (executive_in begun) input) (last_calls on_board begun.services.moment (stations_by (begun.services.moment, executive_in begun))) new before now →
+      StepsSo moment input old new before now
+  steps_so new before now is_open was_open begun_done = record {
+    known = done.known;
+    host = after;
+    gains = done.gains;
+    room = λ room enough. open_step moment room (in_numbers old) input None was_open (done.fits room enough) ∙ ap (λ (h : Host (List ℕ)). (h, None)) (sym after);
+  }
+    where
+      done : IsDone (stations_by (moment, executive_in old)) (step_by on_board moment (executive_in old) input) (last_calls on_board moment (stations_by (moment, executive_in old))) new before now
+      done = subst (λ (from : Moment × Executive (List ℕ)). IsDone (stations_by from) (step_by on_board from.0 from.1 input) (last_calls on_board from.0 (stations_by from)) new before now)
+          (λ i. (moment_begun i, executive_begun i)) begun_done
+
+      after : in_numbers new ≡ host_after on_board moment (in_numbers old) input
+      after = λ i. record { executive = done.executive i; is_closed = is_open i; calls = done.calls i }
+
+  stops_so : (new : Hosted) (sent : ℕ) (before now : Option (List ℕ)) → new.is_closed ≡ true → old.is_closed ≡ false →
+      IsCut (stations_by (begun.services.moment, executive_in begun)) (step_by on_board begun.services.moment (executive_in begun) input) sent new before now →
+      StopsSo moment input sent old new before now
+  stops_so new sent before now is_closed was_open begun_cut = record {
+    known = cut.known;
+    host = open_step moment sent (in_numbers old) input (Some cut.station) was_open cut.stops ∙ ap (λ (h : Host (List ℕ)). (h, Some sent)) (sym after);
+    gains = cut.gains;
+  }
+    where
+      cut : IsCut (stations_by (moment, executive_in old)) (step_by on_board moment (executive_in old) input) sent new before now
+      cut = subst (λ (from : Moment × Executive (List ℕ)). IsCut (stations_by from) (step_by on_board from.0 from.1 input) sent new before now)
+          (λ i. (moment_begun i, executive_begun i)) begun_cut
+
+      after : in_numbers new ≡ record { executive = cut.station.executive; is_closed = true; calls = cut.station.calls }
+      after = λ i. record { executive = cut.executive i; is_closed = is_closed i; calls = cut.calls i }
+
+  pub steps : (new : Hosted) (before now : Sink) (result : Result (Unit {0}) WriteFault) → old.is_closed ≡ false → Takes input begun new before now result → Steps moment input old new before now result
+  steps new before now (Ok done) is_open all = record {
+    is_open = all.is_closed ∙ began.is_closed ∙ is_open;
+    few = all.calls;
+    fine = all.fine;
+    exact = λ known. steps_so new before.gained now.gained (all.is_closed ∙ began.is_closed ∙ is_open) is_open (all.exact (known_begun known));
+  }
+  steps new before now (Err fault) is_open part = record {
+    is_closed = part.is_closed;
+    few = part.calls;
+    failed = part.failed;
+    exact = λ known. stops_so new fault.sent before.gained now.gained part.is_closed is_open (part.exact (known_begun known));
+  }
+
+  pub between_then : (new : Hosted) (before now : Sink) (result : Result (Unit {0}) WriteFault) → Takes input begun new before now result → IsBetween new
+  between_then new before now (Ok done) all = record { whole = all.whole; quiet = λ is_open. all.quiet }
+  between_then new before now (Err fault) part = record { whole = part.whole; quiet = λ is_open. let clash : true ≡ false = sym part.is_closed ∙ is_open in cc }
+
+-- ---- what is handled
+
+-- one write behind all is no call
+no_call : (moment : Moment) (step : Written (List ℕ)) → last_calls on_board moment (written_once step) ≡ 0
+unfolding last_calls
+no_call moment step = refl
+
+no_call_for_orders : (moment : Moment) (packet : List ℕ) (e : Executive (List ℕ)) (answer : Result (Written (List ℕ)) Refusal) → last_calls on_board moment (order_stations on_board moment packet e answer) ≡ 0
+unfolding last_calls
+no_call_for_orders moment packet e (Ok step) = refl
+no_call_for_orders moment packet e (Err refusal) = refl
+
+module _ (old new : Hosted) (before now : Sink) (result : Result (Unit {0}) WriteFault) where
+  abbrev moment : Moment
+  moment = old.services.moment
+
+  abbrev e : Executive (List ℕ)
+  e = executive_in old
+
+  -- a write behind all, as what a record leads to
+  once : (step : Written (List ℕ)) → Handles (written_once step) step 0 old new before now result → Handles (written_once step) step (last_calls on_board moment (written_once step)) old new before now result
+  once step handles = subst (λ last. Handles (written_once step) step last old new before now result) (sym (no_call moment step)) handles
+
+  -- a file
+  pub filed_so : (name : Name) (bytes : List ℕ) (input : Input (List ℕ)) → input ≡ File name (length bytes) (meaning_of bytes) → Files name bytes old new before now result → Takes input old new before now result
+  filed_so name bytes input is files =
+      subst (λ given. Takes given old new before now result) (sym is)
+      (once (filed_now moment e (stored name (length bytes) (meaning_of bytes) e.services.files)) files)
+
+  module _ (packet : List ℕ) where
+    -- by the fault of the packet
+    abbrev ByFault : Option ℕ → Type 0
+    ByFault fault =
+        let stations : List (Station (List ℕ)) = option_map_or (λ reason. written_once (told_by_host moment (bad_packet reason ∷ []) e)) fault (routed_stations on_board moment packet e) in
+        Handles stations (option_map_or (λ reason. told_by_host moment (bad_packet reason ∷ []) e) fault (routed_now on_board moment packet e)) (last_calls on_board moment stations) old new before now result
+
+    pub refused_so : (reason : ℕ) → stream_fault packet ≡ Some reason → TellsAlone (bad_packet reason) old new before now result → Takes (Packet packet) old new before now result
+    refused_so reason is tells = subst ByFault (sym is) (once (told_by_host moment (bad_packet reason ∷ []) e) tells)
+
+    -- by its message id
+    abbrev events_step : Written (List ℕ)
+    events_step = answered_now on_board moment event_services packet e (with_services e (event_service_now packet e.services))
+
+    abbrev tables_step : Written (List ℕ)
+    tables_step = answered_now on_board moment table_services packet e (with_services e (table_service_now on_board packet e.services))
+
+    abbrev orders_step : Written (List ℕ)
+    orders_step = answered_now on_board moment executive_services packet e (executive_service_now on_board moment packet e)
+
+    abbrev ByMid : ℕ → Type 0
+    ByMid mid =
+        let stations : List (Station (List ℕ)) =
+        if mid == event_services_mid then written_once events_step
+        else if mid == table_services_mid then written_once tables_step
+        else if mid == executive_services_mid then order_stations on_board moment packet e (executive_service_now on_board moment packet e)
+        else passing_stations on_board moment packet e in
+        Handles stations (if mid == event_services_mid then events_step
+        else if mid == table_services_mid then tables_step
+        else if mid == executive_services_mid then orders_step
+        else passed_on on_board moment packet e) (last_calls on_board moment stations) old new before now result
+
+    module _ (good : stream_fault packet ≡ None) where
+      routed_so : ByMid (message_id packet) → Takes (Packet packet) old new before now result
+      routed_so routes = subst ByFault (sym good) routes
+
+      pub for_events : message_id packet ≡ event_services_mid → ObeysEvents packet old new before now result → Takes (Packet packet) old new before now result
+      for_events is obeys = routed_so (subst ByMid (sym is) (once events_step obeys))
+
+      pub for_tables : message_id packet ≡ table_services_mid → ObeysTables packet old new before now result → Takes (Packet packet) old new before now result
+      for_tables is obeys = routed_so (subst ByMid (sym is) (once tables_step obeys))
+
+      pub for_orders : message_id packet ≡ executive_services_mid → ObeysOrders packet old new before now result → Takes (Packet packet) old new before now result
+      for_orders is obeys = routed_so (subst ByMid (sym is)
+          (subst (λ last. Handles (order_stations on_board moment packet e (executive_service_now on_board moment packet e)) orders_step last old new before now result)
+          (sym (no_call_for_orders moment packet e (executive_service_now on_board moment packet e))) obeys))
+
+      pub for_pipes : (message_id packet == event_services_mid) ≡ false → (message_id packet == table_services_mid) ≡ false → (message_id packet == executive_services_mid) ≡ false →
+          PassesOn packet old new before now result → Takes (Packet packet) old new before now result
+      for_pipes events tables orders passes = routed_so (rw (events, tables, orders) passes)

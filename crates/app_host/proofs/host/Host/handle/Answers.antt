@@ -1,0 +1,7 @@
+use Rattle.std.proofs.Common.{ap}
+use Rattle.app_host.specs.Step.{input_by}
+use Rattle.app_host.proofs.Stepping.{filed_so}
+use Rattle.app_host.proofs.host.Host.handle.Goals as goal
+
+pub returns-in-File : goal.returns-in-File
+returns-in-File g c = filed_so _ _ _ _ c.store_file.result c.in-File.name.now c.in-File.bytes.now _ (ap input_by c.in-File.is) c.store_file.ensures

@@ -1,0 +1,196 @@
+-- What an order to an application asks for and leaves.
+use Rattle.std.specs.Prelude.{◌≡◌, ◌≢◌, ℕ, ◌<◌, ◌≤◌, ⊤, true, false, List, [], length, take, Option, None, option_to_list, Result, Ok, Err, IfSome, slice_set}
+use Rattle.std.specs.Global.{Global}
+use Rattle.std.specs.List.{concat}
+use Rattle.std.specs.declared.dyn_box.DynBox.{DynBox}
+use Rattle.std.specs.Io.KnownBytes.{Appends}
+use Rattle.lc_model.specs.declared.record.Moment.{Moment}
+use Rattle.lc_model.specs.Device.{Sink}
+use Rattle.lc_model.specs.Name.{Name, is_named, name_in}
+use Rattle.lc_model.specs.Refusal.{Refusal}
+use Rattle.lc_model.specs.Command as model
+use Rattle.lc_model.specs.Events.Request.{executive_services}
+use Rattle.lc_model.specs.Kept.Summary.{AppState, Other}
+use Rattle.lc_model.specs.Kept.Executive.{Executive, Written, spare_at, begun_on, without_spare, ordered_now, answered_now, executive_service_now}
+use Rattle.lc_model.specs.Kept.Stations.{order_stations}
+use Rattle.app_host.specs.declared.orders.Order.{Order}
+use Rattle.app_host.specs.declared.orders.Order.TheVariants as order
+use Rattle.app_host.specs.declared.succession.Successor.{Successor}
+use Rattle.app_host.specs.declared.succession.Successor.TheVariants as successor
+use Rattle.app_host.specs.declared.error.HostError.{HostError}
+use Rattle.app_host.specs.declared.error.WriteFault.{WriteFault}
+use Rattle.app_host.specs.Error.{error_code}
+use Rattle.app_host.specs.Shared.{on_board}
+use Rattle.app_host.specs.Hosted.{Object, object, Hosted, object_at, spare_in, member_of}
+use Rattle.app_host.specs.Whole.{AreSeated, AreSpares, AreKnown, IsWhole, IsQuiet}
+use Rattle.app_host.specs.Delivered.{executive_in, Becomes}
+use Rattle.app_host.specs.Left.{LeavesExactly}
+use Rattle.app_host.specs.Writing.{Handles}
+
+-- ---- who takes a seat next
+
+-- nobody, the spare at a place of the stock, or an object that gave the seat back
+pub data Next : Type 0 where
+  Nobody : Next
+  Spare : (place seat : ℕ) → Next
+  Same : (o : Object) (seat : ℕ) → Next
+
+-- by the meanings of its object
+abbrev pub next_of : {X : Type 0} {D : X → Type 0} → (DynBox X Global D → AppState) → (DynBox X Global D → Name) → (DynBox X Global D → Option ℕ) → Successor X D → Next
+next_of state called held successor.Nobody = Nobody
+next_of state called held (successor.Spare place seat) = Spare place seat
+next_of state called held (successor.Same app seat) = Same (object state called held app) seat
+
+-- an object that holds no seat may begin on this one, which is free: no seat has its name
+pub record MayBegin (seat : ℕ) (h : Hosted) (o : Object) : Type 0 where
+  pub free : object_at seat h.seats ≡ None
+  pub spare : o.held ≡ None
+  pub unused : (other : ℕ) → IfSome (object_at other h.seats) (λ (there : Object). is_named o.called there.called ≡ false)
+
+-- the next one may
+abbrev pub MayFollow : Hosted → Next → Type 0
+MayFollow h Nobody = ⊤
+MayFollow h (Spare place seat) = (place < length h.stock) × MayBegin seat h (spare_in h.stock place)
+MayFollow h (Same o seat) = MayBegin seat h o
+
+-- it is one of this profile
+abbrev pub IsKnownNext : Next → Type 0
+IsKnownNext Nobody = ⊤
+IsKnownNext (Spare place seat) = ⊤
+IsKnownNext (Same o seat) = o.state ≢ Other
+
+-- what is then, in numbers
+abbrev pub followed_by : Moment → Next → Executive (List ℕ) → Written (List ℕ)
+followed_by moment Nobody e = (e, [])
+followed_by moment (Spare place seat) e = begun_on on_board moment seat (spare_at e.stock place) (without_spare place e)
+followed_by moment (Same o seat) e = begun_on on_board moment seat (member_of o) e
+
+-- ---- what stays
+
+-- no call and no write was counted, each object is at home, and where no packet waited none does
+pub record StaysWhole (old new : Hosted) : Type 0 where
+  pub is_closed : new.is_closed ≡ old.is_closed
+  pub calls : new.calls ≡ old.calls
+  pub moment : new.services.moment ≡ old.services.moment
+  pub seated : AreSeated new.seats new.services
+  pub quiet : IsQuiet old → IsQuiet new
+  pub fits : length new.services.outgoing ≤ 65536
+
+-- ---- an object takes a seat, or gives it back
+
+-- the object began on the seat
+pub record HasBegun (seat : ℕ) (o : Object) (old new : Hosted) : Type 0 where
+  pub whole : StaysWhole old new
+  pub stock : new.stock ≡ old.stock
+  pub exact : AreKnown old → o.state ≢ Other → Becomes new (begun_on on_board old.services.moment seat (member_of o) (executive_in old))
+
+-- the next one took its seat
+pub record HasFollowed (next : Next) (old new : Hosted) : Type 0 where
+  pub whole : StaysWhole old new
+  pub spares : AreSpares new.stock
+  pub exact : AreKnown old → IsKnownNext next → Becomes new (followed_by old.services.moment next (executive_in old))
+
+-- this object gave the seat back
+pub record HasWithdrawn (seat : ℕ) (old new : Hosted) (o : Object) : Type 0 where
+  pub whole : StaysWhole old new
+  pub stock : new.stock ≡ old.stock
+  pub seats : new.seats ≡ slice_set old.seats seat None
+  pub spare : o.held ≡ None
+  pub was : IfSome (object_at seat old.seats) (λ (there : Object). member_of there ≡ member_of o)
+  pub exact : o.state ≢ Other → LeavesExactly seat old new
+
+-- ---- an order
+
+-- what an order is to lead to, or why it is refused
+abbrev pub wanted : model.Order → Name → Hosted → Result (Written (List ℕ)) Refusal
+wanted order name h = ordered_now on_board h.services.moment order name (executive_in h)
+
+-- what is to be done with an application
+abbrev pub order_of : Order → model.Order
+order_of order.Start = model.Start
+order_of order.Stop = model.Stop
+order_of order.Restart = model.Restart
+order_of order.Reload = model.Reload
+
+-- an order and the name in a payload of 20 bytes
+abbrev pub named_by : Order → List ℕ → Result (model.Order × Name) Refusal
+named_by order payload = model.of_length 20 payload (order_of order, name_in payload)
+
+-- the numbers of a refusal
+abbrev pub refusal_of : HostError → Refusal
+refusal_of error = option_to_list (error_code error)
+
+-- who was there is gone, nothing waits to be written, and what the next one leaves is what is wanted
+pub record LeadsTo (wanted : Result (Written (List ℕ)) Refusal) (h : Hosted) (next : Next) : Type 0 where
+  pub known : AreKnown h
+  pub next_known : IsKnownNext next
+  pub outgoing : h.services.outgoing ≡ []
+  pub step : wanted ≡ Ok (followed_by h.services.moment next (executive_in h))
+
+-- the seat is free for the next one
+pub record IsPrepared (wanted : Result (Written (List ℕ)) Refusal) (old new : Hosted) (next : Next) : Type 0 where
+  pub whole : StaysWhole old new
+  pub stock : new.stock ≡ old.stock
+  pub may : MayFollow new next
+  pub exact : AreKnown old → LeadsTo wanted new next
+
+-- one of the two, by the answer
+abbrev pub Prepares : {X : Type 0} {D : X → Type 0} → (DynBox X Global D → AppState) → (DynBox X Global D → Name) → (DynBox X Global D → Option ℕ) →
+    Result (Written (List ℕ)) Refusal → Hosted → Hosted → Result (Successor X D) HostError → Type 0
+Prepares state called held wanted old new (Ok next) = IsPrepared wanted old new (next_of state called held next)
+Prepares state called held wanted old new (Err error) = (wanted ≡ Err (refusal_of error)) × (new ≡ old)
+
+-- the same of a command that is refused for its code or its length, too
+abbrev pub Takes : {X : Type 0} {D : X → Type 0} → (DynBox X Global D → AppState) → (DynBox X Global D → Name) → (DynBox X Global D → Option ℕ) →
+    Result (Written (List ℕ)) Refusal → Hosted → Hosted → Result (Successor X D) Refusal → Type 0
+Takes state called held wanted old new (Ok next) = IsPrepared wanted old new (next_of state called held next)
+Takes state called held wanted old new (Err numbers) = (wanted ≡ Err numbers) × (new ≡ old)
+
+-- ---- what is written
+
+-- all was written that this step writes, so many bytes
+pub record IsWritten (step : Written (List ℕ)) (sent : ℕ) (new : Hosted) (before now : Option (List ℕ)) : Type 0 where
+  pub known : AreKnown new
+  pub executive : executive_in new ≡ step.0
+  pub count : sent ≡ length (concat step.1)
+  pub gains : Appends before now (concat step.1)
+
+-- the first bytes only
+pub record IsBroken (step : Written (List ℕ)) (sent : ℕ) (new : Hosted) (before now : Option (List ℕ)) : Type 0 where
+  pub known : AreKnown new
+  pub executive : executive_in new ≡ step.0
+  pub fewer : sent < length (concat step.1)
+  pub gains : Appends before now (take sent (concat step.1))
+
+-- an object of this profile left nothing to write, and one of it comes next
+abbrev pub IfExact : Hosted → Next → Type 0 → Type 0
+IfExact h next P = AreKnown h → IsKnownNext next → h.services.outgoing ≡ [] → P
+
+-- the next one took its seat, and all that waited is written
+pub record HasComeIn (next : Next) (sent : ℕ) (old new : Hosted) (before now : Sink) : Type 0 where
+  pub whole : StaysWhole old new
+  pub spares : AreSpares new.stock
+  pub idle : new.services.outgoing ≡ []
+  pub small : sent ≤ 131072
+  pub fine : now.failed ≡ before.failed
+  pub exact : IfExact old next (IsWritten (followed_by old.services.moment next (executive_in old)) sent new before.gained now.gained)
+
+-- a write failed, and the host is closed
+pub record HasFailed (next : Next) (sent : ℕ) (old new : Hosted) (before now : Sink) : Type 0 where
+  pub whole : IsWhole new
+  pub is_closed : new.is_closed ≡ true
+  pub calls : new.calls ≡ old.calls
+  pub failed : now.failed ≡ true
+  pub exact : IfExact old next (IsBroken (followed_by old.services.moment next (executive_in old)) sent new before.gained now.gained)
+
+-- one of the two, by the answer
+abbrev pub ComesIn : Next → Hosted → Hosted → Sink → Sink → Result ℕ WriteFault → Type 0
+ComesIn next old new before now (Ok sent) = HasComeIn next sent old new before now
+ComesIn next old new before now (Err fault) = HasFailed next fault.sent old new before now
+
+-- a command to the executive services is obeyed or refused, and what the application and HOST ask for is written
+abbrev pub ObeysOrders : List ℕ → Hosted → Hosted → Sink → Sink → Result (Unit {0}) WriteFault → Type 0
+ObeysOrders packet old new before now result =
+    let e : Executive (List ℕ) = executive_in old in
+    let answer : Result (Written (List ℕ)) Refusal = executive_service_now on_board old.services.moment packet e in
+    Handles (order_stations on_board old.services.moment packet e answer) (answered_now on_board old.services.moment executive_services packet e answer) 0 old new before now result

@@ -1,0 +1,105 @@
+-- What one record leads to.
+use Rattle.std.specs.Prelude.{◌≡◌, ℕ, ◌≤◌, ⊤, true, false, List, length, take, Option, Some, None, Result, Ok, Err}
+use Rattle.std.specs.List.{concat}
+use Rattle.std.specs.Io.KnownBytes.{Appends}
+use Rattle.lc_model.specs.declared.record.Body.{Body}
+use Rattle.lc_model.specs.declared.record.Body.TheVariants as body
+use Rattle.lc_model.specs.declared.record.Moment.{Moment}
+use Rattle.lc_model.specs.Device.{Sink}
+use Rattle.lc_model.specs.Host.React.{Input, Packet, Tick, File}
+use Rattle.lc_model.specs.Host.Stream.{name_size}
+use Rattle.lc_model.specs.Services.Seen.{meaning_of}
+use Rattle.lc_model.specs.Kept.Executive.{Executive, Written, most_deliveries, step_by}
+use Rattle.lc_model.specs.Kept.Stations.{Station, stations_of, last_calls, host_after, host_step}
+use Rattle.app_host.specs.declared.services.Services.{Services}
+use Rattle.app_host.specs.declared.error.WriteFault.{WriteFault}
+use Rattle.app_host.specs.Shared.{on_board}
+use Rattle.app_host.specs.Hosted.{Hosted, in_numbers}
+use Rattle.app_host.specs.Whole.{AreKnown, IsWhole, IsQuiet}
+use Rattle.app_host.specs.Delivered.{executive_in}
+use Rattle.app_host.specs.Writing.{Handles}
+
+-- ---- a record
+
+-- what it brings, as the host in numbers takes it: on board a file means its bytes
+abbrev pub input_by : Body → Input (List ℕ)
+input_by (body.Packet bytes) = Packet bytes.now
+input_by body.Tick = Tick
+input_by (body.File name bytes) = File name.now (length bytes.now) (meaning_of bytes.now)
+
+-- a file's name is no longer than the field that a stream has for it
+abbrev pub IsNamed : Body → Type 0
+IsNamed (body.Packet bytes) = ⊤
+IsNamed body.Tick = ⊤
+IsNamed (body.File name bytes) = length name.now ≤ name_size
+
+-- ---- inside a step
+
+-- the services at another moment
+abbrev pub at_moment : Moment → Services → Services
+at_moment moment s = record s { moment = moment }
+
+-- the step has begun: it has its moment, and no call was made
+pub record HasBegun (moment : Moment) (old new : Hosted) : Type 0 where
+  pub whole : IsWhole new
+  pub stock : new.stock ≡ old.stock
+  pub seats : new.seats ≡ old.seats
+  pub services : new.services ≡ at_moment moment old.services
+  pub is_closed : new.is_closed ≡ old.is_closed
+  pub calls : new.calls ≡ 0
+
+-- what a record brings is handled, at the moment of the services
+abbrev pub Takes : Input (List ℕ) → Hosted → Hosted → Sink → Sink → Result (Unit {0}) WriteFault → Type 0
+Takes input old new before now result =
+    let e : Executive (List ℕ) = executive_in old in
+    let stations : List (Station (List ℕ)) = stations_of on_board old.services.moment e input in
+    Handles stations (step_by on_board old.services.moment e input) (last_calls on_board old.services.moment stations) old new before now result
+
+-- ---- a whole step
+
+-- so a host is between two steps: where no write has failed no packet waits
+pub record IsBetween (h : Hosted) : Type 0 where
+  pub whole : IsWhole h
+  pub quiet : h.is_closed ≡ false → IsQuiet h
+
+-- a closed host takes no record: nothing changes, and nothing is written
+pub record IsTurnedAway (old new : Hosted) (before now : Sink) (result : Result (Unit {0}) WriteFault) : Type 0 where
+  pub answer : result ≡ Err (record { sent = 0 })
+  pub host : new ≡ old
+  pub sink : now ≡ before
+
+-- the packets that this record calls for, as bytes
+abbrev pub called_for : Moment → Input (List ℕ) → Hosted → List ℕ
+called_for moment input h = let step : Written (List ℕ) = step_by on_board moment (executive_in h) input in concat step.1
+
+-- with objects of this profile: the host in numbers, and all that it writes
+pub record StepsSo (moment : Moment) (input : Input (List ℕ)) (old new : Hosted) (before now : Option (List ℕ)) : Type 0 where
+  pub known : AreKnown new
+  pub host : in_numbers new ≡ host_after on_board moment (in_numbers old) input
+  pub gains : Appends before now (called_for moment input old)
+  pub room : (room : ℕ) → length (called_for moment input old) ≤ room → host_step on_board moment room (in_numbers old) input ≡ (in_numbers new, None)
+
+-- the same up to the write that failed
+pub record StopsSo (moment : Moment) (input : Input (List ℕ)) (sent : ℕ) (old new : Hosted) (before now : Option (List ℕ)) : Type 0 where
+  pub known : AreKnown new
+  pub host : host_step on_board moment sent (in_numbers old) input ≡ (in_numbers new, Some sent)
+  pub gains : Appends before now (take sent (called_for moment input old))
+
+-- all is written, and the host is open
+pub record StepsWhole (moment : Moment) (input : Input (List ℕ)) (old new : Hosted) (before now : Sink) : Type 0 where
+  pub is_open : new.is_closed ≡ false
+  pub few : new.calls ≤ most_deliveries
+  pub fine : now.failed ≡ before.failed
+  pub exact : AreKnown old → StepsSo moment input old new before.gained now.gained
+
+-- a write failed, and the host is closed
+pub record StepsPart (moment : Moment) (input : Input (List ℕ)) (sent : ℕ) (old new : Hosted) (before now : Sink) : Type 0 where
+  pub is_closed : new.is_closed ≡ true
+  pub few : new.calls ≤ most_deliveries
+  pub failed : now.failed ≡ true
+  pub exact : AreKnown old → StopsSo moment input sent old new before.gained now.gained
+
+-- one of the two, by the answer
+abbrev pub Steps : Moment → Input (List ℕ) → Hosted → Hosted → Sink → Sink → Result (Unit {0}) WriteFault → Type 0
+Steps moment input old new before now (Ok done) = StepsWhole moment input old new before now
+Steps moment input old new before now (Err fault) = StepsPart moment input fault.sent old new before now

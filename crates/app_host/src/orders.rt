@@ -1,0 +1,223 @@
+//! Commands to the executive services (cFE user's guide, executive services): applications start, stop, and are replaced.
+
+ghost use Rattle.std.specs.Prelude.{◌≡◌, ◌≤◌, ◌<◌, ℕ, length, Ok, Err, IfOk, IfErr, IfSome};
+ghost use Rattle.lc_model.specs.Packet.{function_code, payload};
+ghost use Rattle.lc_model.specs.Command.{Start, Stop, Restart, Reload, app_command};
+ghost use Rattle.lc_model.specs.Kept.Executive as kept;
+ghost use Rattle.lc_model.specs.Kept.Executive.{seat_count, executive_service_now};
+ghost use Rattle.app_host.specs.Shared.{on_board};
+ghost use Rattle.app_host.specs.Hosted.{shown};
+ghost use Rattle.app_host.specs.Whole.{AreSeated, AreSpares, IsWhole, IsQuiet};
+ghost use Rattle.app_host.specs.Delivered.{executive_in};
+ghost use Rattle.app_host.specs.Ordered.{order_of, named_by, wanted, Prepares, Takes, MayFollow, ComesIn, next_of, ObeysOrders};
+
+use crate::error::{HostError, WriteFault};
+use crate::event_commands::name_in;
+use crate::host::Host;
+use crate::numbers::{Numbers, of_host};
+use crate::objects::{free_seat, seat_of, spare_of};
+use crate::succession::Successor;
+use event_service::host::{self, Service};
+use lc_model::packet::function_code;
+use lc_model::{ByteSink, EventKind, Seat};
+
+/// What is to be done with an application.
+#[derive(Clone, Copy, Debug, PartialEq, Eq)]
+pub(crate) enum Order {
+    Start,
+    Stop,
+    Restart,
+    Reload,
+}
+
+/// An order and its application: 20 bytes of a name.
+fn read_name(order: Order, payload: &[u8]) -> Result<(Order, &[u8]), Numbers>
+    ensures read { IfOk result (λ command. named_by order payload.now ≡ Ok (order_of command.0, command.1.now)) }
+    ensures refused { IfErr result (λ numbers. named_by order payload.now ≡ Err numbers) }
+{
+    if payload.len() != 20 {
+        return Err(Numbers::one(152));
+    }
+    Ok((order, name_in(payload)))
+}
+
+/// The order of a command. It is refused with 151 for its code, and then with 152 for its length.
+fn read_order(packet: &[u8]) -> Result<(Order, &[u8]), Numbers>
+    requires { 8 ≤ length packet.now }
+    ensures read { IfOk result (λ command. app_command (function_code packet.now) (payload packet.now) ≡ Ok (order_of command.0, command.1.now)) }
+    ensures refused { IfErr result (λ numbers. app_command (function_code packet.now) (payload packet.now) ≡ Err numbers) }
+{
+    let payload = &packet[8..];
+    match function_code(packet) {
+        1 => read_name(Order::Start, payload),
+        2 => read_name(Order::Stop, payload),
+        3 => read_name(Order::Restart, payload),
+        4 => read_name(Order::Reload, payload),
+        _ => Err(Numbers::one(151)),
+    }
+}
+
+/// The seat of a number, if there is one.
+fn seat_numbered(number: Option<usize>) -> Option<Seat>
+    requires { IfSome number (λ (n : ℕ). n < seat_count) }
+    ensures { result ≡ number }
+{
+    match number {
+        Some(n) => Some(Seat::new(n as u8)),
+        None => None,
+    }
+}
+
+impl Host {
+    /// The seat of an application that runs.
+    fn runs_at(&self, name: &[u8]) -> Option<Seat>
+        requires seated { AreSeated (shown state called held self.now).seats (shown state called held self.now).services }
+        ensures { result ≡ kept.seat_of name.now (executive_in (shown state called held self.now)).seats }
+    {
+        seat_numbered(seat_of(&self.seats, name))
+    }
+
+    /// The least free seat.
+    fn free(&self) -> Option<Seat>
+        requires seated { AreSeated (shown state called held self.now).seats (shown state called held self.now).services }
+        ensures { result ≡ kept.free_seat (executive_in (shown state called held self.now)).seats }
+    {
+        seat_numbered(free_seat(&self.seats))
+    }
+
+    /// The first spare of a name.
+    fn first_spare(&self, name: &[u8]) -> Option<usize>
+        ensures { result ≡ kept.spare_of name.now (executive_in (shown state called held self.now)).stock }
+    {
+        spare_of(self.stock.as_slice(), name)
+    }
+
+    /// The first spare of a name is to take the least free seat. It is refused where an application of the name runs, where
+    /// there is no spare, and where no seat is free, in this order.
+    fn prepare_start(&self, name: &[u8]) -> Result<Successor, HostError>
+        requires whole { IsWhole (shown state called held self.now) }
+        ensures { Prepares state called held (wanted Start name.now (shown state called held self.now)) (shown state called held self.now) (shown state called held self.now) result }
+    {
+        if self.runs_at(name).is_some() {
+            return Err(HostError::AlreadyRunning);
+        }
+        let Some(place) = self.first_spare(name) else {
+            return Err(HostError::NoSpare);
+        };
+        match self.free() {
+            Some(seat) => Ok(Successor::Spare(place, seat)),
+            None => Err(HostError::TooManyApps),
+        }
+    }
+
+    /// The application of the name gives its seat back and is dropped. It is refused where none runs.
+    fn prepare_stop(&mut self, name: &[u8]) -> Result<Successor, HostError>
+        requires whole { IsWhole (shown state called held self.old) }
+        ensures { Prepares state called held (wanted Stop name.now (shown state called held self.old)) (shown state called held self.old) (shown state called held self.new) result }
+    {
+        match self.runs_at(name) {
+            None => Err(HostError::NoSuchApp),
+            Some(seat) => {
+                self.withdraw(seat);
+                Ok(Successor::Nobody)
+            }
+        }
+    }
+
+    /// The application of the name gives its seat back, and is to take it again. It is refused where none runs.
+    fn prepare_restart(&mut self, name: &[u8]) -> Result<Successor, HostError>
+        requires whole { IsWhole (shown state called held self.old) }
+        ensures { Prepares state called held (wanted Restart name.now (shown state called held self.old)) (shown state called held self.old) (shown state called held self.new) result }
+    {
+        match self.runs_at(name) {
+            None => Err(HostError::NoSuchApp),
+            Some(seat) => Ok(Successor::Same(self.withdraw(seat), seat)),
+        }
+    }
+
+    /// The application of the name gives its seat back and is dropped; the first spare of the name is to take the seat. It is
+    /// refused where none runs, and then where there is no spare.
+    fn prepare_reload(&mut self, name: &[u8]) -> Result<Successor, HostError>
+        requires whole { IsWhole (shown state called held self.old) }
+        ensures { Prepares state called held (wanted Reload name.now (shown state called held self.old)) (shown state called held self.old) (shown state called held self.new) result }
+    {
+        let Some(seat) = self.runs_at(name) else {
+            return Err(HostError::NoSuchApp);
+        };
+        match self.first_spare(name) {
+            None => Err(HostError::NoSpare),
+            Some(place) => {
+                self.withdraw(seat);
+                Ok(Successor::Spare(place, seat))
+            }
+        }
+    }
+
+    /// The order is begun: who is to leave a seat has left it. Answers who takes it next, or why the order is refused.
+    fn prepare(&mut self, order: Order, name: &[u8]) -> Result<Successor, HostError>
+        requires whole { IsWhole (shown state called held self.old) }
+        ensures { Prepares state called held (wanted (order_of order) name.now (shown state called held self.old)) (shown state called held self.old) (shown state called held self.new) result }
+    {
+        match order {
+            Order::Start => self.prepare_start(name),
+            Order::Stop => self.prepare_stop(name),
+            Order::Restart => self.prepare_restart(name),
+            Order::Reload => self.prepare_reload(name),
+        }
+    }
+
+    /// The same for a command, which may be refused as none.
+    fn take_order(&mut self, packet: &[u8]) -> Result<Successor, Numbers>
+        requires whole { IsWhole (shown state called held self.old) }
+        requires headers { 8 ≤ length packet.now }
+        ensures { Takes state called held (executive_service_now on_board self.old.services.moment packet.now (executive_in (shown state called held self.old))) (shown state called held self.old) (shown state called held self.new) result }
+    {
+        let (order, name) = read_order(packet)?;
+        match self.prepare(order, name) {
+            Ok(next) => Ok(next),
+            Err(error) => Err(of_host(error)),
+        }
+    }
+
+    /// What waits is written, the next one takes its seat, and what it asks for is written. Answers how many bytes these are.
+    fn come_in<W: ByteSink>(&mut self, next: Successor, out: &mut W) -> Result<u64, WriteFault>
+        requires seated { AreSeated (shown state called held self.old).seats (shown state called held self.old).services }
+        requires spares { AreSpares (shown state called held self.old).stock }
+        requires fits { length self.old.services.outgoing ≤ 65536 }
+        requires may { MayFollow (shown state called held self.old) (next_of state called held next) }
+        ensures { ComesIn (next_of state called held next) (shown state called held self.old) (shown state called held self.new) (W.sink out.old) (W.sink out.new) result }
+    {
+        let sent = self.flush(out, 0)?;
+        self.bring_in(next);
+        let total = self.flush(out, sent)?;
+        Ok(total)
+    }
+
+    /// A command to the executive services is obeyed or refused. What the application asks for is written, and then `HOST`
+    /// tells which.
+    pub(crate) fn obey_orders<W: ByteSink>(
+        &mut self,
+        packet: &[u8],
+        out: &mut W,
+    ) -> Result<(), WriteFault>
+        requires whole { IsWhole (shown state called held self.old) }
+        requires quiet { IsQuiet (shown state called held self.old) }
+        requires none_yet { self.old.calls ≡ 0 }
+        requires headers { 8 ≤ length packet.now }
+        ensures { ObeysOrders packet.now (shown state called held self.old) (shown state called held self.new) (W.sink out.old) (W.sink out.new) result }
+    {
+        match self.take_order(packet) {
+            Ok(next) => {
+                let sent = self.come_in(next, out)?;
+                let text = host::command_done(Service::Applications, function_code(packet));
+                self.tell(8, EventKind::Information, &text);
+                self.flush(out, sent)?;
+                Ok(())
+            }
+            Err(numbers) => {
+                let text = host::command_refused(Service::Applications, numbers.as_slice());
+                self.tell_alone(9, EventKind::Error, &text, out)
+            }
+        }
+    }
+}

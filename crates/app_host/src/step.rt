@@ -1,0 +1,99 @@
+//! What one record leads to.
+
+ghost use Rattle.std.specs.Prelude.{◌≡◌, ◌≤◌, false, true, length, None};
+ghost use Rattle.lc_model.specs.Packet.{stream_fault};
+ghost use Rattle.lc_model.specs.Host.React.{Packet};
+ghost use Rattle.app_host.specs.Hosted.{shown};
+ghost use Rattle.app_host.specs.Whole.{IsWhole, IsQuiet};
+ghost use Rattle.app_host.specs.Step.{input_by, IsNamed, HasBegun, Takes, IsBetween, IsTurnedAway, Steps};
+
+use crate::error::WriteFault;
+use crate::host::Host;
+use lc_model::laws::table_services::table_services_go_by_names;
+use lc_model::packet::{message_id, stream_fault};
+use lc_model::{Body, ByteSink, Moment, Record};
+
+/// Commands to the event services (cFE user's guide).
+const EVENT_SERVICES: u16 = 0x1801;
+
+/// Commands to the table services.
+const TABLE_SERVICES: u16 = 0x1804;
+
+/// Commands to the executive services.
+const EXECUTIVE_SERVICES: u16 = 0x1806;
+
+impl Host {
+    /// Handles a record, and writes what it leads to: the output of each call of an application behind that call, and each
+    /// event of `HOST`. Where a write fails, `sent` is how many bytes of this step the writer took; what was done before that
+    /// write stands, and the host is closed. A closed host answers `sent: 0` and does nothing. It asks for no memory.
+    /// Condition: a file's name has at most 40 bytes.
+    pub fn step<W: ByteSink>(&mut self, entry: &Record<'_>, out: &mut W) -> Result<(), WriteFault>
+        requires between { IsBetween (shown state called held self.old) }
+        requires named { IsNamed entry.now.body }
+        ensures between { IsBetween (shown state called held self.new) }
+        ensures closed { (shown state called held self.old).is_closed ≡ true → IsTurnedAway (shown state called held self.old) (shown state called held self.new) (W.sink out.old) (W.sink out.new) result }
+        ensures open { (shown state called held self.old).is_closed ≡ false → Steps entry.now.moment (input_by entry.now.body) (shown state called held self.old) (shown state called held self.new) (W.sink out.old) (W.sink out.new) result }
+    {
+        if self.closed {
+            return Err(WriteFault { sent: 0 });
+        }
+        self.begin_step(entry.moment);
+        self.handle(&entry.body, out)
+    }
+
+    /// A step begins, at this moment: no call was made in it.
+    fn begin_step(&mut self, moment: Moment)
+        requires whole { IsWhole (shown state called held self.old) }
+        ensures { HasBegun moment (shown state called held self.old) (shown state called held self.new) }
+    {
+        table_services_go_by_names();
+        self.services.tables.is_service();
+        self.services.moment = moment;
+        self.calls = 0;
+    }
+
+    /// What a record brings is handled.
+    fn handle<W: ByteSink>(&mut self, body: &Body<'_>, out: &mut W) -> Result<(), WriteFault>
+        requires whole { IsWhole (shown state called held self.old) }
+        requires quiet { IsQuiet (shown state called held self.old) }
+        requires none_yet { self.old.calls ≡ 0 }
+        requires named { IsNamed body.now }
+        ensures { Takes (input_by body.now) (shown state called held self.old) (shown state called held self.new) (W.sink out.old) (W.sink out.new) result }
+    {
+        match *body {
+            Body::Packet(bytes) => self.take_packet(bytes, out),
+            Body::Tick => self.tick(out),
+            Body::File { name, bytes } => self.store_file(name, bytes, out),
+        }
+    }
+
+    /// A packet is refused, obeyed as a command to a service, or passed on to the applications.
+    fn take_packet<W: ByteSink>(&mut self, packet: &[u8], out: &mut W) -> Result<(), WriteFault>
+        requires whole { IsWhole (shown state called held self.old) }
+        requires quiet { IsQuiet (shown state called held self.old) }
+        requires none_yet { self.old.calls ≡ 0 }
+        ensures { Takes (Packet packet.now) (shown state called held self.old) (shown state called held self.new) (W.sink out.old) (W.sink out.new) result }
+    {
+        match stream_fault(packet) {
+            Some(reason) => self.refuse_packet(reason, out),
+            None => self.route(packet, out),
+        }
+    }
+
+    /// A packet is obeyed as a command to a service, or passed on to the applications. Condition: a stream may bring it.
+    fn route<W: ByteSink>(&mut self, packet: &[u8], out: &mut W) -> Result<(), WriteFault>
+        requires whole { IsWhole (shown state called held self.old) }
+        requires quiet { IsQuiet (shown state called held self.old) }
+        requires none_yet { self.old.calls ≡ 0 }
+        requires good { stream_fault packet.now ≡ None }
+        requires headers { 8 ≤ length packet.now }
+        ensures { Takes (Packet packet.now) (shown state called held self.old) (shown state called held self.new) (W.sink out.old) (W.sink out.new) result }
+    {
+        match message_id(packet) {
+            EVENT_SERVICES => self.obey_events(packet, out),
+            TABLE_SERVICES => self.obey_tables(packet, out),
+            EXECUTIVE_SERVICES => self.obey_orders(packet, out),
+            _ => self.pass_on(packet, out),
+        }
+    }
+}

@@ -1,0 +1,147 @@
+//! Objects that give their seats back, and those that take them next.
+
+ghost use Rattle.std.specs.Prelude.{◌≡◌, ◌<◌, map, option_map, slice_set, IfSome, IsSomeAnd, IsSome, None, []};
+ghost use Rattle.lc_model.specs.Kept.Executive.{seat_count};
+ghost use Rattle.app_host.specs.Calls.{IsObject};
+ghost use Rattle.app_host.specs.Hosted.{Object, object, object_at, shown};
+ghost use Rattle.app_host.specs.Objects.{MayStartOn, HasStarted, MayRetire, HasRetired};
+ghost use Rattle.app_host.specs.Whole.{AreSeated, AreSpares};
+ghost use Rattle.app_host.specs.Ordered.{MayBegin, MayFollow, HasBegun, HasFollowed, HasWithdrawn, next_of};
+
+use crate::app::App;
+use crate::host::Host;
+use crate::objects::{retire, start};
+use crate::services::Services;
+use lc_model::Seat;
+use lc_model::laws::table_services::table_services_go_by_names;
+
+/// Who takes a seat next.
+#[derive(Drop)]
+pub(crate) enum Successor {
+    Nobody,
+    /// The spare at a place of the stock.
+    Spare(usize, Seat),
+    /// An object that gave the seat back.
+    Same(Box<dyn App>, Seat),
+}
+
+/// What every object is.
+fn is_object(app: &Box<dyn App>)
+    ensures { IsObject (object state called held app.now).state (object state called held app.now).called }
+{
+    app.name();
+}
+
+/// Each seat is one of eight.
+pub(crate) fn is_seat(seat: Seat)
+    ensures { seat < seat_count }
+{
+    seat.index();
+}
+
+/// The object of a place gives its seat back. Condition: there is one.
+fn withdraw_in(
+    place: &mut Option<Box<dyn App>>,
+    seat: Seat,
+    services: &mut Services,
+) -> Box<dyn App>
+    requires { IsSomeAnd (option_map (object state called held) place.old) (MayRetire seat services.old) }
+    ensures gone { place.new ≡ None }
+    ensures left { IfSome (option_map (object state called held) place.old) (λ o. HasRetired seat services.old services.new o (object state called held result)) }
+{
+    let mut app = place.take().unwrap();
+    retire(&mut app, seat, services);
+    app
+}
+
+/// The object of a seat gives it back. Condition: there is one.
+fn withdraw_at(
+    seats: &mut [Option<Box<dyn App>>; Seat::COUNT],
+    seat: Seat,
+    services: &mut Services,
+) -> Box<dyn App>
+    requires { IsSomeAnd (object_at seat (map (option_map (object state called held)) seats.old)) (MayRetire seat services.old) }
+    ensures gone { map (option_map (object state called held)) seats.new ≡ slice_set (map (option_map (object state called held)) seats.old) seat None }
+    ensures left { IfSome (object_at seat (map (option_map (object state called held)) seats.old)) (λ o. HasRetired seat services.old services.new o (object state called held result)) }
+{
+    withdraw_in(&mut seats[seat.index()], seat, services)
+}
+
+/// An object starts, and is at a place from then on.
+fn begin_in(
+    place: &mut Option<Box<dyn App>>,
+    seat: Seat,
+    services: &mut Services,
+    app: Box<dyn App>,
+)
+    requires { MayStartOn seat services.old (object state called held app) }
+    ensures { IsSomeAnd (option_map (object state called held) place.new) (HasStarted seat services.old services.new (object state called held app)) }
+{
+    let mut app = app;
+    start(&mut app, seat, services);
+    *place = Some(app);
+}
+
+/// An object starts on a seat.
+fn begin_at(
+    seats: &mut [Option<Box<dyn App>>; Seat::COUNT],
+    seat: Seat,
+    services: &mut Services,
+    app: Box<dyn App>,
+)
+    requires { MayStartOn seat services.old (object state called held app) }
+    ensures started { IsSomeAnd (object_at seat (map (option_map (object state called held)) seats.new)) (HasStarted seat services.old services.new (object state called held app)) }
+    ensures others { map (option_map (object state called held)) seats.new ≡ slice_set (map (option_map (object state called held)) seats.old) seat (object_at seat (map (option_map (object state called held)) seats.new)) }
+{
+    begin_in(&mut seats[seat.index()], seat, services, app);
+}
+
+impl Host {
+    /// The object of a seat gives it back. Condition: there is one.
+    pub(crate) fn withdraw(&mut self, seat: Seat) -> Box<dyn App>
+        requires seated { AreSeated (shown state called held self.old).seats (shown state called held self.old).services }
+        requires idle { self.old.services.outgoing ≡ [] }
+        requires there { IsSome (object_at seat (shown state called held self.old).seats) }
+        ensures { HasWithdrawn seat (shown state called held self.old) (shown state called held self.new) (object state called held result) }
+    {
+        table_services_go_by_names();
+        self.services.tables.is_service();
+        is_seat(seat);
+        let app = withdraw_at(&mut self.seats, seat, &mut self.services);
+        self.services.tables.is_service();
+        app
+    }
+
+    /// An object begins on a seat that is free. Conditions: it holds no seat, and no seat has its name.
+    fn begin(&mut self, seat: Seat, app: Box<dyn App>)
+        requires seated { AreSeated (shown state called held self.old).seats (shown state called held self.old).services }
+        requires idle { self.old.services.outgoing ≡ [] }
+        requires may { MayBegin seat (shown state called held self.old) (object state called held app) }
+        ensures { HasBegun seat (object state called held app) (shown state called held self.old) (shown state called held self.new) }
+    {
+        table_services_go_by_names();
+        is_object(&app);
+        is_seat(seat);
+        self.services.tables.is_service();
+        begin_at(&mut self.seats, seat, &mut self.services, app);
+        self.services.tables.is_service();
+    }
+
+    /// The next one takes its seat; a spare leaves the stock for it.
+    pub(crate) fn bring_in(&mut self, next: Successor)
+        requires seated { AreSeated (shown state called held self.old).seats (shown state called held self.old).services }
+        requires spares { AreSpares (shown state called held self.old).stock }
+        requires idle { self.old.services.outgoing ≡ [] }
+        requires may { MayFollow (shown state called held self.old) (next_of state called held next) }
+        ensures { HasFollowed (next_of state called held next) (shown state called held self.old) (shown state called held self.new) }
+    {
+        match next {
+            Successor::Nobody => {}
+            Successor::Spare(place, seat) => {
+                let app = self.stock.remove(place);
+                self.begin(seat, app);
+            }
+            Successor::Same(app, seat) => self.begin(seat, app),
+        }
+    }
+}
