@@ -1,20 +1,21 @@
 -- What a record of a stream brings to the host.
-use Rattle.std.specs.Prelude.{◌≡◌, ℕ, ◌+◌, ◌<◌, ◌≤◌, ⊤, List, length, Option, Some, None}
+use Rattle.std.specs.Prelude.{◌≡◌, ℕ, ◌+◌, ◌<◌, ⊤, List, length, Option, Some, None}
 use Rattle.lc_model.specs.declared.kind.Kind.{Kind}
 use Rattle.lc_model.specs.declared.record.Record.{Record as Given}
 use Rattle.lc_model.specs.Tables.File.{headers_length}
 use Rattle.lc_model.specs.Tables.Interpretation.{FileMeanings}
 use Rattle.lc_model.specs.Tables.HalvesAndBytes.{byte_meanings}
 use Rattle.lc_model.specs.Host.Run.{input_of, size_in}
-use Rattle.lc_model.specs.Host.Stream.{StreamEntry, name_size}
+use Rattle.lc_model.specs.Host.Stream.{StreamEntry}
 use Rattle.lc_model.specs.Services.Seen.{meaning_of}
 use Rattle.rpn_compiler.specs.declared.files.TablePair.{TablePair}
+use Rattle.app_host.specs.Step.{input_by, IsNamed}
 use Rattle.flight_core.specs.declared.found.Found.{Found}
 use Rattle.flight_core.specs.declared.found.Found.TheVariants.{Record, Half, Bad}
 use Rattle.flight_core.specs.Answer.{Answer, Entry}
 use Rattle.flight_core.specs.Found.{answer_of}
 use Rattle.flight_core.specs.Compiled.{file_in}
-use Rattle.flight_core.specs.Stepping.{input_by, IsNamed}
+
 
 -- what files mean by their bytes, where the halves of texts are these files
 abbrev pub meanings_of : List TablePair → FileMeanings (List ℕ)
@@ -24,12 +25,6 @@ meanings_of pairs = byte_meanings (file_in pairs)
 abbrev pub AreWhole : List TablePair → Type 0
 AreWhole pairs = (kind : Kind) (number : ℕ) → number < length pairs →
     headers_length + size_in (meaning_of (file_in pairs kind number)) ≡ length (file_in pairs kind number)
-
--- a name is no longer than its field
-abbrev pub IsShortNamed : Found → Type 0
-IsShortNamed (Record entry) = IsNamed entry.body
-IsShortNamed (Half moment name kind text) = length name.now ≤ name_size
-IsShortNamed (Bad number) = ⊤
 
 -- a record as the host takes it
 pub record IsTaken (pairs : List TablePair) (found : Answer) (given : Given) : Type 0 where

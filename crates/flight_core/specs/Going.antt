@@ -6,12 +6,13 @@ use Rattle.lc_model.specs.Host.Run.{input_of}
 use Rattle.lc_model.specs.Host.Stream.{StreamEntry, Record, NoRecord}
 use Rattle.lc_model.specs.Tables.Interpretation.{FileMeanings}
 use Rattle.app_host.specs.Hosted.{Hosted}
+use Rattle.app_host.specs.Step.{IsBetween}
 use Rattle.host_laws.specs.Statements.{AreBytes}
 use Rattle.flight_core.specs.declared.halt.Halt.{Halt}
 use Rattle.flight_core.specs.declared.halt.Halt.TheVariants as halt
 use Rattle.flight_core.specs.Front.{part_of}
 use Rattle.flight_core.specs.Records.{Held, front_of, next_number}
-use Rattle.flight_core.specs.Stepping.{IsBetween, StepsWhole, StepsPart}
+use Rattle.flight_core.specs.Stepping.{StepsWhole, StepsPart}
 
 -- ---- the next record
 

@@ -1,41 +1,15 @@
 -- What the host does for one record, and how many bytes it wrote.
-use Rattle.std.specs.Prelude.{◌≡◌, ℕ, ◌≤◌, ⊤, true, false, List, length, take, Option, Some, None, Result, Ok, Err}
-use Rattle.std.specs.List.{concat}
+use Rattle.std.specs.Prelude.{◌≡◌, ℕ, ◌≤◌, true, false, List, length, take, Option, Some, Result, Ok, Err}
 use Rattle.std.specs.Io.KnownBytes.{Appends}
-use Rattle.lc_model.specs.declared.record.Body.{Body}
-use Rattle.lc_model.specs.declared.record.Body.TheVariants as body
 use Rattle.lc_model.specs.declared.record.Moment.{Moment}
 use Rattle.lc_model.specs.Device.{Sink}
-use Rattle.lc_model.specs.Host.React.{Input, Packet, Tick, File}
-use Rattle.lc_model.specs.Host.Stream.{name_size}
-use Rattle.lc_model.specs.Services.Seen.{meaning_of}
-use Rattle.lc_model.specs.Kept.Executive.{Executive, Written, most_deliveries, step_by}
+use Rattle.lc_model.specs.Host.React.{Input}
+use Rattle.lc_model.specs.Kept.Executive.{most_deliveries}
 use Rattle.lc_model.specs.Kept.Stations.{host_after, host_step}
 use Rattle.app_host.specs.Shared.{on_board}
 use Rattle.app_host.specs.Hosted.{Hosted, in_numbers}
-use Rattle.app_host.specs.Whole.{AreKnown, IsWhole, IsQuiet}
-use Rattle.app_host.specs.Delivered.{executive_in}
-
--- what it brings, as the host in numbers takes it: on board a file means its bytes
-abbrev pub input_by : Body → Input (List ℕ)
-input_by (body.Packet bytes) = Packet bytes.now
-input_by body.Tick = Tick
-input_by (body.File name bytes) = File name.now (length bytes.now) (meaning_of bytes.now)
-
--- a file's name is no longer than the field that a stream has for it
-abbrev pub IsNamed : Body → Type 0
-IsNamed (body.Packet bytes) = ⊤
-IsNamed body.Tick = ⊤
-IsNamed (body.File name bytes) = length name.now ≤ name_size
-
--- so a host is between two steps: where no write has failed no packet waits
-pub record IsBetween (h : Hosted) : Type 0 where
-  pub whole : IsWhole h
-  pub quiet : h.is_closed ≡ false → IsQuiet h
-
--- the packets that this record calls for, as bytes
-abbrev pub called_for : Moment → Input (List ℕ) → Hosted → List ℕ
-called_for moment input h = let step : Written (List ℕ) = step_by on_board moment (executive_in h) input in concat step.1
+use Rattle.app_host.specs.Whole.{AreKnown}
+use Rattle.app_host.specs.Step.{called_for}
 
 -- with objects of this profile: the host in numbers, and all that it writes
 pub record StepsSo (moment : Moment) (input : Input (List ℕ)) (total : ℕ) (old new : Hosted) (before now : Option (List ℕ)) : Type 0 where

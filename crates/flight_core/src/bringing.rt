@@ -1,9 +1,9 @@
 //! What a record of a stream brings to the host.
 
 ghost use Rattle.std.specs.Prelude.{◌≡◌, length};
-ghost use Rattle.flight_core.specs.Found.{NamesText};
+ghost use Rattle.flight_core.specs.Found.{IsShortNamed, NamesText};
 ghost use Rattle.flight_core.specs.Compiled.{file_of};
-ghost use Rattle.flight_core.specs.Brought.{AreWhole, IsShortNamed, IsBrought};
+ghost use Rattle.flight_core.specs.Brought.{AreWhole, IsBrought};
 
 use crate::found::Found;
 use lc_model::{Body, Kind, Record};
@@ -22,9 +22,9 @@ fn file(pair: &TablePair, kind: Kind) -> &[u8]
 /// The record that was found, with the compiled file in the place of a half; none where what was found is no record.
 pub(crate) fn brought<'a>(found: Found<'a>, pairs: &'a [TablePair]) -> Option<Record<'a>>
     requires named { IsShortNamed found }
-    requires text { NamesText (length pairs.entry.now) found }
-    requires files { AreWhole pairs.entry.now }
-    ensures { IsBrought pairs.entry.now found result }
+    requires text { NamesText (length pairs.now) found }
+    requires files { AreWhole pairs.now }
+    ensures { IsBrought pairs.entry.now found.entry result }
 {
     match found {
         Found::Record(entry) => Some(entry),

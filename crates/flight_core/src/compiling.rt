@@ -1,6 +1,6 @@
 //! All rule texts of a run are compiled.
 
-ghost use Rattle.std.specs.Prelude.{◌≡◌, IfErr, IfOk};
+ghost use Rattle.std.specs.Prelude.{◌≡◌, ◌<◌, length, slice_get, IfErr, IfOk, Some};
 ghost use Rattle.flight_core.specs.Compiled.{sources_of, refusal_for, AreAllCompiled, IsNotCompiled};
 
 use crate::error::RunError;
@@ -17,6 +17,14 @@ fn refusal(text: usize, error: CompileError) -> RunError
     }
 }
 
+/// The text with this number.
+fn text_at<'a>(texts: &[&'a [u8]], number: usize) -> &'a [u8]
+    requires { number < length texts.now }
+    ensures { slice_get (sources_of texts.now) number ≡ Some result.now }
+{
+    texts[number]
+}
+
 /// The table files of all texts, in order; or the first text that does not compile, numbered from 0, with its error. It takes
 /// all the memory that they need.
 pub(crate) fn compile_all(alloc: Global, texts: &[&[u8]]) -> Result<Vec<TablePair>, RunError>
@@ -24,8 +32,8 @@ pub(crate) fn compile_all(alloc: Global, texts: &[&[u8]]) -> Result<Vec<TablePai
     ensures refused { IfErr result (IsNotCompiled (sources_of texts.now)) }
 {
     let mut pairs = Vec::with_capacity(alloc, texts.len())?;
-    for (number, text) in texts.iter().enumerate() {
-        match compile(alloc, text) {
+    for number in 0..texts.len() {
+        match compile(alloc, text_at(&*texts, number)) {
             Ok(pair) => pairs.push_reserved(pair),
             Err(error) => return Err(refusal(number, error)),
         }

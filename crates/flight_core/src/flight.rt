@@ -6,7 +6,7 @@ ghost use Rattle.app_host.specs.Hosted.{shown};
 ghost use Rattle.flight_core.specs.Brought.{AreWhole};
 ghost use Rattle.flight_core.specs.Flight.{FliesSo, ended_by, stopped_by};
 ghost use Rattle.flight_core.specs.Records.{nothing_held};
-ghost use Rattle.flight_core.specs.Stepping.{IsBetween};
+ghost use Rattle.app_host.specs.Step.{IsBetween};
 
 use crate::error::{Report, RunError};
 use crate::halt::Halt;
@@ -14,7 +14,7 @@ use crate::handling::handle_next;
 use crate::laws::{records_are_handed_out, the_rest_says_the_end};
 use crate::pieces::{MOST_READS, PIECE, take_piece};
 use crate::records::Records;
-use app_host::Host;
+use app_host::{App, Host};
 use host_laws::{goes_on, records_of_bytes_are_fine, writes_are_the_steps};
 use lc_model::{ByteSink, ByteSource};
 use rpn_compiler::TablePair;
@@ -49,14 +49,14 @@ pub(crate) fn fly<R: ByteSource, W: ByteSink>(
     requires nothing { records.old ≡ nothing_held (length pairs.now) }
     requires room { length room.old ≡ PIECE }
     requires files { AreWhole pairs.now }
-    requires between { IsBetween (shown state called held host.old) }
-    requires open { (shown state called held host.old).is_closed ≡ false }
+    requires between { IsBetween (shown (λ b. (⟦<dyn App as App>⟧ b.vtable).state b.value) (λ b. (⟦<dyn App as App>⟧ b.vtable).called b.value) (λ b. (⟦<dyn App as App>⟧ b.vtable).held b.value) host.old) }
+    requires open { (shown (λ b. (⟦<dyn App as App>⟧ b.vtable).state b.value) (λ b. (⟦<dyn App as App>⟧ b.vtable).called b.value) (λ b. (⟦<dyn App as App>⟧ b.vtable).held b.value) host.old).is_closed ≡ false }
     requires unread { (R.source reader.old).reads ≡ 0 }
     requires readable { (R.source reader.old).failed ≡ false }
     requires writable { (W.sink writer.old).failed ≡ false }
     requires most { most ≤ MOST_READS }
-    ensures outcome { FliesSo pairs.now most (shown state called held host.old) (devices (R.source reader.old) (R.source reader.new) (W.sink writer.old) (W.sink writer.new)) result }
-    ensures between { IsBetween (shown state called held host.new) }
+    ensures outcome { FliesSo pairs.now most (shown (λ b. (⟦<dyn App as App>⟧ b.vtable).state b.value) (λ b. (⟦<dyn App as App>⟧ b.vtable).called b.value) (λ b. (⟦<dyn App as App>⟧ b.vtable).held b.value) host.old) (devices (R.source reader.old) (R.source reader.new) (W.sink writer.old) (W.sink writer.new)) result }
+    ensures between { IsBetween (shown (λ b. (⟦<dyn App as App>⟧ b.vtable).state b.value) (λ b. (⟦<dyn App as App>⟧ b.vtable).called b.value) (λ b. (⟦<dyn App as App>⟧ b.vtable).held b.value) host.new) }
     ensures bounded { (R.source reader.new).reads ≤ most }
 {
     records_are_handed_out();
