@@ -1,5 +1,5 @@
-//! What a run of the host is made of, below its program: the program's words, the records of a stream that comes in pieces,
-//! and the counter.
+//! A run of the host, below its program: rule texts are compiled, and the records of a stream that comes in pieces are handled.
+//! Beside it the program's words, and the counter.
 #![tactic(auto)]
 
 mod bringing;
