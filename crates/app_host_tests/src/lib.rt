@@ -5,7 +5,11 @@
 pub mod alone;
 #[cfg(test)]
 mod counting;
+pub mod hosting;
+pub mod named;
 #[cfg(test)]
 mod shared;
 #[cfg(test)]
 mod sharing;
+pub mod tally;
+pub mod tracked;
