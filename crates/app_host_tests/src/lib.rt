@@ -7,6 +7,11 @@ pub mod alone;
 mod counting;
 pub mod hosting;
 pub mod named;
+pub mod output;
+pub mod packets;
+pub mod playing;
+pub mod recorder;
+pub mod script;
 #[cfg(test)]
 mod shared;
 #[cfg(test)]
