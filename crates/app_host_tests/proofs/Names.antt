@@ -132,17 +132,21 @@ closes seat before now r law sound bus answer kept tables counts moment outgoing
         let stays : after before.bus (pipe_removed seat before.bus) ≡ before.bus = cc in
         stays ∙ sym (ap (slice_set before.bus seat) (sym e) ∙ set-get_or before.bus seat None)
     no_pipe (Some queue) e = cc
+
     goes : (sender : Sender) → sender_at (Some seat) before.events ≡ Some sender → unregistered_at seat before.events ≡ Ok (without seat before.events)
     goes sender e = ap (λ (place : Option Sender). if is_some place then Ok (without seat before.events) else refused 101) e
+
     stays_in : (r : Result (Unit {0}) EventError) → answered r now.events ≡ refused 101 → OnErr r (now.events ≡ before.events) → now.events ≡ before.events
     stays_in (Ok done) e same = cc
     stays_in (Err error) e same = same
+
     no_sender : (place : Option Sender) → sender_at (Some seat) before.events ≡ place → now.events ≡ without seat before.events
     no_sender None e =
         stays_in r (answer ∙ ap (λ (place : Option Sender). if is_some place then Ok (without seat before.events) else refused 101) e) kept
         ∙ ap (λ (places : List (Option Sender)). record before.events { places = places })
-          (sym (ap (slice_set before.events.places seat) (sym e) ∙ set-get_or before.events.places seat None))
+        (sym (ap (slice_set before.events.places seat) (sym e) ∙ set-get_or before.events.places seat None))
     no_sender (Some sender) e = answered_by r now.events (without seat before.events) (answer ∙ goes sender e)
+
     no_name : (place : Option Sender) → sender_at (Some seat) before.events ≡ place →
         IfSome place (λ (sender : Sender). sender_named now.events ≡ with_at sender.name None (sender_named before.events))
     no_name None e = tt

@@ -38,7 +38,10 @@ fn begins(bytes: &[u8], said: Said<'_>) -> (bool, usize) {
     match said {
         Said::Done(id, text) => (is_event(bytes, b"HOST", id, INFORMATION, text), EVENT_SIZE),
         Said::Refused(id, text) => (is_event(bytes, b"HOST", id, ERROR, text), EVENT_SIZE),
-        Said::Count(text) => (is_event(bytes, b"COUNTER", 1, INFORMATION, text), EVENT_SIZE),
+        Said::Count(text) => (
+            is_event(bytes, b"COUNTER", 1, INFORMATION, text),
+            EVENT_SIZE,
+        ),
         Said::Letters(letters) => (bytes.starts_with(letters), letters.len()),
     }
 }

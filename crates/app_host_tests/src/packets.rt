@@ -17,8 +17,7 @@ const EXECUTIVE_SERVICES: u16 = 0x1806;
 /// less 7, the function code and a checksum that nobody reads.
 fn headers(message_id: u16, code: u8, payload: usize) -> [u8; 8] {
     let [mid_high, mid_low] = message_id.to_be_bytes();
-    let [size_high, size_low] = ((payload.wrapping_add(1) % 65_536) as u16)
-        .to_be_bytes();
+    let [size_high, size_low] = ((payload.wrapping_add(1) % 65_536) as u16).to_be_bytes();
     [mid_high, mid_low, 0xC0, 0, size_high, size_low, code, 0]
 }
 
@@ -33,10 +32,7 @@ fn named(
 ) -> Result<Vec<u8>, AllocError> {
     let zeros = [0u8; LONGEST_FIELD];
     let fill = length.saturating_sub(name.len()).min(LONGEST_FIELD);
-    let payload = name
-        .len()
-        .saturating_add(fill)
-        .saturating_add(behind.len());
+    let payload = name.len().saturating_add(fill).saturating_add(behind.len());
     let mut packet = Vec::new(alloc);
     packet.extend_from_slice(&headers(message_id, code, payload))?;
     packet.extend_from_slice(name)?;

@@ -32,7 +32,14 @@ fn give<W: ByteSink>(
         Given::File(name, size) => {
             let bytes = vec![in alloc; 0u8; size]?;
             let name = &name[..name.len().min(40)];
-            Ok(step(host, Body::File { name, bytes: bytes.as_slice() }, out))
+            Ok(step(
+                host,
+                Body::File {
+                    name,
+                    bytes: bytes.as_slice(),
+                },
+                out,
+            ))
         }
         _ => {
             let bytes = packet(alloc, given)?;
@@ -50,11 +57,7 @@ fn has_failed(answer: Result<(), WriteFault>, sent: u64) -> bool {
 }
 
 /// Whether a record leads to what its line says.
-fn leads_to(
-    alloc: Global,
-    host: &mut Host,
-    line: Line<'_>,
-) -> Result<bool, AllocError>
+fn leads_to(alloc: Global, host: &mut Host, line: Line<'_>) -> Result<bool, AllocError>
     requires { IsBetween (shown (λ b. (⟦<dyn App as App>⟧ b.vtable).state b.value) (λ b. (⟦<dyn App as App>⟧ b.vtable).called b.value) (λ b. (⟦<dyn App as App>⟧ b.vtable).held b.value) host.old) }
     ensures { IsBetween (shown (λ b. (⟦<dyn App as App>⟧ b.vtable).state b.value) (λ b. (⟦<dyn App as App>⟧ b.vtable).called b.value) (λ b. (⟦<dyn App as App>⟧ b.vtable).held b.value) host.new) }
 {

@@ -2,8 +2,8 @@
 
 ghost use Rattle.std.specs.Prelude.{◌≡◌, ◌≤◌, None};
 
-use lc_model::device::DeviceFault;
 use lc_model::ByteSink;
+use lc_model::device::DeviceFault;
 
 /// The most bytes that it keeps.
 pub const ROOM: usize = 2_048;

@@ -9,5 +9,5 @@ use Rattle.app_host_tests.proofs.playing.plays.Given as goal
 abbrev pub invariant-loop-spare : goal.invariant-loop-spare
 invariant-loop-spare l =
     AreSpares (map (object (λ b. ((adding.dyn-1-ghosts (own.own-1, own.lawful-own-1)).0.entry b.vtable).1.state b.value)
-        (λ b. ((adding.dyn-1-ghosts (own.own-1, own.lawful-own-1)).0.entry b.vtable).1.called b.value)
-        (λ b. ((adding.dyn-1-ghosts (own.own-1, own.lawful-own-1)).0.entry b.vtable).1.held b.value)) l.stock.items)
+    (λ b. ((adding.dyn-1-ghosts (own.own-1, own.lawful-own-1)).0.entry b.vtable).1.called b.value)
+    (λ b. ((adding.dyn-1-ghosts (own.own-1, own.lawful-own-1)).0.entry b.vtable).1.held b.value)) l.stock.items)
