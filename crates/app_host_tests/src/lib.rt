@@ -8,6 +8,8 @@ mod counting;
 #[cfg(test)]
 mod files;
 pub mod hosting;
+#[cfg(test)]
+mod mistakes;
 pub mod named;
 #[cfg(test)]
 mod orders;
