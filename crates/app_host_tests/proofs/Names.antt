@@ -1,16 +1,15 @@
 -- Names of one letter, and what their applications do at their seats.
-use Rattle.std.proofs.Common.{◌≡◌, ◌≢◌, ◌∙◌, Bool, true, false, refl, sym, ap, subst, cond, ℕ, zero, suc, ◌+◌, ◌<◌, ◌≤◌, ◌==◌, ◌&&◌, List, [], ◌∷◌, ◌++◌, length, replicate, slice_index_or, slice_set, Option, Some, None, Result, Ok, Err, arith, lit≤, true≢false, if◌then◌else◌}
-use Rattle.std.specs.Prelude.{IsSomeAnd, IfSome, OnErr, is_some, IsFalse, IsTrue, bytes_eq}
-use Rattle.std.specs.List.{AllByRecursion}
+use Rattle.std.proofs.Common.{◌≡◌, ◌≢◌, ◌∙◌, Bool, true, false, refl, sym, ap, subst, ℕ, suc, ◌+◌, ◌≤◌, ◌==◌, ◌&&◌, List, [], ◌∷◌, ◌++◌, length, replicate, slice_index_or, slice_set, Option, Some, None, Result, Ok, Err, arith, lit≤, if◌then◌else◌}
+use Rattle.std.specs.Prelude.{IsSomeAnd, IfSome, OnErr, is_some}
 use Rattle.std.proofs.lemmas.List.{set-get_or, replicate_more, length-append}
-use Rattle.lc_model.specs.Name.{Name, is_named, host_name}
+use Rattle.lc_model.specs.Name.{Name}
 use Rattle.lc_model.specs.Packet.{message_id, tick_mid}
-use Rattle.lc_model.specs.Refusal.{Refusal, refused}
+use Rattle.lc_model.specs.Refusal.{refused}
 use Rattle.lc_model.specs.Kept.Summary.{Other}
 use Rattle.lc_model.specs.Laws.Senders.{UnregisteringByName}
 use Rattle.lc_model.specs.Services.Bus.{Bus, Queue, after, pipe_at, pipe_removed}
-use Rattle.lc_model.specs.Services.Events.{EventService, IsEventService, Sender, sender_at, sender_named, unregistered_at}
-use Rattle.lc_model.specs.Services.Tables.{TableService, tables_unregistered}
+use Rattle.lc_model.specs.Services.Events.{IsEventService, Sender, sender_at, sender_named, unregistered_at}
+use Rattle.lc_model.specs.Services.Tables.{tables_unregistered}
 use Rattle.lc_model.specs.Services.Interface.{Held, IsApplicationName, MayBeGiven, MayPublish, IsGiven, IsRetired}
 use Rattle.lc_model.specs.Kept.Call.{with_at}
 use Rattle.event_service.specs.Error.{answered}
