@@ -1,13 +1,13 @@
 -- Where an application that is alone may start, and that it stays at home when what waits is written.
-use Rattle.std.proofs.Common.{◌≡◌, ◌∙◌, Bool, true, false, true≢false, refl, sym, ap, subst, ℕ, List, [], Option, Some, None, lit≤}
+use Rattle.std.proofs.Common.{◌≡◌, ◌∙◌, Bool, false, true≢false, refl, sym, ap, subst, ℕ, List, [], Option, Some, None, lit≤}
 use Rattle.std.specs.Prelude.{IsSomeAnd, IfSome, is_some, if◌then◌else◌}
-use Rattle.lc_model.specs.Name.{Name, is_named, host_name}
+use Rattle.lc_model.specs.Name.{Name}
 use Rattle.lc_model.specs.Packet.{header_fault, message_id, tick_mid}
 use Rattle.lc_model.specs.Kept.Summary.{AppState, LcState, SchState, CounterState, Other}
 use Rattle.lc_model.specs.Kept.Call.{new_sender, next_start, next_on_packet}
-use Rattle.lc_model.specs.Services.Bus.{Bus, no_pipes}
-use Rattle.lc_model.specs.Services.Events.{EventService, first_events}
-use Rattle.lc_model.specs.Services.Tables.{TableService, first_tables}
+use Rattle.lc_model.specs.Services.Bus.{no_pipes}
+use Rattle.lc_model.specs.Services.Events.{first_events}
+use Rattle.lc_model.specs.Services.Tables.{first_tables}
 use Rattle.lc_model.specs.Services.Interface.{IsApplicationName, MayBeStarted, MayBeGiven, IsStarted, IsGiven}
 use Rattle.app_host.specs.declared.services.Services.{Services}
 use Rattle.lc_model.specs.Kept.GoesWith.{GoesWith}

@@ -1,1 +1,2 @@
 mod Homes
+mod Names

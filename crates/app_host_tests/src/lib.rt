@@ -6,6 +6,27 @@ pub mod alone;
 #[cfg(test)]
 mod counting;
 #[cfg(test)]
+mod files;
+pub mod hosting;
+#[cfg(test)]
+mod mistakes;
+pub mod named;
+#[cfg(test)]
+mod orders;
+pub mod output;
+pub mod packets;
+pub mod playing;
+pub mod recorder;
+#[cfg(test)]
+mod refusals;
+pub mod script;
+#[cfg(test)]
+mod seats;
+#[cfg(test)]
 mod shared;
 #[cfg(test)]
 mod sharing;
+pub mod tally;
+pub mod tracked;
+#[cfg(test)]
+mod writers;

@@ -5,6 +5,8 @@ ghost use Rattle.lc_model.specs.Services.Bus.{no_pipes};
 ghost use Rattle.lc_model.specs.Services.Events.{first_events};
 ghost use Rattle.lc_model.specs.Services.Tables.{first_tables};
 
+use crate::playing::plays;
+use crate::script::{Line, Spare};
 use app_host::Services;
 use std::fmt::Debug;
 use std::process::Abort;
@@ -36,4 +38,14 @@ pub fn event(packet: &[u8]) -> (u16, u16, &[u8]) {
         u16::from(packet[34]) * 256 + u16::from(packet[35]),
         &text[..size],
     )
+}
+
+/// A host with these spares plays the script, and every line holds.
+pub fn all_holds<R: Abort + AllocGlobal>(rt: &R, spares: &[Spare], script: &[Line<'_>]) {
+    same(
+        rt,
+        "the first line that does not hold",
+        plays(rt.alloc(), spares, script).expect(rt, "out of memory"),
+        None,
+    );
 }

@@ -1,0 +1,118 @@
+//! Applications of any name.
+
+ghost use Rattle.std.specs.Prelude.{◌≡◌, ◌≤◌, None, length, replicate, slice_index_or};
+ghost use Rattle.lc_model.specs.Packet.{message_id, tick_mid};
+ghost use Rattle.lc_model.specs.Services.Interface.{MayPublish};
+ghost use Rattle.app_host.specs.Publishing.{AreShort, Publishes};
+ghost use Rattle.app_host.specs.Seating.{IsClosed};
+ghost use Rattle.app_host_tests.specs.Naming.{heard};
+
+use app_host::laws::seats_are_kept_by_the_rules;
+use app_host::publishing::publishing_is_by_the_rules;
+use app_host::{App, Services};
+use lc_model::laws::bus::bus_has_room;
+use lc_model::laws::senders::event_services_go_by_names;
+use lc_model::packet::message_id;
+use lc_model::{Seat, mids};
+
+/// The message id that these applications hear beside the ticks, and publish.
+pub const HEARD: u16 = 0x18D0;
+
+/// The packet that they publish.
+const PUBLISHED: &[u8] = &[0x18, 0xD0, 0xC0, 0, 0, 1, 0, 0];
+
+/// An application whose name is one letter. Of each tick and of each packet of 0x18D0 it writes its letter, and at a tick it
+/// publishes eight packets of 0x18D0 first, if it is told to.
+#[derive(Debug, Drop)]
+pub struct Named {
+    name: [u8; 1],
+    publishes: bool,
+    seat: Option<Seat>,
+    ghost one: { length name ≡ 1 },
+    ghost letter: { 65 ≤ slice_index_or name 0 0 },
+}
+
+impl Named {
+    /// The application whose name is the letter of this number, from `A` on. It holds no seat.
+    pub fn new(number: u8, publishes: bool) -> Named
+        ensures { result.seat ≡ None }
+    {
+        Named {
+            name: [b'A' + number % 26],
+            publishes,
+            seat: None,
+        }
+    }
+
+    /// Publishes eight packets at a tick, if it is told to, and nothing else. Answers how many. Condition: room for as many in
+    /// each pipe.
+    fn publish(&self, services: &mut Services, packet: &[u8]) -> usize
+        requires headers { 2 ≤ length packet.now }
+        requires room { message_id packet.now ≡ tick_mid → AreShort 64 services.old.bus }
+        ensures published { Publishes (replicate result heard) services.old services.new }
+        ensures may { MayPublish packet.now (replicate result heard) }
+    {
+        publishing_is_by_the_rules();
+        if !self.publishes || message_id(packet) != mids::TICK {
+            return 0;
+        }
+        publish_eight(services);
+        8
+    }
+}
+
+impl App for Named {
+    ghost use Rattle.lc_model.specs.Kept.Summary.{Other};
+
+    ghost state = { λ n. Other };
+
+    ghost called = { λ n. n.name };
+
+    ghost held = { λ n. n.seat };
+
+    fn name(&self) -> &[u8] {
+        &self.name
+    }
+
+    fn start(&mut self, seat: Seat, services: &mut Services) {
+        seats_are_kept_by_the_rules();
+        services.open(seat, &self.name, &[mids::TICK, HEARD]);
+        self.seat = Some(seat);
+    }
+
+    fn on_packet(&mut self, services: &mut Services, packet: &[u8]) {
+        publishing_is_by_the_rules();
+        self.publish(services, packet);
+        services.outgoing.append(&self.name);
+    }
+
+    fn retire(&mut self, services: &mut Services) {
+        seats_are_kept_by_the_rules();
+        if let Some(seat) = self.seat.take() {
+            leave(seat, services);
+        }
+    }
+}
+
+/// Publishes eight packets. Condition: room for as many in each pipe.
+fn publish_eight(services: &mut Services)
+    requires { AreShort 64 services.old.bus }
+    ensures { Publishes (replicate 8 heard) services.old services.new }
+{
+    publishing_is_by_the_rules();
+    bus_has_room();
+    for _ in 0..8u8 {
+        services.publish(PUBLISHED);
+    }
+}
+
+/// The seat has no pipe, no sender of events and no table from now on, whatever of them it had.
+fn leave(seat: Seat, services: &mut Services)
+    ensures { IsClosed seat services.old services.new }
+{
+    event_services_go_by_names();
+    services.events.is_service();
+    let _removed = services.bus.remove_pipe(seat);
+    let _unregistered = services.events.unregister(seat);
+    services.tables.unregister(seat);
+}
