@@ -1,0 +1,6 @@
+//! The tests of `run`, from rule texts and a stream to the bytes that are written. Streams and what is expected are put together
+//! packet by packet, from the formats; nothing is taken from what the host answers.
+#![tactic(auto)]
+
+pub mod expected;
+pub mod stream;
