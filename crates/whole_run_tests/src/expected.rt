@@ -98,8 +98,9 @@ impl Expected {
         let count = self.housekeepings;
         self.housekeepings = behind(count);
         self.header(0x08A7, count, 185)?;
+        let count = u8::try_from(standings.len()).unwrap_or(0);
         self.bytes
-            .extend_from_slice(&[0, 0, 0, 100, 0, 0, 0, mode, 0, standings.len() as u8])?;
+            .extend_from_slice(&[0, 0, 0, 100, 0, 0, 0, mode, 0, count])?;
         self.bytes.extend_from_slice(standings)?;
         self.fill(standings.len(), 176, 0xFF)
     }

@@ -10,6 +10,11 @@ pub const DEFAULT_WDT: &[u8] = b"/cf/lc_def_wdt.tbl";
 
 pub const DEFAULT_ADT: &[u8] = b"/cf/lc_def_adt.tbl";
 
+/// The length of what is shorter than 4 GiB.
+fn length_of(bytes: &[u8]) -> u32 {
+    u32::try_from(bytes.len()).unwrap_or(0)
+}
+
 /// The records of a stream so far.
 #[derive(Debug, Drop)]
 pub struct Stream {
@@ -28,10 +33,10 @@ impl Stream {
     }
 
     /// A record's header, for a body of so many bytes.
-    fn begin(&mut self, kind: u8, size: usize) -> Result<(), AllocError> {
+    fn begin(&mut self, kind: u8, size: u32) -> Result<(), AllocError> {
         self.bytes.push(kind)?;
         self.bytes.extend_from_slice(&MOMENT)?;
-        self.bytes.extend_from_slice(&(size as u32).to_be_bytes())
+        self.bytes.extend_from_slice(&size.to_be_bytes())
     }
 
     /// A field of so many bytes, with the name in front and zeros behind.
@@ -45,7 +50,7 @@ impl Stream {
 
     /// Bytes as a packet.
     pub fn packet(&mut self, packet: &[u8]) -> Result<(), AllocError> {
-        self.begin(1, packet.len())?;
+        self.begin(1, length_of(packet))?;
         self.bytes.extend_from_slice(packet)
     }
 
@@ -56,7 +61,7 @@ impl Stream {
 
     /// A file.
     pub fn file(&mut self, name: &[u8], bytes: &[u8]) -> Result<(), AllocError> {
-        self.begin(3, bytes.len().wrapping_add(40))?;
+        self.begin(3, length_of(bytes).wrapping_add(40))?;
         self.name(name, 40)?;
         self.bytes.extend_from_slice(bytes)
     }
@@ -71,7 +76,7 @@ impl Stream {
 
     /// The front of a command with a payload of so many bytes, at most 247.
     fn command(&mut self, message_id: u16, code: u8, size: u8) -> Result<(), AllocError> {
-        self.begin(1, usize::from(size) + 8)?;
+        self.begin(1, u32::from(size) + 8)?;
         self.bytes.extend_from_slice(&message_id.to_be_bytes())?;
         self.bytes
             .extend_from_slice(&[0xC0, 0, 0, size.wrapping_add(1), code, 0])
@@ -84,7 +89,8 @@ impl Stream {
         code: u8,
         numbers: &[u16],
     ) -> Result<(), AllocError> {
-        self.command(message_id, code, (numbers.len() as u8).wrapping_mul(2))?;
+        let count = u8::try_from(numbers.len()).unwrap_or(0);
+        self.command(message_id, code, count.wrapping_mul(2))?;
         for number in numbers {
             self.bytes.extend_from_slice(&number.to_be_bytes())?;
         }
