@@ -94,7 +94,7 @@ impl Expected {
     }
 
     /// The housekeeping of the Limit Checker at second 100, with a byte for each rule: 192 bytes.
-    pub fn housekeeping(&mut self, mode: u8, standings: &[u8]) -> Result<(), AllocError> {
+    pub fn standing(&mut self, mode: u8, standings: &[u8]) -> Result<(), AllocError> {
         let count = self.housekeepings;
         self.housekeepings = behind(count);
         self.header(0x08A7, count, 185)?;
@@ -103,13 +103,5 @@ impl Expected {
             .extend_from_slice(&[0, 0, 0, 100, 0, 0, 0, mode, 0, count])?;
         self.bytes.extend_from_slice(standings)?;
         self.fill(standings.len(), 176, 0xFF)
-    }
-
-    /// What the prelude of a stream leads to.
-    pub fn prelude(&mut self) -> Result<(), AllocError> {
-        self.host(2, INFORMATION, b"file stored")?;
-        self.host(2, INFORMATION, b"file stored")?;
-        self.lc(1, INFORMATION, b"started with tables")?;
-        self.host(8, INFORMATION, b"app command 1 done")
     }
 }

@@ -3,4 +3,6 @@
 #![tactic(auto)]
 
 pub mod expected;
+pub mod images;
+pub mod scene;
 pub mod stream;

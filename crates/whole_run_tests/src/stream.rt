@@ -5,11 +5,6 @@ use std::alloc::{AllocError, Global};
 /// Seconds and subseconds of a record.
 const MOMENT: [u8; 6] = [0, 0, 0, 100, 0, 0];
 
-/// The files from which the Limit Checker's tables are started.
-pub const DEFAULT_WDT: &[u8] = b"/cf/lc_def_wdt.tbl";
-
-pub const DEFAULT_ADT: &[u8] = b"/cf/lc_def_adt.tbl";
-
 /// The length of what is shorter than 4 GiB.
 fn length_of(bytes: &[u8]) -> u32 {
     u32::try_from(bytes.len()).unwrap_or(0)
@@ -117,22 +112,10 @@ impl Stream {
         self.bytes.extend_from_slice(&mask.to_be_bytes())
     }
 
-    /// The compiled files of text 0 as the default files, and the start of the Limit Checker.
-    pub fn prelude(&mut self) -> Result<(), AllocError> {
-        self.half(DEFAULT_WDT, 1, 0)?;
-        self.half(DEFAULT_ADT, 2, 0)?;
-        self.order(1, b"LC")
-    }
-
     /// A packet of 16 bytes with message id 0x0883 and the voltage at 12.
     pub fn voltage(&mut self, volts: u16) -> Result<(), AllocError> {
         let [high, low] = volts.to_be_bytes();
         self.packet(&[0x08, 0x83, 0xC0, 0, 0, 9, 0, 0, 0, 0, 0, 0, high, low, 0, 0])
-    }
-
-    /// A request to sample all rules, and whether the watchpoints age afterwards.
-    pub fn sample(&mut self, ages: bool) -> Result<(), AllocError> {
-        self.numbers(0x18A6, 0, &[0xFFFF, 0xFFFF, u16::from(ages), 0])
     }
 
     /// A housekeeping request.
