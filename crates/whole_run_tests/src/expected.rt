@@ -8,7 +8,7 @@ pub const INFORMATION: u8 = 2;
 pub const ERROR: u8 = 3;
 
 /// The packets that are expected so far.
-#[derive(Debug, Drop)]
+#[derive(Drop)]
 pub struct Expected {
     bytes: Vec<u8>,
     events: u16,

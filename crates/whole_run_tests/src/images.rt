@@ -3,10 +3,10 @@
 use std::alloc::{AllocError, Global};
 
 /// Bytes that stand at a place of a file.
-#[derive(Clone, Copy, Debug)]
-pub struct Change<'a> {
+#[derive(Clone, Copy)]
+pub struct Change {
     pub at: usize,
-    pub bytes: &'a [u8],
+    pub bytes: &'static [u8],
 }
 
 /// Where the number of an image's bytes stands in a file.
@@ -34,7 +34,7 @@ fn put(bytes: &mut [u8], at: usize, other: &[u8]) {
 }
 
 /// The same file with these changes.
-pub fn changed(alloc: Global, file: &[u8], changes: &[Change<'_>]) -> Result<Vec<u8>, AllocError> {
+pub fn changed(alloc: Global, file: &[u8], changes: &[Change]) -> Result<Vec<u8>, AllocError> {
     let mut bytes = Vec::new(alloc);
     bytes.extend_from_slice(file)?;
     for change in changes {

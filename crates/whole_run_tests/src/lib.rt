@@ -3,6 +3,14 @@
 #![tactic(auto)]
 
 pub mod expected;
+#[cfg(test)]
+mod flight;
 pub mod images;
+#[cfg(test)]
+mod rows;
+#[cfg(test)]
+mod sampling;
 pub mod scene;
 pub mod stream;
+#[cfg(test)]
+mod texts;

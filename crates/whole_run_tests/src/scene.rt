@@ -12,15 +12,15 @@ const LC_COMMAND: u16 = 0x18A4;
 const SAMPLE: u16 = 0x18A6;
 
 /// A half of a text: its compiled watchpoints or actionpoints.
-#[derive(Clone, Copy, Debug)]
+#[derive(Clone, Copy)]
 pub enum Half {
     Wdt(u16),
     Adt(u16),
 }
 
 /// A record.
-#[derive(Clone, Copy, Debug)]
-pub enum Given<'a> {
+#[derive(Clone, Copy)]
+pub enum Given {
     /// A packet of 16 bytes with message id 0x0883 and these volts at 12.
     Volts(u16),
     /// A request to sample all rules.
@@ -32,49 +32,51 @@ pub enum Given<'a> {
     /// A housekeeping request.
     Ask,
     /// A command to the Limit Checker: its code and its numbers of two bytes.
-    Command(u8, &'a [u16]),
+    Command(u8, &'static [u16]),
     /// A command of another message id: its code and its numbers of two bytes.
-    Numbers(u16, u8, &'a [u16]),
+    Numbers(u16, u8, &'static [u16]),
     /// A command to the executive services, and the application.
-    Order(u8, &'a [u8]),
+    Order(u8, &'static [u8]),
     /// A command to the table services, and the file or the table.
-    Table(u8, &'a [u8]),
+    Table(u8, &'static [u8]),
+    /// A command to the event services: its code, the application and the bits of the types.
+    Types(u8, &'static [u8], u8),
     /// The filter of an application's event.
-    Filter(&'a [u8], u16, u16),
+    Filter(&'static [u8], u16, u16),
     /// Bytes as a packet.
-    Packet(&'a [u8]),
+    Packet(&'static [u8]),
     Tick,
     /// A file under this name.
-    File(&'a [u8], &'a [u8]),
+    File(&'static [u8], &'static [u8]),
     /// A file of so many zeros.
-    Zeros(&'a [u8], u16),
+    Zeros(&'static [u8], u16),
     /// The compiled file of a half.
-    Stores(&'a [u8], Half),
+    Stores(&'static [u8], Half),
     /// The same with changes.
-    Changed(&'a [u8], Half, &'a [Change<'a>]),
+    Changed(&'static [u8], Half, &'static [Change]),
     /// The same less its end: the first bytes.
-    Front(&'a [u8], Half, usize),
+    Front(&'static [u8], Half, usize),
     /// A text's actionpoints in the first version of their table, with changes.
-    First(&'a [u8], u16, &'a [Change<'a>]),
+    First(&'static [u8], u16, &'static [Change]),
 }
 
 /// A packet that is written.
-#[derive(Clone, Copy, Debug)]
-pub enum Sent<'a> {
+#[derive(Clone, Copy)]
+pub enum Sent {
     /// An event of `HOST`. The odd ones are errors.
-    Host(u16, &'a [u8]),
+    Host(u16, &'static [u8]),
     /// An event of the Limit Checker. Those of refusals and faults are errors, and so are the rules' in these tests.
-    Lc(u16, &'a [u8]),
+    Lc(u16, &'static [u8]),
     /// An event of the counter.
-    Counter(u16, &'a [u8]),
+    Counter(u16, &'static [u8]),
     /// A request for a command sequence.
     Request(u16),
     /// The Limit Checker's mode, and each rule's state and last result.
-    Standing(u8, &'a [u8]),
+    Standing(u8, &'static [u8]),
 }
 
 /// A record, and what it leads to.
-pub type Row<'a> = (Given<'a>, &'a [Sent<'a>]);
+pub type Row = (Given, &'static [Sent]);
 
 /// The file of a half, of the texts' files in order. Empty where there is no such text.
 fn file_of(pairs: &[TablePair], half: Half) -> &[u8] {
@@ -96,7 +98,7 @@ impl Stream {
         alloc: Global,
         name: &[u8],
         file: &[u8],
-        changes: &[Change<'_>],
+        changes: &[Change],
     ) -> Result<(), AllocError> {
         let bytes = changed(alloc, file, changes)?;
         self.file(name, bytes.as_slice())
@@ -108,7 +110,7 @@ impl Stream {
         alloc: Global,
         name: &[u8],
         file: &[u8],
-        changes: &[Change<'_>],
+        changes: &[Change],
     ) -> Result<(), AllocError> {
         let bytes = first_version(alloc, file)?;
         self.changed(alloc, name, bytes.as_slice(), changes)
@@ -119,7 +121,7 @@ impl Stream {
         &mut self,
         alloc: Global,
         pairs: &[TablePair],
-        given: &Given<'_>,
+        given: &Given,
     ) -> Result<(), AllocError> {
         match *given {
             Given::Volts(volts) => self.voltage(volts),
@@ -132,6 +134,7 @@ impl Stream {
             Given::Order(code, application) => self.order(code, application),
             Given::Table(code, name) => self.table(code, name),
             Given::Filter(application, id, mask) => self.filter(application, id, mask),
+            Given::Types(code, application, bits) => self.types(code, application, bits),
             Given::Packet(bytes) => self.packet(bytes),
             Given::Tick => self.tick(),
             _ => self.give_file(alloc, pairs, given),
@@ -143,7 +146,7 @@ impl Stream {
         &mut self,
         alloc: Global,
         pairs: &[TablePair],
-        given: &Given<'_>,
+        given: &Given,
     ) -> Result<(), AllocError> {
         match *given {
             Given::File(name, bytes) => self.file(name, bytes),
@@ -170,7 +173,7 @@ impl Stream {
 
 impl Expected {
     /// One packet more.
-    fn send(&mut self, sent: &Sent<'_>) -> Result<(), AllocError> {
+    fn send(&mut self, sent: &Sent) -> Result<(), AllocError> {
         match *sent {
             Sent::Host(id, text) => self.host(
                 id,
@@ -201,8 +204,8 @@ fn kind_of(id: u16) -> u8 {
     }
 }
 
-/// The stream of these rows behind its prelude, and what is expected of it. `begun` is the prelude's rows.
-#[derive(Debug, Drop)]
+/// A stream, and what is expected of it.
+#[derive(Drop)]
 pub struct Scene {
     pub stream: Stream,
     pub expected: Expected,
@@ -221,7 +224,7 @@ impl Scene {
         &mut self,
         alloc: Global,
         pairs: &[TablePair],
-        rows: &[Row<'_>],
+        rows: &[Row],
     ) -> Result<(), AllocError> {
         for (given, sent) in rows {
             self.stream.give(alloc, pairs, given)?;

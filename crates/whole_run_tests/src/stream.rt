@@ -11,7 +11,7 @@ fn length_of(bytes: &[u8]) -> u32 {
 }
 
 /// The records of a stream so far.
-#[derive(Debug, Drop)]
+#[derive(Drop)]
 pub struct Stream {
     bytes: Vec<u8>,
 }
@@ -110,6 +110,13 @@ impl Stream {
         self.name(application, 20)?;
         self.bytes.extend_from_slice(&id.to_be_bytes())?;
         self.bytes.extend_from_slice(&mask.to_be_bytes())
+    }
+
+    /// A command to the event services: its code, the types of an application's events as bits.
+    pub fn types(&mut self, code: u8, application: &[u8], bits: u8) -> Result<(), AllocError> {
+        self.command(0x1801, code, 22)?;
+        self.name(application, 20)?;
+        self.bytes.extend_from_slice(&[bits, 0])
     }
 
     /// A packet of 16 bytes with message id 0x0883 and the voltage at 12.
