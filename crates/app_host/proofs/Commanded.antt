@@ -22,6 +22,7 @@ use Rattle.lc_model.proofs.Services.TableServiceLaws.{then_ok}
 use Rattle.host_laws.proofs.HostRecords as host
 use Rattle.host_laws.proofs.InStep.{loaded_judged, moved_judged}
 use Rattle.host_laws.proofs.TableRecords.{loaded_active, moved_active}
+use Rattle.host_laws.proofs.Keeps.{placed}
 use Rattle.app_host.specs.declared.services.Services.{Services}
 use Rattle.app_host.specs.Shared.{on_board, shared}
 
@@ -89,45 +90,6 @@ command_changes command before after is =
 
 -- ---- what goes with the services, where one slot follows another
 
-record SlotStays (kind : Kind) (before held : Option (Slot (List ℕ))) : Type 0 where
-  there : IsTrue (is_some before) → IsTrue (is_some held)
-  active : (unwrap_or held no_images).active ≡ (unwrap_or before no_images).active
-  judged : IsJudged on_board kind (unwrap_or before no_images) → IsJudged on_board kind (unwrap_or held no_images)
-
-slot_stays : (kind : Kind) (services : ServicesNow (List ℕ)) (name : Name) (slot after : Slot (List ℕ)) → services.slots name ≡ Some slot → FollowsSlot slot after →
-    SlotStays kind (services.slots (table_name kind)) (with_at name (Some after) services.slots (table_name kind))
-slot_stays kind services name slot after there follows = by_test (is_named (table_name kind) name) refl
-  where
-    by_test : (test : Bool) → is_named (table_name kind) name ≡ test →
-        SlotStays kind (services.slots (table_name kind)) (if test then Some after else services.slots (table_name kind))
-    by_test true e =
-        let known : services.slots (table_name kind) ≡ Some slot = ap services.slots ((bytes_eq-Decides (table_name kind) name).0 e) ∙ there in
-        subst (λ before. SlotStays kind before (Some after)) (sym known) (record { there = λ h. refl; active = follows.active; judged = follows.judged kind })
-    by_test false e = record { there = λ h. h; active = refl; judged = λ h. h }
-
-follows_goes : (state : AppState) (services : ServicesNow (List ℕ)) (name : Name) (slot after : Slot (List ℕ)) → services.slots name ≡ Some slot → FollowsSlot slot after →
-    GoesWith on_board state services → GoesWith on_board state (record services { slots = with_at name (Some after) services.slots })
-follows_goes (LcState own) services name slot after there follows goes =
-    let wdt = slot_stays Wdt services name slot after there follows in
-    let adt = slot_stays Adt services name slot after there follows in
-    let force = ap₂ (paired on_board) (sym wdt.active) (sym adt.active) in
-    record {
-      wdt = wdt.there goes.wdt;
-      adt = adt.there goes.adt;
-      terms = goes.terms ∙ ap (λ o. option_map_or on_board.terms o []) force;
-      rules = goes.rules ∙ ap (λ o. option_map_or on_board.rules o []) force;
-      in_step = record {
-        results = goes.in_step.results ∙ ap (λ o. length (option_map_or on_board.terms o [])) force;
-        points = goes.in_step.points ∙ ap (λ o. length (option_map_or on_board.rules o [])) force;
-        wdt = wdt.judged goes.in_step.wdt;
-        adt = adt.judged goes.in_step.adt;
-      };
-      sender = goes.sender;
-    }
-follows_goes (SchState schedule at) services name slot after there follows goes = record { schedule_fits = goes.schedule_fits; inside = goes.inside; sender = goes.sender }
-follows_goes (CounterState count) services name slot after there follows goes = goes
-follows_goes Other services name slot after there follows goes = tt
-
 -- ---- under names
 
 shared_slots : (s : Services) → (shared s).slots ≡ slot_among s.tables.places
@@ -156,5 +118,5 @@ module _ (tables_are_found : TablesAreFound) (changing_tables : ChangingTables) 
       (state : AppState) → GoesWith on_board state (shared before) → GoesWith on_board state (shared after)
   goes_commanded events files counts change state goes =
       subst (GoesWith on_board state) (sym (shared_commanded before after events files counts ∙ ap (λ slots. record (shared before) { slots = slots }) (slots_changed change)))
-      (follows_goes state (shared before) change.table.name change.table.slot change.slot
-      (ap (λ slots. slots change.table.name) (shared_slots before) ∙ tables_are_found change.handle change.table before.tables was change.there) change.follows goes)
+      (placed on_board state (shared before) change.table.name change.table.slot change.slot
+      (ap (λ slots. slots change.table.name) (shared_slots before) ∙ tables_are_found change.handle change.table before.tables was change.there) change.follows.active change.follows.judged goes)

@@ -237,15 +237,24 @@ module _ (moment : Moment) (first : Now) (now given : Hosted) (sent : ℕ) (befo
         by_left (suc left) is = so left is
 
 -- nothing is left
+all_bytes : (moment : Moment) (first : Now) (now : Hosted) (sent : ℕ) (before after : Option (List ℕ)) (far : SoFar moment first now sent before after) → ready_seat (seen now.services.bus) ≡ None →
+    concat (drained on_board moment 520 first).1 ≡ far.done
+all_bytes moment first now sent before after far none =
+    far.writes ∙ ap (λ (w : Step). far.done ++ concat w.1) (drained_none moment far.left (executive_in now) none) ∙ append-nil far.done
+
+pub all_counted : (moment : Moment) (first : Now) (now : Hosted) (sent : ℕ) (before after : Option (List ℕ)) → SoFar moment first now sent before after → ready_seat (seen now.services.bus) ≡ None →
+    sent ≡ length (concat (drained on_board moment 520 first).1)
+all_counted moment first now sent before after far none = far.count ∙ ap length (sym (all_bytes moment first now sent before after far none))
+
 pub all_done : (moment : Moment) (first : Now) (now : Hosted) (sent : ℕ) (before after : Option (List ℕ)) → SoFar moment first now sent before after → ready_seat (seen now.services.bus) ≡ None →
     IsDone (delivery_stations on_board moment 0 520 first) (drained on_board moment 520 first) (last_calls on_board moment (delivery_stations on_board moment 0 520 first)) now before after
 all_done moment first now sent before after far none = record {
   known = far.known;
   executive = sym (far.ends ∙ ap (λ (w : Step). w.0) nothing_more);
   calls = sym (last_are moment (delivery_stations on_board moment 0 520 first) ∙ far.calls ∙ ap (calls_after now.calls) no_stations ∙ no_calls now.calls);
-  gains = subst (Appends before after) (sym all_bytes) far.gains;
+  gains = subst (Appends before after) (sym bytes_are) far.gains;
   fits = λ room enough.
-      ap (λ n. stop_at n (delivery_stations on_board moment 0 520 first)) (let rest : room ≡ length far.done + (room - length far.done) = omega (arith, enough, ap length all_bytes) in rest)
+      ap (λ n. stop_at n (delivery_stations on_board moment 0 520 first)) (let rest : room ≡ length far.done + (room - length far.done) = omega (arith, enough, ap length bytes_are) in rest)
       ∙ far.stops (room - length far.done)
       ∙ ap (stop_at (room - length far.done)) no_stations
       ∙ none_stops (room - length far.done);
@@ -257,5 +266,5 @@ all_done moment first now sent before after far none = record {
     no_stations : delivery_stations on_board moment now.calls far.left (executive_in now) ≡ []
     no_stations = stations_none moment now.calls far.left (executive_in now) none
 
-    all_bytes : concat (drained on_board moment 520 first).1 ≡ far.done
-    all_bytes = far.writes ∙ ap (λ (w : Step). far.done ++ concat w.1) nothing_more ∙ append-nil far.done
+    bytes_are : concat (drained on_board moment 520 first).1 ≡ far.done
+    bytes_are = all_bytes moment first now sent before after far none

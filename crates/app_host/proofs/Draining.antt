@@ -15,7 +15,7 @@ use Rattle.app_host.specs.Load.{IsLight, load}
 use Rattle.app_host.specs.Delivered.{executive_in, Becomes, HasDelivered}
 use Rattle.app_host.specs.Writing.{written_off, IsFlushed, IsAllSent, IsPartSent, IsCut, HandlesAll, HandlesPart, Handles}
 use Rattle.app_host.proofs.Flushed.{same_shared}
-use Rattle.app_host.proofs.Course.{SoFar, so_far_first, so_far_more, cut_here, all_done}
+use Rattle.app_host.proofs.Course.{SoFar, so_far_first, so_far_more, cut_here, all_done, all_counted}
 
 pub record Draining (first now : Hosted) (sent : ℕ) (before after : Sink) : Type 0 where
   pub whole : IsWhole now
@@ -114,7 +114,7 @@ module _ (first now given later : Hosted) (sent seat : ℕ) (before mid after : 
 
 pub draining_end : (first now : Hosted) (sent : ℕ) (before after : Sink) → Draining first now sent before after → ready_seat (seen now.services.bus) ≡ None →
     HandlesAll (delivery_stations on_board first.services.moment 0 520 (executive_in first)) (drained on_board first.services.moment 520 (executive_in first))
-    (last_calls on_board first.services.moment (delivery_stations on_board first.services.moment 0 520 (executive_in first))) first now before after
+    (last_calls on_board first.services.moment (delivery_stations on_board first.services.moment 0 520 (executive_in first))) sent first now before after
 draining_end first now sent before after far none = record {
   whole = far.whole;
   quiet = none;
@@ -122,10 +122,11 @@ draining_end first now sent before after far none = record {
   calls = omega (arith, far.few);
   fine = far.fine;
   exact = λ known. all_done first.services.moment (executive_in first) now sent before.gained after.gained (far.exact known) none;
+  count = λ known. all_counted first.services.moment (executive_in first) now sent before.gained after.gained (far.exact known) none;
 }
 
 -- an error that is passed on
-pub cut_short : (stations : List (Station (List ℕ))) (step : Written (List ℕ)) (last : ℕ) (old new : Hosted) (before now : Sink) (result : Result (Unit {0}) WriteFault) (fault : WriteFault) →
+pub cut_short : (stations : List (Station (List ℕ))) (step : Written (List ℕ)) (last : ℕ) (old new : Hosted) (before now : Sink) (result : Result ℕ WriteFault) (fault : WriteFault) →
     IsErrAnd result (λ e. e ≡ fault) → HandlesPart stations step fault.sent old new before now → Handles stations step last old new before now result
 cut_short stations step last old new before now (Ok done) fault is part = absurd is
 cut_short stations step last old new before now (Err e) fault is part = subst (λ f. HandlesPart stations step f.sent old new before now) (sym is) part

@@ -191,7 +191,7 @@ module _ (found_law : TablesAreFound) (law : CommandsByName) (old mid : Hosted) 
         ap (λ r. answered_now on_board old.services.moment event_services packet e (with_services e r))
         (obeyed_so law packet old.services ∙ ap (λ (r : Result EventService Refusal). r >>= (λ after. Ok (record (shared old.services) { events = sender_named after }))) (sym is))
 
-    pub is_obeyed : (request : Request) → request ≡ command_done event_services (function_code packet) → (new : Hosted) (before now : Sink) (result : Result (Unit {0}) WriteFault) →
+    pub is_obeyed : (request : Request) → request ≡ command_done event_services (function_code packet) → (new : Hosted) (before now : Sink) (result : Result ℕ WriteFault) →
         TellsAlone request mid new before now result → ObeysEvents packet old new before now result
     is_obeyed request asked new before now result tells =
         subst (λ (w : Written (List ℕ)). Handles (written_once w) w 0 old new before now result)
@@ -216,7 +216,7 @@ module _ (found_law : TablesAreFound) (law : CommandsByName) (old mid : Hosted) 
         ap (λ r. answered_now on_board old.services.moment event_services packet e (with_services e r))
         (obeyed_so law packet old.services ∙ ap (λ (r : Result EventService Refusal). r >>= (λ after. Ok (record (shared old.services) { events = sender_named after }))) (sym is))
 
-    pub is_not_obeyed : (request : Request) → request ≡ command_refused event_services refusal → (new : Hosted) (before now : Sink) (result : Result (Unit {0}) WriteFault) →
+    pub is_not_obeyed : (request : Request) → request ≡ command_refused event_services refusal → (new : Hosted) (before now : Sink) (result : Result ℕ WriteFault) →
         TellsAlone request mid new before now result → ObeysEvents packet old new before now result
     is_not_obeyed request asked new before now result tells =
         subst (λ (w : Written (List ℕ)). Handles (written_once w) w 0 old new before now result)

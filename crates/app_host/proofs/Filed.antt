@@ -2,6 +2,7 @@
 use Rattle.std.proofs.Common.{◌≡◌, refl, ap, ap₂, sym, ◌∙◌, subst, ℕ, List, [], ◌∷◌, length, map, Some, None, Result, Ok, Err}
 use Rattle.std.specs.Prelude.{option_map, slice_index_or}
 use Rattle.lc_model.specs.declared.record.Moment.{Moment}
+use Rattle.std.specs.List.{concat}
 use Rattle.lc_model.specs.Device.{Sink}
 use Rattle.lc_model.specs.Name.{Name}
 use Rattle.lc_model.specs.Refusal.{Refusal, ◌>>=◌}
@@ -36,14 +37,15 @@ module _ (old mid new : Hosted) (e : Executive (List ℕ)) (is : executive_in mi
   step_is : told_by_host mid.services.moment (request ∷ []) (executive_in mid) ≡ step
   step_is = ap₂ (λ (m : Moment) (x : Executive (List ℕ)). told_by_host m (request ∷ []) x) moment is
 
-  pub told_behind : (before now : Sink) (result : Result (Unit {0}) WriteFault) → TellsAlone request mid new before now result → Handles (written_once step) step 0 old new before now result
-  told_behind before now (Ok done) all = record {
+  pub told_behind : (before now : Sink) (result : Result ℕ WriteFault) → TellsAlone request mid new before now result → Handles (written_once step) step 0 old new before now result
+  told_behind before now (Ok total) all = record {
     whole = all.whole;
     quiet = all.quiet;
     is_closed = all.is_closed ∙ closed;
     calls = all.calls;
     fine = all.fine;
     exact = λ k. subst (λ (w : Written (List ℕ)). IsDone (written_once w) w 0 new before.gained now.gained) step_is (all.exact (known k));
+    count = λ k. all.count (known k) ∙ ap (λ (w : Written (List ℕ)). length (concat w.1)) step_is;
   }
   told_behind before now (Err fault) part = record {
     whole = part.whole;
@@ -135,7 +137,7 @@ module _ (found : TablesAreFound) (storing : StoringFiles) (old mid : Hosted) (n
       services = shared_filed old.services mid.services alone.events places alone.counts i;
     }
 
-  pub is_filed : Ok mid.services.tables ≡ file_put name bytes old.services.tables → (request : Request) → request ≡ file_stored → (new : Hosted) (before now : Sink) (result : Result (Unit {0}) WriteFault) →
+  pub is_filed : Ok mid.services.tables ≡ file_put name bytes old.services.tables → (request : Request) → request ≡ file_stored → (new : Hosted) (before now : Sink) (result : Result ℕ WriteFault) →
       TellsAlone request mid new before now result → Files name bytes old new before now result
   is_filed is request asked new before now result tells =
       subst (λ (w : Written (List ℕ)). Handles (written_once w) w 0 old new before now result) (sym step_is)
@@ -157,7 +159,7 @@ module _ (found : TablesAreFound) (storing : StoringFiles) (old mid : Hosted) (n
   }
 
   pub is_not_filed : mid.services.tables ≡ old.services.tables → (refusal : Refusal) → Err refusal ≡ file_put name bytes old.services.tables → (request : Request) → request ≡ file_refused refusal →
-      (new : Hosted) (before now : Sink) (result : Result (Unit {0}) WriteFault) → TellsAlone request mid new before now result → Files name bytes old new before now result
+      (new : Hosted) (before now : Sink) (result : Result ℕ WriteFault) → TellsAlone request mid new before now result → Files name bytes old new before now result
   is_not_filed tables refusal is request asked new before now result tells =
       subst (λ (w : Written (List ℕ)). Handles (written_once w) w 0 old new before now result) (sym step_is)
       (told_behind old mid new e (same_executive tables) alone.moment alone.is_closed known_filed request before now result tells)

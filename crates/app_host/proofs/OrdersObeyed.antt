@@ -173,7 +173,7 @@ module _ (packet : List ℕ) (old ready : Hosted) (next : Next) (whole : IsWhole
       outgoing_is = has_told.outgoing ∙ ap (λ (w : Written (List ℕ)). concat w.1) telling_is
 
     pub order_done : (total : ℕ) → IsAllSent sent two new mid now total →
-        HandlesAll (order_stations on_board old.services.moment packet (executive_in old) answer) (answered_now on_board old.services.moment executive_services packet (executive_in old) answer) 0 old new before now
+        HandlesAll (order_stations on_board old.services.moment packet (executive_in old) answer) (answered_now on_board old.services.moment executive_services packet (executive_in old) answer) 0 total old new before now
     order_done total all = record {
       whole = whole_new;
       quiet = ap (λ (s : Services). ready_seat (seen s.bus)) flushed.services ∙ ap ready_seat has_told.pipes ∙ came.whole.quiet (prepared.whole.quiet quiet);
@@ -184,6 +184,10 @@ module _ (packet : List ℕ) (old ready : Hosted) (next : Next) (whole : IsWhole
           done_as new before.gained now.gained (leads known)
           (done_both step told sent one new before.gained mid.gained now.gained (written known) (known_new known) (executive_new known) calls_new
           (subst (Appends mid.gained now.gained) (outgoing_is known) all.gains));
+      count = λ known.
+          subst (λ (r : Answer). total ≡ length (concat (answered_now on_board old.services.moment executive_services packet (executive_in old) r).1)) (sym (leads known).step)
+          (let size : length (concat (both step told).1) ≡ length (concat step.1) + length (concat told.1) = ap length (all_bytes step told) ∙ length-append (concat step.1) (concat told.1) in
+          let first = (written known).count in let second = all.count in omega (arith, size, first, second, ap length (outgoing_is known)));
     }
 
     pub order_cut : (total : ℕ) → IsPartSent sent two new mid now total →
@@ -203,7 +207,7 @@ module _ (packet : List ℕ) (old ready : Hosted) (next : Next) (whole : IsWhole
 -- ---- an order that is refused
 
 pub order_refused : (packet : List ℕ) (old mid new : Hosted) (refusal : Refusal) → executive_service_now on_board old.services.moment packet (executive_in old) ≡ Err refusal → mid ≡ old → (request : Request) →
-    request ≡ command_refused executive_services refusal → (before now : Sink) (result : Result (Unit {0}) WriteFault) → TellsAlone request mid new before now result → ObeysOrders packet old new before now result
+    request ≡ command_refused executive_services refusal → (before now : Sink) (result : Result ℕ WriteFault) → TellsAlone request mid new before now result → ObeysOrders packet old new before now result
 order_refused packet old mid new refusal is same request asked before now result tells =
     subst (λ (r : Result (Written (List ℕ)) Refusal).
     Handles (order_stations on_board old.services.moment packet (executive_in old) r) (answered_now on_board old.services.moment executive_services packet (executive_in old) r) 0 old new before now result)

@@ -1,5 +1,5 @@
 -- An event of HOST.
-use Rattle.std.proofs.Common.{◌≡◌, ap, sym, ◌∙◌, subst, ℕ, ◌+◌, ◌-◌, ◌≤◌, List, [], ◌∷◌, ◌++◌, length, take, map, arith, Some, None}
+use Rattle.std.proofs.Common.{◌≡◌, ap, sym, ◌∙◌, subst, ℕ, ◌+◌, ◌-◌, ◌≤◌, List, [], ◌∷◌, ◌++◌, length, take, map, arith, Some, None, Result, Ok, Err}
 use Rattle.std.specs.Prelude.{option_map, slice_index_or}
 use Rattle.std.specs.List.{concat}
 use Rattle.std.specs.Io.KnownBytes.{Appends}
@@ -12,12 +12,13 @@ use Rattle.lc_model.specs.Laws.TablesByName.{TablesAreFound}
 use Rattle.lc_model.specs.Services.Bus.{Bus, seen}
 use Rattle.lc_model.specs.Services.Tables.{TableService, IsTableService, tables_at}
 use Rattle.app_host.specs.declared.services.Services.{Services}
+use Rattle.app_host.specs.declared.error.WriteFault.{WriteFault}
 use Rattle.app_host.specs.Telling.{Tells, name_of}
 use Rattle.app_host.specs.Hosted.{Hosted, member_of}
 use Rattle.app_host.specs.Whole.{AreSeated, AreKnown, IsWhole, IsQuiet}
 use Rattle.app_host.specs.Delivered.{executive_in}
-use Rattle.app_host.specs.Writing.{IsFlushed, IsAllSent, IsPartSent, HandlesAll, HandlesPart}
-use Rattle.app_host.specs.Told.{telling, HasTold}
+use Rattle.app_host.specs.Writing.{IsFlushed, IsAllSent, IsPartSent, IsSent, HandlesAll, HandlesPart}
+use Rattle.app_host.specs.Told.{telling, HasTold, TellsAlone}
 use Rattle.app_host.proofs.Frames.{StaysAt, seated_still}
 use Rattle.app_host.proofs.Course.{passes, stops_here, none_stops}
 use Rattle.app_host.proofs.Draining.{same_executive, still_known}
@@ -82,7 +83,7 @@ module _ (request : Request) (old mid new : Hosted) (before after : Sink) (whole
       ∙ passes (room - size_at station) station []
       ∙ none_stops (room - size_at station)
 
-  pub told_all : (total : ℕ) → IsAllSent 0 mid new before after total → HandlesAll (written_once step) step 0 old new before after
+  told_all : (total : ℕ) → IsAllSent 0 mid new before after total → HandlesAll (written_once step) step 0 total old new before after
   told_all total all = record {
     whole = whole_then;
     quiet = ap (λ (s : Services). ready_seat (seen s.bus)) flushed.services ∙ ap ready_seat told.pipes ∙ quiet;
@@ -96,9 +97,10 @@ module _ (request : Request) (old mid new : Hosted) (before after : Sink) (whole
       gains = subst (Appends before.gained after.gained) told.outgoing all.gains;
       fits = all_room;
     };
+    count = λ known. omega (arith, all.count, ap length told.outgoing);
   }
 
-  pub told_part : (total : ℕ) → IsPartSent 0 mid new before after total → HandlesPart (written_once step) step total old new before after
+  told_part : (total : ℕ) → IsPartSent 0 mid new before after total → HandlesPart (written_once step) step total old new before after
   told_part total part = record {
     whole = whole_then;
     is_closed = part.is_closed;
@@ -114,3 +116,7 @@ module _ (request : Request) (old mid new : Hosted) (before after : Sink) (whole
           (subst (λ bytes. Appends before.gained after.gained (take part.taken bytes)) told.outgoing part.gains);
     };
   }
+
+  pub told_so : (result : Result ℕ WriteFault) → IsSent 0 mid new before after result → TellsAlone request old new before after result
+  told_so (Ok total) all = told_all total all
+  told_so (Err fault) part = told_part fault.sent part

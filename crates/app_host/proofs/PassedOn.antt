@@ -1,5 +1,6 @@
 -- All deliveries behind a publication.
 use Rattle.std.proofs.Common.{◌≡◌, ap, sym, ◌∙◌, subst, ℕ, ◌≤◌, List, length, map, Option, Some, None, Result, Ok, Err}
+use Rattle.std.specs.List.{concat}
 use Rattle.std.specs.Prelude.{IsOk, OnOk, option_map, slice_index_or}
 use Rattle.std.proofs.lemmas.List.{length-map}
 use Rattle.lc_model.specs.declared.record.Moment.{Moment}
@@ -76,8 +77,8 @@ module _ (law : TablesAreFound) (old mid : Hosted) (packet : List ℕ) (whole : 
   known_mid : AreKnown old → AreKnown mid
   known_mid known = record { spares = rw stock known.spares; seated = λ seat. rw seats (known.seated seat) }
 
-  pub passes_on : (new : Hosted) (before now : Sink) (result : Result (Unit {0}) WriteFault) → Drains mid new before now result → PassesOn packet old new before now result
-  passes_on new before now (Ok done) all = record {
+  pub passes_on : (new : Hosted) (before now : Sink) (result : Result ℕ WriteFault) → Drains mid new before now result → PassesOn packet old new before now result
+  passes_on new before now (Ok total) all = record {
     whole = all.whole;
     quiet = all.quiet;
     is_closed = all.is_closed ∙ closed;
@@ -85,6 +86,7 @@ module _ (law : TablesAreFound) (old mid : Hosted) (packet : List ℕ) (whole : 
     fine = all.fine;
     exact = λ known. subst (λ (p : Moment × Executive (List ℕ)). IsDone (delivery_stations on_board p.0 0 520 p.1) (drained on_board p.0 520 p.1) (last_calls on_board p.0 (delivery_stations on_board p.0 0 520 p.1)) new before.gained now.gained)
         (λ i. (moment i, executive_mid i)) (all.exact (known_mid known));
+    count = λ known. all.count (known_mid known) ∙ ap (λ (p : Moment × Executive (List ℕ)). length (concat (drained on_board p.0 520 p.1).1)) (λ i. (moment i, executive_mid i));
   }
   passes_on new before now (Err fault) part = record {
     whole = part.whole;

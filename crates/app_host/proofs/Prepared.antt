@@ -14,7 +14,7 @@ use Rattle.app_host.specs.Hosted.{Object, Hosted, object_at, spare_in, no_object
 use Rattle.app_host.specs.Whole.{AreKnown, IsWhole}
 use Rattle.app_host.specs.Delivered.{executive_in}
 use Rattle.app_host.specs.Left.{LeavesExactly}
-use Rattle.app_host.specs.Ordered.{Nobody, Spare, Same, MayBegin, HasWithdrawn, wanted, IsPrepared}
+use Rattle.app_host.specs.Ordered.{Nobody, Spare, Same, MayBegin, HasWithdrawn, outcome_of, IsPrepared}
 use Rattle.app_host.proofs.Found.{shown_in, found, nowhere}
 use Rattle.app_host.proofs.Frames.{fact_at_set}
 use Rattle.app_host.proofs.Answered.{seated_is}
@@ -96,11 +96,11 @@ module _ (h : Hosted) (name : Name) (whole : IsWhole h) where
         by_place None is = refl
         by_place (Some k) is = cc
 
-    start_by : is_some s ≡ false → (i k : Option ℕ) → i ≡ spare_of name e.stock → k ≡ free_seat e.seats → wanted Start name h ≡ started_by None i k
+    start_by : is_some s ≡ false → (i k : Option ℕ) → i ≡ spare_of name e.stock → k ≡ free_seat e.seats → outcome_of Start name h ≡ started_by None i k
     start_by is i k spares free = λ j. started_by ((sym searched ∙ nowhere_so is) j) (sym spares j) (sym free j)
 
     module _ (is : is_some s ≡ false) (i k : Option ℕ) (place : ℕ) (spares : i ≡ spare_of name e.stock) (there : i ≡ Some place) (free : k ≡ free_seat e.seats) where
-      pub start_ready : (seat : ℕ) → k ≡ Some seat → IsPrepared (wanted Start name h) h h (Spare place seat)
+      pub start_ready : (seat : ℕ) → k ≡ Some seat → IsPrepared (outcome_of Start name h) h h (Spare place seat)
       start_ready seat at = record {
         whole = stays_so h h whole.seated whole.idle refl refl refl refl;
         stock = refl;
@@ -171,7 +171,7 @@ module _ (h : Hosted) (name : Name) (whole : IsWhole h) where
               (λ i another. differ o.called same i another (object_at i h.seats) refl));
         }
 
-        pub stop_ready : IsPrepared (wanted Stop name h) h new Nobody
+        pub stop_ready : IsPrepared (outcome_of Stop name h) h new Nobody
         stop_ready = record {
           whole = left.whole;
           stock = left.stock;
@@ -184,7 +184,7 @@ module _ (h : Hosted) (name : Name) (whole : IsWhole h) where
           };
         }
 
-        pub restart_ready : IsPrepared (wanted Restart name h) h new (Same gone k)
+        pub restart_ready : IsPrepared (outcome_of Restart name h) h new (Same gone k)
         restart_ready = record {
           whole = left.whole;
           stock = left.stock;
@@ -198,7 +198,7 @@ module _ (h : Hosted) (name : Name) (whole : IsWhole h) where
           };
         }
 
-        pub reload_ready : (i : Option ℕ) (place : ℕ) → i ≡ spare_of name e.stock → i ≡ Some place → IsPrepared (wanted Reload name h) h new (Spare place k)
+        pub reload_ready : (i : Option ℕ) (place : ℕ) → i ≡ spare_of name e.stock → i ≡ Some place → IsPrepared (outcome_of Reload name h) h new (Spare place k)
         reload_ready i place spares at = record {
           whole = left.whole;
           stock = left.stock;

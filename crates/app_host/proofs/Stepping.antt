@@ -2,6 +2,7 @@
 use Rattle.std.proofs.Common.{◌≡◌, refl, ap, sym, ◌∙◌, subst, ℕ, ◌≤◌, ◌==◌, Bool, true, false, List, ◌∷◌, [], length, map, if◌then◌else◌, Option, Some, None, Result, Ok, Err}
 use Rattle.std.specs.Prelude.{option_map}
 use Rattle.std.specs.Option.{option_map_or}
+use Rattle.std.specs.List.{concat}
 use Rattle.lc_model.specs.declared.record.Moment.{Moment}
 use Rattle.lc_model.specs.Device.{Sink}
 use Rattle.lc_model.specs.Name.{Name}
@@ -24,7 +25,7 @@ use Rattle.app_host.specs.Delivered.{executive_in}
 use Rattle.app_host.specs.Writing.{IsDone, IsCut, Handles, PassesOn}
 use Rattle.app_host.specs.Told.{TellsAlone, Files, ObeysEvents, ObeysTables}
 use Rattle.app_host.specs.Ordered.{ObeysOrders}
-use Rattle.app_host.specs.Step.{at_moment, HasBegun, Takes, IsBetween, StepsSo, StopsSo, Steps}
+use Rattle.app_host.specs.Step.{at_moment, HasBegun, Takes, IsBetween, StepsSo, StopsSo, Steps, without_count, Counts}
 use Rattle.app_host.proofs.Flushed.{same_shared, same_seated}
 
 -- ---- it begins
@@ -102,8 +103,8 @@ module _ (moment : Moment) (input : Input (List ℕ)) (old begun : Hosted) (bega
       after : in_numbers new ≡ record { executive = cut.station.executive; is_closed = true; calls = cut.station.calls }
       after = λ i. record { executive = cut.executive i; is_closed = is_closed i; calls = cut.calls i }
 
-  pub steps : (new : Hosted) (before now : Sink) (result : Result (Unit {0}) WriteFault) → old.is_closed ≡ false → Takes input begun new before now result → Steps moment input old new before now result
-  steps new before now (Ok done) is_open all = record {
+  pub steps : (new : Hosted) (before now : Sink) (result : Result ℕ WriteFault) → old.is_closed ≡ false → Takes input begun new before now result → Steps moment input old new before now (without_count result)
+  steps new before now (Ok total) is_open all = record {
     is_open = all.is_closed ∙ began.is_closed ∙ is_open;
     few = all.calls;
     fine = all.fine;
@@ -116,8 +117,13 @@ module _ (moment : Moment) (input : Input (List ℕ)) (old begun : Hosted) (bega
     exact = λ known. stops_so new fault.sent before.gained now.gained part.is_closed is_open (part.exact (known_begun known));
   }
 
-  pub between_then : (new : Hosted) (before now : Sink) (result : Result (Unit {0}) WriteFault) → Takes input begun new before now result → IsBetween new
-  between_then new before now (Ok done) all = record { whole = all.whole; quiet = λ is_open. all.quiet }
+  pub counts_then : (new : Hosted) (before now : Sink) (result : Result ℕ WriteFault) → Takes input begun new before now result → Counts moment input old result
+  counts_then new before now (Ok total) all = λ known. all.count (known_begun known)
+      ∙ ap (λ (from : Moment × Executive (List ℕ)). length (concat (step_by on_board from.0 from.1 input).1)) (λ i. (moment_begun i, executive_begun i))
+  counts_then new before now (Err fault) part = tt
+
+  pub between_then : (new : Hosted) (before now : Sink) (result : Result ℕ WriteFault) → Takes input begun new before now result → IsBetween new
+  between_then new before now (Ok total) all = record { whole = all.whole; quiet = λ is_open. all.quiet }
   between_then new before now (Err fault) part = record { whole = part.whole; quiet = λ is_open. let clash : true ≡ false = sym part.is_closed ∙ is_open in cc }
 
 -- ---- what is handled
@@ -132,7 +138,7 @@ unfolding last_calls
 no_call_for_orders moment packet e (Ok step) = refl
 no_call_for_orders moment packet e (Err refusal) = refl
 
-module _ (old new : Hosted) (before now : Sink) (result : Result (Unit {0}) WriteFault) where
+module _ (old new : Hosted) (before now : Sink) (result : Result ℕ WriteFault) where
   abbrev moment : Moment
   moment = old.services.moment
 

@@ -1,7 +1,8 @@
 -- A command to the table services, by names.
-use Rattle.std.proofs.Common.{◌≡◌, refl, ap, sym, ◌∙◌, subst, ℕ, List, [], ◌∷◌, map, Result, Ok, Err}
+use Rattle.std.proofs.Common.{length, ◌≡◌, refl, ap, sym, ◌∙◌, subst, ℕ, List, [], ◌∷◌, map, Result, Ok, Err}
 use Rattle.std.specs.Prelude.{IfOk, option_map}
 use Rattle.std.specs.List.{AllByRecursion}
+use Rattle.std.specs.List.{concat}
 use Rattle.lc_model.specs.Device.{Sink}
 use Rattle.lc_model.specs.Packet.{function_code, payload}
 use Rattle.lc_model.specs.Refusal.{Refusal, ◌>>=◌}
@@ -69,15 +70,16 @@ kept_by law (Err refusal) before after is = cc
 -- ---- a step that is known under a premise
 
 -- where this step is that one if all objects are known
-exactly : (old new : Hosted) (this that : Written (List ℕ)) → (AreKnown old → this ≡ that) → (before now : Sink) (result : Result (Unit {0}) WriteFault) →
+exactly : (old new : Hosted) (this that : Written (List ℕ)) → (AreKnown old → this ≡ that) → (before now : Sink) (result : Result ℕ WriteFault) →
     Handles (written_once this) this 0 old new before now result → Handles (written_once that) that 0 old new before now result
-exactly old new this that same before now (Ok done) all = record {
+exactly old new this that same before now (Ok total) all = record {
   whole = all.whole;
   quiet = all.quiet;
   is_closed = all.is_closed;
   calls = all.calls;
   fine = all.fine;
   exact = λ known. subst (λ (w : Written (List ℕ)). IsDone (written_once w) w 0 new before.gained now.gained) (same known) (all.exact known);
+  count = λ known. all.count known ∙ ap (λ (w : Written (List ℕ)). length (concat w.1)) (same known);
 }
 exactly old new this that same before now (Err fault) part = record {
   whole = part.whole;
@@ -136,7 +138,7 @@ module _ (old mid : Hosted) (whole : IsWhole old) (alone : TablesAlone old mid) 
         services = shared_commanded old.services mid.services alone.events keeps.files alone.counts i;
       }
 
-      pub is_obeyed : (request : Request) → request ≡ command_done table_services (function_code packet) → (new : Hosted) (before now : Sink) (result : Result (Unit {0}) WriteFault) →
+      pub is_obeyed : (request : Request) → request ≡ command_done table_services (function_code packet) → (new : Hosted) (before now : Sink) (result : Result ℕ WriteFault) →
           TellsAlone request mid new before now result → ObeysTables packet old new before now result
       is_obeyed request asked new before now result tells =
           exactly old new (told_by_host old.services.moment (request ∷ []) later) this_step
@@ -154,7 +156,7 @@ module _ (old mid : Hosted) (whole : IsWhole old) (alone : TablesAlone old mid) 
         services = same_shared old.services mid.services (record { bus = alone.bus; events = alone.events; tables = same; counts = alone.counts }) i;
       }
 
-      pub is_not_obeyed : (request : Request) → request ≡ command_refused table_services refusal → (new : Hosted) (before now : Sink) (result : Result (Unit {0}) WriteFault) →
+      pub is_not_obeyed : (request : Request) → request ≡ command_refused table_services refusal → (new : Hosted) (before now : Sink) (result : Result ℕ WriteFault) →
           TellsAlone request mid new before now result → ObeysTables packet old new before now result
       is_not_obeyed request asked new before now result tells =
           exactly old new (told_by_host old.services.moment (request ∷ []) e) this_step

@@ -14,7 +14,7 @@ use Rattle.lc_model.specs.Kept.Summary.{AppState, Other}
 use Rattle.lc_model.specs.Kept.Executive.{Executive, Written, spare_at, begun_on, without_spare, ordered_now, answered_now, executive_service_now}
 use Rattle.lc_model.specs.Kept.Stations.{order_stations}
 use Rattle.app_host.specs.declared.orders.Order.{Order}
-use Rattle.app_host.specs.declared.orders.Order.TheVariants as order
+use Rattle.app_host.specs.declared.orders.Order.TheVariants as given
 use Rattle.app_host.specs.declared.succession.Successor.{Successor}
 use Rattle.app_host.specs.declared.succession.Successor.TheVariants as successor
 use Rattle.app_host.specs.declared.error.HostError.{HostError}
@@ -45,7 +45,7 @@ next_of state called held (successor.Same app seat) = Same (object state called 
 pub record MayBegin (seat : ℕ) (h : Hosted) (o : Object) : Type 0 where
   pub free : object_at seat h.seats ≡ None
   pub spare : o.held ≡ None
-  pub unused : (other : ℕ) → IfSome (object_at other h.seats) (λ (there : Object). is_named o.called there.called ≡ false)
+  pub unused : (k : ℕ) → IfSome (object_at k h.seats) (λ (there : Object). is_named o.called there.called ≡ false)
 
 -- the next one may
 abbrev pub MayFollow : Hosted → Next → Type 0
@@ -102,15 +102,15 @@ pub record HasWithdrawn (seat : ℕ) (old new : Hosted) (o : Object) : Type 0 wh
 -- ---- an order
 
 -- what an order is to lead to, or why it is refused
-abbrev pub wanted : model.Order → Name → Hosted → Result (Written (List ℕ)) Refusal
-wanted order name h = ordered_now on_board h.services.moment order name (executive_in h)
+abbrev pub outcome_of : model.Order → Name → Hosted → Result (Written (List ℕ)) Refusal
+outcome_of order name h = ordered_now on_board h.services.moment order name (executive_in h)
 
 -- what is to be done with an application
 abbrev pub order_of : Order → model.Order
-order_of order.Start = model.Start
-order_of order.Stop = model.Stop
-order_of order.Restart = model.Restart
-order_of order.Reload = model.Reload
+order_of given.Start = model.Start
+order_of given.Stop = model.Stop
+order_of given.Restart = model.Restart
+order_of given.Reload = model.Reload
 
 -- an order and the name in a payload of 20 bytes
 abbrev pub named_by : Order → List ℕ → Result (model.Order × Name) Refusal
@@ -189,7 +189,7 @@ ComesIn next old new before now (Ok sent) = HasComeIn next sent old new before n
 ComesIn next old new before now (Err fault) = HasFailed next fault.sent old new before now
 
 -- a command to the executive services is obeyed or refused, and what the application and HOST ask for is written
-abbrev pub ObeysOrders : List ℕ → Hosted → Hosted → Sink → Sink → Result (Unit {0}) WriteFault → Type 0
+abbrev pub ObeysOrders : List ℕ → Hosted → Hosted → Sink → Sink → Result ℕ WriteFault → Type 0
 ObeysOrders packet old new before now result =
     let e : Executive (List ℕ) = executive_in old in
     let answer : Result (Written (List ℕ)) Refusal = executive_service_now on_board old.services.moment packet e in

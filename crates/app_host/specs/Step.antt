@@ -49,7 +49,7 @@ pub record HasBegun (moment : Moment) (old new : Hosted) : Type 0 where
   pub calls : new.calls ≡ 0
 
 -- what a record brings is handled, at the moment of the services
-abbrev pub Takes : Input (List ℕ) → Hosted → Hosted → Sink → Sink → Result (Unit {0}) WriteFault → Type 0
+abbrev pub Takes : Input (List ℕ) → Hosted → Hosted → Sink → Sink → Result ℕ WriteFault → Type 0
 Takes input old new before now result =
     let e : Executive (List ℕ) = executive_in old in
     let stations : List (Station (List ℕ)) = stations_of on_board old.services.moment e input in
@@ -98,6 +98,16 @@ pub record StepsPart (moment : Moment) (input : Input (List ℕ)) (sent : ℕ) (
   pub few : new.calls ≤ most_deliveries
   pub failed : now.failed ≡ true
   pub exact : AreKnown old → StopsSo moment input sent old new before.gained now.gained
+
+-- an answer without the number of bytes
+abbrev pub without_count : Result ℕ WriteFault → Result (Unit {0}) WriteFault
+without_count (Ok total) = Ok tt
+without_count (Err fault) = Err fault
+
+-- with objects of this profile, so many bytes are those that the record calls for
+abbrev pub Counts : Moment → Input (List ℕ) → Hosted → Result ℕ WriteFault → Type 0
+Counts moment input old (Ok total) = AreKnown old → total ≡ length (called_for moment input old)
+Counts moment input old (Err fault) = ⊤
 
 -- one of the two, by the answer
 abbrev pub Steps : Moment → Input (List ℕ) → Hosted → Hosted → Sink → Sink → Result (Unit {0}) WriteFault → Type 0

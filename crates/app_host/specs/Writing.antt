@@ -68,14 +68,15 @@ pub record IsCut (stations : List (Station (List ℕ))) (step : Written (List �
 
 -- ---- a step, or a part of one
 
--- all is written, no packet waits, and the host is as open as before
-pub record HandlesAll (stations : List (Station (List ℕ))) (step : Written (List ℕ)) (last : ℕ) (old new : Hosted) (before now : Sink) : Type 0 where
+-- all is written, so many bytes; no packet waits, and the host is as open as before
+pub record HandlesAll (stations : List (Station (List ℕ))) (step : Written (List ℕ)) (last total : ℕ) (old new : Hosted) (before now : Sink) : Type 0 where
   pub whole : IsWhole new
   pub quiet : IsQuiet new
   pub is_closed : new.is_closed ≡ old.is_closed
   pub calls : new.calls ≤ most_deliveries
   pub fine : now.failed ≡ before.failed
   pub exact : AreKnown old → IsDone stations step last new before.gained now.gained
+  pub count : AreKnown old → total ≡ length (concat step.1)
 
 -- a write failed, and the host is closed
 pub record HandlesPart (stations : List (Station (List ℕ))) (step : Written (List ℕ)) (sent : ℕ) (old new : Hosted) (before now : Sink) : Type 0 where
@@ -86,18 +87,18 @@ pub record HandlesPart (stations : List (Station (List ℕ))) (step : Written (L
   pub exact : AreKnown old → IsCut stations step sent new before.gained now.gained
 
 -- one of the two, by the answer
-abbrev pub Handles : List (Station (List ℕ)) → Written (List ℕ) → ℕ → Hosted → Hosted → Sink → Sink → Result (Unit {0}) WriteFault → Type 0
-Handles stations step last old new before now (Ok done) = HandlesAll stations step last old new before now
+abbrev pub Handles : List (Station (List ℕ)) → Written (List ℕ) → ℕ → Hosted → Hosted → Sink → Sink → Result ℕ WriteFault → Type 0
+Handles stations step last old new before now (Ok total) = HandlesAll stations step last total old new before now
 Handles stations step last old new before now (Err fault) = HandlesPart stations step fault.sent old new before now
 
 -- all deliveries
-abbrev pub Drains : Hosted → Hosted → Sink → Sink → Result (Unit {0}) WriteFault → Type 0
+abbrev pub Drains : Hosted → Hosted → Sink → Sink → Result ℕ WriteFault → Type 0
 Drains old new before now result =
     let stations : List (Station (List ℕ)) = delivery_stations on_board old.services.moment 0 most_deliveries (executive_in old) in
     Handles stations (drained on_board old.services.moment most_deliveries (executive_in old)) (last_calls on_board old.services.moment stations) old new before now result
 
 -- a packet is published, and all deliveries are made
-abbrev pub PassesOn : List ℕ → Hosted → Hosted → Sink → Sink → Result (Unit {0}) WriteFault → Type 0
+abbrev pub PassesOn : List ℕ → Hosted → Hosted → Sink → Sink → Result ℕ WriteFault → Type 0
 PassesOn packet old new before now result =
     let stations : List (Station (List ℕ)) = passing_stations on_board old.services.moment packet (executive_in old) in
     Handles stations (passed_on on_board old.services.moment packet (executive_in old)) (last_calls on_board old.services.moment stations) old new before now result

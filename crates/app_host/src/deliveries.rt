@@ -14,7 +14,6 @@ use crate::host::Host;
 use crate::places::give_at;
 use lc_model::laws::table_services::table_services_go_by_names;
 use lc_model::{ByteSink, Seat, write_all};
-use packet_bus::PACKET_SIZE;
 
 impl Host {
     /// The object of a seat answers the first packet of its pipe. Condition: that is the least seat with a packet. Answers the
@@ -28,15 +27,19 @@ impl Host {
         ensures next { result ≡ ready_seat (seen self.new.services.bus) }
     {
         table_services_go_by_names();
-        let mut buffer = [0; PACKET_SIZE];
         let size = self
             .services
             .bus
-            .receive(seat, &mut buffer)
+            .receive(seat, &mut self.packet)
             .unwrap()
             .unwrap();
         self.services.tables.is_service();
-        give_at(&mut self.seats, seat, &mut self.services, &buffer[..size]);
+        give_at(
+            &mut self.seats,
+            seat,
+            &mut self.services,
+            &self.packet[..size],
+        );
         self.services.tables.is_service();
         self.calls += 1;
         self.services.bus.least_ready()
@@ -67,8 +70,8 @@ impl Host {
         }
     }
 
-    /// Delivers until no packet waits. What each call asks for is written behind it.
-    pub(crate) fn drain<W: ByteSink>(&mut self, out: &mut W) -> Result<(), WriteFault>
+    /// Delivers until no packet waits. What each call asks for is written behind it. Answers how many bytes these were.
+    pub(crate) fn drain<W: ByteSink>(&mut self, out: &mut W) -> Result<u64, WriteFault>
         requires whole { IsWhole (shown state called held self.old) }
         requires light { IsLight (seen self.old.services.bus) }
         requires few { load (seen self.old.services.bus) ≤ 520 }
@@ -81,6 +84,6 @@ impl Host {
             next = self.deliver(seat);
             sent = self.flush(out, sent)?;
         }
-        Ok(())
+        Ok(sent)
     }
 }

@@ -104,7 +104,7 @@ impl Host {
         &mut self,
         packet: &[u8],
         out: &mut W,
-    ) -> Result<(), WriteFault>
+    ) -> Result<u64, WriteFault>
         requires whole { IsWhole (shown state called held self.old) }
         requires quiet { IsQuiet (shown state called held self.old) }
         requires none_yet { self.old.calls ≡ 0 }

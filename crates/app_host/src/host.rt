@@ -12,6 +12,7 @@ use crate::error::HostError;
 use crate::objects::{seat_of, spares_of};
 use crate::services::Services;
 use lc_model::Seat;
+use packet_bus::PACKET_SIZE;
 use std::alloc::Global;
 
 /// The host: applications in stock and on eight seats, and what they share.
@@ -20,6 +21,8 @@ pub struct Host {
     pub(crate) stock: Vec<Box<dyn App>>,
     pub(crate) seats: [Option<Box<dyn App>>; Seat::COUNT],
     pub(crate) services: Services,
+    /// The packet that is delivered, in front, and what was there before behind it: a delivery clears nothing.
+    pub(crate) packet: [u8; PACKET_SIZE],
     /// Whether a write has failed.
     pub(crate) closed: bool,
     /// The calls of `on_packet` for the last record that was handled.
@@ -45,6 +48,7 @@ impl Host {
                 stock,
                 seats: [None, None, None, None, None, None, None, None],
                 services,
+                packet: [0; PACKET_SIZE],
                 closed: false,
                 calls: 0,
             }),

@@ -9,7 +9,7 @@ ghost use Rattle.app_host.specs.Shared.{on_board};
 ghost use Rattle.app_host.specs.Hosted.{shown};
 ghost use Rattle.app_host.specs.Whole.{AreSeated, AreSpares, IsWhole, IsQuiet};
 ghost use Rattle.app_host.specs.Delivered.{executive_in};
-ghost use Rattle.app_host.specs.Ordered.{order_of, named_by, wanted, Prepares, Takes, MayFollow, ComesIn, next_of, ObeysOrders};
+ghost use Rattle.app_host.specs.Ordered.{order_of, named_by, outcome_of, Prepares, Takes, MayFollow, ComesIn, next_of, ObeysOrders};
 
 use crate::error::{HostError, WriteFault};
 use crate::event_commands::name_in;
@@ -96,7 +96,7 @@ impl Host {
     /// there is no spare, and where no seat is free, in this order.
     fn prepare_start(&self, name: &[u8]) -> Result<Successor, HostError>
         requires whole { IsWhole (shown state called held self.now) }
-        ensures { Prepares state called held (wanted Start name.now (shown state called held self.now)) (shown state called held self.now) (shown state called held self.now) result }
+        ensures { Prepares state called held (outcome_of Start name.now (shown state called held self.now)) (shown state called held self.now) (shown state called held self.now) result }
     {
         if self.runs_at(name).is_some() {
             return Err(HostError::AlreadyRunning);
@@ -113,7 +113,7 @@ impl Host {
     /// The application of the name gives its seat back and is dropped. It is refused where none runs.
     fn prepare_stop(&mut self, name: &[u8]) -> Result<Successor, HostError>
         requires whole { IsWhole (shown state called held self.old) }
-        ensures { Prepares state called held (wanted Stop name.now (shown state called held self.old)) (shown state called held self.old) (shown state called held self.new) result }
+        ensures { Prepares state called held (outcome_of Stop name.now (shown state called held self.old)) (shown state called held self.old) (shown state called held self.new) result }
     {
         match self.runs_at(name) {
             None => Err(HostError::NoSuchApp),
@@ -127,7 +127,7 @@ impl Host {
     /// The application of the name gives its seat back, and is to take it again. It is refused where none runs.
     fn prepare_restart(&mut self, name: &[u8]) -> Result<Successor, HostError>
         requires whole { IsWhole (shown state called held self.old) }
-        ensures { Prepares state called held (wanted Restart name.now (shown state called held self.old)) (shown state called held self.old) (shown state called held self.new) result }
+        ensures { Prepares state called held (outcome_of Restart name.now (shown state called held self.old)) (shown state called held self.old) (shown state called held self.new) result }
     {
         match self.runs_at(name) {
             None => Err(HostError::NoSuchApp),
@@ -139,7 +139,7 @@ impl Host {
     /// refused where none runs, and then where there is no spare.
     fn prepare_reload(&mut self, name: &[u8]) -> Result<Successor, HostError>
         requires whole { IsWhole (shown state called held self.old) }
-        ensures { Prepares state called held (wanted Reload name.now (shown state called held self.old)) (shown state called held self.old) (shown state called held self.new) result }
+        ensures { Prepares state called held (outcome_of Reload name.now (shown state called held self.old)) (shown state called held self.old) (shown state called held self.new) result }
     {
         let Some(seat) = self.runs_at(name) else {
             return Err(HostError::NoSuchApp);
@@ -156,7 +156,7 @@ impl Host {
     /// The order is begun: who is to leave a seat has left it. Answers who takes it next, or why the order is refused.
     fn prepare(&mut self, order: Order, name: &[u8]) -> Result<Successor, HostError>
         requires whole { IsWhole (shown state called held self.old) }
-        ensures { Prepares state called held (wanted (order_of order) name.now (shown state called held self.old)) (shown state called held self.old) (shown state called held self.new) result }
+        ensures { Prepares state called held (outcome_of (order_of order) name.now (shown state called held self.old)) (shown state called held self.old) (shown state called held self.new) result }
     {
         match order {
             Order::Start => self.prepare_start(name),
@@ -199,7 +199,7 @@ impl Host {
         &mut self,
         packet: &[u8],
         out: &mut W,
-    ) -> Result<(), WriteFault>
+    ) -> Result<u64, WriteFault>
         requires whole { IsWhole (shown state called held self.old) }
         requires quiet { IsQuiet (shown state called held self.old) }
         requires none_yet { self.old.calls ≡ 0 }
@@ -211,8 +211,8 @@ impl Host {
                 let sent = self.come_in(next, out)?;
                 let text = host::command_done(Service::Applications, function_code(packet));
                 self.tell(8, EventKind::Information, &text);
-                self.flush(out, sent)?;
-                Ok(())
+                let total = self.flush(out, sent)?;
+                Ok(total)
             }
             Err(numbers) => {
                 let text = host::command_refused(Service::Applications, numbers.as_slice());

@@ -32,15 +32,14 @@ impl Host {
         kind: EventKind,
         text: &EventText,
         out: &mut W,
-    ) -> Result<(), WriteFault>
+    ) -> Result<u64, WriteFault>
         requires whole { IsWhole (shown state called held self.old) }
         requires quiet { IsQuiet (shown state called held self.old) }
         requires none_yet { self.old.calls ≡ 0 }
         ensures { TellsAlone (Event host_name id kind text.now) (shown state called held self.old) (shown state called held self.new) (W.sink out.old) (W.sink out.new) result }
     {
         self.tell(id, kind, text);
-        self.flush(out, 0)?;
-        Ok(())
+        self.flush(out, 0)
     }
 
     /// A packet that is none is refused, for this reason.
@@ -48,7 +47,7 @@ impl Host {
         &mut self,
         reason: u8,
         out: &mut W,
-    ) -> Result<(), WriteFault>
+    ) -> Result<u64, WriteFault>
         requires whole { IsWhole (shown state called held self.old) }
         requires quiet { IsQuiet (shown state called held self.old) }
         requires none_yet { self.old.calls ≡ 0 }

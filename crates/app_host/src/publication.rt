@@ -21,7 +21,7 @@ impl Host {
         &mut self,
         packet: &[u8],
         out: &mut W,
-    ) -> Result<(), WriteFault>
+    ) -> Result<u64, WriteFault>
         requires whole { IsWhole (shown state called held self.old) }
         requires quiet { IsQuiet (shown state called held self.old) }
         requires none_yet { self.old.calls ≡ 0 }
@@ -35,7 +35,7 @@ impl Host {
     }
 
     /// A tick is published, and all packets are delivered.
-    pub(crate) fn tick<W: ByteSink>(&mut self, out: &mut W) -> Result<(), WriteFault>
+    pub(crate) fn tick<W: ByteSink>(&mut self, out: &mut W) -> Result<u64, WriteFault>
         requires whole { IsWhole (shown state called held self.old) }
         requires quiet { IsQuiet (shown state called held self.old) }
         requires none_yet { self.old.calls ≡ 0 }

@@ -5,22 +5,13 @@ ghost use Rattle.lc_model.specs.Packet.{stream_fault};
 ghost use Rattle.lc_model.specs.Host.React.{Packet};
 ghost use Rattle.app_host.specs.Hosted.{shown};
 ghost use Rattle.app_host.specs.Whole.{IsWhole, IsQuiet};
-ghost use Rattle.app_host.specs.Step.{input_by, IsNamed, HasBegun, Takes, IsBetween, IsTurnedAway, Steps};
+ghost use Rattle.app_host.specs.Step.{input_by, IsNamed, HasBegun, Takes, IsBetween, IsTurnedAway, Steps, Counts, without_count};
 
 use crate::error::WriteFault;
 use crate::host::Host;
 use lc_model::laws::table_services::table_services_go_by_names;
 use lc_model::packet::{message_id, stream_fault};
-use lc_model::{Body, ByteSink, Moment, Record};
-
-/// Commands to the event services (cFE user's guide).
-const EVENT_SERVICES: u16 = 0x1801;
-
-/// Commands to the table services.
-const TABLE_SERVICES: u16 = 0x1804;
-
-/// Commands to the executive services.
-const EXECUTIVE_SERVICES: u16 = 0x1806;
+use lc_model::{Body, ByteSink, Moment, Record, mids};
 
 impl Host {
     /// Handles a record, and writes what it leads to: the output of each call of an application behind that call, and each
@@ -33,6 +24,25 @@ impl Host {
         ensures between { IsBetween (shown state called held self.new) }
         ensures closed { (shown state called held self.old).is_closed ≡ true → IsTurnedAway (shown state called held self.old) (shown state called held self.new) (W.sink out.old) (W.sink out.new) result }
         ensures open { (shown state called held self.old).is_closed ≡ false → Steps entry.now.moment (input_by entry.now.body) (shown state called held self.old) (shown state called held self.new) (W.sink out.old) (W.sink out.new) result }
+    {
+        match self.step_counted(entry, out) {
+            Ok(_total) => Ok(()),
+            Err(fault) => Err(fault),
+        }
+    }
+
+    /// The same, and answers how many bytes were written, for writers that don't tell.
+    pub fn step_counted<W: ByteSink>(
+        &mut self,
+        entry: &Record<'_>,
+        out: &mut W,
+    ) -> Result<u64, WriteFault>
+        requires between { IsBetween (shown state called held self.old) }
+        requires named { IsNamed entry.now.body }
+        ensures between { IsBetween (shown state called held self.new) }
+        ensures closed { (shown state called held self.old).is_closed ≡ true → IsTurnedAway (shown state called held self.old) (shown state called held self.new) (W.sink out.old) (W.sink out.new) (without_count result) }
+        ensures open { (shown state called held self.old).is_closed ≡ false → Steps entry.now.moment (input_by entry.now.body) (shown state called held self.old) (shown state called held self.new) (W.sink out.old) (W.sink out.new) (without_count result) }
+        ensures count { (shown state called held self.old).is_closed ≡ false → Counts entry.now.moment (input_by entry.now.body) (shown state called held self.old) result }
     {
         if self.closed {
             return Err(WriteFault { sent: 0 });
@@ -53,7 +63,7 @@ impl Host {
     }
 
     /// What a record brings is handled.
-    fn handle<W: ByteSink>(&mut self, body: &Body<'_>, out: &mut W) -> Result<(), WriteFault>
+    fn handle<W: ByteSink>(&mut self, body: &Body<'_>, out: &mut W) -> Result<u64, WriteFault>
         requires whole { IsWhole (shown state called held self.old) }
         requires quiet { IsQuiet (shown state called held self.old) }
         requires none_yet { self.old.calls ≡ 0 }
@@ -68,7 +78,7 @@ impl Host {
     }
 
     /// A packet is refused, obeyed as a command to a service, or passed on to the applications.
-    fn take_packet<W: ByteSink>(&mut self, packet: &[u8], out: &mut W) -> Result<(), WriteFault>
+    fn take_packet<W: ByteSink>(&mut self, packet: &[u8], out: &mut W) -> Result<u64, WriteFault>
         requires whole { IsWhole (shown state called held self.old) }
         requires quiet { IsQuiet (shown state called held self.old) }
         requires none_yet { self.old.calls ≡ 0 }
@@ -81,7 +91,7 @@ impl Host {
     }
 
     /// A packet is obeyed as a command to a service, or passed on to the applications. Condition: a stream may bring it.
-    fn route<W: ByteSink>(&mut self, packet: &[u8], out: &mut W) -> Result<(), WriteFault>
+    fn route<W: ByteSink>(&mut self, packet: &[u8], out: &mut W) -> Result<u64, WriteFault>
         requires whole { IsWhole (shown state called held self.old) }
         requires quiet { IsQuiet (shown state called held self.old) }
         requires none_yet { self.old.calls ≡ 0 }
@@ -90,9 +100,9 @@ impl Host {
         ensures { Takes (Packet packet.now) (shown state called held self.old) (shown state called held self.new) (W.sink out.old) (W.sink out.new) result }
     {
         match message_id(packet) {
-            EVENT_SERVICES => self.obey_events(packet, out),
-            TABLE_SERVICES => self.obey_tables(packet, out),
-            EXECUTIVE_SERVICES => self.obey_orders(packet, out),
+            mids::EVENT_SERVICES => self.obey_events(packet, out),
+            mids::TABLE_SERVICES => self.obey_tables(packet, out),
+            mids::EXECUTIVE_SERVICES => self.obey_orders(packet, out),
             _ => self.pass_on(packet, out),
         }
     }

@@ -1,7 +1,6 @@
 //! Objects that give their seats back, and those that take them next.
 
-ghost use Rattle.std.specs.Prelude.{◌≡◌, ◌<◌, map, option_map, slice_set, IfSome, IsSomeAnd, IsSome, None, []};
-ghost use Rattle.lc_model.specs.Kept.Executive.{seat_count};
+ghost use Rattle.std.specs.Prelude.{◌≡◌, map, option_map, slice_set, IfSome, IsSomeAnd, IsSome, None, []};
 ghost use Rattle.app_host.specs.Calls.{IsObject};
 ghost use Rattle.app_host.specs.Hosted.{Object, object, object_at, shown};
 ghost use Rattle.app_host.specs.Objects.{MayStartOn, HasStarted, MayRetire, HasRetired};
@@ -30,13 +29,6 @@ fn is_object(app: &Box<dyn App>)
     ensures { IsObject (object state called held app.now).state (object state called held app.now).called }
 {
     app.name();
-}
-
-/// Each seat is one of eight.
-pub(crate) fn is_seat(seat: Seat)
-    ensures { seat < seat_count }
-{
-    seat.index();
 }
 
 /// The object of a place gives its seat back. Condition: there is one.
@@ -106,7 +98,6 @@ impl Host {
     {
         table_services_go_by_names();
         self.services.tables.is_service();
-        is_seat(seat);
         let app = withdraw_at(&mut self.seats, seat, &mut self.services);
         self.services.tables.is_service();
         app
@@ -121,7 +112,6 @@ impl Host {
     {
         table_services_go_by_names();
         is_object(&app);
-        is_seat(seat);
         self.services.tables.is_service();
         begin_at(&mut self.seats, seat, &mut self.services, app);
         self.services.tables.is_service();

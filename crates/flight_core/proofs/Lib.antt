@@ -3,3 +3,8 @@ pub mod Slices
 pub mod Cutting
 mod Counting
 mod Given
+mod TextsCompiled
+mod RecordsBrought
+mod NextHandled
+mod Courses
+mod Endings

@@ -1,9 +1,10 @@
 -- What is taken off a stream, as the definitions have it.
-use Rattle.std.specs.Prelude.{ℕ, ◌<◌, Option, option_map, ⊤}
-use Rattle.lc_model.specs.Host.Stream.{Contents, StreamEntry}
+use Rattle.std.specs.Prelude.{ℕ, ◌<◌, ◌≤◌, length, Option, option_map, ⊤}
+use Rattle.lc_model.specs.Host.Stream.{Contents, StreamEntry, name_size}
 use Rattle.lc_model.specs.Host.Stream as stream
 use Rattle.lc_model.specs.declared.record.Body.{Body}
 use Rattle.lc_model.specs.declared.record.Body.TheVariants as body
+use Rattle.app_host.specs.Step.{IsNamed}
 use Rattle.flight_core.specs.Answer.{Answer}
 use Rattle.flight_core.specs.Answer as answer
 use Rattle.flight_core.specs.declared.found.Found.{Found}
@@ -30,3 +31,9 @@ abbrev pub NamesText : ℕ → Found → Type 0
 NamesText texts (Half moment name kind text) = text < texts
 NamesText texts (Record entry) = ⊤
 NamesText texts (Bad number) = ⊤
+
+-- a name is no longer than its field
+abbrev pub IsShortNamed : Found → Type 0
+IsShortNamed (Record entry) = IsNamed entry.body
+IsShortNamed (Half moment name kind text) = length name.now ≤ name_size
+IsShortNamed (Bad number) = ⊤

@@ -6,3 +6,10 @@ pub mod Found
 pub mod Records
 pub mod Cutting
 pub mod Words
+pub mod Error
+pub mod Ending
+pub mod Compiled
+pub mod Stepping
+pub mod Brought
+pub mod Going
+pub mod Flight

@@ -5,7 +5,7 @@ ghost use Rattle.std.specs.List.{position_or_len};
 ghost use Rattle.lc_model.specs.Name.{name_in};
 ghost use Rattle.lc_model.specs.Host.Stream.{header_size};
 ghost use Rattle.flight_core.specs.Front.{entry_by, HasName, IsOfText};
-ghost use Rattle.flight_core.specs.Found.{answer_of, NamesText};
+ghost use Rattle.flight_core.specs.Found.{answer_of, IsShortNamed, NamesText};
 ghost use Rattle.flight_core.specs.Answer.{Entry};
 
 use crate::front::{HEADER, NAME, Shape};
@@ -41,7 +41,8 @@ fn name_length(field: &[u8]) -> usize
 /// The name in a body's first 40 bytes: those before the first zero byte, or all of them.
 fn name_in(body: &[u8]) -> &[u8]
     requires { NAME ≤ length body.now }
-    ensures { result.now ≡ name_in (take NAME body.now) }
+    ensures name { result.now ≡ name_in (take NAME body.now) }
+    ensures few { length result.now ≤ NAME }
 {
     let field = &body[..NAME];
     &field[..name_length(field)]
@@ -53,6 +54,7 @@ pub(crate) fn read_off(shape: Shape, bytes: &[u8]) -> Found<'_>
     requires named { HasName shape (length bytes.now - header_size) }
     ensures entry { answer_of result ≡ Entry (entry_by shape bytes.now) }
     ensures text { (texts : ℕ) → IsOfText texts shape → NamesText texts result }
+    ensures named { IsShortNamed result }
 {
     let moment = Moment {
         seconds: u32_at(bytes, 1),

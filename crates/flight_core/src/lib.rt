@@ -2,15 +2,23 @@
 //! and the counter.
 #![tactic(auto)]
 
+mod bringing;
+mod compiling;
 mod counter;
+mod error;
+mod flight;
 mod found;
 mod front;
+mod halt;
+mod handling;
 pub mod laws;
+mod pieces;
 mod records;
 mod window;
 mod words;
 
 pub use counter::Counter;
+pub use error::{Report, RunError};
 pub use found::Found;
 pub use records::Records;
 pub use words::{Plan, WordsError, read_words};

@@ -4,7 +4,7 @@ ghost use Rattle.std.specs.Prelude.{◌≡◌, ◌≤◌, ◌<◌, ◌+◌, fals
 ghost use Rattle.std.specs.Borrow.{sem};
 ghost use Rattle.std.specs.Io.BufRead.{Rests};
 ghost use Rattle.flight_core.specs.Front.{part_of};
-ghost use Rattle.flight_core.specs.Found.{answer_in, NamesText};
+ghost use Rattle.flight_core.specs.Found.{answer_in, IsShortNamed, NamesText};
 ghost use Rattle.flight_core.specs.Records.{nothing_held, taken_of, fed, next_answer, after_next, front_of, most_held, IsRecord};
 ghost use Rattle.flight_core.specs.contracts.records.Records.{the_row};
 
@@ -71,6 +71,7 @@ impl Records {
     pub fn next(&mut self) -> Option<Found<'_>>
         ensures found { answer_in result ≡ next_answer self.old }
         ensures text { IfSome result (NamesText self.old.texts) }
+        ensures named { IfSome result IsShortNamed }
         ensures shorter { IsRecord (next_answer self.old) → length (after_next self.old).bytes < length self.old.bytes }
         ensures part { IsNone result → front_of self.old ≡ part_of self.old.bytes }
         ensures few { IsNone result → length self.old.bytes < 65547 }

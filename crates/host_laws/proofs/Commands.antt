@@ -228,7 +228,8 @@ in_turn : {A B C : Type 0} (r : Result A Refusal) (next : A → Result B Refusal
 in_turn (Ok a) next last = refl
 in_turn (Err refusal) next last = refl
 
-held_meaning : (name : Name) (files : List (Name × List ℕ)) → held name (files_seen files) ≡ option_map meaning_of (held name files)
+-- a stored file by what it means
+pub held_meaning : (name : Name) (files : List (Name × List ℕ)) → held name (files_seen files) ≡ option_map meaning_of (held name files)
 held_meaning name [] = refl
 held_meaning name (file ∷ files) = by_test (is_named name file.0) (held_meaning name files)
   where

@@ -204,7 +204,7 @@ module _ {Image : Type 0} (images : Interpretation Image) where
           subst (λ before. SlotStays kind before (Some after)) (sym known) (record { there = λ h. refl; active = active; judged = judged kind })
       by_test false e = record { there = λ h. h; active = refl; judged = λ h. h }
 
-  placed : (state : AppState) (services : ServicesNow Image) (name : Name) (slot after : Slot Image) → services.slots name ≡ Some slot → after.active ≡ slot.active →
+  pub placed : (state : AppState) (services : ServicesNow Image) (name : Name) (slot after : Slot Image) → services.slots name ≡ Some slot → after.active ≡ slot.active →
       ((kind : Kind) → IsJudged images kind slot → IsJudged images kind after) → GoesWith images state services →
       GoesWith images state (record services { slots = with_at name (Some after) services.slots })
   placed (LcState own) services name slot after there active judged g =

@@ -33,4 +33,4 @@ mod StationsWrite
 mod FilesStay
 mod NamesStay
 mod Examples
-mod Commands
+pub mod Commands

@@ -17,6 +17,21 @@ pub const SEQUENCE: u16 = 0x18A9;
 /// Ticks, inside the host.
 pub const TICK: u16 = 0x18C0;
 
+/// Commands to the event services.
+pub const EVENT_SERVICES: u16 = 0x1801;
+
+/// Commands to the table services.
+pub const TABLE_SERVICES: u16 = 0x1804;
+
+/// Commands to the executive services.
+pub const EXECUTIVE_SERVICES: u16 = 0x1806;
+
+/// Commands to the Limit Checker.
+pub const LC_COMMAND: u16 = 0x18A4;
+
+/// Requests for the Limit Checker's housekeeping.
+pub const LC_HOUSEKEEPING_REQUEST: u16 = 0x18A5;
+
 /// Requests to sample the Limit Checker's rules.
 pub const SAMPLE: u16 = 0x18A6;
 

@@ -17,6 +17,7 @@ use Rattle.lc_model.specs.Tables.Spelled.{spelled_terms, spelled_rules}
 use Rattle.lc_model.specs.LimitChecker.Steps.{sound_image, paired}
 use Rattle.lc_model.specs.Services.Seen.{files_seen, meaning_of}
 use Rattle.lc_model.specs.Services.Tables.{TableService, fits_table, stored_image, image_in}
+use Rattle.host_laws.proofs.Commands.{held_meaning}
 use Rattle.lc_model.proofs.Facts.{and_first, and_second, and_second_false, tested_equal}
 use Rattle.lc_model.proofs.Tables.SoundImages.{sound_parts}
 use Rattle.table_file.specs.declared.error.FileError.{FileError}
@@ -26,17 +27,6 @@ use Rattle.app_host.specs.Shared.{on_board}
 use Rattle.limit_checker.specs.Adoption.{are_matching, pair_of}
 use Rattle.limit_checker.specs.Engine.{without_tables, with_tables}
 use Rattle.limit_checker.specs.Starting.{new_of, start_image, start_pair, IsDefault, own_started}
-
--- ---- a stored file by what it means
-
-held_meaning : (name : Name) (files : List (Name × List ℕ)) → held name (files_seen files) ≡ option_map meaning_of (held name files)
-held_meaning name [] = refl
-held_meaning name (file ∷ files) = by_test (is_named name file.0) (held_meaning name files)
-  where
-    by_test : (test : Bool) → held name (files_seen files) ≡ option_map meaning_of (held name files) →
-        (if test then Some (meaning_of file.1) else held name (files_seen files)) ≡ option_map meaning_of (if test then Some file.1 else held name files)
-    by_test true behind = refl
-    by_test false behind = behind
 
 -- ---- the image of a default file
 

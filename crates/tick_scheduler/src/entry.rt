@@ -10,9 +10,6 @@ use packet_bus::build_command;
 /// The most bytes of an entry's packet.
 pub const PACKET_SIZE: usize = 16;
 
-/// The message id of requests for the Limit Checker's housekeeping.
-const HOUSEKEEPING_REQUEST: u16 = 0x18A5;
-
 /// A request for the Limit Checker.
 #[derive(Clone, Copy, Debug, Default, PartialEq, Eq)]
 pub enum Entry {
@@ -38,7 +35,7 @@ impl Entry {
                 let payload = [a, b, c, d, 0, u8::from(ages), 0, 0];
                 build_command(mids::SAMPLE, 0, 0, &payload, buffer)
             }
-            Entry::Housekeeping => build_command(HOUSEKEEPING_REQUEST, 0, 0, &[], buffer),
+            Entry::Housekeeping => build_command(mids::LC_HOUSEKEEPING_REQUEST, 0, 0, &[], buffer),
         }
     }
 }

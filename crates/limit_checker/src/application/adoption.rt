@@ -21,7 +21,11 @@ use table_validator::{ValidImage, validate};
 use tbl_service::{Slot, Stage, Tables};
 
 /// The message ids of commands, housekeeping requests and sample requests.
-pub(super) const REQUESTS: [u16; 3] = [0x18A4, 0x18A5, mids::SAMPLE];
+pub(super) const REQUESTS: [u16; 3] = [
+    mids::LC_COMMAND,
+    mids::LC_HOUSEKEEPING_REQUEST,
+    mids::SAMPLE,
+];
 
 /// The image that a table would have: the activated one, or else the active one.
 fn candidate(tables: &Tables, slot: Slot) -> Option<&[u8]>

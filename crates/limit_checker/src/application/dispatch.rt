@@ -12,12 +12,6 @@ use app_host::sending::telling_goes_on;
 use lc_model::mids;
 use lc_model::packet::message_id;
 
-/// Commands to the application.
-const COMMAND: u16 = 0x18A4;
-
-/// Requests for its housekeeping.
-const HOUSEKEEPING: u16 = 0x18A5;
-
 /// Whether a message id is telemetry's.
 fn is_telemetry(mid: u16) -> bool
     ensures { result ≡ is_telemetry_mid mid }
@@ -37,9 +31,9 @@ impl LimitChecker {
         seats_are_kept_by_the_rules();
         telling_goes_on();
         let mid = message_id(packet);
-        if mid == COMMAND {
+        if mid == mids::LC_COMMAND {
             self.command(services, packet);
-        } else if mid == HOUSEKEEPING {
+        } else if mid == mids::LC_HOUSEKEEPING_REQUEST {
             self.housekeeping(services, packet);
         } else if mid == mids::SAMPLE {
             self.sample(services, packet);

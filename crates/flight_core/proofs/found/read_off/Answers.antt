@@ -16,7 +16,7 @@ returns-in-File-clause-entry c =
     let bytes = c.args.bytes.now in
     (λ i. Entry (record {
       moment = record { seconds = c.u32_at.ensures i; subseconds = c.u16_at.ensures i };
-      contents = stream.File (c.name_in.ensures i) (take-rest 40 (take (length bytes - 11) (drop 11 bytes)) i);
+      contents = stream.File (c.name_in.ensures.name i) (take-rest 40 (take (length bytes - 11) (drop 11 bytes)) i);
     }))
     ∙ (λ i. Entry (record {
       moment = stream.moment_of bytes;
@@ -29,7 +29,7 @@ returns-in-Half-clause-entry c =
     let bytes = c.args.bytes.now in
     (λ i. Entry (record {
       moment = record { seconds = c.u32_at.ensures i; subseconds = c.u16_at.ensures i };
-      contents = stream.Half (c.name_in-in-Half.ensures i) c.in-Half.kind c.in-Half.text;
+      contents = stream.Half (c.name_in-in-Half.ensures.name i) c.in-Half.kind c.in-Half.text;
     }))
     ∙ (λ i. Entry (record {
       moment = stream.moment_of bytes;

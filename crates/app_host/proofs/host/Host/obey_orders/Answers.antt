@@ -9,16 +9,16 @@ returns-in_err-sent-in-Ok g c =
     cut_short _ _ _ _ _ _ _ c.from_residual.result c.in_err-sent-in-Ok.field-0.0 c.from_residual.ensures.1
     (order_broken c.args.packet.now _ _ _ c.requires.whole c.requires.quiet c.requires.none_yet c.in-Ok.ensures c.in_err-sent-in-Ok.field-0.0.sent _ _ _ c.in_err-sent-in-Ok.ensures)
 
-pub returns-in_err-flush-in-Ok : goal.returns-in_err-flush-in-Ok
-returns-in_err-flush-in-Ok g c =
-    cut_short _ _ _ _ _ _ _ c.from_residual-in_err-flush-in-Ok.result c.in_err-flush-in-Ok.field-0.0 c.from_residual-in_err-flush-in-Ok.ensures.1
+pub returns-in_err-total-in-Ok : goal.returns-in_err-total-in-Ok
+returns-in_err-total-in-Ok g c =
+    cut_short _ _ _ _ _ _ _ c.from_residual-in_err-total-in-Ok.result c.in_err-total-in-Ok.field-0.0 c.from_residual-in_err-total-in-Ok.ensures.1
     (order_cut c.args.packet.now _ _ _ c.requires.whole c.requires.quiet c.requires.none_yet c.in-Ok.ensures c.in_ok-sent-in-Ok.sent _ _ _ _ _ _ c.in_ok-sent-in-Ok.ensures _
-    (c.command_done-text.ensures ∙ ap (command_done executive_services) c.function_code.ensures) c.tell.ensures c.flush.ensures.flushed c.in_err-flush-in-Ok.field-0.0.sent c.in_err-flush-in-Ok.ensures.sent)
+    (c.command_done-text.ensures ∙ ap (command_done executive_services) c.function_code.ensures) c.tell.ensures c.flush.ensures.flushed c.in_err-total-in-Ok.field-0.0.sent c.in_err-total-in-Ok.ensures.sent)
 
-pub returns-in_ok-flush-in-Ok : goal.returns-in_ok-flush-in-Ok
-returns-in_ok-flush-in-Ok g c =
+pub returns-in_ok-total-in-Ok : goal.returns-in_ok-total-in-Ok
+returns-in_ok-total-in-Ok g c =
     order_done c.args.packet.now _ _ _ c.requires.whole c.requires.quiet c.requires.none_yet c.in-Ok.ensures c.in_ok-sent-in-Ok.sent _ _ _ _ _ _ c.in_ok-sent-in-Ok.ensures _
-    (c.command_done-text.ensures ∙ ap (command_done executive_services) c.function_code.ensures) c.tell.ensures c.flush.ensures.flushed c.in_ok-flush-in-Ok.field-0 c.in_ok-flush-in-Ok.ensures.sent
+    (c.command_done-text.ensures ∙ ap (command_done executive_services) c.function_code.ensures) c.tell.ensures c.flush.ensures.flushed c.in_ok-total-in-Ok.total c.in_ok-total-in-Ok.ensures.sent
 
 pub returns-in-Err : goal.returns-in-Err
 returns-in-Err g c =

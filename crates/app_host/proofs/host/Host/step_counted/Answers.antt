@@ -1,0 +1,10 @@
+use Rattle.app_host.specs.Step.{input_by}
+use Rattle.app_host.proofs.Stepping.{steps, counts_then}
+use Rattle.app_host.proofs.host.Host.step_counted.Goals as goal
+
+pub returns-clause-open : goal.returns-clause-open
+returns-clause-open g c = λ is_open.
+    steps c.args.entry.now.moment (input_by c.args.entry.now.body) _ _ c.begin_step.ensures _ _ _ c.handle.result is_open c.handle.ensures
+
+pub returns-clause-count : goal.returns-clause-count
+returns-clause-count g c = λ is_open. counts_then c.args.entry.now.moment (input_by c.args.entry.now.body) _ _ c.begin_step.ensures _ _ _ c.handle.result c.handle.ensures

@@ -1,0 +1,254 @@
+-- How a run ends.
+use Rattle.std.proofs.Common.{◌≡◌, refl, sym, ◌∙◌, ap, subst, ℕ, ◌+◌, ◌*◌, ◌<◌, ◌≤◌, true, false, List, [], ◌∷◌, ◌++◌, length, take, Option, Some, None, Result, Ok, Err, arith, append_assoc, append-nil, length-append}
+use Rattle.std.specs.List.{concat}
+use Rattle.std.specs.Io.KnownBytes.{Appends, Consumes, IsAtEnd}
+use Rattle.std.proofs.KnownBytes.{Appends-trans, Consumes-nil, Consumes-trans}
+use Rattle.std.proofs.lemmas.List.Folds.{concat-append}
+use Rattle.lc_model.specs.Device.{Source, Sink}
+use Rattle.lc_model.specs.Tables.Interpretation.{FileMeanings}
+use Rattle.lc_model.specs.Host.Run.{input_of}
+use Rattle.lc_model.specs.Host.Outcome.{Devices, devices, MayGoOn, TookAndWrote, Completes, MeetsNoRecord, MeetsTheEnd, FailsToRead, ReachesTheBound, FailsToWrite, IsOutcome}
+use Rattle.lc_model.specs.Host.Stream.{StreamEntry, End, Whole, Bad, Truncated, EndOfStream, Record, NoRecord, CutRecord, all_kinds, front, records_numbered, records_of}
+use Rattle.lc_model.specs.Kept.Executive.{written_from}
+use Rattle.lc_model.specs.Kept.Stations as model
+use Rattle.lc_model.specs.Kept.Stations.{host_step}
+use Rattle.rpn_compiler.specs.declared.files.TablePair.{TablePair}
+use Rattle.host_laws.specs.Statements.{AreBrought, StreamsBring, executive_after, RunsGoOn}
+use Rattle.host_laws.specs.Writes.{OpenHostsTake, Takes}
+use Rattle.app_host.specs.Shared.{on_board}
+use Rattle.app_host.specs.Hosted.{Hosted, in_numbers}
+use Rattle.app_host.specs.Whole.{AreKnown}
+use Rattle.app_host.specs.Delivered.{executive_in}
+use Rattle.app_host.specs.Step.{called_for}
+use Rattle.flight_core.specs.declared.error.Report.{Report}
+use Rattle.flight_core.specs.declared.error.RunError.{RunError}
+use Rattle.flight_core.specs.declared.halt.Halt.{Halt}
+use Rattle.flight_core.specs.declared.halt.Halt.TheVariants as halt
+use Rattle.flight_core.specs.Cutting.{behind, IsHandedOut, Goes, EndsBadly, EndsWhole, EndsCut}
+use Rattle.flight_core.specs.Ending.{ending_of}
+use Rattle.flight_core.specs.Flight.{written_by, stopped_by, ended_by}
+use Rattle.flight_core.specs.Front.{part_of}
+use Rattle.flight_core.specs.Going.{IsNext, IsCutShort, MeetsNone, NoneIsHeld, IsOver, IsBroken, IsAtBound, HandlesNext, TakesPiece}
+use Rattle.flight_core.specs.Records.{Held, front_of}
+use Rattle.flight_core.specs.Stepping.{StopsSo}
+use Rattle.flight_core.proofs.Courses.{written_behind, taken_front, Exact, SoFar, in_front, joined, idle}
+
+-- the laws that say how records end
+pub record Laws : Type 0 where
+  pub goes_on : RunsGoOn on_board
+  pub takes : OpenHostsTake on_board
+  pub brings : StreamsBring
+  pub goes : Goes
+  pub bad : EndsBadly
+  pub whole : EndsWhole
+  pub cut : EndsCut
+
+module _ (laws : Laws) (n : ℕ) (meanings : FileMeanings (List ℕ)) (first : Hosted) (most : ℕ) (source : Source) (sink : Sink) (known : AreKnown first)
+    (output : List StreamEntry → List ℕ) (same : (entries : List StreamEntry) → AreBrought n entries → written_by meanings first entries ≡ output entries)
+    (now : Hosted) (source_now : Source) (sink_now : Sink) (held : Held) (count bytes : ℕ) (far : SoFar n meanings first source sink now source_now sink_now held count bytes) where
+  abbrev records : List ℕ → List StreamEntry × End
+  records bs = records_of n bs
+
+  exact : Exact n meanings first now far.entries sink.gained sink_now.gained bytes
+  exact = far.exact known
+
+  -- what the records of all that has come call for
+  output_all : output (records far.come).0 ≡ written_by meanings first (records far.come).0
+  output_all = sym (same (records far.come).0 (laws.brings n far.come far.are))
+
+  module _ (is : (records far.come).0 ≡ far.entries) where
+    output_is : output (records far.come).0 ≡ written_by meanings first far.entries
+    output_is = output_all ∙ ap (written_by meanings first) is
+
+  -- the same after a read that took nothing
+  rest_is : (source_after : Source) → Consumes source_now.rest source_after.rest [] → Consumes source.rest source_after.rest far.come
+  rest_is source_after took = subst (Consumes source.rest source_after.rest) (append-nil far.come) (Consumes-trans _ _ _ _ _ far.took took)
+
+  module _ (source_after : Source) (took : Consumes source_now.rest source_after.rest []) where
+    abbrev d : Devices
+    d = record { source = source; source_after = source_after; sink = sink; sink_after = sink_now }
+
+    took_so : (is : (records far.come).0 ≡ far.entries) → TookAndWrote records output most d far.come
+    took_so is = record {
+      took = rest_is source_after took;
+      wrote = subst (Appends sink.gained sink_now.gained) (sym (output_is is)) exact.wrote;
+      no_write_failed = far.writable;
+    }
+
+    -- behind what is a part of a record at most
+    module _ (front_is : front_of held ≡ part_of held.bytes) where
+      found : (xs : List ℕ) → held.bytes ≡ xs → front all_kinds n held.bytes ≡ part_of xs
+      found xs is = in_front n meanings first far ∙ front_is ∙ ap part_of is
+
+      abbrev IsFound : Type 0
+      IsFound = ((records far.come).0 ≡ far.entries) × MayGoOn (records far.come).1
+
+      part_found : (xs : List ℕ) → held.bytes ≡ xs → IsFound
+      part_found [] is =
+          let e : records far.come ≡ (far.entries, Whole) = laws.whole n far.come far.entries held.bytes far.handed (found [] is) in
+          (ap (λ (r : List StreamEntry × End). r.0) e, subst (λ (r : List StreamEntry × End). MayGoOn r.1) (sym e) tt)
+      part_found (x ∷ xs) is =
+          let e : records far.come ≡ (far.entries, Truncated (length far.entries + 1)) = laws.cut n far.come far.entries held.bytes far.handed (found (x ∷ xs) is) in
+          (ap (λ (r : List StreamEntry × End). r.0) e, subst (λ (r : List StreamEntry × End). MayGoOn r.1) (sym e) tt)
+
+      fails_to_read : source_after.failed ≡ true → FailsToRead records output most d
+      fails_to_read failed = let e : IsFound = part_found held.bytes refl in record { bytes = far.come; so = took_so e.0; good = e.1; failed = failed }
+
+      reaches_bound : source_after.failed ≡ source_now.failed → source_after.reads ≡ source_now.reads → source_now.reads ≡ most → ReachesTheBound records output most d
+      reaches_bound fine reads bound =
+          let e : IsFound = part_found held.bytes refl in
+          record { bytes = far.come; so = took_so e.0; good = e.1; bound = reads ∙ bound; each = omega (arith, reads, far.each); no_read_failed = fine ∙ far.readable }
+
+      comes_to_the_end : (xs : List ℕ) → held.bytes ≡ xs → source_after.failed ≡ source_now.failed → IsAtEnd source_after.rest → (report : Report) → report.records ≡ count → report.bytes ≡ bytes →
+          IsOutcome records output most d (ending_of (ended_by xs report))
+      comes_to_the_end [] is fine ended report many long =
+          let e : records far.come ≡ (far.entries, Whole) = laws.whole n far.come far.entries held.bytes far.handed (found [] is) in
+          let all : (records far.come).0 ≡ far.entries = ap (λ (r : List StreamEntry × End). r.0) e in
+          record {
+            bytes = far.come;
+            so = took_so all;
+            whole = ap (λ (r : List StreamEntry × End). r.1) e;
+            at_the_end = ended;
+            no_read_failed = fine ∙ far.readable;
+            records_counted = many ∙ far.many ∙ ap length (sym all);
+            bytes_counted = long ∙ exact.long ∙ ap length (sym (output_is all));
+          }
+      comes_to_the_end (x ∷ xs) is fine ended report many long =
+          let e : records far.come ≡ (far.entries, Truncated (length far.entries + 1)) = laws.cut n far.come far.entries held.bytes far.handed (found (x ∷ xs) is) in
+          record {
+            bytes = far.come;
+            so = took_so (ap (λ (r : List StreamEntry × End). r.0) e);
+            cut = ap (λ (r : List StreamEntry × End). r.1) e ∙ ap (λ k. Truncated (k + 1)) (sym far.many ∙ sym many);
+            at_the_end = ended;
+            no_read_failed = fine ∙ far.readable;
+          }
+
+  -- ---- what ends in the middle
+
+  abbrev d_now : Sink → Devices
+  d_now sink_after = record { source = source; source_after = source_now; sink = sink; sink_after = sink_after }
+
+  meets_none : front_of held ≡ NoRecord → MeetsNoRecord records output most (d_now sink_now) (count + 1)
+  meets_none front_is =
+      let none : (rest : List ℕ) → records (far.come ++ rest) ≡ (far.entries, Bad (length far.entries + 1)) =
+      λ rest. laws.bad n far.come far.entries held.bytes rest far.handed (in_front n meanings first far ∙ front_is) in
+      let all : (records far.come).0 ≡ far.entries = ap (λ bs. (records bs).0) (sym (append-nil far.come)) ∙ ap (λ (r : List StreamEntry × End). r.0) (none []) in
+      record {
+        bytes = far.come;
+        so = record { took = far.took; wrote = subst (Appends sink.gained sink_now.gained) (sym (output_is all)) exact.wrote; no_write_failed = far.writable };
+        bad = λ rest. none rest ∙ (λ i. (sym all i, Bad (sym far.many i + 1)));
+        no_read_failed = far.readable;
+      }
+
+  module _ (after : Held) (new : Hosted) (sink_after : Sink) (sent : ℕ) (cut : IsCutShort meanings held after now new sink_now sink_after sent) where
+    abbrev entry : StreamEntry
+    entry = cut.next.entry
+
+    abbrev called : List ℕ
+    called = called_for entry.moment (input_of meanings entry.contents) now
+
+    stops : StopsSo entry.moment (input_of meanings entry.contents) sent now new sink_now.gained sink_after.gained
+    stops = cut.steps.exact exact.known
+
+    sent_fewer : sent < length called
+    sent_fewer =
+        let takes : Takes on_board entry.moment sent (in_numbers now) (input_of meanings entry.contents) (Some sent) =
+        subst (Takes on_board entry.moment sent (in_numbers now) (input_of meanings entry.contents)) (ap (λ (r : model.Host (List ℕ) × Option ℕ). r.1) stops.host)
+        (laws.takes entry.moment sent (in_numbers now) (input_of meanings entry.contents) far.is_open) in
+        takes.fewer
+
+    -- the records that were not handled any more
+    others : List StreamEntry
+    others = (records_numbered all_kinds n (length (far.entries ++ entry ∷ []) + 1) (cut.next.rest ++ [])).0
+
+    all_are : (records far.come).0 ≡ (far.entries ++ entry ∷ []) ++ others
+    unfolding others
+    all_are =
+        ap (λ bs. (records bs).0) (sym (append-nil far.come))
+        ∙ ap (λ (r : List StreamEntry × End). r.0)
+        (laws.goes n far.come far.entries held.bytes entry cut.next.rest far.handed (in_front n meanings first far ∙ cut.next.front) [])
+
+    others_bytes : List ℕ
+    others_bytes = concat (written_from on_board (executive_after on_board (executive_in first) meanings (far.entries ++ entry ∷ [])) meanings others)
+
+    written_all : output (records far.come).0 ≡ (written_by meanings first far.entries ++ called) ++ others_bytes
+    unfolding others_bytes
+    written_all =
+        output_all
+        ∙ ap (written_by meanings first) all_are
+        ∙ ap concat (written_behind meanings (executive_in first) (far.entries ++ entry ∷ []) others)
+        ∙ concat-append (written_from on_board (executive_in first) meanings (far.entries ++ entry ∷ []))
+        (written_from on_board (executive_after on_board (executive_in first) meanings (far.entries ++ entry ∷ [])) meanings others)
+        ∙ ap (λ bs. bs ++ others_bytes) (joined n meanings first laws.goes_on now far.entries entry sink.gained sink_now.gained bytes exact)
+
+    fails_to_write : FailsToWrite records output most (d_now sink_after) (bytes + sent)
+    fails_to_write = record {
+      bytes = far.come;
+      took = far.took;
+      wrote = subst (Appends sink.gained sink_after.gained)
+          (sym (ap (take (bytes + sent)) written_all ∙ ap (λ k. take (k + sent) ((written_by meanings first far.entries ++ called) ++ others_bytes)) exact.long
+          ∙ taken_front (written_by meanings first far.entries) called others_bytes sent (omega (arith, sent_fewer))))
+          (Appends-trans _ _ _ _ _ exact.wrote stops.gains);
+      fewer = subst (λ (bs : List ℕ). bytes + sent < length bs) (sym written_all)
+          (let less : bytes + sent < length ((written_by meanings first far.entries ++ called) ++ others_bytes) = omega (arith, exact.long, sent_fewer, length-append (written_by meanings first far.entries ++ called) others_bytes, length-append (written_by meanings first far.entries) called) in less);
+      failed = cut.steps.failed;
+      no_read_failed = far.readable;
+    }
+
+  -- ---- by what is answered
+
+  pub stops_there : (after : Held) (new : Hosted) (sink_after : Sink) (halt : Halt) → HandlesNext meanings held after now new sink_now sink_after (Err halt) →
+      IsOutcome records output most (d_now sink_after) (ending_of (Err (stopped_by halt count bytes)))
+  stops_there after new sink_after halt.NoRecord none =
+      subst (λ s. MeetsNoRecord records output most (d_now s) (count + 1)) (sym none.idle) (meets_none none.front)
+  stops_there after new sink_after (halt.Unsent sent) cut = fails_to_write after new sink_after sent cut
+  stops_there after new sink_after halt.Fault cut = absurd cut
+  stops_there after new sink_after halt.Bound cut = absurd cut
+
+  module _ (front_is : front_of held ≡ part_of held.bytes) where
+    pub stops_reading : (after : Held) (source_after : Source) (halt : Halt) → TakesPiece most held after source_now source_after (Err halt) →
+        IsOutcome records output most (record { source = source; source_after = source_after; sink = sink; sink_after = sink_now }) (ending_of (Err (stopped_by halt count bytes)))
+    stops_reading after source_after halt.Fault broken = fails_to_read source_after broken.took front_is broken.failed
+    stops_reading after source_after halt.Bound bound =
+        subst (λ s. ReachesTheBound records output most (record { source = source; source_after = s; sink = sink; sink_after = sink_now })) (sym bound.same)
+        (reaches_bound source_now (Consumes-nil source_now.rest) front_is refl refl bound.bound)
+    stops_reading after source_after halt.NoRecord other = absurd other
+    stops_reading after source_after (halt.Unsent sent) other = absurd other
+
+    pub ends_there : (after : Held) (source_after : Source) → IsOver most held after source_now source_after → (report : Report) → report.records ≡ count → report.bytes ≡ bytes →
+        (answer : Result Report RunError) → answer ≡ ended_by after.bytes report →
+        IsOutcome records output most (record { source = source; source_after = source_after; sink = sink; sink_after = sink_now }) (ending_of answer)
+    ends_there after source_after over report many long answer is =
+        subst (λ (r : Result Report RunError). IsOutcome records output most (record { source = source; source_after = source_after; sink = sink; sink_after = sink_now }) (ending_of r))
+        (sym (is ∙ ap (λ (h : Held). ended_by h.bytes report) over.same))
+        (comes_to_the_end source_after over.took front_is held.bytes refl over.fine over.at_the_end report many long)
+
+-- ---- the same as the loop has it
+
+module _ (laws : Laws) (n : ℕ) (meanings : FileMeanings (List ℕ)) (first : Hosted) (most : ℕ) (source : Source) (sink : Sink) (known : AreKnown first)
+    (output : List StreamEntry → List ℕ) (same : (entries : List StreamEntry) → AreBrought n entries → written_by meanings first entries ≡ output entries)
+    (now : Hosted) (source_now : Source) (sink_now : Sink) (held : Held) (count bytes : ℕ) (far : SoFar n meanings first source sink now source_now sink_now held count bytes)
+    (after : Held) (new : Hosted) (sink_after : Sink) where
+  pub stops_by : (halt : Halt) → HandlesNext meanings held after now new sink_now sink_after (Err halt) → (answer : RunError) → answer ≡ stopped_by halt count bytes →
+      IsOutcome (records_of n) output most (devices source source_now sink sink_after) (ending_of (Err answer))
+  stops_by halt cut answer is =
+      subst (λ (e : RunError). IsOutcome (records_of n) output most (devices source source_now sink sink_after) (ending_of (Err e))) (sym is)
+      (stops_there laws n meanings first most source sink known output same now source_now sink_now held count bytes far after new sink_after halt cut)
+
+  module _ (none : NoneIsHeld meanings held after now new sink_now sink_after) where
+    still : SoFar n meanings first source sink new source_now sink_after after count bytes
+    still = idle n meanings first source sink now source_now sink_now held count bytes far after new sink_after none
+
+    in_part : front_of after ≡ part_of after.bytes
+    in_part = subst (λ (h : Held). front_of h ≡ part_of h.bytes) (sym none.same) none.front
+
+    pub reads_by : (later : Held) (source_after : Source) (halt : Halt) → TakesPiece most after later source_now source_after (Err halt) → (answer : RunError) → answer ≡ stopped_by halt count bytes →
+        IsOutcome (records_of n) output most (devices source source_after sink sink_after) (ending_of (Err answer))
+    reads_by later source_after halt broken answer is =
+        subst (λ (e : RunError). IsOutcome (records_of n) output most (devices source source_after sink sink_after) (ending_of (Err e))) (sym is)
+        (stops_reading laws n meanings first most source sink known output same new source_now sink_after after count bytes still in_part later source_after halt broken)
+
+    pub ends_by : (later : Held) (source_after : Source) → IsOver most after later source_now source_after → (report : Report) → report.records ≡ count → report.bytes ≡ bytes →
+        (answer : Result Report RunError) → answer ≡ ended_by later.bytes report → IsOutcome (records_of n) output most (devices source source_after sink sink_after) (ending_of answer)
+    ends_by later source_after over report many long answer is =
+        ends_there laws n meanings first most source sink known output same new source_now sink_after after count bytes still in_part later source_after over report many long answer is

@@ -1,0 +1,82 @@
+-- The next record of those that are held, as it was found, brought to the host and handled.
+use Rattle.std.proofs.Common.{◌≡◌, refl, sym, ◌∙◌, ap, subst, ℕ, ◌<◌, List, length, Option, Some, None}
+use Rattle.lc_model.specs.declared.record.Moment.{Moment}
+use Rattle.lc_model.specs.declared.record.Record.{Record as Given}
+use Rattle.lc_model.specs.Device.{Sink}
+use Rattle.lc_model.specs.Host.React.{Input}
+use Rattle.lc_model.specs.Host.Run.{input_of}
+use Rattle.lc_model.specs.Host.Stream.{StreamEntry, Front, EndOfStream, Record, NoRecord, CutRecord}
+use Rattle.rpn_compiler.specs.declared.files.TablePair.{TablePair}
+use Rattle.app_host.specs.Hosted.{Hosted}
+use Rattle.app_host.specs.Step.{input_by, IsBetween}
+use Rattle.flight_core.specs.declared.found.Found.{Found}
+use Rattle.flight_core.specs.declared.found.Found.TheVariants as found
+use Rattle.flight_core.specs.Answer.{Answer, Entry}
+use Rattle.flight_core.specs.Found.{answer_of}
+use Rattle.flight_core.specs.Records.{Held, front_of, next_number, answer_by, after_by, next_answer, after_next, IsRecord}
+use Rattle.flight_core.specs.Brought.{meanings_of, IsTaken, IsBrought}
+use Rattle.flight_core.specs.Going.{IsNext, IsHandled, IsCutShort}
+use Rattle.flight_core.specs.Stepping.{StepsWhole, StepsPart}
+
+-- ---- what was brought is a record
+
+given_by : (pairs : List TablePair) (f : Found) (given : Given) → IsBrought pairs f (Some given) → IsTaken pairs (answer_of f) given
+given_by pairs (found.Record entry) given is = is
+given_by pairs (found.Half moment name kind text) given is = is
+given_by pairs (found.Bad number) given is = absurd is
+
+pub taken_by : (pairs : List TablePair) (f : Found) (given : Given) (result : Option Given) → result ≡ Some given → IsBrought pairs f result → IsTaken pairs (answer_of f) given
+taken_by pairs f given result is brought = given_by pairs f given (subst (IsBrought pairs f) is brought)
+
+-- ---- and the one that is in front
+
+pub next_by : (held after : Held) (entry : StreamEntry) → Some (Entry entry) ≡ next_answer held → after ≡ after_next held →
+    (IsRecord (next_answer held) → length (after_next held).bytes < length held.bytes) → (next : IsNext held after) × (next.entry ≡ entry)
+next_by held after entry answer goes shorter = by_front (front_of held) refl
+  where
+    by_front : (f : Front) → front_of held ≡ f → (next : IsNext held after) × (next.entry ≡ entry)
+    by_front (Record first rest) is =
+        let then : after_next held ≡ record held { bytes = rest; count = next_number held } = ap (after_by held) is in
+        let same : Some (Entry entry) ≡ Some (Entry first) = answer ∙ ap (answer_by held) is in
+        let comes : next_answer held ≡ Some (Entry first) = ap (answer_by held) is in (
+          record {
+            entry = first;
+            rest = rest;
+            front = is;
+            shorter = subst (λ (h : Held). length h.bytes < length held.bytes) then (shorter (subst IsRecord (sym comes) tt));
+            goes = goes ∙ then;
+          },
+          cc same,
+        )
+    by_front EndOfStream is = let none : Some (Entry entry) ≡ None = answer ∙ ap (answer_by held) is in absurd (cc none)
+    by_front CutRecord is = let none : Some (Entry entry) ≡ None = answer ∙ ap (answer_by held) is in absurd (cc none)
+    by_front NoRecord is = let none : Some (Entry entry) ≡ answer_by held NoRecord = answer ∙ ap (answer_by held) is in absurd (cc none)
+
+module _ (pairs : List TablePair) (held after : Held) (f : Found) (given : Given) (result : Option Given) (brought : IsBrought pairs f result) (is : result ≡ Some given)
+    (answer : Some (answer_of f) ≡ next_answer held) (goes : after ≡ after_next held) (shorter : IsRecord (next_answer held) → length (after_next held).bytes < length held.bytes)
+    (old new : Hosted) (before now : Sink) (between : IsBetween new) where
+  taken : IsTaken pairs (answer_of f) given
+  taken = taken_by pairs f given result is brought
+
+  next : (next : IsNext held after) × (next.entry ≡ taken.entry)
+  next = next_by held after taken.entry (ap Some (sym taken.is) ∙ answer) goes shorter
+
+  moment_is : given.moment ≡ next.0.entry.moment
+  moment_is = taken.moment ∙ ap (λ (e : StreamEntry). e.moment) (sym next.1)
+
+  input_is : input_by given.body ≡ input_of (meanings_of pairs) next.0.entry.contents
+  input_is = taken.input ∙ ap (λ (e : StreamEntry). input_of (meanings_of pairs) e.contents) (sym next.1)
+
+  pub handled : (total : ℕ) → StepsWhole given.moment (input_by given.body) total old new before now → IsHandled (meanings_of pairs) held after old new before now total
+  handled total steps = record {
+    next = next.0;
+    between = between;
+    steps = subst (λ (x : Moment × Input (List ℕ)). StepsWhole x.0 x.1 total old new before now) (λ i. (moment_is i, input_is i)) steps;
+  }
+
+  pub cut_short : (sent : ℕ) → StepsPart given.moment (input_by given.body) sent old new before now → IsCutShort (meanings_of pairs) held after old new before now sent
+  cut_short sent steps = record {
+    next = next.0;
+    between = between;
+    steps = subst (λ (x : Moment × Input (List ℕ)). StepsPart x.0 x.1 sent old new before now) (λ i. (moment_is i, input_is i)) steps;
+  }

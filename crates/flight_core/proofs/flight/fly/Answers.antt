@@ -1,0 +1,75 @@
+use Rattle.std.proofs.Common.{rules, ◌≡◌, ◌<◌, refl, sym, ◌∙◌, ap, subst, arith}
+use Rattle.lc_model.specs.Tables.InForce.{layouts}
+use Rattle.flight_core.specs.Front.{part_of}
+use Rattle.flight_core.specs.Records.{Held, front_of}
+use Rattle.flight_core.proofs.Courses.{SoFar, goes_on_board, takes_on_board, nothing_yet, one_more, idle, comes_more}
+use Rattle.flight_core.proofs.Endings.{Laws, stops_by, reads_by, ends_by}
+use Rattle.flight_core.proofs.flight.fly.Goals as goal
+
+pub loop-total-init : goal.loop-total-init
+loop-total-init g c = record {
+  room = c.requires.room;
+  bounded = omega (arith, c.requires.unread);
+  far = nothing_yet _ _ _ c.records_are_handed_out.ensures.begins _ _ _ c.requires.nothing c.requires.between c.requires.open c.requires.unread c.requires.readable c.requires.writable;
+}
+
+pub loop-total-preserved-in-Ok-Some : goal.loop-total-preserved-in-Ok-Some
+loop-total-preserved-in-Ok-Some g c =
+    let handled = rw c.in-Ok-Some.field-0-is at c.in-Ok-Some.ensures.next in
+    let fits : c.in-Ok-Some.total < 18446744073709551616 = search rules in
+    record {
+      room = c.loop-total.invariant.room;
+      bounded = c.loop-total.invariant.bounded;
+      far = one_more _ _ _ (goes_on_board (c.goes_on.ensures layouts)) c.records_are_handed_out.ensures.goes _ _ _ _ _ _ _ _ c.loop-total.invariant.far _ _ _ _ fits handled;
+    }
+
+pub loop-total-preserved : goal.loop-total-preserved
+loop-total-preserved g c =
+    let none = rw c.in-Ok-None.field-0-is at c.in-Ok-None.ensures.next in
+    let far = idle _ _ _ _ _ _ _ _ _ _ _ c.loop-total.invariant.far _ _ _ none in
+    let came = rw c.in-Ok-true.field-0-test at c.in-Ok-true.ensures.piece in
+    record {
+      room = c.take_piece.ensures.room;
+      bounded = c.take_piece.ensures.bounded;
+      far = comes_more _ _ _ c.records_are_handed_out.ensures.comes _ _ _ _ _ _ _ _ _ far _ _ came;
+    }
+
+pub returns-in-Ok-false-clause-outcome : goal.returns-in-Ok-false-clause-outcome
+returns-in-Ok-false-clause-outcome g c = λ known output same.
+    let none = rw c.in-Ok-None.field-0-is at c.in-Ok-None.ensures.next in
+    let over = rw c.in-Ok-false.field-0-test at c.in-Ok-false.ensures.piece in
+    ends_by (record {
+      goes_on = goes_on_board (c.goes_on.ensures layouts);
+      takes = takes_on_board (c.writes_are_the_steps.ensures.taken layouts);
+      brings = c.records_of_bytes_are_fine.ensures.brought;
+      goes = c.records_are_handed_out.ensures.goes;
+      bad = c.the_rest_says_the_end.ensures.bad;
+      whole = c.the_rest_says_the_end.ensures.whole;
+      cut = c.the_rest_says_the_end.ensures.cut;
+    }) _ _ _ _ _ _ known output same _ _ _ _ _ _ c.loop-total.invariant.far _ _ _ none _ _ over c.loop-total.report refl refl c.ended.result c.ended.ensures
+
+pub returns-in-Err-take_piece-clause-outcome : goal.returns-in-Err-take_piece-clause-outcome
+returns-in-Err-take_piece-clause-outcome g c = λ known output same.
+    let none = rw c.in-Ok-None.field-0-is at c.in-Ok-None.ensures.next in
+    reads_by (record {
+      goes_on = goes_on_board (c.goes_on.ensures layouts);
+      takes = takes_on_board (c.writes_are_the_steps.ensures.taken layouts);
+      brings = c.records_of_bytes_are_fine.ensures.brought;
+      goes = c.records_are_handed_out.ensures.goes;
+      bad = c.the_rest_says_the_end.ensures.bad;
+      whole = c.the_rest_says_the_end.ensures.whole;
+      cut = c.the_rest_says_the_end.ensures.cut;
+    }) _ _ _ _ _ _ known output same _ _ _ _ _ _ c.loop-total.invariant.far _ _ _ none _ _ c.in-Err-take_piece.halt c.in-Err-take_piece.ensures.piece
+    (c.stopped.result) c.stopped.ensures
+
+pub returns-in-Err-clause-outcome : goal.returns-in-Err-clause-outcome
+returns-in-Err-clause-outcome g c = λ known output same.
+    stops_by (record {
+      goes_on = goes_on_board (c.goes_on.ensures layouts);
+      takes = takes_on_board (c.writes_are_the_steps.ensures.taken layouts);
+      brings = c.records_of_bytes_are_fine.ensures.brought;
+      goes = c.records_are_handed_out.ensures.goes;
+      bad = c.the_rest_says_the_end.ensures.bad;
+      whole = c.the_rest_says_the_end.ensures.whole;
+      cut = c.the_rest_says_the_end.ensures.cut;
+    }) _ _ _ _ _ _ known output same _ _ _ _ _ _ c.loop-total.invariant.far _ _ _ c.in-Err.halt c.in-Err.ensures.next c.stopped-in-Err.result c.stopped-in-Err.ensures

@@ -1,0 +1,21 @@
+use Rattle.std.proofs.Common.{◌≡◌, ◌+◌, ◌*◌, ◌-◌, ◌≤◌, length}
+use Rattle.app_host.specs.Hosted.{shown}
+use Rattle.flight_core.specs.Brought.{meanings_of}
+use Rattle.flight_core.proofs.Courses.{SoFar}
+use Rattle.flight_core.proofs.flight.fly.Given as goal
+
+-- the records so far
+abbrev pub invariant-loop-total : goal.invariant-loop-total
+invariant-loop-total g l = record {
+  room : length l.room ≡ 8192;
+  bounded : (g.R.ByteSource.source l.reader).reads ≤ l.most;
+  far : SoFar (length l.pairs) (meanings_of l.pairs)
+      (shown (λ b. (goal.App-dyn g (b.vtable, b.value)).state b.value) (λ b. (goal.App-dyn g (b.vtable, b.value)).called b.value) (λ b. (goal.App-dyn g (b.vtable, b.value)).held b.value) l.initial.host)
+      (g.R.ByteSource.source l.initial.reader) (g.W.ByteSink.sink l.initial.writer)
+      (shown (λ b. (goal.App-dyn g (b.vtable, b.value)).state b.value) (λ b. (goal.App-dyn g (b.vtable, b.value)).called b.value) (λ b. (goal.App-dyn g (b.vtable, b.value)).held b.value) l.host)
+      (g.R.ByteSource.source l.reader) (g.W.ByteSink.sink l.writer) l.records l.report.records l.report.bytes;
+}
+
+-- the reads that are left, and what is held
+abbrev pub decreases-loop-total : goal.decreases-loop-total
+decreases-loop-total g l = 73740 * (l.most - (g.R.ByteSource.source l.reader).reads) + length l.records.bytes

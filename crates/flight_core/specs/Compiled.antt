@@ -1,0 +1,73 @@
+-- The table files of the rule texts of a run.
+use Rattle.std.specs.Prelude.{◌≡◌, ℕ, List, [], map, take, slice_get, Option, Some, ⊤}
+use Rattle.std.specs.Option.{option_map_or}
+use Rattle.std.specs.Borrow.{Bor}
+use Rattle.std.specs.List.{AllZip}
+use Rattle.lc_model.specs.declared.kind.Kind.{Kind}
+use Rattle.lc_model.specs.declared.kind.Kind.TheVariants.{Wdt, Adt}
+use Rattle.lc_model.specs.Rule.{NamedRule}
+use Rattle.lc_model.specs.Text.Reading.{TextRefusal}
+use Rattle.lc_model.specs.Tables.Compiling.{Compiles, IsRefused}
+use Rattle.lc_model.specs.Tables.Edition.{Edition}
+use Rattle.lc_model.specs.Tables.HalvesAndBytes.{Text}
+use Rattle.lc_model.specs.Tables.InForce.{layouts, limits, arranged}
+use Rattle.lc_model.specs.Host.Promise.{AreCompiled}
+use Rattle.rpn_compiler.specs.declared.error.CompileError.{CompileError}
+use Rattle.rpn_compiler.specs.declared.error.CompileError.TheVariants as compiler
+use Rattle.rpn_compiler.specs.declared.files.TablePair.{TablePair}
+use Rattle.rpn_compiler.specs.Fault.{refusal_of}
+use Rattle.rpn_compiler.specs.Pair.{AreTables}
+use Rattle.flight_core.specs.declared.error.RunError.{RunError}
+use Rattle.flight_core.specs.declared.error.RunError.TheVariants.{Compile, Memory}
+
+-- the edition that is in force
+abbrev pub edition : Edition
+edition = record { layouts = layouts; limits = limits; arranged = arranged }
+
+-- the bytes of these texts
+abbrev pub sources_of : List (Bor (List ℕ)) → List (List ℕ)
+sources_of texts = map (λ text. text.now) texts
+
+-- ---- files
+
+-- the file of the table of this kind
+abbrev pub file_of : Kind → TablePair → List ℕ
+file_of Wdt pair = pair.wdt.items
+file_of Adt pair = pair.adt.items
+
+-- the file of the table of this kind of the text with this number
+abbrev pub file_in : List TablePair → Kind → ℕ → List ℕ
+file_in pairs kind number = option_map_or (file_of kind) (slice_get pairs number) []
+
+-- a text compiles to these files
+pub record IsCompiled (source : List ℕ) (pair : TablePair) : Type 0 where
+  pub rules : List NamedRule
+  pub compiles : Compiles limits source rules
+  pub tables : AreTables source rules pair
+
+-- each text compiles to its files
+abbrev pub AreAllCompiled : List (List ℕ) → List TablePair → Type 0
+AreAllCompiled sources pairs = AllZip IsCompiled sources pairs
+
+-- ---- refusals
+
+-- the answer where the text with this number has no compiled form
+abbrev pub refusal_for : ℕ → CompileError → RunError
+refusal_for number compiler.Memory = Memory
+refusal_for number error = Compile number error
+
+-- the texts before this one compile, and it does not, for this reason
+pub record IsFirstRefused (sources : List (List ℕ)) (number : ℕ) (error : CompileError) : Type 0 where
+  pub texts : List Text
+  pub before : AreCompiled limits (take number sources) texts
+  pub source : List ℕ
+  pub there : slice_get sources number ≡ Some source
+  pub why : TextRefusal
+  pub is : refusal_of error ≡ Some why
+  pub refused : IsRefused limits source why
+
+-- the first text that does not compile, or want of memory
+abbrev pub IsNotCompiled : List (List ℕ) → RunError → Type 0
+IsNotCompiled sources (Compile number error) = IsFirstRefused sources number error
+IsNotCompiled sources Memory = ⊤
+IsNotCompiled sources other = ⊥

@@ -1,0 +1,45 @@
+-- What a run of the host writes over records, and how it ends.
+use Rattle.std.specs.Prelude.{◌≡◌, ℕ, ◌+◌, List, [], ◌∷◌, length, Result, Ok, Err}
+use Rattle.std.specs.List.{concat}
+use Rattle.lc_model.specs.Host.Outcome.{Devices, IsOutcome}
+use Rattle.lc_model.specs.Host.Stream.{StreamEntry, records_of}
+use Rattle.lc_model.specs.Tables.Interpretation.{FileMeanings}
+use Rattle.lc_model.specs.Kept.Executive.{written_from}
+use Rattle.rpn_compiler.specs.declared.files.TablePair.{TablePair}
+use Rattle.host_laws.specs.Statements.{AreBrought}
+use Rattle.app_host.specs.Shared.{on_board}
+use Rattle.app_host.specs.Hosted.{Hosted}
+use Rattle.app_host.specs.Whole.{AreKnown}
+use Rattle.app_host.specs.Delivered.{executive_in}
+use Rattle.flight_core.specs.declared.halt.Halt.{Halt}
+use Rattle.flight_core.specs.declared.halt.Halt.TheVariants as halt
+use Rattle.flight_core.specs.declared.error.Report.{Report}
+use Rattle.flight_core.specs.declared.error.RunError.{RunError}
+use Rattle.flight_core.specs.declared.error.RunError.TheVariants as error
+use Rattle.flight_core.specs.Brought.{meanings_of}
+use Rattle.flight_core.specs.Ending.{ending_of}
+
+-- how a run ends by this, behind so many records and bytes
+abbrev pub stopped_by : Halt → (records bytes : ℕ) → RunError
+stopped_by halt.NoRecord records bytes = error.BadRecord (records + 1)
+stopped_by halt.Fault records bytes = error.Read
+stopped_by halt.Bound records bytes = error.ReadBound
+stopped_by (halt.Unsent sent) records bytes = error.Write (bytes + sent)
+
+-- how it ends with its stream, where these bytes are held
+abbrev pub ended_by : List ℕ → Report → Result Report RunError
+ended_by [] report = Ok report
+ended_by (byte ∷ bytes) report = Err (error.Truncated (report.records + 1))
+
+-- what the host writes over these records
+abbrev pub written_by : FileMeanings (List ℕ) → Hosted → List StreamEntry → List ℕ
+written_by meanings h entries = concat (written_from on_board (executive_in h) meanings entries)
+
+-- this is what it writes over all records that a stream may bring
+abbrev pub IsOutputOf : List TablePair → Hosted → (List StreamEntry → List ℕ) → Type 0
+IsOutputOf pairs h output = (entries : List StreamEntry) → AreBrought (length pairs) entries → written_by (meanings_of pairs) h entries ≡ output entries
+
+-- with objects of this profile a run ends so, whatever definition says what the host writes
+abbrev pub FliesSo : List TablePair → ℕ → Hosted → Devices → Result Report RunError → Type 0
+FliesSo pairs most h d result = AreKnown h → (output : List StreamEntry → List ℕ) → IsOutputOf pairs h output →
+    IsOutcome (records_of (length pairs)) output most d (ending_of result)

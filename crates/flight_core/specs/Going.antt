@@ -1,0 +1,103 @@
+-- What each step of a run leaves: a record that is handled, a piece that comes, and why it goes no further.
+use Rattle.std.specs.Prelude.{◌≡◌, ℕ, ◌+◌, ◌<◌, ◌≤◌, Bool, true, false, List, [], ◌++◌, length, Option, Some, None, Result, Ok, Err}
+use Rattle.std.specs.Io.KnownBytes.{Consumes, IsAtEnd}
+use Rattle.lc_model.specs.Device.{Source, Sink}
+use Rattle.lc_model.specs.Host.Run.{input_of}
+use Rattle.lc_model.specs.Host.Stream.{StreamEntry, Record, NoRecord}
+use Rattle.lc_model.specs.Tables.Interpretation.{FileMeanings}
+use Rattle.app_host.specs.Hosted.{Hosted}
+use Rattle.app_host.specs.Step.{IsBetween}
+use Rattle.host_laws.specs.Statements.{AreBytes}
+use Rattle.flight_core.specs.declared.halt.Halt.{Halt}
+use Rattle.flight_core.specs.declared.halt.Halt.TheVariants as halt
+use Rattle.flight_core.specs.Front.{part_of}
+use Rattle.flight_core.specs.Records.{Held, front_of, next_number}
+use Rattle.flight_core.specs.Stepping.{StepsWhole, StepsPart}
+
+-- ---- the next record
+
+-- it is in front, and goes
+pub record IsNext (old new : Held) : Type 0 where
+  pub entry : StreamEntry
+  pub rest : List ℕ
+  pub front : front_of old ≡ Record entry rest
+  pub shorter : length rest < length old.bytes
+  pub goes : new ≡ record old { bytes = rest; count = next_number old }
+
+module _ (meanings : FileMeanings (List ℕ)) (held after : Held) (old new : Hosted) (before now : Sink) where
+  -- all that it leads to is written
+  pub record IsHandled (total : ℕ) : Type 0 where
+    pub next : IsNext held after
+    pub between : IsBetween new
+    pub steps : StepsWhole next.entry.moment (input_of meanings next.entry.contents) total old new before now
+
+  -- a write failed, behind so many bytes of it
+  pub record IsCutShort (sent : ℕ) : Type 0 where
+    pub next : IsNext held after
+    pub between : IsBetween new
+    pub steps : StepsPart next.entry.moment (input_of meanings next.entry.contents) sent old new before now
+
+  -- no whole record is held
+  pub record NoneIsHeld : Type 0 where
+    pub front : front_of held ≡ part_of held.bytes
+    pub few : length held.bytes < 65547
+    pub same : after ≡ held
+    pub host : new ≡ old
+    pub idle : now ≡ before
+
+  -- what is held begins with what is none
+  pub record MeetsNone : Type 0 where
+    pub front : front_of held ≡ NoRecord
+    pub host : new ≡ old
+    pub idle : now ≡ before
+
+  -- by the answer
+  abbrev pub HandlesNext : Result (Option ℕ) Halt → Type 0
+  HandlesNext (Ok (Some total)) = IsHandled total
+  HandlesNext (Ok None) = NoneIsHeld
+  HandlesNext (Err halt.NoRecord) = MeetsNone
+  HandlesNext (Err (halt.Unsent sent)) = IsCutShort sent
+  HandlesNext (Err halt.Fault) = ⊥
+  HandlesNext (Err halt.Bound) = ⊥
+
+-- ---- the next piece
+
+module _ (most : ℕ) (held after : Held) (before now : Source) where
+  -- it is held
+  pub record Comes : Type 0 where
+    pub piece : List ℕ
+    pub took : Consumes before.rest now.rest piece
+    pub some : 0 < length piece
+    pub few : length piece ≤ 8192
+    pub are : AreBytes piece
+    pub goes : after ≡ record held { bytes = held.bytes ++ piece }
+    pub fine : now.failed ≡ before.failed
+    pub one : now.reads ≡ before.reads + 1
+
+  -- the stream is at its end
+  pub record IsOver : Type 0 where
+    pub took : Consumes before.rest now.rest []
+    pub at_the_end : IsAtEnd now.rest
+    pub same : after ≡ held
+    pub fine : now.failed ≡ before.failed
+    pub one : now.reads ≡ before.reads + 1
+
+  -- a read failed
+  pub record IsBroken : Type 0 where
+    pub took : Consumes before.rest now.rest []
+    pub failed : now.failed ≡ true
+    pub one : now.reads ≡ before.reads + 1
+
+  -- as many reads were made as may be
+  pub record IsAtBound : Type 0 where
+    pub same : now ≡ before
+    pub bound : before.reads ≡ most
+
+  -- by the answer
+  abbrev pub TakesPiece : Result Bool Halt → Type 0
+  TakesPiece (Ok true) = Comes
+  TakesPiece (Ok false) = IsOver
+  TakesPiece (Err halt.Fault) = IsBroken
+  TakesPiece (Err halt.Bound) = IsAtBound
+  TakesPiece (Err halt.NoRecord) = ⊥
+  TakesPiece (Err (halt.Unsent sent)) = ⊥

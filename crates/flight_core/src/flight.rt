@@ -1,0 +1,98 @@
+//! All records of a stream, one after the other.
+
+ghost use Rattle.std.specs.Prelude.{◌≡◌, ◌+◌, ◌*◌, ◌^◌, ◌<◌, ◌≤◌, false, length};
+ghost use Rattle.lc_model.specs.Host.Outcome.{devices};
+ghost use Rattle.app_host.specs.Hosted.{shown};
+ghost use Rattle.flight_core.specs.Brought.{AreWhole};
+ghost use Rattle.flight_core.specs.Flight.{FliesSo, ended_by, stopped_by};
+ghost use Rattle.flight_core.specs.Records.{nothing_held};
+ghost use Rattle.app_host.specs.Step.{IsBetween};
+
+use crate::error::{Report, RunError};
+use crate::halt::Halt;
+use crate::handling::handle_next;
+use crate::laws::{records_are_handed_out, the_rest_says_the_end};
+use crate::pieces::{MOST_READS, PIECE, take_piece};
+use crate::records::Records;
+use app_host::{App, Host};
+use host_laws::{goes_on, records_of_bytes_are_fine, writes_are_the_steps};
+use lc_model::{ByteSink, ByteSource};
+use rpn_compiler::TablePair;
+
+/// How a run ends by this, behind the records of the report.
+fn stopped(halt: Halt, report: Report) -> RunError
+    requires records { report.records + 1 < 2 ^ 64 }
+    requires bytes { report.bytes + 2 ^ 64 < 2 ^ 128 }
+    ensures { result ≡ stopped_by halt report.records report.bytes }
+{
+    let Report { records, bytes } = report;
+    match halt {
+        Halt::NoRecord => RunError::BadRecord { n: records + 1 },
+        Halt::Fault => RunError::Read,
+        Halt::Bound => RunError::ReadBound,
+        Halt::Unsent(sent) => RunError::Write {
+            sent: bytes + sent as u128,
+        },
+    }
+}
+
+/// Handles all records of the source: all whole ones of a piece before the next read.
+pub(crate) fn fly<R: ByteSource, W: ByteSink>(
+    records: &mut Records,
+    room: &mut [u8],
+    pairs: &[TablePair],
+    host: &mut Host,
+    reader: &mut R,
+    writer: &mut W,
+    most: u64,
+) -> Result<Report, RunError>
+    requires nothing { records.old ≡ nothing_held (length pairs.now) }
+    requires room { length room.old ≡ PIECE }
+    requires files { AreWhole pairs.now }
+    requires between { IsBetween (shown (λ b. (⟦<dyn App as App>⟧ b.vtable).state b.value) (λ b. (⟦<dyn App as App>⟧ b.vtable).called b.value) (λ b. (⟦<dyn App as App>⟧ b.vtable).held b.value) host.old) }
+    requires open { (shown (λ b. (⟦<dyn App as App>⟧ b.vtable).state b.value) (λ b. (⟦<dyn App as App>⟧ b.vtable).called b.value) (λ b. (⟦<dyn App as App>⟧ b.vtable).held b.value) host.old).is_closed ≡ false }
+    requires unread { (R.source reader.old).reads ≡ 0 }
+    requires readable { (R.source reader.old).failed ≡ false }
+    requires writable { (W.sink writer.old).failed ≡ false }
+    requires most { most ≤ MOST_READS }
+    ensures outcome { FliesSo pairs.now most (shown (λ b. (⟦<dyn App as App>⟧ b.vtable).state b.value) (λ b. (⟦<dyn App as App>⟧ b.vtable).called b.value) (λ b. (⟦<dyn App as App>⟧ b.vtable).held b.value) host.old) (devices (R.source reader.old) (R.source reader.new) (W.sink writer.old) (W.sink writer.new)) result }
+    ensures between { IsBetween (shown (λ b. (⟦<dyn App as App>⟧ b.vtable).state b.value) (λ b. (⟦<dyn App as App>⟧ b.vtable).called b.value) (λ b. (⟦<dyn App as App>⟧ b.vtable).held b.value) host.new) }
+    ensures bounded { (R.source reader.new).reads ≤ most }
+{
+    records_are_handed_out();
+    the_rest_says_the_end();
+    goes_on();
+    records_of_bytes_are_fine();
+    writes_are_the_steps();
+    let mut report = Report {
+        records: 0,
+        bytes: 0,
+    };
+    loop {
+        match handle_next(records, pairs, host, writer) {
+            Ok(Some(total)) => {
+                report.records += 1;
+                report.bytes += total as u128;
+            }
+            Ok(None) => match take_piece(records, room, reader, most) {
+                Ok(true) => {}
+                Ok(false) => return ended(records, report),
+                Err(halt) => return Err(stopped(halt, report)),
+            },
+            Err(halt) => return Err(stopped(halt, report)),
+        }
+    }
+}
+
+/// How a run ends with its stream, behind the records of the report.
+fn ended(records: &Records, report: Report) -> Result<Report, RunError>
+    requires records { report.records + 1 < 2 ^ 64 }
+    ensures { result ≡ ended_by records.now.bytes report }
+{
+    if records.held() == 0 {
+        return Ok(report);
+    }
+    Err(RunError::Truncated {
+        n: report.records + 1,
+    })
+}

@@ -1,0 +1,56 @@
+//! A stream comes in pieces.
+
+ghost use Rattle.std.specs.Prelude.{◌≡◌, ◌<◌, ◌≤◌, false, length};
+ghost use Rattle.host_laws.specs.Statements.{AreBytes};
+ghost use Rattle.flight_core.specs.Going.{TakesPiece};
+
+use crate::halt::Halt;
+use crate::records::Records;
+use lc_model::{ByteSource, DeviceFault};
+
+/// The most reads of a run: 2^32.
+pub const MOST_READS: u64 = 4_294_967_296;
+
+/// The most bytes of a piece.
+pub(crate) const PIECE: usize = 8192;
+
+/// The bytes are below 256: it reads each of them, and does nothing.
+fn are_bytes(bytes: &[u8])
+    ensures { AreBytes bytes.now }
+{
+    for byte in bytes {
+        let _byte = *byte;
+    }
+}
+
+/// Reads a piece of a stream, and holds it behind what is held. Answers whether one came: none does at the end. Condition: no
+/// longest record is held.
+pub(crate) fn take_piece<R: ByteSource>(
+    records: &mut Records,
+    room: &mut [u8],
+    reader: &mut R,
+    most: u64,
+) -> Result<bool, Halt>
+    requires room { length room.old ≡ PIECE }
+    requires good { records.old.is_bad ≡ false }
+    requires few { length records.old.bytes < 65547 }
+    requires bounded { (R.source reader.old).reads ≤ most }
+    requires most { most ≤ MOST_READS }
+    ensures room { length room.new ≡ PIECE }
+    ensures piece { TakesPiece most records.old records.new (R.source reader.old) (R.source reader.new) result }
+    ensures bounded { (R.source reader.new).reads ≤ most }
+{
+    if reader.reads() == most {
+        return Err(Halt::Bound);
+    }
+    match reader.read(room) {
+        Ok(0) => Ok(false),
+        Ok(count) => {
+            let piece = &room[..count];
+            are_bytes(piece);
+            records.feed(piece);
+            Ok(true)
+        }
+        Err(DeviceFault) => Err(Halt::Fault),
+    }
+}
