@@ -1,25 +1,25 @@
 -- What the counter does at its seat, by the rules of the interface and by the definitions.
-use Rattle.std.proofs.Common.{◌≡◌, refl, ap, sym, ◌∙◌, subst, ℕ, ◌+◌, ◌≤◌, Bool, true, false, ◌==◌, List, [], ◌∷◌, length, map, arith, Option, Some, None, Result, Ok, Err, min, if◌then◌else◌}
-use Rattle.std.specs.Prelude.{IfSome, IsSomeAnd, option_map, codes}
+use Rattle.std.proofs.Common.{◌≡◌, refl, ap, sym, ◌∙◌, subst, ℕ, ◌+◌, ◌≤◌, Bool, true, false, ◌==◌, List, [], ◌∷◌, length, map, arith, Option, Some, None, Ok, Err, min, if◌then◌else◌}
+use Rattle.std.specs.Prelude.{IfSome, IsSomeAnd, codes}
 use Rattle.lc_model.specs.declared.rule.EventKind.{EventKind}
 use Rattle.lc_model.specs.declared.rule.EventKind.TheVariants.{Information}
-use Rattle.lc_model.specs.Name.{Name, counter_name}
+use Rattle.lc_model.specs.Name.{counter_name}
 use Rattle.lc_model.specs.Packet.{message_id, counter_mid, function_code, payload}
 use Rattle.lc_model.specs.Refusal.{Refusal}
 use Rattle.lc_model.specs.Command.{bare_request}
 use Rattle.lc_model.specs.Events.Request.{Request, Event, numbered, counted, counter_refused}
-use Rattle.lc_model.specs.Kept.Summary.{AppState, CounterState}
+use Rattle.lc_model.specs.Kept.Summary.{CounterState}
 use Rattle.lc_model.specs.Kept.Next.{next_answer, next_count}
 use Rattle.lc_model.specs.Kept.Call.{with_mids, counter_subscriptions, counter_told, silent, registered, next_start, next_on_packet, next_retire}
 use Rattle.lc_model.specs.Services.Events.{Sender, sender_at}
 use Rattle.lc_model.specs.Services.Tables.{Table, tables_at}
-use Rattle.lc_model.specs.Services.Interface.{MayBeStarted, MayBeGiven, IsStarted, IsGiven, IsRetired}
+use Rattle.lc_model.specs.Services.Interface.{MayBeStarted, MayBeGiven, IsGiven, IsRetired}
 use Rattle.lc_model.proofs.Facts.{tested_equal}
 use Rattle.lc_model.specs.Services.Settled.{IsSettled, form_of}
 use Rattle.app_host.specs.declared.services.Services.{Services}
 use Rattle.app_host.specs.Shared.{on_board, held_by, shared}
 use Rattle.app_host.specs.Telling.{Tells}
-use Rattle.app_host.specs.Seating.{IsOpened, IsClosed, HasPipeAndSender}
+use Rattle.app_host.specs.Seating.{IsOpened, IsClosed}
 use Rattle.app_host.specs.Calls.{IsAtHome, Leaves, LeavesEmpty}
 use Rattle.app_host.specs.Statements.{OpeningLeaves, TellingIsByName, TellingAnswers, TellingLeaves, TellingSettles, SilenceAnswers, SilenceLeaves, ClosingRetires, ClosingLeaves, NoTablesGo}
 

@@ -1,7 +1,7 @@
 -- A run between two steps, and how it ends.
-use Rattle.std.proofs.Common.{◌≡◌, refl, sym, ◌∙◌, ap, subst, ℕ, ◌+◌, ◌*◌, ◌^◌, ◌<◌, ◌≤◌, true, false, List, [], ◌∷◌, ◌++◌, length, take, Option, Some, None, Result, Ok, Err, arith, append_assoc, append-nil, length-append}
+use Rattle.std.proofs.Common.{◌≡◌, refl, sym, ◌∙◌, ap, subst, ℕ, ◌+◌, ◌*◌, ◌<◌, ◌≤◌, false, List, [], ◌∷◌, ◌++◌, length, take, Option, arith, append_assoc, length-append}
 use Rattle.std.specs.List.{concat}
-use Rattle.std.specs.Io.KnownBytes.{Appends, Consumes, IsAtEnd}
+use Rattle.std.specs.Io.KnownBytes.{Appends, Consumes}
 use Rattle.std.proofs.KnownBytes.{Appends-nil, Appends-trans, Consumes-nil, Consumes-trans}
 use Rattle.std.proofs.lemmas.List.{take-append-le}
 use Rattle.std.proofs.lemmas.List.Folds.{concat-append}
@@ -11,25 +11,22 @@ use Rattle.lc_model.specs.Tables.HalvesAndBytes.{as_bytes}
 use Rattle.lc_model.specs.Tables.InForce.{layouts}
 use Rattle.lc_model.specs.Tables.Interpretation.{FileMeanings}
 use Rattle.lc_model.specs.Host.Run.{input_of}
-use Rattle.lc_model.specs.Host.Outcome.{Devices, devices, MayGoOn, TookAndWrote, Completes, MeetsNoRecord, MeetsTheEnd, FailsToRead, ReachesTheBound, FailsToWrite}
-use Rattle.lc_model.specs.Host.Stream.{StreamEntry, End, Whole, Bad, Truncated, EndOfStream, Record, NoRecord, CutRecord, all_kinds, front, records_numbered, records_of}
+use Rattle.lc_model.specs.Host.Stream.{StreamEntry, all_kinds, front}
 use Rattle.lc_model.specs.Kept.Executive.{Executive, Written, step_by, written_from}
 use Rattle.lc_model.specs.Kept.Stations as model
 use Rattle.lc_model.specs.Kept.Stations.{host_step}
-use Rattle.host_laws.specs.Statements.{AreBytes, AreBrought, StreamsBring, executive_after, GoesOn, RunsGoOn}
-use Rattle.host_laws.specs.Writes.{OpenHostsTake, Takes, TakesTheFirst}
+use Rattle.host_laws.specs.Statements.{AreBytes, executive_after, RunsGoOn}
+use Rattle.host_laws.specs.Writes.{OpenHostsTake}
 use Rattle.app_host.specs.Shared.{on_board}
-use Rattle.app_host.specs.Hosted.{Hosted, in_numbers}
+use Rattle.app_host.specs.Hosted.{Hosted}
 use Rattle.app_host.specs.Whole.{AreKnown}
 use Rattle.app_host.specs.Delivered.{executive_in}
-use Rattle.app_host.specs.Step.{IsBetween, called_for}
-use Rattle.flight_core.specs.Cutting.{behind, IsHandedOut, Begins, Comes, Goes, EndsBadly, EndsWhole, EndsCut}
+use Rattle.app_host.specs.Step.{IsBetween, called_for, StepsSo}
+use Rattle.flight_core.specs.Cutting.{IsHandedOut, Begins, Comes, Goes}
 use Rattle.flight_core.specs.Flight.{written_by}
-use Rattle.flight_core.specs.Front.{part_of}
 use Rattle.flight_core.specs.Going as going
 use Rattle.flight_core.specs.Going.{IsNext, IsHandled, IsCutShort, NoneIsHeld, MeetsNone, IsOver, IsBroken, IsAtBound}
-use Rattle.flight_core.specs.Records.{Held, nothing_held, front_of, next_number}
-use Rattle.flight_core.specs.Stepping.{StepsSo, StopsSo}
+use Rattle.flight_core.specs.Records.{Held, nothing_held, front_of}
 
 -- ---- on board
 
@@ -133,9 +130,9 @@ module _ (n : ℕ) (meanings : FileMeanings (List ℕ)) (first : Hosted) where
         ∙ concat-append (written_from on_board (executive_in first) meanings entries) (step_by on_board entry.moment (then entries) (input_of meanings entry.contents)).1
         ∙ ap (λ bs. written_by meanings first entries ++ bs) (sym called)
 
-    exact_more : (new : Hosted) (after : Option (List ℕ)) (total : ℕ) → StepsSo entry.moment (input_of meanings entry.contents) total now new mid after →
-        Exact new (entries ++ entry ∷ []) before after (bytes + total)
-    exact_more new after total s = record {
+    exact_more : (new : Hosted) (after : Option (List ℕ)) (total : ℕ) → StepsSo entry.moment (input_of meanings entry.contents) now new mid after →
+        total ≡ length (called_for entry.moment (input_of meanings entry.contents) now) → Exact new (entries ++ entry ∷ []) before after (bytes + total)
+    exact_more new after total s count = record {
       known = s.known;
       executive =
           ap (λ (h : model.Host (List ℕ)). h.executive) s.host
@@ -143,7 +140,7 @@ module _ (n : ℕ) (meanings : FileMeanings (List ℕ)) (first : Hosted) where
           ∙ sym (goes_on (executive_in first) meanings entries entry).executive;
       wrote = subst (Appends before after) (sym joined) (Appends-trans _ _ _ _ _ far.wrote s.gains);
       long =
-          (λ i. far.long i + s.count i)
+          (λ i. far.long i + count i)
           ∙ sym (length-append (written_by meanings first entries) (called_for entry.moment (input_of meanings entry.contents) now))
           ∙ ap length (sym joined);
     }
@@ -177,7 +174,7 @@ module _ (n : ℕ) (meanings : FileMeanings (List ℕ)) (first : Hosted) where
         small = omega (arith, far.small, fits);
         exact = λ known.
             let e = far.exact known in
-            exact_more goes_on now far.entries next.entry sink.gained sink_now.gained bytes e new sink_after.gained total (done.steps.exact e.known);
+            exact_more goes_on now far.entries next.entry sink.gained sink_now.gained bytes e new sink_after.gained total (done.steps.exact e.known) (done.count e.known);
       }
 
   -- ---- nothing more is held, and a piece comes

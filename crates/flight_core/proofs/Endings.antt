@@ -1,5 +1,5 @@
 -- How a run ends.
-use Rattle.std.proofs.Common.{◌≡◌, refl, sym, ◌∙◌, ap, subst, ℕ, ◌+◌, ◌*◌, ◌<◌, ◌≤◌, true, false, List, [], ◌∷◌, ◌++◌, length, take, Option, Some, None, Result, Ok, Err, arith, append_assoc, append-nil, length-append}
+use Rattle.std.proofs.Common.{◌≡◌, refl, sym, ◌∙◌, ap, subst, ℕ, ◌+◌, ◌<◌, true, List, [], ◌∷◌, ◌++◌, length, take, Option, Some, Result, Err, arith, append-nil, length-append}
 use Rattle.std.specs.List.{concat}
 use Rattle.std.specs.Io.KnownBytes.{Appends, Consumes, IsAtEnd}
 use Rattle.std.proofs.KnownBytes.{Appends-trans, Consumes-nil, Consumes-trans}
@@ -7,30 +7,28 @@ use Rattle.std.proofs.lemmas.List.Folds.{concat-append}
 use Rattle.lc_model.specs.Device.{Source, Sink}
 use Rattle.lc_model.specs.Tables.Interpretation.{FileMeanings}
 use Rattle.lc_model.specs.Host.Run.{input_of}
-use Rattle.lc_model.specs.Host.Outcome.{Devices, devices, MayGoOn, TookAndWrote, Completes, MeetsNoRecord, MeetsTheEnd, FailsToRead, ReachesTheBound, FailsToWrite, IsOutcome}
-use Rattle.lc_model.specs.Host.Stream.{StreamEntry, End, Whole, Bad, Truncated, EndOfStream, Record, NoRecord, CutRecord, all_kinds, front, records_numbered, records_of}
+use Rattle.lc_model.specs.Host.Outcome.{Devices, devices, MayGoOn, TookAndWrote, MeetsNoRecord, FailsToRead, ReachesTheBound, FailsToWrite, IsOutcome}
+use Rattle.lc_model.specs.Host.Stream.{StreamEntry, End, Whole, Bad, Truncated, NoRecord, all_kinds, front, records_numbered, records_of}
 use Rattle.lc_model.specs.Kept.Executive.{written_from}
 use Rattle.lc_model.specs.Kept.Stations as model
 use Rattle.lc_model.specs.Kept.Stations.{host_step}
-use Rattle.rpn_compiler.specs.declared.files.TablePair.{TablePair}
 use Rattle.host_laws.specs.Statements.{AreBrought, StreamsBring, executive_after, RunsGoOn}
 use Rattle.host_laws.specs.Writes.{OpenHostsTake, Takes}
 use Rattle.app_host.specs.Shared.{on_board}
 use Rattle.app_host.specs.Hosted.{Hosted, in_numbers}
 use Rattle.app_host.specs.Whole.{AreKnown}
 use Rattle.app_host.specs.Delivered.{executive_in}
-use Rattle.app_host.specs.Step.{called_for}
+use Rattle.app_host.specs.Step.{called_for, StopsSo}
 use Rattle.flight_core.specs.declared.error.Report.{Report}
 use Rattle.flight_core.specs.declared.error.RunError.{RunError}
 use Rattle.flight_core.specs.declared.halt.Halt.{Halt}
 use Rattle.flight_core.specs.declared.halt.Halt.TheVariants as halt
-use Rattle.flight_core.specs.Cutting.{behind, IsHandedOut, Goes, EndsBadly, EndsWhole, EndsCut}
+use Rattle.flight_core.specs.Cutting.{Goes, EndsBadly, EndsWhole, EndsCut}
 use Rattle.flight_core.specs.Ending.{ending_of}
 use Rattle.flight_core.specs.Flight.{written_by, stopped_by, ended_by}
 use Rattle.flight_core.specs.Front.{part_of}
-use Rattle.flight_core.specs.Going.{IsNext, IsCutShort, MeetsNone, NoneIsHeld, IsOver, IsBroken, IsAtBound, HandlesNext, TakesPiece}
+use Rattle.flight_core.specs.Going.{IsCutShort, NoneIsHeld, IsOver, HandlesNext, TakesPiece}
 use Rattle.flight_core.specs.Records.{Held, front_of}
-use Rattle.flight_core.specs.Stepping.{StopsSo}
 use Rattle.flight_core.proofs.Courses.{written_behind, taken_front, Exact, SoFar, in_front, joined, idle}
 
 -- the laws that say how records end

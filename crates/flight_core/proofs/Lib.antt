@@ -8,3 +8,4 @@ mod RecordsBrought
 mod NextHandled
 mod Courses
 mod Endings
+mod Outset

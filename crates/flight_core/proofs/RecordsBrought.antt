@@ -1,20 +1,17 @@
 -- A record that was found is what the definitions read, with the compiled file in the place of a half.
-use Rattle.std.proofs.Common.{◌≡◌, refl, sym, ◌∙◌, ap, subst, ℕ, zero, suc, ◌+◌, ◌<◌, ◌≤◌, get_or, List, [], ◌∷◌, length, Option, Some, None, slice_get, arith, Bor}
-use Rattle.std.specs.Option.{option_map_or}
+use Rattle.std.proofs.Common.{◌≡◌, refl, sym, ◌∙◌, ap, ℕ, zero, suc, ◌<◌, ◌≤◌, get_or, List, [], ◌∷◌, length, arith, Bor}
 use Rattle.lc_model.specs.declared.kind.Kind.{Kind}
 use Rattle.lc_model.specs.declared.record.Body.{Body}
 use Rattle.lc_model.specs.declared.record.Body.TheVariants as body
 use Rattle.lc_model.specs.declared.record.Moment.{Moment}
 use Rattle.lc_model.specs.declared.record.Record.{Record as Given}
-use Rattle.lc_model.specs.Name.{Name}
-use Rattle.lc_model.specs.Tables.File.{headers_length}
-use Rattle.lc_model.specs.Host.React.{Input, File}
-use Rattle.lc_model.specs.Host.Run.{input_of, size_in}
+use Rattle.lc_model.specs.Host.React.{File}
+use Rattle.lc_model.specs.Host.Run.{input_of}
 use Rattle.lc_model.specs.Host.Stream as stream
 use Rattle.lc_model.specs.Services.Seen.{meaning_of}
 use Rattle.rpn_compiler.specs.declared.files.TablePair.{TablePair}
 use Rattle.app_host.specs.Step.{input_by, IsNamed}
-use Rattle.flight_core.specs.Answer.{Answer, Entry}
+use Rattle.flight_core.specs.Answer.{Entry}
 use Rattle.flight_core.specs.Found.{contents_in}
 use Rattle.flight_core.specs.Compiled.{file_of, file_in}
 use Rattle.flight_core.specs.Brought.{meanings_of, AreWhole, IsTaken}

@@ -1,6 +1,5 @@
 -- The texts of a run, compiled one after the other.
-use Rattle.std.proofs.Common.{◌≡◌, refl, sym, ◌∙◌, ap, subst, inl, inr, ℕ, zero, suc, ◌+◌, ◌<◌, get_or, List, [], ◌∷◌, ◌++◌, length, map, take, slice_get, Option, Some, None, arith, Bor}
-use Rattle.std.specs.List.{AllZip}
+use Rattle.std.proofs.Common.{◌≡◌, refl, sym, ap, subst, inl, inr, ℕ, zero, suc, ◌+◌, ◌<◌, get_or, List, [], ◌∷◌, ◌++◌, length, take, slice_get, Some, arith, Bor}
 use Rattle.lc_model.specs.declared.kind.Kind.{Kind}
 use Rattle.lc_model.specs.declared.kind.Kind.TheVariants.{Wdt, Adt}
 use Rattle.lc_model.specs.Tables.Compiling.{IsRefused}
@@ -13,7 +12,7 @@ use Rattle.rpn_compiler.specs.declared.error.CompileError.TheVariants as compile
 use Rattle.rpn_compiler.specs.declared.files.TablePair.{TablePair}
 use Rattle.rpn_compiler.specs.Fault.{Refuses, refusal_of}
 use Rattle.flight_core.specs.declared.error.RunError.{RunError}
-use Rattle.flight_core.specs.Compiled.{edition, sources_of, file_in, IsCompiled, AreAllCompiled, refusal_for, IsFirstRefused, IsNotCompiled}
+use Rattle.flight_core.specs.Compiled.{edition, sources_of, file_in, IsCompiled, AreAllCompiled, refusal_for, IsNotCompiled}
 
 -- ---- the text with a number
 

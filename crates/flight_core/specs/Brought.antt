@@ -16,7 +16,6 @@ use Rattle.flight_core.specs.Answer.{Answer, Entry}
 use Rattle.flight_core.specs.Found.{answer_of}
 use Rattle.flight_core.specs.Compiled.{file_in}
 
-
 -- what files mean by their bytes, where the halves of texts are these files
 abbrev pub meanings_of : List TablePair → FileMeanings (List ℕ)
 meanings_of pairs = byte_meanings (file_in pairs)

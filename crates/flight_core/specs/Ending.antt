@@ -1,5 +1,5 @@
 -- What the answer of a run says of how it ended, in plain values.
-use Rattle.std.specs.Prelude.{ℕ, Result, Ok, Err}
+use Rattle.std.specs.Prelude.{Result, Ok, Err}
 use Rattle.lc_model.specs.Host.Outcome.{Ending, Complete, Uncompiled, MetNoRecord, MetTheEnd, FailedToRead, FailedToWrite, ReachedTheBound, NoMemory}
 use Rattle.rpn_compiler.specs.Fault as fault
 use Rattle.flight_core.specs.declared.error.Report.{Report}

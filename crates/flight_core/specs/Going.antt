@@ -6,13 +6,13 @@ use Rattle.lc_model.specs.Host.Run.{input_of}
 use Rattle.lc_model.specs.Host.Stream.{StreamEntry, Record, NoRecord}
 use Rattle.lc_model.specs.Tables.Interpretation.{FileMeanings}
 use Rattle.app_host.specs.Hosted.{Hosted}
-use Rattle.app_host.specs.Step.{IsBetween}
+use Rattle.app_host.specs.Step.{IsBetween, called_for, StepsWhole, StepsPart}
+use Rattle.app_host.specs.Whole.{AreKnown}
 use Rattle.host_laws.specs.Statements.{AreBytes}
 use Rattle.flight_core.specs.declared.halt.Halt.{Halt}
 use Rattle.flight_core.specs.declared.halt.Halt.TheVariants as halt
 use Rattle.flight_core.specs.Front.{part_of}
 use Rattle.flight_core.specs.Records.{Held, front_of, next_number}
-use Rattle.flight_core.specs.Stepping.{StepsWhole, StepsPart}
 
 -- ---- the next record
 
@@ -29,7 +29,8 @@ module _ (meanings : FileMeanings (List ℕ)) (held after : Held) (old new : Hos
   pub record IsHandled (total : ℕ) : Type 0 where
     pub next : IsNext held after
     pub between : IsBetween new
-    pub steps : StepsWhole next.entry.moment (input_of meanings next.entry.contents) total old new before now
+    pub steps : StepsWhole next.entry.moment (input_of meanings next.entry.contents) old new before now
+    pub count : AreKnown old → total ≡ length (called_for next.entry.moment (input_of meanings next.entry.contents) old)
 
   -- a write failed, behind so many bytes of it
   pub record IsCutShort (sent : ℕ) : Type 0 where

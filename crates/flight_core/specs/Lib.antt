@@ -9,7 +9,7 @@ pub mod Words
 pub mod Error
 pub mod Ending
 pub mod Compiled
-pub mod Stepping
 pub mod Brought
 pub mod Going
 pub mod Flight
+pub mod Run

@@ -14,6 +14,7 @@ mod handling;
 pub mod laws;
 mod pieces;
 mod records;
+mod running;
 mod window;
 mod words;
 
@@ -21,4 +22,5 @@ pub use counter::Counter;
 pub use error::{Report, RunError};
 pub use found::Found;
 pub use records::Records;
+pub use running::{run, run_within};
 pub use words::{Plan, WordsError, read_words};

@@ -1,4 +1,4 @@
-use Rattle.std.proofs.Common.{◌≡◌, sym, ◌∙◌, ap, subst, Some}
+use Rattle.std.proofs.Common.{sym, ◌∙◌, subst, Some}
 use Rattle.lc_model.specs.declared.record.Body.TheVariants as body
 use Rattle.flight_core.specs.declared.found.Found.{Found}
 use Rattle.flight_core.specs.Found.{IsShortNamed, NamesText}

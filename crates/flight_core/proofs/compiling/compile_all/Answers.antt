@@ -1,4 +1,4 @@
-use Rattle.std.proofs.Common.{◌≡◌, ◌∙◌, ap, sym, subst, length, ◌≤◌, ◌+◌, take, arith}
+use Rattle.std.proofs.Common.{sym, subst, ◌+◌, take, arith}
 use Rattle.flight_core.specs.Compiled.{sources_of, AreAllCompiled}
 use Rattle.flight_core.proofs.TextsCompiled.{one_more, refused}
 use Rattle.flight_core.proofs.compiling.compile_all.Goals as goal

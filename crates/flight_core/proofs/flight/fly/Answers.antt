@@ -1,9 +1,7 @@
-use Rattle.std.proofs.Common.{rules, ◌≡◌, ◌<◌, refl, sym, ◌∙◌, ap, subst, arith}
+use Rattle.std.proofs.Common.{rules, ◌<◌, refl, arith}
 use Rattle.lc_model.specs.Tables.InForce.{layouts}
-use Rattle.flight_core.specs.Front.{part_of}
-use Rattle.flight_core.specs.Records.{Held, front_of}
-use Rattle.flight_core.proofs.Courses.{SoFar, goes_on_board, takes_on_board, nothing_yet, one_more, idle, comes_more}
-use Rattle.flight_core.proofs.Endings.{Laws, stops_by, reads_by, ends_by}
+use Rattle.flight_core.proofs.Courses.{goes_on_board, takes_on_board, nothing_yet, one_more, idle, comes_more}
+use Rattle.flight_core.proofs.Endings.{stops_by, reads_by, ends_by}
 use Rattle.flight_core.proofs.flight.fly.Goals as goal
 
 pub loop-total-init : goal.loop-total-init

@@ -1,4 +1,4 @@
-use Rattle.std.proofs.Common.{◌≤◌, ◌+◌, ◌==◌, ◌≡◌, sym, ap, subst, ◌∙◌, ℕ, length, List, take, min, arith}
+use Rattle.std.proofs.Common.{◌≤◌, ℕ, length, List, take, min, arith}
 use Rattle.std.proofs.lemmas.List.{length-take}
 use Rattle.flight_core.proofs.found.name_in.Goals as goal
 

@@ -1,4 +1,4 @@
-use Rattle.std.proofs.Common.{refl, sym, ◌∙◌, ap, [], ◌∷◌}
+use Rattle.std.proofs.Common.{sym, ◌∙◌, ap, [], ◌∷◌}
 use Rattle.flight_core.proofs.counter.CounterApp.on_packet.Goals as goal
 use Rattle.lc_model.specs.declared.rule.EventKind.TheVariants.{Information, Error}
 use Rattle.lc_model.specs.Name.{counter_name}

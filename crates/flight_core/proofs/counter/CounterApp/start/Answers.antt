@@ -1,4 +1,4 @@
-use Rattle.std.proofs.Common.{refl, sym, ◌∙◌, ap}
+use Rattle.std.proofs.Common.{refl, sym}
 use Rattle.flight_core.proofs.counter.CounterApp.start.Goals as goal
 use Rattle.lc_model.specs.Kept.Summary.{CounterState}
 use Rattle.flight_core.proofs.Counting.{starts, own_id}

@@ -1,0 +1,5 @@
+use Rattle.flight_core.proofs.Outset.{runs_so}
+use Rattle.flight_core.proofs.running.run_compiled.Goals as goal
+
+pub returns-in-Ok-clause-run : goal.returns-in-Ok-clause-run
+returns-in-Ok-clause-run g c = λ profile. runs_so _ _ _ _ _ c.in-Ok.ensures.first profile _ c.fly-result.ensures.outcome

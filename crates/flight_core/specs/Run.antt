@@ -1,0 +1,60 @@
+-- What a run answers and leaves.
+use Rattle.std.specs.Prelude.{◌≡◌, ◌≢◌, ℕ, List, map, Result, Err}
+use Rattle.std.specs.List.{AllByRecursion, concat}
+use Rattle.std.specs.Borrow.{Bor}
+use Rattle.lc_model.specs.Tables.HalvesAndBytes.{as_bytes}
+use Rattle.lc_model.specs.Tables.InForce.{layouts}
+use Rattle.lc_model.specs.Host.Schedule.{Schedule}
+use Rattle.lc_model.specs.Host.Stream.{StreamEntry, records_of}
+use Rattle.lc_model.specs.Host.Outcome.{Devices, IsUntouched, IsOutcome}
+use Rattle.lc_model.specs.Host.Promise.{Mission}
+use Rattle.lc_model.specs.Kept.Summary.{Other}
+use Rattle.lc_model.specs.Kept.Executive.{Member, first_executive, written_from}
+use Rattle.host_laws.specs.Keeping.{IsSpare}
+use Rattle.host_laws.specs.Statements.{AreBrought}
+use Rattle.rpn_compiler.specs.declared.files.TablePair.{TablePair}
+use Rattle.app_host.specs.Shared.{on_board}
+use Rattle.app_host.specs.Hosted.{Object, member_of}
+use Rattle.flight_core.specs.declared.error.Report.{Report}
+use Rattle.flight_core.specs.declared.error.RunError.{RunError}
+use Rattle.flight_core.specs.declared.error.RunError.TheVariants.{Memory}
+use Rattle.flight_core.specs.Brought.{meanings_of}
+use Rattle.flight_core.specs.Compiled.{edition, sources_of}
+use Rattle.flight_core.specs.Ending.{ending_of}
+
+-- objects without their seats
+abbrev pub members_of : List Object → List Member
+members_of stock = map member_of stock
+
+-- what is run: the texts, the schedule, the names of the objects in stock, and the most reads
+abbrev pub mission_of : List (Bor (List ℕ)) → Schedule → List Object → ℕ → Mission
+mission_of texts schedule stock most = record {
+  edition = edition;
+  sources = sources_of texts;
+  schedule = schedule;
+  stock = map (λ (member : Member). member.called) (members_of stock);
+  most_reads = most;
+}
+
+-- the stock has this profile's objects alone, each under its name: Limit Checkers, schedulers with this schedule, and counters
+abbrev pub IsOfProfile : Schedule → List Object → Type 0
+IsOfProfile schedule stock = AllByRecursion (IsSpare (as_bytes layouts) schedule) (members_of stock)
+
+-- none is an object of which nothing is said
+abbrev pub AreOfProfile : List Object → Type 0
+AreOfProfile stock = AllByRecursion (λ (member : Member). member.state ≢ Other) (members_of stock)
+
+-- this is what the host in numbers writes over all records that a stream may bring, with these objects in stock
+abbrev pub IsOutputFrom : List TablePair → List Member → ℕ → (List StreamEntry → List ℕ) → Type 0
+IsOutputFrom pairs members texts output = (entries : List StreamEntry) → AreBrought texts entries →
+    concat (written_from on_board (first_executive members) (meanings_of pairs) entries) ≡ output entries
+
+-- how a run ends that has begun
+abbrev pub EndsSo : List TablePair → List Member → ℕ → ℕ → Devices → Result Report RunError → Type 0
+EndsSo pairs members texts most d result = (output : List StreamEntry → List ℕ) → IsOutputFrom pairs members texts output →
+    IsOutcome (records_of texts) output most d (ending_of result)
+
+-- how a run ends whose texts are compiled: for want of memory nothing was read
+abbrev pub RunsSo : List TablePair → List Member → ℕ → ℕ → Devices → Result Report RunError → Type 0
+RunsSo pairs members texts most d (Err Memory) = IsUntouched d
+RunsSo pairs members texts most d result = EndsSo pairs members texts most d result
