@@ -99,7 +99,10 @@ const OFF: &[Row] = &[
     (Sample, &[]),
     (
         Sample,
-        &[Request(9), Lc(1001, b"low volts: AP = 1, FailCount = 2, RTS = 9")],
+        &[
+            Request(9),
+            Lc(1001, b"low volts: AP = 1, FailCount = 2, RTS = 9"),
+        ],
     ),
     (Ask, &[Standing(1, &[0x40, 0x22])]),
 ];
@@ -115,14 +118,20 @@ const RELOADED: &[Row] = &[
     (Command(3, &[0, 1]), &[Lc(9, b"command refused 155")]),
     (
         Order(4, b"LC"),
-        &[Lc(1, b"started with tables"), Host(8, b"app command 4 done")],
+        &[
+            Lc(1, b"started with tables"),
+            Host(8, b"app command 4 done"),
+        ],
     ),
     (Order(4, b"LC"), &[Host(9, b"app command refused 122")]),
     (Volts(2399), &[]),
     (Sample, &[]),
     (
         Sample,
-        &[Request(7), Lc(1001, b"low volts: AP = 0, FailCount = 2, RTS = 7")],
+        &[
+            Request(7),
+            Lc(1001, b"low volts: AP = 0, FailCount = 2, RTS = 7"),
+        ],
     ),
 ];
 
@@ -134,7 +143,10 @@ fn a_reload_begins_anew(rt: HostRuntime) {
 const WITHOUT_TABLES: &[Row] = &[
     (
         Order(1, b"LC"),
-        &[Lc(1, b"started without tables"), Host(8, b"app command 1 done")],
+        &[
+            Lc(1, b"started without tables"),
+            Host(8, b"app command 1 done"),
+        ],
     ),
     (Ask, &[Standing(1, &[])]),
     (Volts(2399), &[]),

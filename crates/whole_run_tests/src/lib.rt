@@ -2,15 +2,26 @@
 //! packet by packet, from the formats; nothing is taken from what the host answers.
 #![tactic(auto)]
 
+#[cfg(test)]
+mod commands;
 pub mod expected;
 #[cfg(test)]
 mod flight;
+pub mod flying;
+#[cfg(test)]
+mod hostile;
 pub mod images;
 #[cfg(test)]
 mod rows;
 #[cfg(test)]
 mod sampling;
 pub mod scene;
+#[cfg(test)]
+mod services;
+#[cfg(test)]
+mod starting;
 pub mod stream;
+#[cfg(test)]
+mod tables;
 #[cfg(test)]
 mod texts;

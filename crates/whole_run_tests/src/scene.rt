@@ -3,6 +3,7 @@
 use crate::expected::{ERROR, Expected, INFORMATION};
 use crate::images::{Change, changed, first_version};
 use crate::stream::Stream;
+use flight_core::Report;
 use rpn_compiler::TablePair;
 use std::alloc::{AllocError, Global};
 
@@ -209,6 +210,7 @@ fn kind_of(id: u16) -> u8 {
 pub struct Scene {
     pub stream: Stream,
     pub expected: Expected,
+    records: u64,
 }
 
 impl Scene {
@@ -216,6 +218,15 @@ impl Scene {
         Scene {
             stream: Stream::new(alloc),
             expected: Expected::new(alloc),
+            records: 0,
+        }
+    }
+
+    /// The report of a run over all of it.
+    pub fn report(&self) -> Report {
+        Report {
+            records: self.records,
+            bytes: self.expected.as_slice().len() as u128,
         }
     }
 
@@ -228,6 +239,7 @@ impl Scene {
     ) -> Result<(), AllocError> {
         for (given, sent) in rows {
             self.stream.give(alloc, pairs, given)?;
+            self.records = self.records.wrapping_add(1);
             for packet in *sent {
                 self.expected.send(packet)?;
             }

@@ -9,7 +9,10 @@ use crate::texts::{LOW_ALONE, NO_ENTRIES};
 
 const BAD_PACKETS: &[Row] = &[
     (Packet(&[]), &[Host(1, b"bad packet 1")]),
-    (Packet(&[0x18, 0xA9, 0xC0, 0, 0]), &[Host(1, b"bad packet 1")]),
+    (
+        Packet(&[0x18, 0xA9, 0xC0, 0, 0]),
+        &[Host(1, b"bad packet 1")],
+    ),
     // Telemetry of eleven bytes.
     (
         Packet(&[0x08, 0x83, 0xC0, 0, 0, 4, 0, 0, 0, 0, 0]),
@@ -60,10 +63,19 @@ fn a_bad_packet_is_told_with_its_reason(rt: HostRuntime) {
 const FILES: &[Row] = &[
     (Zeros(b"/cf/large", 32_769), &[Host(3, b"file refused 119")]),
     (Zeros(b"/cf/large", 32_768), &[Host(2, b"file stored")]),
-    (Table(1, b"/cf/none"), &[Host(5, b"table command refused 111")]),
+    (
+        Table(1, b"/cf/none"),
+        &[Host(5, b"table command refused 111")],
+    ),
     (File(b"/cf/three", b"abc"), &[Host(2, b"file stored")]),
-    (Table(1, b"/cf/three"), &[Host(5, b"table command refused 112 51")]),
-    (Table(1, b"/cf/large"), &[Host(5, b"table command refused 112 52")]),
+    (
+        Table(1, b"/cf/three"),
+        &[Host(5, b"table command refused 112 51")],
+    ),
+    (
+        Table(1, b"/cf/large"),
+        &[Host(5, b"table command refused 112 52")],
+    ),
     (File(b"/cf/3", b""), &[Host(2, b"file stored")]),
     (File(b"/cf/4", b""), &[Host(2, b"file stored")]),
     (File(b"/cf/5", b""), &[Host(2, b"file stored")]),
@@ -86,8 +98,14 @@ fn eight_files_of_some_size_are_stored(rt: HostRuntime) {
 const COUNTED: &[Row] = &[
     (Order(1, b"COUNTER"), &[Host(8, b"app command 1 done")]),
     (Numbers(0x18C1, 1, &[]), &[Counter(1, b"count 1")]),
-    (Numbers(0x18C1, 2, &[]), &[Counter(2, b"command refused 151")]),
-    (Numbers(0x18C1, 1, &[0]), &[Counter(2, b"command refused 152")]),
+    (
+        Numbers(0x18C1, 2, &[]),
+        &[Counter(2, b"command refused 151")],
+    ),
+    (
+        Numbers(0x18C1, 1, &[0]),
+        &[Counter(2, b"command refused 152")],
+    ),
     (Numbers(0x18C1, 1, &[]), &[Counter(1, b"count 2")]),
     (Order(3, b"COUNTER"), &[Host(8, b"app command 3 done")]),
     (Numbers(0x18C1, 1, &[]), &[Counter(1, b"count 1")]),
@@ -107,8 +125,14 @@ const ORDERS: &[Row] = &[
     (Order(1, b""), &[Host(9, b"app command refused 122")]),
     (Order(0, b"SCH"), &[Host(9, b"app command refused 151")]),
     (Order(5, b"SCH"), &[Host(9, b"app command refused 151")]),
-    (Numbers(0x1806, 1, &[]), &[Host(9, b"app command refused 152")]),
-    (Numbers(0x1806, 5, &[]), &[Host(9, b"app command refused 151")]),
+    (
+        Numbers(0x1806, 1, &[]),
+        &[Host(9, b"app command refused 152")],
+    ),
+    (
+        Numbers(0x1806, 5, &[]),
+        &[Host(9, b"app command refused 151")],
+    ),
     (Order(1, b"SCH"), &[Host(8, b"app command 1 done")]),
     (Order(1, b"SCH"), &[Host(9, b"app command refused 123")]),
     (Order(4, b"SCH"), &[Host(9, b"app command refused 122")]),
@@ -126,11 +150,26 @@ fn an_order_names_an_application_that_can_take_it(rt: HostRuntime) {
 }
 
 const EVENT_COMMANDS: &[Row] = &[
-    (Filter(b"NONE", 1, 1), &[Host(7, b"event command refused 101")]),
-    (Filter(b"LC", 1, 1), &[Host(7, b"event command refused 101")]),
-    (Numbers(0x1801, 0, &[]), &[Host(7, b"event command refused 151")]),
-    (Numbers(0x1801, 5, &[]), &[Host(7, b"event command refused 151")]),
-    (Numbers(0x1801, 1, &[]), &[Host(7, b"event command refused 152")]),
+    (
+        Filter(b"NONE", 1, 1),
+        &[Host(7, b"event command refused 101")],
+    ),
+    (
+        Filter(b"LC", 1, 1),
+        &[Host(7, b"event command refused 101")],
+    ),
+    (
+        Numbers(0x1801, 0, &[]),
+        &[Host(7, b"event command refused 151")],
+    ),
+    (
+        Numbers(0x1801, 5, &[]),
+        &[Host(7, b"event command refused 151")],
+    ),
+    (
+        Numbers(0x1801, 1, &[]),
+        &[Host(7, b"event command refused 152")],
+    ),
     // Every second event 6 is held back, and this command's own is the first that is counted.
     (Filter(b"HOST", 6, 1), &[Host(6, b"event command 1 done")]),
     (Types(3, b"HOST", 0x0F), &[]),
@@ -144,7 +183,10 @@ const EVENT_COMMANDS: &[Row] = &[
     (Types(4, b"HOST", 0xF4), &[]),
     (Filter(b"NONE", 1, 1), &[]),
     (Types(3, b"HOST", 4), &[]),
-    (Filter(b"NONE", 1, 1), &[Host(7, b"event command refused 101")]),
+    (
+        Filter(b"NONE", 1, 1),
+        &[Host(7, b"event command refused 101")],
+    ),
     (Types(3, b"HOST", 2), &[Host(6, b"event command 3 done")]),
 ];
 
@@ -156,14 +198,20 @@ fn an_event_command_takes_effect_before_its_own_event(rt: HostRuntime) {
 /// What was said of the Limit Checker's events goes with its seat.
 const QUIET_CHECKER: &[Row] = &[
     (Types(4, b"LC", 4), &[Host(6, b"event command 4 done")]),
-    (Filter(b"LC", 8, 0xFFFF), &[Host(6, b"event command 1 done")]),
+    (
+        Filter(b"LC", 8, 0xFFFF),
+        &[Host(6, b"event command 1 done")],
+    ),
     (Command(0, &[]), &[Lc(8, b"command 0 done")]),
     (Command(0, &[]), &[]),
     (Command(1, &[]), &[]),
     (Ask, &[Standing(1, &[0x10])]),
     (
         Order(3, b"LC"),
-        &[Lc(1, b"started with tables"), Host(8, b"app command 3 done")],
+        &[
+            Lc(1, b"started with tables"),
+            Host(8, b"app command 3 done"),
+        ],
     ),
     (Command(0, &[]), &[Lc(8, b"command 0 done")]),
     (Command(0, &[]), &[Lc(8, b"command 0 done")]),
@@ -182,7 +230,10 @@ const TICKS: &[Row] = &[
     (Tick, &[Standing(1, &[0x12])]),
     (
         Tick,
-        &[Request(7), Lc(1001, b"low volts: AP = 0, FailCount = 2, RTS = 7")],
+        &[
+            Request(7),
+            Lc(1001, b"low volts: AP = 0, FailCount = 2, RTS = 7"),
+        ],
     ),
     // The first slot again.
     (Order(3, b"SCH"), &[Host(8, b"app command 3 done")]),
@@ -219,6 +270,7 @@ const FULL_SLOT: &[Row] = &[
 
 #[test]
 fn eight_entries_of_one_slot_are_taken_in_order(rt: HostRuntime) {
-    let schedule = b"slots 1\n0 housekeeping\n0 sample 0 0 keep\n0 housekeeping\n0 sample 65535 65535 keep\n0 housekeeping\n0 housekeeping\n0 housekeeping\n0 housekeeping\n";
+    let schedule =
+        b"slots 1\n0 housekeeping\n0 sample 0 0 keep\n0 housekeeping\n0 sample 65535 65535 keep\n0 housekeeping\n0 housekeeping\n0 housekeeping\n0 housekeeping\n";
     runs(&rt, LOW_ALONE, schedule, &[PRELUDE, FULL_SLOT]);
 }
