@@ -4,6 +4,8 @@
 
 #[cfg(test)]
 mod commands;
+#[cfg(test)]
+mod devices;
 pub mod expected;
 #[cfg(test)]
 mod flight;

@@ -3,7 +3,6 @@
 use crate::expected::{ERROR, Expected, INFORMATION};
 use crate::images::{Change, changed, first_version};
 use crate::stream::Stream;
-use flight_core::Report;
 use rpn_compiler::TablePair;
 use std::alloc::{AllocError, Global};
 
@@ -222,12 +221,9 @@ impl Scene {
         }
     }
 
-    /// The report of a run over all of it.
-    pub fn report(&self) -> Report {
-        Report {
-            records: self.records,
-            bytes: self.expected.as_slice().len() as u128,
-        }
+    /// How many records there are.
+    pub fn records(&self) -> u128 {
+        u128::from(self.records)
     }
 
     /// These rows behind what is there.
