@@ -1,0 +1,61 @@
+//! A run with the applications of these tests.
+
+ghost use Rattle.std.specs.Prelude.{◌≡◌, false};
+
+use app_host::App;
+use flight_core::{Counter, Report, RunError, run, run_within};
+use lc_model::{Limited, Pieces};
+use limit_checker::application::LimitChecker;
+use std::alloc::{AllocError, Global};
+use tick_scheduler::{Schedule, Scheduler};
+
+/// The devices of a run: the bytes of a piece, how many bytes of the stream there are, the read that fails (0: none), how many
+/// bytes the writer takes, the write that fails (0: none), and the most reads, where they aren't those of `run`.
+#[derive(Clone, Copy)]
+pub struct Devices(
+    pub usize,
+    pub usize,
+    pub u64,
+    pub usize,
+    pub u64,
+    pub Option<u32>,
+);
+
+/// How a run ended: 0 and its records, or the error's number (1 for a text, 2 for want of memory) and what it names.
+pub fn ending_of(outcome: &Result<Report, RunError>) -> (u8, u128) {
+    match outcome {
+        Ok(report) => (0, u128::from(report.records)),
+        Err(RunError::BadRecord { n }) => (141, u128::from(*n)),
+        Err(RunError::Truncated { n }) => (142, u128::from(*n)),
+        Err(RunError::Read) => (143, 0),
+        Err(RunError::Write { sent }) => (144, *sent),
+        Err(RunError::ReadBound) => (145, 0),
+        Err(RunError::Compile { text: _, error: _ }) => (1, 0),
+        Err(RunError::Memory) => (2, 0),
+    }
+}
+
+/// Runs these texts with two Limit Checkers, a scheduler and a counter in stock. Out of memory for
+/// these is the outer error. At most so many reads are made, or as many as `run` makes. Conditions: nothing was read or failed yet.
+pub fn fly(
+    alloc: Global,
+    texts: &[&[u8]],
+    schedule: &Schedule,
+    source: &mut Pieces<'_>,
+    sink: &mut Limited<'_>,
+    reads: Option<u32>,
+) -> Result<Result<Report, RunError>, AllocError>
+    requires unread { source.old.reads ≡ 0 }
+    requires readable { source.old.failed ≡ false }
+    requires writable { sink.old.failed ≡ false }
+{
+    let mut stock: Vec<Box<dyn App>> = Vec::new(alloc);
+    stock.push(Box::new(alloc, LimitChecker::new(alloc)?)?)?;
+    stock.push(Box::new(alloc, LimitChecker::new(alloc)?)?)?;
+    stock.push(Box::new(alloc, Scheduler::new(alloc, schedule)?)?)?;
+    stock.push(Box::new(alloc, Counter::new())?)?;
+    Ok(match reads {
+        Some(most) => { run_within(alloc, texts, schedule, stock, source, sink, u64::from(most)) }
+        None => run(alloc, texts, schedule, stock, source, sink),
+    })
+}

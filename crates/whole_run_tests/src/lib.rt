@@ -1,0 +1,29 @@
+//! The tests of `run`, from rule texts and a stream to the bytes that are written. Streams and what is expected are put together
+//! packet by packet, from the formats; nothing is taken from what the host answers.
+#![tactic(auto)]
+
+#[cfg(test)]
+mod commands;
+#[cfg(test)]
+mod devices;
+pub mod expected;
+#[cfg(test)]
+mod flight;
+pub mod flying;
+#[cfg(test)]
+mod hostile;
+pub mod images;
+#[cfg(test)]
+mod rows;
+#[cfg(test)]
+mod sampling;
+pub mod scene;
+#[cfg(test)]
+mod services;
+#[cfg(test)]
+mod starting;
+pub mod stream;
+#[cfg(test)]
+mod tables;
+#[cfg(test)]
+mod texts;
