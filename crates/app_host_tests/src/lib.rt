@@ -1,5 +1,7 @@
-//! The tests of `app_host`'s services and of the applications that stand on them, by public calls alone: one application has
-//! services of its own and is called by the rules of the interface. Expected values come from the packets' layout.
+//! The tests of `app_host`, of its services and of the applications that stand on them, by public calls alone. A host plays
+//! scripts of records and questions (`playing`, `script`) over applications that count and write letters (`tracked`, `named`);
+//! and one application has services of its own and is called by the rules of the interface (`alone`). Expected values come from
+//! the packets' layout.
 #![tactic(auto)]
 
 pub mod alone;

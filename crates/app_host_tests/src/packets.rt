@@ -52,13 +52,14 @@ pub fn packet(alloc: Global, given: Given<'_>) -> Result<Vec<u8>, AllocError> {
         Given::Filter(code, name, behind) => {
             named(alloc, EVENT_SERVICES, code, name, 20, behind)
         }
-        Given::Bytes(bytes) => named_bytes(alloc, bytes),
+        Given::Bytes(bytes) => copied(alloc, bytes),
         Given::Long(size) => long(alloc, size),
         Given::Tick | Given::File(_, _) => Ok(Vec::new(alloc)),
     }
 }
 
-fn named_bytes(alloc: Global, bytes: &[u8]) -> Result<Vec<u8>, AllocError> {
+/// These bytes.
+fn copied(alloc: Global, bytes: &[u8]) -> Result<Vec<u8>, AllocError> {
     let mut packet = Vec::new(alloc);
     packet.extend_from_slice(bytes)?;
     Ok(packet)
