@@ -21,6 +21,8 @@ pub mod scene;
 #[cfg(test)]
 mod services;
 #[cfg(test)]
+mod slots;
+#[cfg(test)]
 mod starting;
 pub mod stream;
 #[cfg(test)]
