@@ -1,70 +1,41 @@
-//! The program: rule texts are compiled to table files, or a host runs over a stream of records. Without words it runs the
-//! low-volts rule in memory.
+//! A run of the Limit Checker over a stream of records: a rule text is compiled, packets come in, and the sequence requests
+//! that its rules call for go out.
 #![tactic(auto)]
 
-mod compiling;
-mod fault;
-mod files;
-mod flying;
-mod stored;
+mod arrival;
+mod error;
+mod flight;
+mod intake;
+mod low_volts;
+mod outgoing;
+mod run;
+mod run_one;
+mod tables;
 #[cfg(test)]
 mod tests;
 
-use crate::fault::Fault;
-use flight_core::{Plan, read_words};
-use std::env::{self, Env};
-use std::fs::Files;
-use std::io::{self, Eprint, Print};
-use std::process::ExitCode;
+pub use error::{Report, RunError};
+use lc_model::packet::REQUEST_SIZE;
+use lc_model::{Limited, Pieces};
+pub use run_one::run_one;
 
-/// Does what the words say, the program's name first, and answers the exit status. What ends it with another status than 0 is
-/// said in a line on standard error.
-pub fn main_on<R: Files + Print + Eprint + AllocGlobal>(rt: &R, words: &[&str]) -> u8 {
-    match obey(rt, words) {
-        Ok(()) => 0,
-        Err(fault) => {
-            let status = fault.status();
-            let _said = eprintln!(rt; "{fault}");
-            status
+/// Runs the low-volts rule over two failing samples, and prints each sequence request in hexadecimal on a line.
+fn main(rt: HostRuntime) -> anyhow::Result<()> {
+    let stream = low_volts::two_failing_samples(rt.alloc())?;
+    let mut room = [0; 4 * REQUEST_SIZE];
+    let mut reader = Pieces::new(stream.as_slice(), 8_192);
+    let mut writer = Limited::new(&mut room, 4 * REQUEST_SIZE);
+    run_one(
+        rt.alloc(),
+        low_volts::TEXT.as_bytes(),
+        &mut reader,
+        &mut writer,
+    )?;
+    for request in writer.bytes().chunks(REQUEST_SIZE) {
+        for byte in request {
+            print!(rt; "{byte:02x}")?;
         }
+        println!(rt)?;
     }
-}
-
-/// Does what the words say.
-fn obey<'a, R: Files + Print + Eprint + AllocGlobal>(
-    rt: &R,
-    words: &'a [&'a str],
-) -> Result<(), Fault<'a>> {
-    match read_words(rt.alloc(), words)? {
-        Plan::Stored => stored::run_stored(rt),
-        Plan::Compile { rules, wdt, adt } => compiling::compile_files(rt, rules, wdt, adt),
-        Plan::Run {
-            schedule,
-            stream,
-            out,
-            rules,
-        } => flying::fly(rt, schedule, stream, out, rules.as_slice()),
-    }
-}
-
-/// The words of the command line.
-fn words_of<R: Env + AllocGlobal>(rt: &R) -> io::Result<Vec<String>> {
-    let mut words = Vec::new(rt.alloc());
-    for word in env::args(rt)? {
-        words.push(word)?;
-    }
-    Ok(words)
-}
-
-fn main(rt: HostRuntime) -> ExitCode {
-    let Ok(own) = words_of(&rt) else {
-        return ExitCode::from(2);
-    };
-    let mut words = Vec::new(rt.alloc());
-    for word in &own {
-        if words.push(word.as_str()).is_err() {
-            return ExitCode::from(5);
-        }
-    }
-    ExitCode::from(main_on(&rt, words.as_slice()))
+    Ok(())
 }
