@@ -11,7 +11,8 @@ use Rattle.lc_model.specs.Kept.Call.{ServicesNow, Called, silent, sch_told, coun
 use Rattle.lc_model.specs.Kept.Executive.{Pipe, Member, Executive, no_member, seated, hears, all_published_to, after_call, after_taking, handed, delivered_at}
 use Rattle.lc_model.specs.Laws.TablesByName.{TablesAreFound}
 use Rattle.lc_model.specs.Services.Bus.{seen, seen_pipe, received, after}
-use Rattle.lc_model.specs.Services.Tables.{IsTableService}
+use Rattle.lc_model.specs.Services.Events.{EventService}
+use Rattle.lc_model.specs.Services.Tables.{TableService, IsTableService}
 use Rattle.lc_model.specs.Services.Interface.{MayPublish, IsOwnPipe, seen_at, waiting_in}
 use Rattle.app_host.specs.declared.services.Services.{Services}
 use Rattle.app_host.specs.Shared.{on_board, held_by, shared}
@@ -22,6 +23,7 @@ use Rattle.app_host.specs.Whole.{IsRunning, AreSeated, AreKnown}
 use Rattle.app_host.specs.Load.{load, IsLight}
 use Rattle.app_host.specs.Delivered.{executive_in, Becomes, HasDelivered}
 use Rattle.app_host.proofs.Found.{shown_in}
+use Rattle.app_host.proofs.Rosters.{same_roster, names_still}
 use Rattle.app_host.proofs.Frames.{fact_at_set, others_stay, seated_still, seated_with, alone_still}
 use Rattle.app_host.proofs.Loads.{falls, still_light}
 use Rattle.app_host.proofs.Delivery.{HasFirst, first_packet, behind, pipe_is, waits, bus_then, shared_still, stays_taken}
@@ -189,5 +191,10 @@ module _ (law : TablesAreFound) (h new : Hosted) (now : Services) (seat : ℕ) (
     light = light_then;
     falls = falls_then;
     fits = answered.rules.call.outgoing;
+    own = record {
+      host = answered.rules.call.others.host ∙ ap (λ (e : EventService). e.host) events;
+      files = answered.rules.call.others.files ∙ ap (λ (t : TableService). t.files) tables;
+      roster = same_roster h new stock (names_still h new seat o o' at answered.name seats);
+    };
     exact = exact_then;
   }

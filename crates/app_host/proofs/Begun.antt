@@ -20,6 +20,7 @@ use Rattle.app_host.specs.Calls.{IsObject, Leaves}
 use Rattle.app_host.specs.Hosted.{Object, Hosted, object_at, member_of}
 use Rattle.app_host.specs.Objects.{MayStartOn, HasStarted}
 use Rattle.app_host.specs.Whole.{IsRunning, AreSeated, AreKnown, name_at}
+use Rattle.app_host.specs.Roster.{name_of}
 use Rattle.app_host.specs.Delivered.{executive_in, Becomes}
 use Rattle.app_host.specs.Ordered.{MayBegin, HasBegun}
 use Rattle.app_host.proofs.Found.{placed, nowhere}
@@ -163,6 +164,15 @@ module _ (law : TablesAreFound) (old new : Hosted) (seat : ℕ) (o o' : Object) 
       fits = started.rules.call.outgoing;
     };
     stock = stock;
+    own = record {
+      host = started.rules.call.others.host;
+      files = started.rules.call.others.files;
+      roster = λ i. record {
+        stock = stock i;
+        seats = (ap (map (option_map name_of)) seats ∙ map-set (option_map name_of) old.seats seat (Some o')
+            ∙ (λ j. slice_set (map (option_map name_of) old.seats) seat (Some (started.name j)))) i;
+      };
+    };
     exact = exact_then;
   }
 

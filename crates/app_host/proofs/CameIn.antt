@@ -1,5 +1,5 @@
 -- The next one took its seat, and what it asked for is written.
-use Rattle.std.proofs.Common.{◌≡◌, ap, ap₂, sym, ◌∙◌, subst, ℕ, ◌≤◌, List, [], length, take, arith, Result, Ok, Err}
+use Rattle.std.proofs.Common.{◌≡◌, ap, ap₂, sym, ◌∙◌, subst, inl, inr, ℕ, ◌+◌, ◌≤◌, List, [], ◌++◌, length, take, arith, length-append, Option, Result, Ok, Err}
 use Rattle.std.specs.Prelude.{IsErrAnd}
 use Rattle.std.specs.List.{concat}
 use Rattle.std.specs.Io.KnownBytes.{Appends}
@@ -12,8 +12,10 @@ use Rattle.app_host.specs.Hosted.{Hosted}
 use Rattle.app_host.specs.Whole.{AreSpares, AreKnown}
 use Rattle.app_host.specs.Delivered.{executive_in, Becomes}
 use Rattle.app_host.specs.Writing.{IsFlushed, IsAllSent, IsPartSent}
-use Rattle.app_host.specs.Ordered.{Next, IsKnownNext, followed_by, HasFollowed, HasComeIn, HasFailed, ComesIn}
-use Rattle.app_host.proofs.Course.{taken_both}
+use Rattle.app_host.specs.Ordered.{Next, IsKnownNext, followed_by, seated_next, HasFollowed, HasComeIn, HasFailed, ComesIn, HasEntered, HasNotEntered, Enters}
+use Rattle.app_host.specs.Roster.{roster_of, ComesTo}
+use Rattle.app_host.proofs.Rosters.{roster_still}
+use Rattle.app_host.proofs.Course.{taken_both, cut_behind}
 use Rattle.app_host.proofs.Draining.{same_executive, still_known}
 
 -- what a write leaves alone
@@ -85,6 +87,55 @@ module _ (next : Next) (old one two new : Hosted) (sent : ℕ) (before mid now :
           (subst (λ bytes. Appends mid.gained now.gained (take part.taken bytes)) (becomes known its_own none).outgoing part.gains));
     };
   }
+
+  -- ---- who is where
+
+  abbrev bytes : List ℕ
+  bytes = old.services.outgoing ++ two.services.outgoing
+
+  size : length bytes ≡ length old.services.outgoing + length two.services.outgoing
+  size = length-append old.services.outgoing two.services.outgoing
+
+  comes_to : ComesTo (seated_next next (roster_of old)) old new
+  comes_to = record {
+    host = ap (λ (s : Services). s.events.host) second.services ∙ followed.own.host ∙ ap (λ (s : Services). s.events.host) first.services;
+    files = ap (λ (s : Services). s.tables.files) second.services ∙ followed.own.files ∙ ap (λ (s : Services). s.tables.files) first.services;
+    roster = roster_still two new second ∙ followed.own.roster ∙ ap (seated_next next) (roster_still old one first);
+  }
+
+  pub entered : (total : ℕ) → IsAllSent sent two new mid now total → HasEntered next total old new before.gained now.gained
+  entered total rest = record {
+    theirs = bytes;
+    count = omega (arith, all.count, rest.count, size);
+    gains = taken_both before.gained mid.gained now.gained old.services.outgoing two.services.outgoing all.gains rest.gains;
+    own = comes_to;
+  }
+
+  pub not_entered : (total : ℕ) → IsPartSent sent two new mid now total → HasNotEntered next total old new before.gained now.gained
+  not_entered total part = record {
+    theirs = bytes;
+    small = omega (arith, size, fits, followed.whole.fits);
+    fewer = omega (arith, all.count, part.count, part.fewer, size);
+    gains = subst (Appends before.gained now.gained) (sym (cut_behind sent part.taken total old.services.outgoing two.services.outgoing part.count (let same : sent ≡ length old.services.outgoing = omega (arith, all.count) in same)))
+        (taken_both before.gained mid.gained now.gained old.services.outgoing (take part.taken two.services.outgoing) all.gains part.gains);
+    own = inl comes_to;
+  }
+
+-- what waited was cut, and nobody came
+pub nobody_entered : (next : Next) (old one : Hosted) (before now : Sink) → length old.services.outgoing ≤ 65536 → IsFlushed old one → (total : ℕ) → IsPartSent 0 old one before now total →
+    HasNotEntered next total old one before.gained now.gained
+nobody_entered next old one before now fits flushed total part = record {
+  theirs = old.services.outgoing;
+  small = omega (arith, fits);
+  fewer = omega (arith, part.count, part.fewer);
+  gains = subst (λ n. Appends before.gained now.gained (take n old.services.outgoing)) (let same : part.taken ≡ total = omega (arith, part.count) in same) part.gains;
+  own = inr (record { host = ap (λ (s : Services). s.events.host) flushed.services; files = ap (λ (s : Services). s.tables.files) flushed.services; roster = roster_still old one flushed });
+}
+
+pub not_entered_so : (next : Next) (old new : Hosted) (before now : Option (List ℕ)) (result : Result ℕ WriteFault) (fault : WriteFault) → IsErrAnd result (λ e. e ≡ fault) →
+    HasNotEntered next fault.sent old new before now → Enters next old new before now result
+not_entered_so next old new before now (Ok total) fault is part = absurd is
+not_entered_so next old new before now (Err e) fault is part = subst (λ (f : WriteFault). HasNotEntered next f.sent old new before now) (sym is) part
 
 -- an error that is passed on
 pub failed_so : (next : Next) (old new : Hosted) (before now : Sink) (result : Result ℕ WriteFault) (fault : WriteFault) → IsErrAnd result (λ e. e ≡ fault) → HasFailed next fault.sent old new before now →

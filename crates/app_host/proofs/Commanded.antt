@@ -1,24 +1,21 @@
 -- A command to a table changes one table's images, and what goes with the services still does.
-use Rattle.std.proofs.Common.{◌≡◌, refl, ap, ap₂, sym, ◌∙◌, subst, ℕ, Bool, true, false, List, [], length, Option, Some, None, Result, Ok, Err}
-use Rattle.std.specs.Prelude.{IfOk, IsTrue, is_some, unwrap_or, if◌then◌else◌}
+use Rattle.std.proofs.Common.{◌≡◌, refl, ap, sym, ◌∙◌, subst, ℕ, List, length, Option, Some, None, Result, Ok, Err}
+use Rattle.std.specs.Prelude.{IfOk}
 use Rattle.std.specs.Option.{option_map_or}
-use Rattle.std.proofs.lemmas.Slice.Eq.{bytes_eq-Decides}
 use Rattle.lc_model.specs.declared.kind.Kind.{Kind}
-use Rattle.lc_model.specs.declared.kind.Kind.TheVariants.{Wdt, Adt}
-use Rattle.lc_model.specs.Name.{Name, is_named, held, name_in}
+use Rattle.lc_model.specs.Name.{Name, held, name_in}
 use Rattle.lc_model.specs.Refusal.{Refusal, ◌>>=◌, found, provided}
-use Rattle.lc_model.specs.Tables.File.{opened, table_name}
-use Rattle.lc_model.specs.Tables.Slot.{Slot, Move, no_images, loaded, moved}
+use Rattle.lc_model.specs.Tables.File.{opened}
+use Rattle.lc_model.specs.Tables.Slot.{Slot, Move, loaded, moved}
 use Rattle.lc_model.specs.Command.{TableCommand, Load, Manage}
-use Rattle.lc_model.specs.LimitChecker.Steps.{paired}
-use Rattle.lc_model.specs.Kept.Summary.{AppState, LcState, SchState, CounterState, Other}
-use Rattle.lc_model.specs.Kept.Call.{ServicesNow, with_at}
+use Rattle.lc_model.specs.Kept.Summary.{AppState}
+use Rattle.lc_model.specs.Kept.Call.{with_at}
 use Rattle.lc_model.specs.Kept.GoesWith.{GoesWith, IsJudged}
 use Rattle.lc_model.specs.Laws.TablesByName.{TablesAreFound, ChangingTables}
 use Rattle.lc_model.specs.Services.Events.{counts_with, sender_named}
 use Rattle.lc_model.specs.Services.Seen.{files_seen, slot_among, count_among}
 use Rattle.lc_model.specs.Services.Tables.{Table, TableService, Places, Handle, IsTableService, table_at, handle_named, fits_table, with_slot, with_places, file_refusal, moved_among, image_loaded_among, loaded_among, table_commanded}
-use Rattle.lc_model.proofs.Services.TableServiceLaws.{then_ok}
+use Rattle.lc_model.proofs.Services.TableServiceLaws.{then_ok, found_ok}
 use Rattle.host_laws.proofs.HostRecords as host
 use Rattle.host_laws.proofs.InStep.{loaded_judged, moved_judged}
 use Rattle.host_laws.proofs.TableRecords.{loaded_active, moved_active}
@@ -42,10 +39,6 @@ pub record ChangesOne (before after : Places) : Type 0 where
   pub follows : FollowsSlot table.slot slot
   pub is : after ≡ with_slot handle table before slot
 
-found_so : {A B : Type 0} (P : B → Type 0) (o : Option A) (code : ℕ) (next : A → Result B Refusal) → ((x : A) → o ≡ Some x → IfOk (next x) P) → IfOk (found o code >>= next) P
-found_so P (Some x) code next each = each x refl
-found_so P None code next each = tt
-
 module _ (places : Places) where
   changed : (handle : Handle) (table : Table) (r : Result (Slot (List ℕ)) Refusal) → table_at handle places ≡ Some table → IfOk r (FollowsSlot table.slot) →
       IfOk (r >>= (λ slot. Ok (with_slot handle table places slot))) (ChangesOne places)
@@ -60,14 +53,14 @@ module _ (places : Places) where
   moves_change : (move : Move) (name : Name) → IfOk (moved_among move name places) (ChangesOne places)
   moves_change move name =
       then_ok (ChangesOne places) (found (handle_named name places) 113) _ (λ handle h.
-      found_so (ChangesOne places) (table_at handle places) 113 _ (λ table there.
+      found_ok (ChangesOne places) (table_at handle places) 113 _ (λ table there.
       changed handle table (moved move table.slot) there
       (follows_so table.slot (moved move table.slot) (moved_active move table.slot) (λ kind is. moved_judged on_board kind move table.slot is))))
 
   loads_change : (image : List ℕ) (name : Name) → IfOk (image_loaded_among image name places) (ChangesOne places)
   loads_change image name =
       then_ok (ChangesOne places) (found (handle_named name places) 113) _ (λ handle h.
-      found_so (ChangesOne places) (table_at handle places) 113 _ (λ table there.
+      found_ok (ChangesOne places) (table_at handle places) 113 _ (λ table there.
       then_ok (ChangesOne places) (provided (fits_table table (length image)) 114 image) _ (λ fitting f.
       changed handle table (loaded fitting table.slot) there
       (follows_so table.slot (loaded fitting table.slot) (loaded_active fitting table.slot) (λ kind is. loaded_judged on_board kind fitting table.slot is)))))
@@ -80,7 +73,7 @@ placed_so service (Err refusal) changes = tt
 commands_change : (command : TableCommand) (service : TableService) → IfOk (table_commanded command service) (λ (after : TableService). ChangesOne service.places after.places)
 commands_change (Manage move name) service = placed_so service (moved_among move name service.places) (moves_change service.places move name)
 commands_change (Load name) service =
-    found_so (λ (after : TableService). ChangesOne service.places after.places) (held name service.files) 111 _ (λ bytes b.
+    found_ok (λ (after : TableService). ChangesOne service.places after.places) (held name service.files) 111 _ (λ bytes b.
     placed_so service (loaded_among bytes service.places)
     (then_ok (ChangesOne service.places) (file_refusal (opened bytes)) _ (λ file f. loads_change service.places file.image (name_in file.name_field))))
 

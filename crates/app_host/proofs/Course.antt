@@ -30,6 +30,10 @@ taken_both (Some xs₀) None c xs ys first second = absurd first
 taken_both (Some xs₀) (Some ys₀) None xs ys first second = absurd second
 taken_both (Some xs₀) (Some ys₀) (Some zs₀) xs ys first second = second ∙ ap (λ bytes. bytes ++ ys) first ∙ append_assoc xs₀ xs ys
 
+-- the first bytes of both, where all of the first ones were taken
+pub cut_behind : (sent taken total : ℕ) (xs ys : List ℕ) → total ≡ sent + taken → sent ≡ length xs → take total (xs ++ ys) ≡ xs ++ take taken ys
+cut_behind sent taken total xs ys is count = ap (λ n. take n (xs ++ ys)) (is ∙ ap (λ n. n + taken) count) ∙ take-append-add xs ys taken
+
 -- ---- calls
 
 abbrev Stations : Type 0

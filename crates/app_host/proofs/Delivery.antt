@@ -25,6 +25,7 @@ use Rattle.app_host.proofs.Rules.{seen_of_place, seen_with}
 use Rattle.app_host.proofs.Frames.{fact_at_set, StaysAt, stays_running}
 use Rattle.app_host.proofs.Found.{found}
 use Rattle.app_host.proofs.Loads.{room_for_tick}
+use Rattle.app_host.proofs.Unused.{each_of}
 
 -- ---- the pipe of a ready seat
 
@@ -90,10 +91,6 @@ pub read_back : (packet rest buffer : List ℕ) (size : ℕ) → size ≡ length
 read_back packet rest buffer size is filled = rw (is, filled) (take-append_seam packet rest)
 
 -- ---- an object may have its packet
-
-each_of : {A : Type 0} (P : A → Type 0) (xs : List A) (d : A) → ((i : ℕ) → P (slice_index_or xs i d)) → AllByRecursion P xs
-each_of P [] d each = tt
-each_of P (x ∷ xs) d each = (each 0, each_of P xs d (λ i. each (suc i)))
 
 -- where the bus alone changes, and there the waiting packets of one seat alone
 module _ (law : TablesAreFound) (before now : Services) (sound : IsTableService before.tables) (events : now.events ≡ before.events) (tables : now.tables ≡ before.tables) (counts : now.counts ≡ before.counts)

@@ -1,7 +1,9 @@
 -- The loop of the deliveries.
-use Rattle.std.proofs.Common.{◌≡◌, refl, ap, sym, ◌∙◌, subst, ℕ, ◌+◌, ◌*◌, ◌<◌, ◌≤◌, List, length, take, map, arith, Some, None, Result, Ok, Err}
+use Rattle.std.proofs.Common.{◌≡◌, true, false, refl, ap, sym, ◌∙◌, subst, ℕ, ◌+◌, ◌*◌, ◌<◌, ◌≤◌, inl, List, [], ◌++◌, length, take, map, arith, length-append, if◌then◌else◌, Option, Some, None, Result, Ok, Err}
 use Rattle.std.specs.Prelude.{option_map, IsErrAnd}
 use Rattle.std.specs.Io.KnownBytes.{Appends}
+use Rattle.std.proofs.lemmas.List.{append-nil}
+use Rattle.lc_model.specs.declared.record.Moment.{Moment}
 use Rattle.lc_model.specs.Device.{Sink}
 use Rattle.lc_model.specs.Kept.Executive.{Written, ready_seat, delivered_at, drained}
 use Rattle.lc_model.specs.Kept.Stations.{Station, delivery_stations, last_calls}
@@ -14,8 +16,20 @@ use Rattle.app_host.specs.Whole.{IsWhole, AreKnown}
 use Rattle.app_host.specs.Load.{IsLight, load}
 use Rattle.app_host.specs.Delivered.{executive_in, Becomes, HasDelivered}
 use Rattle.app_host.specs.Writing.{written_off, IsFlushed, IsAllSent, IsPartSent, IsCut, HandlesAll, HandlesPart, Handles}
+use Rattle.lc_model.proofs.Facts.{test_less}
+use Rattle.app_host.specs.Roster.{roster_of, ComesTo}
+use Rattle.app_host.specs.Response.{Response, handing_on, IsAlone, HasCalled, RespondsWhole, RespondsPart, Responds}
 use Rattle.app_host.proofs.Flushed.{same_shared}
-use Rattle.app_host.proofs.Course.{SoFar, so_far_first, so_far_more, cut_here, all_done, all_counted}
+use Rattle.app_host.proofs.Rosters.{roster_still}
+use Rattle.app_host.proofs.Course.{nothing_taken, taken_both, cut_behind, SoFar, so_far_first, so_far_more, cut_here, all_done, all_counted}
+
+-- what the applications have sent so far, and that what is HOST's own stays
+pub record Hearing (first now : Hosted) (sent : ℕ) (before after : Option (List ℕ)) : Type 0 where
+  pub theirs : List ℕ
+  pub count : sent ≡ length theirs
+  pub gains : Appends before after theirs
+  pub own : ComesTo (roster_of first) first now
+  pub alone : now.calls ≡ 0 → IsAlone (handing_on first) first now theirs now.services.events
 
 pub record Draining (first now : Hosted) (sent : ℕ) (before after : Sink) : Type 0 where
   pub whole : IsWhole now
@@ -25,6 +39,7 @@ pub record Draining (first now : Hosted) (sent : ℕ) (before after : Sink) : Ty
   pub is_closed : now.is_closed ≡ first.is_closed
   pub moment : now.services.moment ≡ first.services.moment
   pub fine : after.failed ≡ before.failed
+  pub own : Hearing first now sent before.gained after.gained
   pub exact : AreKnown first → SoFar first.services.moment (executive_in first) now sent before.gained after.gained
 
 pub draining_first : (h : Hosted) (sink : Sink) → IsWhole h → IsLight (seen h.services.bus) → load (seen h.services.bus) ≤ 520 → h.calls ≡ 0 → Draining h h 0 sink sink
@@ -36,8 +51,19 @@ draining_first h sink whole light few none = record {
   is_closed = refl;
   moment = refl;
   fine = refl;
+  own = record {
+    theirs = [];
+    count = refl;
+    gains = nothing_taken sink.gained;
+    own = record { host = refl; files = refl; roster = refl };
+    alone = λ none. record { nothing = refl; events = refl; tables = refl; seats = refl };
+  };
   exact = λ known. so_far_first h.services.moment h sink.gained known few none;
 }
+
+-- packets are given
+given_then : (calls : ℕ) → true ≡ false → calls ≡ 0
+given_then calls never = cc
 
 -- nothing waits to be written any more
 module _ (given later : Hosted) (flushed : IsFlushed given later) where
@@ -70,6 +96,13 @@ module _ (first now given later : Hosted) (sent seat : ℕ) (before mid after : 
   few_then : later.calls + load (seen later.services.bus) ≤ 520
   few_then = omega (arith, calls_then, ap load bus_then, delivered.falls, far.few)
 
+  own_then : ComesTo (roster_of first) first later
+  own_then = record {
+    host = ap (λ (s : Services). s.events.host) flushed.services ∙ delivered.own.host ∙ far.own.own.host;
+    files = ap (λ (s : Services). s.tables.files) flushed.services ∙ delivered.own.files ∙ far.own.own.files;
+    roster = roster_still given later flushed ∙ delivered.own.roster ∙ far.own.own.roster;
+  }
+
   module _ (known : AreKnown first) where
     so_far : SoFar first.services.moment (executive_in first) now sent before.gained mid.gained
     so_far = far.exact known
@@ -97,6 +130,13 @@ module _ (first now given later : Hosted) (sent seat : ℕ) (before mid after : 
     is_closed = all.is_closed ∙ delivered.is_closed ∙ far.is_closed;
     moment = ap (λ (s : Services). s.moment) flushed.services ∙ delivered.moment ∙ far.moment;
     fine = all.fine ∙ far.fine;
+    own = record {
+      theirs = far.own.theirs ++ given.services.outgoing;
+      count = omega (arith, all.count, far.own.count, length-append far.own.theirs given.services.outgoing);
+      gains = taken_both before.gained mid.gained after.gained far.own.theirs given.services.outgoing far.own.gains all.gains;
+      own = own_then;
+      alone = λ none. absurd (omega (arith, none, calls_then));
+    };
     exact = λ known. subst (λ n. SoFar first.services.moment (executive_in first) later n before.gained after.gained) (sym all.count) (more known all.gains);
   }
 
@@ -112,6 +152,36 @@ module _ (first now given later : Hosted) (sent seat : ℕ) (before mid after : 
         (sym part.count) (cut known part.taken part.fewer part.gains);
   }
 
+  abbrev called_then : HasCalled first.services.moment (handing_on first) first later
+  called_then = record {
+    theirs = far.own.theirs ++ given.services.outgoing;
+    behind = later.services.events;
+    own = own_then.host;
+    none_given = given_then later.calls;
+    few = omega (arith, delivered.fits, far.own.count, far.small, calls_then, length-append far.own.theirs given.services.outgoing);
+    alone = λ none. absurd (omega (arith, none, calls_then));
+    gone = tt;
+  }
+
+  -- HOST adds nothing to what was cut
+  pub responds_cut : (total : ℕ) → IsPartSent sent given later mid after total → RespondsPart first.services.moment (handing_on first) total first later before.gained after.gained
+  responds_cut total part = record {
+    called = called_then;
+    fewer = omega (arith, inside, ap length (append-nil theirs));
+    gains = subst (Appends before.gained after.gained)
+        (sym (ap (take total) (append-nil theirs) ∙ cut_behind sent part.taken total far.own.theirs given.services.outgoing part.count far.own.count))
+        (taken_both before.gained mid.gained after.gained far.own.theirs (take part.taken given.services.outgoing) far.own.gains part.gains);
+    events = sym (ap (λ b. if b then later.services.events else later.services.events) (test_less total (length theirs) inside));
+    files = own_then.files;
+    roster = inl own_then.roster;
+  }
+    where
+      theirs : List ℕ
+      theirs = far.own.theirs ++ given.services.outgoing
+
+      inside : total < length theirs
+      inside = omega (arith, part.count, part.fewer, far.own.count, length-append far.own.theirs given.services.outgoing)
+
 pub draining_end : (first now : Hosted) (sent : ℕ) (before after : Sink) → Draining first now sent before after → ready_seat (seen now.services.bus) ≡ None →
     HandlesAll (delivery_stations on_board first.services.moment 0 520 (executive_in first)) (drained on_board first.services.moment 520 (executive_in first))
     (last_calls on_board first.services.moment (delivery_stations on_board first.services.moment 0 520 (executive_in first))) sent first now before after
@@ -125,7 +195,30 @@ draining_end first now sent before after far none = record {
   count = λ known. all_counted first.services.moment (executive_in first) now sent before.gained after.gained (far.exact known) none;
 }
 
+-- nor to what was written whole
+pub responds_end : (first now : Hosted) (sent : ℕ) (before after : Sink) → Draining first now sent before after → RespondsWhole first.services.moment (handing_on first) first now before.gained after.gained
+responds_end first now sent before after far = record {
+  called = record {
+    theirs = far.own.theirs;
+    behind = now.services.events;
+    own = far.own.own.host;
+    few = omega (arith, far.small, far.own.count);
+    none_given = given_then now.calls;
+    alone = λ none. far.own.alone (omega (arith, none));
+    gone = tt;
+  };
+  gains = subst (Appends before.gained after.gained) (sym (append-nil far.own.theirs)) far.own.gains;
+  events = refl;
+  files = far.own.own.files;
+  roster = far.own.own.roster;
+}
+
 -- an error that is passed on
+pub responds_short : (moment : Moment) (response : Response) (old new : Hosted) (before now : Option (List ℕ)) (result : Result ℕ WriteFault) (fault : WriteFault) → IsErrAnd result (λ e. e ≡ fault) →
+    RespondsPart moment response fault.sent old new before now → Responds moment response old new before now result
+responds_short moment response old new before now (Ok done) fault is part = absurd is
+responds_short moment response old new before now (Err e) fault is part = subst (λ (f : WriteFault). RespondsPart moment response f.sent old new before now) (sym is) part
+
 pub cut_short : (stations : List (Station (List ℕ))) (step : Written (List ℕ)) (last : ℕ) (old new : Hosted) (before now : Sink) (result : Result ℕ WriteFault) (fault : WriteFault) →
     IsErrAnd result (λ e. e ≡ fault) → HandlesPart stations step fault.sent old new before now → Handles stations step last old new before now result
 cut_short stations step last old new before now (Ok done) fault is part = absurd is

@@ -29,11 +29,6 @@ seen_offered number packet queue = by_test (is_subscribed (message_id packet) qu
     by_test true = ap (λ waiting. record { subscriptions = queue.subscriptions; waiting = waiting }) (more queue.waiting)
     by_test false = refl
 
-pub seen_published : (number : ℕ) (packet : List ℕ) (bus : Bus) → seen (published_as number packet bus) ≡ published_to (seen bus) packet
-seen_published number packet [] = refl
-seen_published number packet (None ∷ bus) = ap (λ rest. None ∷ rest) (seen_published number packet bus)
-seen_published number packet (Some queue ∷ bus) = ap₂ (λ (q : Pipe) rest. Some q ∷ rest) (seen_offered number packet queue) (seen_published number packet bus)
-
 -- ---- it is not refused
 
 no_packets : (ps : List Publication) → has_some (map (λ (p : Publication). p.bytes) ps) ≡ false → length ps ≡ 0

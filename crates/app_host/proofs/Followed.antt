@@ -1,6 +1,6 @@
 -- The next one took its seat.
-use Rattle.std.proofs.Common.{◌≡◌, ◌≢◌, refl, ap, ap₂, sym, ◌∙◌, subst, ℕ, suc, ◌<◌, List, [], ◌++◌, length, map, take, drop, arith, Option, None, get_or}
-use Rattle.std.specs.Prelude.{option_map, All}
+use Rattle.std.proofs.Common.{◌≡◌, ◌≢◌, refl, ap, ap₂, sym, ◌∙◌, subst, ℕ, suc, ◌<◌, List, [], ◌++◌, length, map, take, drop, arith, Option, Some, None, get_or}
+use Rattle.std.specs.Prelude.{option_map, All, slice_set}
 use Rattle.std.specs.List.{remove}
 use Rattle.std.proofs.lemmas.List.{take-map, drop-map, map-append, length-map}
 use Rattle.std.proofs.lemmas.List.Elements.{All-get_or, All-append, All-take, All-drop}
@@ -16,6 +16,7 @@ use Rattle.app_host.specs.declared.succession.Successor.TheVariants as successor
 use Rattle.app_host.specs.Shared.{on_board, shared}
 use Rattle.app_host.specs.Hosted.{Object, object, Hosted, spare_in, no_object, member_of}
 use Rattle.app_host.specs.Whole.{AreSeated, AreSpares, AreKnown}
+use Rattle.app_host.specs.Roster.{name_of}
 use Rattle.app_host.specs.Delivered.{executive_in, Becomes}
 use Rattle.app_host.specs.Ordered.{next_of, Nobody, Spare, Same, MayBegin, MayFollow, StaysWhole, HasBegun, HasFollowed}
 use Rattle.app_host.proofs.Found.{shown_at, shown_in}
@@ -50,13 +51,14 @@ pub nobody_followed : (h : Hosted) → AreSeated h.seats h.services → AreSpare
 nobody_followed h seated spares idle = record {
   whole = stays_so h h seated idle refl refl refl refl;
   spares = spares;
+  own = record { host = refl; files = refl; roster = refl };
   exact = λ known its_own. record { known = known; executive = refl; outgoing = idle };
 }
 
 -- ---- one that was there before
 
 pub same_followed : (old new : Hosted) (seat : ℕ) (o : Object) → AreSpares old.stock → HasBegun seat o old new → HasFollowed (Same o seat) old new
-same_followed old new seat o spares begun = record { whole = begun.whole; spares = rw begun.stock spares; exact = begun.exact }
+same_followed old new seat o spares begun = record { whole = begun.whole; spares = rw begun.stock spares; own = begun.own; exact = begun.exact }
 
 -- ---- a spare
 
@@ -105,6 +107,11 @@ module _ (old mid : Hosted) (place : ℕ) (less : place < length old.stock) (sto
   spare_followed seat o new is seated idle spares begun = record {
     whole = stays_then old mid new (stays_so old mid seated idle seats services closed calls) begun.whole;
     spares = rw (begun.stock, stock) (all_removed (λ (spare : Object). spare.held ≡ None) old.stock place spares);
+    own = record {
+      host = begun.own.host ∙ ap (λ (s : Services). s.events.host) services;
+      files = begun.own.files ∙ ap (λ (s : Services). s.tables.files) services;
+      roster = begun.own.roster ∙ (λ i. record { stock = stock i; seats = slice_set (map (option_map name_of) (seats i)) seat (Some (is i).called) });
+    };
     exact = λ known its_own. subst (Becomes new) (step_is) (begun.exact (known_mid known) (known_spare known));
   }
     where

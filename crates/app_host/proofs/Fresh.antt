@@ -9,15 +9,11 @@ use Rattle.lc_model.specs.Services.Events.{counts_with, first_events, sender_at}
 use Rattle.lc_model.specs.Services.Tables.{TableService, first_tables, tables_at}
 use Rattle.lc_model.specs.Services.Interface.{IsFreeSeat}
 use Rattle.lc_model.specs.Services.Seen.{services_seen, count_among}
+use Rattle.lc_model.proofs.Facts.{same_at}
 use Rattle.app_host.specs.declared.services.Services.{Services}
 use Rattle.app_host.specs.Shared.{held_by, shared}
 use Rattle.app_host.specs.Hosted.{Object, Hosted, object_at, member_of, in_numbers}
 use Rattle.app_host.specs.Whole.{IsRunning, AreSpares, IsWhole, IsQuiet, name_at}
-
-same_at : {X : Type 0} (n k : ℕ) (x : X) → slice_index_or (replicate n x) k x ≡ x
-same_at zero k x = refl
-same_at (suc n) zero x = refl
-same_at (suc n) (suc k) x = same_at n k x
 
 -- eight free seats
 abbrev pub no_objects : List (Option Object)

@@ -14,12 +14,15 @@ pub mod Course
 pub mod Draining
 pub mod Deliver
 pub mod OwnEvents
+pub mod Rosters
+pub mod Responding
 pub mod FirstPublished
 pub mod PassedOn
 pub mod Departed
 pub mod Filed
 pub mod EventsObeyed
 pub mod EventsRead
+pub mod Responses
 pub mod Stepping
 pub mod Published
 pub mod Sent
@@ -30,8 +33,10 @@ pub mod Withdrawn
 pub mod Followed
 pub mod Searched
 pub mod Prepared
+pub mod MadeWay
 pub mod CameIn
 pub mod OrdersObeyed
+pub mod OrdersTold
 pub mod Commanded
 pub mod SeatsCommanded
 pub mod KnownTables

@@ -18,6 +18,7 @@ use Rattle.app_host.specs.Hosted.{Hosted, member_of}
 use Rattle.app_host.specs.Whole.{AreSeated, AreKnown, IsWhole, IsQuiet}
 use Rattle.app_host.specs.Delivered.{executive_in}
 use Rattle.app_host.specs.Writing.{IsFlushed, IsAllSent, IsPartSent, IsSent, HandlesAll, HandlesPart}
+use Rattle.app_host.specs.Response.{asked_by_host}
 use Rattle.app_host.specs.Told.{telling, HasTold, TellsAlone}
 use Rattle.app_host.proofs.Frames.{StaysAt, seated_still}
 use Rattle.app_host.proofs.Course.{passes, stops_here, none_stops}
@@ -25,7 +26,9 @@ use Rattle.app_host.proofs.Draining.{same_executive, still_known}
 
 module _ (law : TablesAreFound) (request : Request) (old new : Hosted) (told : Tells None host_name (request ∷ []) old.services new.services) (sound : IsTableService old.services.tables)
     (seated : AreSeated old.seats old.services) (idle : old.services.outgoing ≡ []) (stock : new.stock ≡ old.stock) (seats : new.seats ≡ old.seats) (closed : new.is_closed ≡ old.is_closed)
-    (calls : new.calls ≡ old.calls) where
+    (calls : new.calls ≡ old.calls)
+    (events : new.services.events ≡ (asked_by_host old.services.moment (Some request) old.services.events).0)
+    (sends : new.services.outgoing ≡ old.services.outgoing ++ (asked_by_host old.services.moment (Some request) old.services.events).1) where
   stays : (seat : ℕ) → StaysAt seat old.services new.services
   stays seat = record {
     sender = ap (option_map name_of) (told.others (Some seat) (λ e. cc));
@@ -49,6 +52,9 @@ module _ (law : TablesAreFound) (request : Request) (old new : Hosted) (told : T
       services = told.services i;
     };
     outgoing = told.outgoing ∙ ap (λ bytes. bytes ++ concat (telling request old).1) idle;
+    tables = told.tables;
+    events = events;
+    sends = sends ∙ ap (λ bytes. bytes ++ (asked_by_host old.services.moment (Some request) old.services.events).1) idle;
   }
 
 -- ---- one write

@@ -11,6 +11,7 @@ use Rattle.lc_model.specs.Laws.TablesByName.{TablesAreFound}
 use Rattle.lc_model.specs.Services.Bus.{Bus, seen, seen_pipe, IsPublished}
 use Rattle.lc_model.specs.Services.Events.{EventService, sender_at}
 use Rattle.lc_model.specs.Services.Tables.{TableService, IsTableService, tables_at}
+use Rattle.lc_model.proofs.Services.BusLaws.{published_is_seen}
 use Rattle.packet_bus.specs.declared.error.BusError.{BusError}
 use Rattle.app_host.specs.declared.error.WriteFault.{WriteFault}
 use Rattle.app_host.specs.Shared.{on_board}
@@ -22,11 +23,11 @@ use Rattle.app_host.specs.Delivered.{executive_in}
 use Rattle.app_host.specs.Writing.{IsDone, IsCut, Drains, PassesOn}
 use Rattle.app_host.proofs.Delivery.{shared_still}
 use Rattle.app_host.proofs.Frames.{StaysAt, seated_still}
-use Rattle.app_host.proofs.FirstPublished.{seen_published, offered_at, offered_keeps, light_first, load_first}
+use Rattle.app_host.proofs.FirstPublished.{offered_at, offered_keeps, light_first, load_first}
 
 module _ (packet : List ℕ) (old new : Bus) (published : IsPublished packet old new) (eight : length old ≡ 8) (quiet : ready_seat (seen old) ≡ None) where
   pipes_after : seen new ≡ published_to (seen old) packet
-  pipes_after = ap seen published.published ∙ seen_published published.number packet old
+  pipes_after = ap seen published.published ∙ published_is_seen published.number packet old
 
   size : length (seen old) ≡ 8
   size = length-map old (option_map seen_pipe) ∙ eight
@@ -43,7 +44,7 @@ module _ (law : TablesAreFound) (old mid : Hosted) (packet : List ℕ) (whole : 
     (moment : mid.services.moment ≡ old.services.moment) (outgoing : mid.services.outgoing ≡ old.services.outgoing)
     (published : IsPublished packet old.services.bus mid.services.bus) where
   pipes_then : seen mid.services.bus ≡ published_to (seen old.services.bus) packet
-  pipes_then = ap seen published.published ∙ seen_published published.number packet old.services.bus
+  pipes_then = ap seen published.published ∙ published_is_seen published.number packet old.services.bus
 
   stays : (seat : ℕ) → StaysAt seat old.services mid.services
   stays seat = record {

@@ -23,7 +23,7 @@ use Rattle.app_host.specs.declared.services.Services.{Services}
 use Rattle.app_host.specs.Shared.{held_by, shared}
 use Rattle.app_host.specs.Calls.{Leaves}
 use Rattle.app_host.specs.Publishing.{AreShort, Publishes}
-use Rattle.app_host.proofs.Rules.{silence_leaves}
+use Rattle.app_host.proofs.Rules.{silence_leaves, none_published, nothing_heard, hearing}
 
 -- ---- a packet is taken
 
@@ -41,10 +41,6 @@ one_published pipes packet = refl
 pub nothing_published : (s : Services) → Publishes [] s s
 unfolding all_published_to
 nothing_published s = record { pipes = refl; events = refl; tables = refl; counts = refl; moment = refl; outgoing = refl }
-
-none_more : (pipes : List (Option Pipe)) → all_published_to pipes [] ≡ pipes
-unfolding all_published_to
-none_more pipes = refl
 
 one_behind : (pipes : List (Option Pipe)) (packets : List (List ℕ)) (packet : List ℕ) → all_published_to (all_published_to pipes packets) (packet ∷ []) ≡ all_published_to pipes (packets ++ packet ∷ [])
 unfolding all_published_to
@@ -83,9 +79,6 @@ ticks_have_room seat name packet held given tick = short_bus held.bus (given.roo
 
 -- ---- what pipes hear
 
-abbrev hearing : List (List ℕ) → Pipe → Pipe
-hearing published pipe = record pipe { waiting = pipe.waiting ++ filter (λ packet. hears packet pipe) published }
-
 heard_first : (pipe : Pipe) (packet : List ℕ) (packets : List (List ℕ)) → hearing packets (offered packet pipe) ≡ hearing (packet ∷ packets) pipe
 heard_first pipe packet packets = by_test (hears packet pipe) refl
   where
@@ -102,14 +95,10 @@ heard_then : (place : Option Pipe) (packet : List ℕ) (packets : List (List ℕ
 heard_then None packet packets = refl
 heard_then (Some pipe) packet packets = ap Some (heard_first pipe packet packets)
 
-heard_nothing : (place : Option Pipe) → place ≡ option_map (hearing []) place
-heard_nothing None = refl
-heard_nothing (Some pipe) = ap Some (λ i. record pipe { waiting = sym (append-nil pipe.waiting) i })
-
 heard_at : (pipes : List (Option Pipe)) (packets : List (List ℕ)) (seat : ℕ) →
     slice_index_or (all_published_to pipes packets) seat None ≡ option_map (hearing packets) (slice_index_or pipes seat None)
 unfolding all_published_to
-heard_at pipes [] seat = heard_nothing (slice_index_or pipes seat None)
+heard_at pipes [] seat = nothing_heard (slice_index_or pipes seat None)
 heard_at pipes (packet ∷ packets) seat =
     heard_at (published_to pipes packet) packets seat ∙ ap (option_map (hearing packets)) (at_place pipes packet seat) ∙ heard_then (slice_index_or pipes seat None) packet packets
 
@@ -181,7 +170,7 @@ module _ (seat : ℕ) (packets : List (List ℕ)) (before after : Services) (p :
         becomes = refl;
         services = shared_stays;
         outgoing = p.outgoing ∙ idle;
-        pipes = p.pipes ∙ ap (λ pipes. all_published_to pipes packets) (silent_pipes ∙ none_more (slice_set (seen before.bus) seat (Some (record { subscriptions = mids; waiting = waiting_in (seen_at seat (held_by before)) }))));
+        pipes = p.pipes ∙ ap (λ pipes. all_published_to pipes packets) (silent_pipes ∙ none_published (slice_set (seen before.bus) seat (Some (record { subscriptions = mids; waiting = waiting_in (seen_at seat (held_by before)) }))));
       }
 
   heard_alike : (place : Option Pipe) → option_map (λ (pipe : Pipe). pipe.subscriptions) (option_map (hearing packets) place) ≡ option_map (λ (pipe : Pipe). pipe.subscriptions) place

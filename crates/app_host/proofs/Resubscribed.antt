@@ -11,29 +11,19 @@ use Rattle.lc_model.specs.declared.field.Term.{Term}
 use Rattle.lc_model.specs.Refusal.{◌>>=◌, found}
 use Rattle.lc_model.specs.Kept.Call.{with_mid, with_mids}
 use Rattle.lc_model.specs.Services.Bus.{Bus, Queue, pipe_at, with_pipe, unsubscribed, parted, after, refusal_of}
-use Rattle.lc_model.proofs.Facts.{equal_itself, or_false, or_true, test_equal, tested_equal}
+use Rattle.lc_model.proofs.Facts.{equal_itself, or_false, or_true, test_equal, tested_equal, equal_either_way, or_assoc}
 use Rattle.app_host.specs.Resubscribing.{mids_of, without_mids}
+use Rattle.app_host.proofs.Seats.{with_mid_length}
 
 -- ---- lists of message ids
 
 abbrev among : ℕ → List ℕ → Bool
 among m mids = list_any (λ other. m == other) mids
 
-same_test : (a b : ℕ) → (a == b) ≡ (b == a)
-same_test a b = by_test (a == b) refl
-  where
-    otherwise : (c : Bool) → (b == a) ≡ c → (a == b) ≡ false → false ≡ c
-    otherwise true e is = absurd (true≢false (sym (test_equal a b (sym (tested_equal b a e))) ∙ is))
-    otherwise false e is = refl
-
-    by_test : (c : Bool) → (a == b) ≡ c → c ≡ (b == a)
-    by_test true e = sym (test_equal b a (sym (tested_equal a b e)))
-    by_test false e = otherwise (b == a) refl e ∙ refl
-
 one_less : (m mid : ℕ) (mids : List ℕ) → among m (filter (λ other. not (mid == other)) mids) ≡ (not (m == mid) && among m mids)
 one_less m mid mids =
     any-filter_same (λ other. m == other) (λ other. not (mid == other)) (not (m == mid))
-    (λ k e. ap (λ n. not (mid == n)) (sym (tested_equal m k e)) ∙ ap not (same_test mid m)) mids
+    (λ k e. ap (λ n. not (mid == n)) (sym (tested_equal m k e)) ∙ ap not (equal_either_way mid m)) mids
 
 nothing_twice : (a b c : Bool) → (not b && (not a && c)) ≡ (not (a || b) && c)
 nothing_twice true true c = refl
@@ -60,15 +50,11 @@ one_more_among m mid mids = by_test (among mid mids) refl
     by_test true is = there (m == mid) refl is
     by_test false is = list_any-append (λ other. m == other) mids (mid ∷ []) ∙ ap (λ b. among m mids || b) (or_false (m == mid))
 
-either_first : (a b c : Bool) → ((a || b) || c) ≡ (a || (b || c))
-either_first true b c = refl
-either_first false b c = refl
-
 all_more : (m : ℕ) (ids mids : List ℕ) → among m (with_mids ids mids) ≡ (among m mids || among m ids)
 unfolding with_mids
 all_more m [] mids = sym (or_false (among m mids))
 all_more m (mid ∷ ids) mids =
-    all_more m ids (with_mid mid mids) ∙ ap (λ b. b || among m ids) (one_more_among m mid mids) ∙ either_first (among m mids) (m == mid) (among m ids)
+    all_more m ids (with_mid mid mids) ∙ ap (λ b. b || among m ids) (one_more_among m mid mids) ∙ or_assoc (among m mids) (m == mid) (among m ids)
 
 never_both : (b : Bool) → (not b && b) ≡ false
 never_both true = refl
@@ -151,9 +137,6 @@ none_gone seat all first there = by_place (pipe_at seat first) refl there
       inside = inside_of first seat there;
     }
 
-next_left : (k : ℕ) (all : List ℕ) → k < length all → drop k all ≡ get_or all k 0 ∷ drop (k + 1) all
-next_left k all more = drop_more all k 0 more
-
 pub goes_one_more : (seat k : ℕ) (all : List ℕ) (first now : Bus) → k < length all → AreUnsubscribed seat k all first now →
     refusal_of (unsubscribed seat (get_or all k 0) now) ≡ None
 goes_one_more seat k all first now more far = by_place (pipe_at seat first) far
@@ -162,7 +145,7 @@ goes_one_more seat k all first now more far = by_place (pipe_at seat first) far
         refusal_of (unsubscribed seat (get_or all k 0) now) ≡ None
     by_place None far = absurd far
     by_place (Some queue) far = ap refusal_of (unsubscribed_next seat (get_or all k 0) all (drop (k + 1) all) first now queue
-        (subst (λ left. UnsubscribedSoFar seat all left first now queue) (next_left k all more) far))
+        (subst (λ left. UnsubscribedSoFar seat all left first now queue) (drop_more all k 0 more) far))
 
 pub one_less_left : (seat k : ℕ) (all : List ℕ) (first now new : Bus) → k < length all → AreUnsubscribed seat k all first now →
     new ≡ after now (unsubscribed seat (get_or all k 0) now) → AreUnsubscribed seat (k + 1) all first new
@@ -172,7 +155,7 @@ one_less_left seat k all first now new more far is = by_place (pipe_at seat firs
         IsSomeAnd place (λ (queue : Queue). UnsubscribedSoFar seat all (drop (k + 1) all) first new queue)
     by_place None far = absurd far
     by_place (Some queue) far = unsubscribed_after seat (get_or all k 0) all (drop (k + 1) all) first now new queue
-        (subst (λ left. UnsubscribedSoFar seat all left first now queue) (next_left k all more) far) is
+        (subst (λ left. UnsubscribedSoFar seat all left first now queue) (drop_more all k 0 more) far) is
 
 pub all_gone : (seat k : ℕ) (all : List ℕ) (first now : Bus) → drop k all ≡ [] → AreUnsubscribed seat k all first now →
     IfSome (pipe_at seat first) (λ (queue : Queue). now ≡ with_pipe seat first (record queue { subscriptions = without_mids all queue.subscriptions }))
@@ -233,13 +216,6 @@ both_changes seat first between last one other there was is = by_place (pipe_at 
 pub is_there : (P : Queue → Type 0) (place : Option Queue) → IsSomeAnd place P → IsTrue (is_some place)
 is_there P None has = absurd has
 is_there P (Some queue) has = refl
-
-with_mid_length : (mid : ℕ) (mids : List ℕ) → length (with_mid mid mids) ≤ length mids + 1
-with_mid_length mid mids = by_test (list_any (λ other. mid == other) mids)
-  where
-    by_test : (test : Bool) → length (if test then mids else mids ++ mid ∷ []) ≤ length mids + 1
-    by_test true = omega arith
-    by_test false = omega (arith, length-append mids (mid ∷ []))
 
 with_mids_length : (ids mids : List ℕ) → length (with_mids ids mids) ≤ length mids + length ids
 unfolding with_mids

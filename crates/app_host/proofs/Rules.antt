@@ -43,14 +43,14 @@ seen_own seat bus place inside =
     ∙ get_or-set_same (seen bus) seat (option_map seen_pipe place) None (rw (length-map bus (option_map seen_pipe)) inside)
 
 -- nothing that was published is heard
-abbrev hearing : List (List ℕ) → Pipe → Pipe
+abbrev pub hearing : List (List ℕ) → Pipe → Pipe
 hearing published pipe = record pipe { waiting = pipe.waiting ++ filter (λ packet. hears packet pipe) published }
 
-nothing_heard : (place : Option Pipe) → place ≡ option_map (hearing []) place
+pub nothing_heard : (place : Option Pipe) → place ≡ option_map (hearing []) place
 nothing_heard None = refl
 nothing_heard (Some pipe) = ap Some (λ i. record pipe { waiting = sym (append-nil pipe.waiting) i })
 
-none_published : (pipes : List (Option Pipe)) → all_published_to pipes [] ≡ pipes
+pub none_published : (pipes : List (Option Pipe)) → all_published_to pipes [] ≡ pipes
 unfolding all_published_to
 none_published pipes = refl
 
@@ -141,10 +141,10 @@ own_pipe_stays : (place : Option Pipe) → IfSome place (IsOwnPipe place [])
 own_pipe_stays None = tt
 own_pipe_stays (Some pipe) = record { stayed = pipe.waiting; heard = []; waiting = sym (append-nil pipe.waiting); old_or_new = inl refl; few = lit≤ tt; no_ticks = tt }
 
-nothing_published : (packet : List ℕ) → MayPublish packet []
+pub nothing_published : (packet : List ℕ) → MayPublish packet []
 nothing_published packet = record { few = lit≤ tt; for_ticks = λ some. absurd (some refl); no_ticks = tt }
 
-abbrev host_in : Option Sender → EventState
+abbrev pub host_in : Option Sender → EventState
 host_in None = new_sender
 host_in (Some sender) = sender.events
 

@@ -23,7 +23,7 @@ use Rattle.app_host.specs.Seating.{IsOpened}
 
 -- ---- subscriptions
 
-with_mid_length : (mid : ℕ) (mids : List ℕ) → length (with_mid mid mids) ≤ length mids + 1
+pub with_mid_length : (mid : ℕ) (mids : List ℕ) → length (with_mid mid mids) ≤ length mids + 1
 with_mid_length mid mids = by_test (list_any (λ other. mid == other) mids)
   where
     by_test : (test : Bool) → length (if test then mids else mids ++ mid ∷ []) ≤ length mids + 1
@@ -82,7 +82,7 @@ subscribed_after seat mid all left first now new queue far is = record {
 }
 
 -- what is at a place of a list is inside it
-inside : {A : Type 0} (places : List (Option A)) (k : ℕ) (x : A) → slice_index_or places k None ≡ Some x → k < length places
+pub inside : {A : Type 0} (places : List (Option A)) (k : ℕ) (x : A) → slice_index_or places k None ≡ Some x → k < length places
 inside [] k x e = cc
 inside (place ∷ places) zero x e = omega arith
 inside (place ∷ places) (suc k) x e = let further = inside places k x e in omega (arith, further)
@@ -100,9 +100,6 @@ none_yet seat all first room = by_place (pipe_at seat first) refl room
     by_place None e room = room
     by_place (Some queue) e room = subscribed_first seat all first queue e (inside first seat queue e) room
 
-next_left : (k : ℕ) (all : List ℕ) → k < length all → drop k all ≡ get_or all k 0 ∷ drop (k + 1) all
-next_left k all more = drop_more all k 0 more
-
 pub takes_one_more : (seat k : ℕ) (all : List ℕ) (first now : Bus) → k < length all → AreSubscribed seat k all first now →
     refusal_of (subscribed seat (get_or all k 0) now) ≡ None
 takes_one_more seat k all first now more far = by_place (pipe_at seat first) far
@@ -111,7 +108,7 @@ takes_one_more seat k all first now more far = by_place (pipe_at seat first) far
         refusal_of (subscribed seat (get_or all k 0) now) ≡ None
     by_place None far = absurd far
     by_place (Some queue) far = ap refusal_of (subscribed_next seat (get_or all k 0) all (drop (k + 1) all) first now queue
-        (subst (λ left. SubscribedSoFar seat all left first now queue) (next_left k all more) far))
+        (subst (λ left. SubscribedSoFar seat all left first now queue) (drop_more all k 0 more) far))
 
 pub one_more : (seat k : ℕ) (all : List ℕ) (first now new : Bus) → k < length all → AreSubscribed seat k all first now →
     new ≡ after now (subscribed seat (get_or all k 0) now) → AreSubscribed seat (k + 1) all first new
@@ -121,7 +118,7 @@ one_more seat k all first now new more far is = by_place (pipe_at seat first) fa
         IsSomeAnd place (λ (queue : Queue). SubscribedSoFar seat all (drop (k + 1) all) first new queue)
     by_place None far = absurd far
     by_place (Some queue) far = subscribed_after seat (get_or all k 0) all (drop (k + 1) all) first now new queue
-        (subst (λ left. SubscribedSoFar seat all left first now queue) (next_left k all more) far) is
+        (subst (λ left. SubscribedSoFar seat all left first now queue) (drop_more all k 0 more) far) is
 
 pub all_made : (seat k : ℕ) (all : List ℕ) (first now : Bus) → drop k all ≡ [] → AreSubscribed seat k all first now →
     IfSome (pipe_at seat first) (λ (queue : Queue). now ≡ with_pipe seat first (record queue { subscriptions = with_mids all queue.subscriptions }))

@@ -11,6 +11,7 @@ use Rattle.lc_model.specs.Services.Events.{EventService, Sender, sender_at}
 use Rattle.lc_model.specs.Services.Settled.{Form, form_of, Settled, IsSettled}
 use Rattle.lc_model.specs.Services.Tables.{Table, Places, IsTableService, tables_at}
 use Rattle.lc_model.specs.Services.Interface.{BelongsTo, IsFreeSeat, is_table_of}
+use Rattle.lc_model.proofs.Facts.{map_none}
 use Rattle.app_host.specs.declared.services.Services.{Services}
 use Rattle.app_host.specs.Shared.{held_by}
 use Rattle.app_host.specs.Calls.{IsAtHome}
@@ -27,10 +28,6 @@ forms_at (tables ∷ places) (suc seat) = forms_at places seat
 
 forms_stay_at : (before after : Places) (seat : ℕ) → map (map form_of) after ≡ map (map form_of) before → map form_of (tables_at seat after) ≡ map form_of (tables_at seat before)
 forms_stay_at before after seat same = sym (forms_at after seat) ∙ ap (λ forms. slice_index_or forms seat []) same ∙ forms_at before seat
-
-none_by_form : (tables : List Table) → map form_of tables ≡ [] → tables ≡ []
-none_by_form [] same = refl
-none_by_form (table ∷ tables) same = cc
 
 -- what holds of the forms
 all_by_form : (P : Form → Type 0) (before after : List Table) → map form_of after ≡ map form_of before →
@@ -87,7 +84,7 @@ module _ (tables_are_found : TablesAreFound) (changing_tables : ChangingTables) 
   free_commanded seat free = record {
     pipe = ap (pipe_at seat) images.bus ∙ free.pipe;
     sender = ap (sender_at (Some seat)) images.events ∙ free.sender;
-    tables = none_by_form (tables_at seat after.tables.places) (same_forms seat ∙ ap (map form_of) free.tables);
+    tables = map_none form_of (tables_at seat after.tables.places) (same_forms seat ∙ ap (map form_of) free.tables);
   }
 
   running_commanded : (seat : ℕ) (o : Option Object) → IfSome o (IsRunning before seat) → IfSome o (IsRunning after seat)

@@ -20,31 +20,15 @@ use Rattle.lc_model.specs.Kept.GoesWith.{IsSender}
 use Rattle.lc_model.proofs.Facts.{tested_equal, tested_unequal}
 use Rattle.lc_model.specs.Services.Events.{counts_with, Origin, sender_at}
 use Rattle.lc_model.specs.Services.Seen.{services_seen, count_among}
+use Rattle.lc_model.proofs.Services.SenderNames.{with_at_own, with_at_twice}
 use Rattle.app_host.specs.declared.services.Services.{Services}
 use Rattle.app_host.specs.Shared.{shared}
 use Rattle.app_host.specs.Telling.{Tells, name_of}
 
 -- ---- what is held under a name
 
-own_again : {X : Type 0} (name : Name) (x : X) (held : Name → X) → held name ≡ x → with_at name x held ≡ held
-own_again {X} name x held is = λ i other. at other i
-  where
-    at : (other : Name) → (if is_named other name then x else held other) ≡ held other
-    at other = by_test (is_named other name) refl
-      where
-        by_test : (test : Bool) → is_named other name ≡ test → (if test then x else held other) ≡ held other
-        by_test true e = sym is ∙ ap held (sym ((bytes_eq-Decides other name).0 e))
-        by_test false e = refl
-
 found_own : {X : Type 0} (name : Name) (x : X) (held : Name → X) → with_at name x held name ≡ x
 found_own name x held = ap (λ test. if test then x else held name) ((bytes_eq-Decides name name).1 refl)
-
-twice : {X : Type 0} (name : Name) (x y : X) (held : Name → X) → with_at name x (with_at name y held) ≡ with_at name x held
-twice {X} name x y held i other = choice (is_named other name) i
-  where
-    choice : (test : Bool) → (if test then x else (if test then y else held other)) ≡ (if test then x else held other)
-    choice true = refl
-    choice false = refl
 
 -- ---- requests behind requests
 
@@ -90,7 +74,7 @@ module _ (moment : Moment) (name : Name) where
           let middle : ServicesNow (List ℕ) = record services { events = with_at name (Some one.0.events) services.events; counts = one.0.counts } in
           sent_among (first ++ second) services events is
           ∙ ap (accounted name services) (all_then moment first second (record { events = events; counts = services.counts }))
-          ∙ (λ i. (record services { events = sym (twice name (Some two.0.events) (Some one.0.events) services.events) i; counts = two.0.counts }, one.1 ++ two.1))
+          ∙ (λ i. (record services { events = sym (with_at_twice name (Some two.0.events) (Some one.0.events) services.events) i; counts = two.0.counts }, one.1 ++ two.1))
           ∙ sym (ap (λ (s : Sent). (s.0, one.1 ++ s.1)) (sent_among second middle one.0.events (found_own name (Some one.0.events) services.events)))
           ∙ sym (ap (λ (s : Sent). let two : Sent = sent_by moment name second s.0 in (two.0, s.1 ++ two.1)) (sent_among first services events is))
 
@@ -99,7 +83,7 @@ module _ (moment : Moment) (name : Name) where
     where
       by_events : (o : Option EventState) → services.events name ≡ o → sent_by moment name [] services ≡ (services, [])
       by_events None is = unsent [] services is
-      by_events (Some events) is = sent_among [] services events is ∙ (λ i. (record services { events = own_again name (Some events) services.events is i }, []))
+      by_events (Some events) is = sent_among [] services events is ∙ (λ i. (record services { events = with_at_own name (Some events) services.events is i }, []))
 
 concat_both : (xs ys : List (List ℕ)) → concat (xs ++ ys) ≡ concat xs ++ concat ys
 concat_both [] ys = refl
@@ -195,7 +179,7 @@ counted_alone mid origin name request packet before after sender delivered insid
         record {
           services = (λ i. services_seen (events i) (tables i) (counts i))
               ∙ (λ i. record (shared before) { counts = raised mid before.events.sent before.counts inside two i })
-              ∙ (λ i. record (shared before) { events = sym (own_again name (Some e) (shared before).events is) i; counts = counts_after mid (shared before).counts })
+              ∙ (λ i. record (shared before) { events = sym (with_at_own name (Some e) (shared before).events is) i; counts = counts_after mid (shared before).counts })
               ∙ sym (ap (λ step. step.0) sent);
           outgoing = outgoing ∙ ap (λ bytes. before.outgoing ++ bytes) (sym (append-nil packet)) ∙ sym (ap (λ step. before.outgoing ++ concat step.1) sent);
           own = ap (λ service. option_map name_of (sender_at origin service)) events;

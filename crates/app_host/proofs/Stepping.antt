@@ -1,5 +1,5 @@
 -- A step, by what is handled in it.
-use Rattle.std.proofs.Common.{◌≡◌, refl, ap, sym, ◌∙◌, subst, ℕ, ◌≤◌, ◌==◌, Bool, true, false, List, ◌∷◌, [], length, map, if◌then◌else◌, Option, Some, None, Result, Ok, Err}
+use Rattle.std.proofs.Common.{◌≡◌, refl, ap, sym, ◌∙◌, subst, ℕ, ◌==◌, true, false, List, ◌∷◌, [], length, map, if◌then◌else◌, Option, Some, None, Result, Ok, Err}
 use Rattle.std.specs.Prelude.{option_map}
 use Rattle.std.specs.Option.{option_map_or}
 use Rattle.std.specs.List.{concat}
@@ -18,14 +18,14 @@ use Rattle.lc_model.specs.Kept.Executive.{Executive, Written, ready_seat, told_b
 use Rattle.lc_model.specs.Kept.Stations.{Station, Host, stop_at, written_once, order_stations, routed_stations, passing_stations, stations_of, last_calls, host_after, host_step}
 use Rattle.app_host.specs.declared.services.Services.{Services}
 use Rattle.app_host.specs.declared.error.WriteFault.{WriteFault}
-use Rattle.app_host.specs.Shared.{on_board, shared}
+use Rattle.app_host.specs.Shared.{on_board, shared, at_moment}
 use Rattle.app_host.specs.Hosted.{Hosted, member_of, in_numbers}
 use Rattle.app_host.specs.Whole.{AreKnown, IsWhole, IsQuiet}
 use Rattle.app_host.specs.Delivered.{executive_in}
 use Rattle.app_host.specs.Writing.{IsDone, IsCut, Handles, PassesOn}
 use Rattle.app_host.specs.Told.{TellsAlone, Files, ObeysEvents, ObeysTables}
 use Rattle.app_host.specs.Ordered.{ObeysOrders}
-use Rattle.app_host.specs.Step.{at_moment, HasBegun, Takes, IsBetween, StepsSo, StopsSo, Steps, without_count, Counts}
+use Rattle.app_host.specs.Step.{HasBegun, Takes, IsBetween, StepsSo, StopsSo, Steps, without_count, Counts}
 use Rattle.app_host.proofs.Flushed.{same_shared, same_seated}
 
 -- ---- it begins

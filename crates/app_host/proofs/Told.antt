@@ -14,12 +14,7 @@ use Rattle.lc_model.specs.Services.Seen.{services_seen, count_among, files_seen,
 use Rattle.app_host.specs.declared.services.Services.{Services}
 use Rattle.app_host.specs.Shared.{shared}
 use Rattle.app_host.specs.Telling.{Tells, name_of}
-
--- what is at a place of a list is inside it
-inside : {A : Type 0} (places : List (Option A)) (k : ℕ) (x : A) → slice_index_or places k None ≡ Some x → k < length places
-inside [] k x e = cc
-inside (place ∷ places) zero x e = omega arith
-inside (place ∷ places) (suc k) x e = let further = inside places k x e in omega (arith, further)
+use Rattle.app_host.proofs.Seats.{inside}
 
 counts_again : (sent before : ℕ) (counts : ℕ → ℕ) (mid : ℕ) → counts_with sent (counts_with before counts) mid ≡ counts_with sent counts mid
 counts_again sent before counts mid = by_test (mid == event_mid)

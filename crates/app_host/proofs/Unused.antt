@@ -57,7 +57,7 @@ none_of name other (table ∷ tables) plain plain' differ all = (not_of name oth
 
 -- ---- all seats
 
-each_of : {A : Type 0} (P : A → Type 0) (xs : List A) (d : A) → ((i : ℕ) → P (slice_index_or xs i d)) → AllByRecursion P xs
+pub each_of : {A : Type 0} (P : A → Type 0) (xs : List A) (d : A) → ((i : ℕ) → P (slice_index_or xs i d)) → AllByRecursion P xs
 each_of P [] d each = tt
 each_of P (x ∷ xs) d each = (each 0, each_of P xs d (λ i. each (suc i)))
 

@@ -39,6 +39,7 @@ has_withdrawn law old new seat o' (Some o) at seated idle sound sound' below the
   seats = seats;
   spare = left.holds;
   was = subst (λ (x : Option Object). IfSome x (λ (there : Object). member_of there ≡ member_of o')) (sym at) same;
+  retired = subst (λ (x : Option Object). IsSomeAnd x (λ (there : Object). HasRetired seat old.services new.services there o')) (sym at) left;
   exact = λ known. exactly (λ other. known (left.state ∙ other));
 }
   where

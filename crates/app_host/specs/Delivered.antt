@@ -7,6 +7,7 @@ use Rattle.app_host.specs.Shared.{on_board}
 use Rattle.app_host.specs.Hosted.{Hosted, executive_of}
 use Rattle.app_host.specs.Whole.{AreSeated, AreKnown}
 use Rattle.app_host.specs.Load.{IsLight, load}
+use Rattle.app_host.specs.Roster.{roster_of, ComesTo}
 
 -- the objects and services of a host, in numbers
 abbrev pub executive_in : Hosted → Executive (List ℕ)
@@ -28,4 +29,5 @@ pub record HasDelivered (seat : ℕ) (old new : Hosted) : Type 0 where
   pub light : IsLight (seen new.services.bus)
   pub falls : load (seen new.services.bus) < load (seen old.services.bus)
   pub fits : length new.services.outgoing ≤ 65536
+  pub own : ComesTo (roster_of old) old new
   pub exact : AreKnown old → Becomes new (delivered_at on_board old.services.moment seat (executive_in old))

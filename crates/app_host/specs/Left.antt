@@ -1,5 +1,5 @@
 -- What there is when an object gave its seat back.
-use Rattle.std.specs.Prelude.{◌≡◌, ◌≢◌, ℕ, ◌≤◌, [], length, Option, Some, None, IfSome, slice_set}
+use Rattle.std.specs.Prelude.{◌≡◌, ◌≢◌, ℕ, ◌≤◌, List, [], length, Option, Some, None, IfSome, IsSomeAnd, slice_set}
 use Rattle.lc_model.specs.Kept.Summary.{Other}
 use Rattle.lc_model.specs.Kept.Call.{next_retire}
 use Rattle.lc_model.specs.Kept.Executive.{left_from}
@@ -8,6 +8,7 @@ use Rattle.app_host.specs.declared.services.Services.{Services}
 use Rattle.app_host.specs.Shared.{held_by, shared}
 use Rattle.app_host.specs.Calls.{LeavesEmpty}
 use Rattle.app_host.specs.Hosted.{Object, Hosted, object_at}
+use Rattle.app_host.specs.Objects.{HasRetired}
 use Rattle.app_host.specs.Whole.{AreSeated}
 use Rattle.app_host.specs.Delivered.{executive_in}
 
@@ -36,3 +37,9 @@ pub record HasVacated (seat : ℕ) (old new : Hosted) : Type 0 where
   pub seated : AreSeated new.seats new.services
   pub fits : length new.services.outgoing ≤ 65536
   pub exact : IfSome (object_at seat old.seats) (λ (o : Object). o.state ≢ Other → LeavesExactly seat old new)
+
+-- the object of a seat was retired, and holds none from then on
+pub record HasGone (seat : ℕ) (seats : List (Option Object)) (before : Services) : Type 0 where
+  pub after : Services
+  pub gone : Object
+  pub retired : IsSomeAnd (object_at seat seats) (λ (o : Object). HasRetired seat before after o gone)

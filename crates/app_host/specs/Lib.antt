@@ -14,6 +14,8 @@ pub mod Told
 pub mod Left
 pub mod Obeyed
 pub mod ObeyedTables
+pub mod Roster
+pub mod Response
 pub mod Publishing
 pub mod Sending
 pub mod Resubscribing

@@ -1,5 +1,5 @@
 -- What an order to an application asks for and leaves.
-use Rattle.std.specs.Prelude.{◌≡◌, ◌≢◌, ℕ, ◌<◌, ◌≤◌, ⊤, true, false, List, [], length, take, Option, None, option_to_list, Result, Ok, Err, IfSome, slice_set}
+use Rattle.std.specs.Prelude.{◌≡◌, ◌≢◌, ◌⊎◌, ℕ, ◌<◌, ◌≤◌, ⊤, true, false, List, [], length, take, Option, Some, None, option_to_list, Result, Ok, Err, IfSome, IsSomeAnd, slice_set}
 use Rattle.std.specs.Global.{Global}
 use Rattle.std.specs.List.{concat}
 use Rattle.std.specs.declared.dyn_box.DynBox.{DynBox}
@@ -24,7 +24,9 @@ use Rattle.app_host.specs.Shared.{on_board}
 use Rattle.app_host.specs.Hosted.{Object, object, Hosted, object_at, spare_in, member_of}
 use Rattle.app_host.specs.Whole.{AreSeated, AreSpares, AreKnown, IsWhole, IsQuiet}
 use Rattle.app_host.specs.Delivered.{executive_in, Becomes}
-use Rattle.app_host.specs.Left.{LeavesExactly}
+use Rattle.app_host.specs.Objects.{HasRetired}
+use Rattle.app_host.specs.Left.{HasGone, LeavesExactly}
+use Rattle.app_host.specs.Roster.{Roster, roster_of, with_seat, with_spare, Succession, ComesTo}
 use Rattle.app_host.specs.Writing.{Handles}
 
 -- ---- who takes a seat next
@@ -76,18 +78,28 @@ pub record StaysWhole (old new : Hosted) : Type 0 where
   pub quiet : IsQuiet old → IsQuiet new
   pub fits : length new.services.outgoing ≤ 65536
 
+-- ---- who is where
+
+-- the next one takes its seat
+abbrev pub seated_next : Next → Roster → Roster
+seated_next Nobody r = r
+seated_next (Spare place seat) r = with_spare place seat r
+seated_next (Same o seat) r = with_seat seat (Some o.called) r
+
 -- ---- an object takes a seat, or gives it back
 
 -- the object began on the seat
 pub record HasBegun (seat : ℕ) (o : Object) (old new : Hosted) : Type 0 where
   pub whole : StaysWhole old new
   pub stock : new.stock ≡ old.stock
+  pub own : ComesTo (with_seat seat (Some o.called) (roster_of old)) old new
   pub exact : AreKnown old → o.state ≢ Other → Becomes new (begun_on on_board old.services.moment seat (member_of o) (executive_in old))
 
 -- the next one took its seat
 pub record HasFollowed (next : Next) (old new : Hosted) : Type 0 where
   pub whole : StaysWhole old new
   pub spares : AreSpares new.stock
+  pub own : ComesTo (seated_next next (roster_of old)) old new
   pub exact : AreKnown old → IsKnownNext next → Becomes new (followed_by old.services.moment next (executive_in old))
 
 -- this object gave the seat back
@@ -97,6 +109,7 @@ pub record HasWithdrawn (seat : ℕ) (old new : Hosted) (o : Object) : Type 0 wh
   pub seats : new.seats ≡ slice_set old.seats seat None
   pub spare : o.held ≡ None
   pub was : IfSome (object_at seat old.seats) (λ (there : Object). member_of there ≡ member_of o)
+  pub retired : IsSomeAnd (object_at seat old.seats) (λ (there : Object). HasRetired seat old.services new.services there o)
   pub exact : o.state ≢ Other → LeavesExactly seat old new
 
 -- ---- an order
@@ -146,6 +159,28 @@ abbrev pub Takes : {X : Type 0} {D : X → Type 0} → (DynBox X Global D → Ap
 Takes state called held wanted old new (Ok next) = IsPrepared wanted old new (next_of state called held next)
 Takes state called held wanted old new (Err numbers) = (wanted ≡ Err numbers) × (new ≡ old)
 
+-- ---- the same of who is where, whatever the applications are
+
+-- who leaves has left, and the next one makes of it what is wanted
+pub record HasMadeWay (wanted : Result Succession Refusal) (old new : Hosted) (next : Next) : Type 0 where
+  pub succession : Succession
+  pub is : wanted ≡ Ok succession
+  pub left : ComesTo succession.left old new
+  pub come : seated_next next (roster_of new) ≡ succession.come
+  pub gone : IfSome succession.leaves (λ seat. HasGone seat old.seats old.services)
+
+-- one of the two, by the answer
+abbrev pub MakesWay : {X : Type 0} {D : X → Type 0} → (DynBox X Global D → AppState) → (DynBox X Global D → Name) → (DynBox X Global D → Option ℕ) →
+    Result Succession Refusal → Hosted → Hosted → Result (Successor X D) HostError → Type 0
+MakesWay state called held wanted old new (Ok next) = HasMadeWay wanted old new (next_of state called held next)
+MakesWay state called held wanted old new (Err error) = (wanted ≡ Err (refusal_of error)) × (new ≡ old)
+
+-- the same of a command that is refused for its code or its length, too
+abbrev pub MakesWayFor : {X : Type 0} {D : X → Type 0} → (DynBox X Global D → AppState) → (DynBox X Global D → Name) → (DynBox X Global D → Option ℕ) →
+    Result Succession Refusal → Hosted → Hosted → Result (Successor X D) Refusal → Type 0
+MakesWayFor state called held wanted old new (Ok next) = HasMadeWay wanted old new (next_of state called held next)
+MakesWayFor state called held wanted old new (Err numbers) = (wanted ≡ Err numbers) × (new ≡ old)
+
 -- ---- what is written
 
 -- all was written that this step writes, so many bytes
@@ -187,6 +222,26 @@ pub record HasFailed (next : Next) (sent : ℕ) (old new : Hosted) (before now :
 abbrev pub ComesIn : Next → Hosted → Hosted → Sink → Sink → Result ℕ WriteFault → Type 0
 ComesIn next old new before now (Ok sent) = HasComeIn next sent old new before now
 ComesIn next old new before now (Err fault) = HasFailed next fault.sent old new before now
+
+-- all that waited is written, so many bytes, and the next one has its seat
+pub record HasEntered (next : Next) (sent : ℕ) (old new : Hosted) (before now : Option (List ℕ)) : Type 0 where
+  pub theirs : List ℕ
+  pub count : sent ≡ length theirs
+  pub gains : Appends before now theirs
+  pub own : ComesTo (seated_next next (roster_of old)) old new
+
+-- the first bytes only, and the next one has its seat, or nobody has it
+pub record HasNotEntered (next : Next) (sent : ℕ) (old new : Hosted) (before now : Option (List ℕ)) : Type 0 where
+  pub theirs : List ℕ
+  pub small : length theirs ≤ 131072
+  pub fewer : sent < length theirs
+  pub gains : Appends before now (take sent theirs)
+  pub own : ComesTo (seated_next next (roster_of old)) old new ⊎ ComesTo (roster_of old) old new
+
+-- one of the two, by the answer
+abbrev pub Enters : Next → Hosted → Hosted → Option (List ℕ) → Option (List ℕ) → Result ℕ WriteFault → Type 0
+Enters next old new before now (Ok sent) = HasEntered next sent old new before now
+Enters next old new before now (Err fault) = HasNotEntered next fault.sent old new before now
 
 -- a command to the executive services is obeyed or refused, and what the application and HOST ask for is written
 abbrev pub ObeysOrders : List ℕ → Hosted → Hosted → Sink → Sink → Result ℕ WriteFault → Type 0

@@ -1,5 +1,6 @@
 -- What contracts see of the services that applications share.
 use Rattle.std.specs.Prelude.{ℕ, List}
+use Rattle.lc_model.specs.declared.record.Moment.{Moment}
 use Rattle.lc_model.specs.Tables.Interpretation.{Interpretation}
 use Rattle.lc_model.specs.Tables.HalvesAndBytes.{as_bytes}
 use Rattle.lc_model.specs.Tables.InForce.{layouts}
@@ -19,3 +20,7 @@ held_by s = record { bus = s.bus; events = s.events; tables = s.tables; moment =
 -- and what applications see of it, under names
 unfoldable pub shared : Services → ServicesNow (List ℕ)
 shared s = services_seen s.events s.tables s.counts
+
+-- the services at another moment
+abbrev pub at_moment : Moment → Services → Services
+at_moment moment s = record s { moment = moment }

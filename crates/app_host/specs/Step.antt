@@ -11,9 +11,8 @@ use Rattle.lc_model.specs.Host.Stream.{name_size}
 use Rattle.lc_model.specs.Services.Seen.{meaning_of}
 use Rattle.lc_model.specs.Kept.Executive.{Executive, Written, most_deliveries, step_by}
 use Rattle.lc_model.specs.Kept.Stations.{Station, stations_of, last_calls, host_after, host_step}
-use Rattle.app_host.specs.declared.services.Services.{Services}
 use Rattle.app_host.specs.declared.error.WriteFault.{WriteFault}
-use Rattle.app_host.specs.Shared.{on_board}
+use Rattle.app_host.specs.Shared.{on_board, at_moment}
 use Rattle.app_host.specs.Hosted.{Hosted, in_numbers}
 use Rattle.app_host.specs.Whole.{AreKnown, IsWhole, IsQuiet}
 use Rattle.app_host.specs.Delivered.{executive_in}
@@ -34,10 +33,6 @@ IsNamed body.Tick = ⊤
 IsNamed (body.File name bytes) = length name.now ≤ name_size
 
 -- ---- inside a step
-
--- the services at another moment
-abbrev pub at_moment : Moment → Services → Services
-at_moment moment s = record s { moment = moment }
 
 -- the step has begun: it has its moment, and no call was made
 pub record HasBegun (moment : Moment) (old new : Hosted) : Type 0 where

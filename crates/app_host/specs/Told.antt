@@ -1,5 +1,5 @@
 -- What an event of HOST leaves.
-use Rattle.std.specs.Prelude.{◌≡◌, ℕ, ◌≤◌, List, [], ◌∷◌, length, Result}
+use Rattle.std.specs.Prelude.{◌≡◌, ℕ, ◌≤◌, List, [], ◌∷◌, length, Some, Result}
 use Rattle.std.specs.List.{concat}
 use Rattle.lc_model.specs.Device.{Sink}
 use Rattle.lc_model.specs.Name.{Name}
@@ -15,6 +15,7 @@ use Rattle.app_host.specs.Hosted.{Hosted}
 use Rattle.app_host.specs.Whole.{AreSeated}
 use Rattle.app_host.specs.Delivered.{executive_in}
 use Rattle.app_host.specs.Writing.{Handles}
+use Rattle.app_host.specs.Response.{asked_by_host}
 
 -- HOST's request, as the host in numbers sends it
 abbrev pub telling : Request → Hosted → Written (List ℕ)
@@ -31,6 +32,9 @@ pub record HasTold (request : Request) (old new : Hosted) : Type 0 where
   pub fits : length new.services.outgoing ≤ 65536
   pub executive : executive_in new ≡ (telling request old).0
   pub outgoing : new.services.outgoing ≡ concat (telling request old).1
+  pub tables : new.services.tables ≡ old.services.tables
+  pub events : new.services.events ≡ (asked_by_host old.services.moment (Some request) old.services.events).0
+  pub sends : new.services.outgoing ≡ (asked_by_host old.services.moment (Some request) old.services.events).1
 
 -- the event is written, and that is all
 abbrev pub TellsAlone : Request → Hosted → Hosted → Sink → Sink → Result ℕ WriteFault → Type 0

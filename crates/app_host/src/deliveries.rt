@@ -8,6 +8,7 @@ ghost use Rattle.app_host.specs.Whole.{IsWhole, AreSeated};
 ghost use Rattle.app_host.specs.Load.{IsLight, load};
 ghost use Rattle.app_host.specs.Delivered.{HasDelivered};
 ghost use Rattle.app_host.specs.Writing.{IsFlushed, IsSent, Drains};
+ghost use Rattle.app_host.specs.Response.{handing_on, Responds};
 
 use crate::error::WriteFault;
 use crate::host::Host;
@@ -76,7 +77,8 @@ impl Host {
         requires light { IsLight (seen self.old.services.bus) }
         requires few { load (seen self.old.services.bus) ≤ 520 }
         requires none_yet { self.old.calls ≡ 0 }
-        ensures { Drains (shown state called held self.old) (shown state called held self.new) (W.sink out.old) (W.sink out.new) result }
+        ensures handled { Drains (shown state called held self.old) (shown state called held self.new) (W.sink out.old) (W.sink out.new) result }
+        ensures own { Responds self.old.services.moment (handing_on (shown state called held self.old)) (shown state called held self.old) (shown state called held self.new) (W.sink out.old).gained (W.sink out.new).gained result }
     {
         let mut next = self.services.bus.least_ready();
         let mut sent = 0;

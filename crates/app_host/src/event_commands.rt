@@ -8,6 +8,7 @@ ghost use Rattle.lc_model.specs.Command.{event_command};
 ghost use Rattle.app_host.specs.Hosted.{shown};
 ghost use Rattle.app_host.specs.Whole.{IsWhole, IsQuiet};
 ghost use Rattle.app_host.specs.Told.{ObeysEvents};
+ghost use Rattle.app_host.specs.Response.{obeying_events, Responds};
 ghost use Rattle.app_host.specs.Obeyed.{obeyed_by, set_filter_by, reset_by, set_types_by, events_by};
 
 use crate::error::WriteFault;
@@ -109,7 +110,8 @@ impl Host {
         requires quiet { IsQuiet (shown state called held self.old) }
         requires none_yet { self.old.calls ≡ 0 }
         requires headers { 8 ≤ length packet.now }
-        ensures { ObeysEvents packet.now (shown state called held self.old) (shown state called held self.new) (W.sink out.old) (W.sink out.new) result }
+        ensures handled { ObeysEvents packet.now (shown state called held self.old) (shown state called held self.new) (W.sink out.old) (W.sink out.new) result }
+        ensures own { Responds self.old.services.moment (obeying_events packet.now (shown state called held self.old) (events_by (event_command (function_code packet.now) (payload packet.now)) self.old.services.events)) (shown state called held self.old) (shown state called held self.new) (W.sink out.old).gained (W.sink out.new).gained result }
     {
         event_services_go_by_names();
         table_services_go_by_names();

@@ -1,9 +1,11 @@
 //! Files that a record brings.
 
 ghost use Rattle.std.specs.Prelude.{◌≡◌, ◌≤◌, length};
+ghost use Rattle.lc_model.specs.Services.Tables.{file_put};
 ghost use Rattle.app_host.specs.Hosted.{shown};
 ghost use Rattle.app_host.specs.Whole.{IsWhole, IsQuiet};
 ghost use Rattle.app_host.specs.Told.{Files};
+ghost use Rattle.app_host.specs.Response.{filing, Responds};
 
 use crate::error::WriteFault;
 use crate::host::Host;
@@ -24,7 +26,8 @@ impl Host {
         requires quiet { IsQuiet (shown state called held self.old) }
         requires none_yet { self.old.calls ≡ 0 }
         requires short { length name.now ≤ 40 }
-        ensures { Files name.now bytes.now (shown state called held self.old) (shown state called held self.new) (W.sink out.old) (W.sink out.new) result }
+        ensures handled { Files name.now bytes.now (shown state called held self.old) (shown state called held self.new) (W.sink out.old) (W.sink out.new) result }
+        ensures own { Responds self.old.services.moment (filing (shown state called held self.old) (file_put name.now bytes.now self.old.services.tables)) (shown state called held self.old) (shown state called held self.new) (W.sink out.old).gained (W.sink out.new).gained result }
     {
         table_services_go_by_names();
         self.services.tables.is_service();

@@ -9,7 +9,9 @@ ghost use Rattle.app_host.specs.Shared.{on_board};
 ghost use Rattle.app_host.specs.Hosted.{shown};
 ghost use Rattle.app_host.specs.Whole.{AreSeated, AreSpares, IsWhole, IsQuiet};
 ghost use Rattle.app_host.specs.Delivered.{executive_in};
-ghost use Rattle.app_host.specs.Ordered.{order_of, named_by, outcome_of, Prepares, Takes, MayFollow, ComesIn, next_of, ObeysOrders};
+ghost use Rattle.app_host.specs.Roster.{roster_of, seat_in, free_in, first_spare_in, ordered_by, succession_by};
+ghost use Rattle.app_host.specs.Response.{obeying_orders, Responds};
+ghost use Rattle.app_host.specs.Ordered.{order_of, named_by, outcome_of, Prepares, MakesWay, Takes, MakesWayFor, MayFollow, ComesIn, Enters, next_of, ObeysOrders};
 
 use crate::error::{HostError, WriteFault};
 use crate::event_commands::name_in;
@@ -72,7 +74,8 @@ impl Host {
     /// The seat of an application that runs.
     fn runs_at(&self, name: &[u8]) -> Option<Seat>
         requires seated { AreSeated (shown state called held self.now).seats (shown state called held self.now).services }
-        ensures { result ≡ kept.seat_of name.now (executive_in (shown state called held self.now)).seats }
+        ensures kept { result ≡ kept.seat_of name.now (executive_in (shown state called held self.now)).seats }
+        ensures own { result ≡ seat_in name.now (roster_of (shown state called held self.now)) }
     {
         seat_numbered(seat_of(&self.seats, name))
     }
@@ -80,14 +83,16 @@ impl Host {
     /// The least free seat.
     fn free(&self) -> Option<Seat>
         requires seated { AreSeated (shown state called held self.now).seats (shown state called held self.now).services }
-        ensures { result ≡ kept.free_seat (executive_in (shown state called held self.now)).seats }
+        ensures kept { result ≡ kept.free_seat (executive_in (shown state called held self.now)).seats }
+        ensures own { result ≡ free_in (roster_of (shown state called held self.now)) }
     {
         seat_numbered(free_seat(&self.seats))
     }
 
     /// The first spare of a name.
     fn first_spare(&self, name: &[u8]) -> Option<usize>
-        ensures { result ≡ kept.spare_of name.now (executive_in (shown state called held self.now)).stock }
+        ensures kept { result ≡ kept.spare_of name.now (executive_in (shown state called held self.now)).stock }
+        ensures own { result ≡ first_spare_in name.now (roster_of (shown state called held self.now)) }
     {
         spare_of(self.stock.as_slice(), name)
     }
@@ -96,7 +101,8 @@ impl Host {
     /// there is no spare, and where no seat is free, in this order.
     fn prepare_start(&self, name: &[u8]) -> Result<Successor, HostError>
         requires whole { IsWhole (shown state called held self.now) }
-        ensures { Prepares state called held (outcome_of Start name.now (shown state called held self.now)) (shown state called held self.now) (shown state called held self.now) result }
+        ensures prepared { Prepares state called held (outcome_of Start name.now (shown state called held self.now)) (shown state called held self.now) (shown state called held self.now) result }
+        ensures own { MakesWay state called held (ordered_by Start name.now (roster_of (shown state called held self.now))) (shown state called held self.now) (shown state called held self.now) result }
     {
         if self.runs_at(name).is_some() {
             return Err(HostError::AlreadyRunning);
@@ -113,7 +119,8 @@ impl Host {
     /// The application of the name gives its seat back and is dropped. It is refused where none runs.
     fn prepare_stop(&mut self, name: &[u8]) -> Result<Successor, HostError>
         requires whole { IsWhole (shown state called held self.old) }
-        ensures { Prepares state called held (outcome_of Stop name.now (shown state called held self.old)) (shown state called held self.old) (shown state called held self.new) result }
+        ensures prepared { Prepares state called held (outcome_of Stop name.now (shown state called held self.old)) (shown state called held self.old) (shown state called held self.new) result }
+        ensures own { MakesWay state called held (ordered_by Stop name.now (roster_of (shown state called held self.old))) (shown state called held self.old) (shown state called held self.new) result }
     {
         match self.runs_at(name) {
             None => Err(HostError::NoSuchApp),
@@ -127,7 +134,8 @@ impl Host {
     /// The application of the name gives its seat back, and is to take it again. It is refused where none runs.
     fn prepare_restart(&mut self, name: &[u8]) -> Result<Successor, HostError>
         requires whole { IsWhole (shown state called held self.old) }
-        ensures { Prepares state called held (outcome_of Restart name.now (shown state called held self.old)) (shown state called held self.old) (shown state called held self.new) result }
+        ensures prepared { Prepares state called held (outcome_of Restart name.now (shown state called held self.old)) (shown state called held self.old) (shown state called held self.new) result }
+        ensures own { MakesWay state called held (ordered_by Restart name.now (roster_of (shown state called held self.old))) (shown state called held self.old) (shown state called held self.new) result }
     {
         match self.runs_at(name) {
             None => Err(HostError::NoSuchApp),
@@ -139,7 +147,8 @@ impl Host {
     /// refused where none runs, and then where there is no spare.
     fn prepare_reload(&mut self, name: &[u8]) -> Result<Successor, HostError>
         requires whole { IsWhole (shown state called held self.old) }
-        ensures { Prepares state called held (outcome_of Reload name.now (shown state called held self.old)) (shown state called held self.old) (shown state called held self.new) result }
+        ensures prepared { Prepares state called held (outcome_of Reload name.now (shown state called held self.old)) (shown state called held self.old) (shown state called held self.new) result }
+        ensures own { MakesWay state called held (ordered_by Reload name.now (roster_of (shown state called held self.old))) (shown state called held self.old) (shown state called held self.new) result }
     {
         let Some(seat) = self.runs_at(name) else {
             return Err(HostError::NoSuchApp);
@@ -156,7 +165,8 @@ impl Host {
     /// The order is begun: who is to leave a seat has left it. Answers who takes it next, or why the order is refused.
     fn prepare(&mut self, order: Order, name: &[u8]) -> Result<Successor, HostError>
         requires whole { IsWhole (shown state called held self.old) }
-        ensures { Prepares state called held (outcome_of (order_of order) name.now (shown state called held self.old)) (shown state called held self.old) (shown state called held self.new) result }
+        ensures prepared { Prepares state called held (outcome_of (order_of order) name.now (shown state called held self.old)) (shown state called held self.old) (shown state called held self.new) result }
+        ensures own { MakesWay state called held (ordered_by (order_of order) name.now (roster_of (shown state called held self.old))) (shown state called held self.old) (shown state called held self.new) result }
     {
         match order {
             Order::Start => self.prepare_start(name),
@@ -170,7 +180,8 @@ impl Host {
     fn take_order(&mut self, packet: &[u8]) -> Result<Successor, Numbers>
         requires whole { IsWhole (shown state called held self.old) }
         requires headers { 8 ≤ length packet.now }
-        ensures { Takes state called held (executive_service_now on_board self.old.services.moment packet.now (executive_in (shown state called held self.old))) (shown state called held self.old) (shown state called held self.new) result }
+        ensures prepared { Takes state called held (executive_service_now on_board self.old.services.moment packet.now (executive_in (shown state called held self.old))) (shown state called held self.old) (shown state called held self.new) result }
+        ensures own { MakesWayFor state called held (succession_by packet.now (roster_of (shown state called held self.old))) (shown state called held self.old) (shown state called held self.new) result }
     {
         let (order, name) = read_order(packet)?;
         match self.prepare(order, name) {
@@ -185,7 +196,8 @@ impl Host {
         requires spares { AreSpares (shown state called held self.old).stock }
         requires fits { length self.old.services.outgoing ≤ 65536 }
         requires may { MayFollow (shown state called held self.old) (next_of state called held next) }
-        ensures { ComesIn (next_of state called held next) (shown state called held self.old) (shown state called held self.new) (W.sink out.old) (W.sink out.new) result }
+        ensures comes { ComesIn (next_of state called held next) (shown state called held self.old) (shown state called held self.new) (W.sink out.old) (W.sink out.new) result }
+        ensures own { Enters (next_of state called held next) (shown state called held self.old) (shown state called held self.new) (W.sink out.old).gained (W.sink out.new).gained result }
     {
         let sent = self.flush(out, 0)?;
         self.bring_in(next);
@@ -204,7 +216,8 @@ impl Host {
         requires quiet { IsQuiet (shown state called held self.old) }
         requires none_yet { self.old.calls ≡ 0 }
         requires headers { 8 ≤ length packet.now }
-        ensures { ObeysOrders packet.now (shown state called held self.old) (shown state called held self.new) (W.sink out.old) (W.sink out.new) result }
+        ensures handled { ObeysOrders packet.now (shown state called held self.old) (shown state called held self.new) (W.sink out.old) (W.sink out.new) result }
+        ensures own { Responds self.old.services.moment (obeying_orders packet.now (shown state called held self.old) (succession_by packet.now (roster_of (shown state called held self.old)))) (shown state called held self.old) (shown state called held self.new) (W.sink out.old).gained (W.sink out.new).gained result }
     {
         match self.take_order(packet) {
             Ok(next) => {

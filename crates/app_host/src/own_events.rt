@@ -6,6 +6,7 @@ ghost use Rattle.lc_model.specs.Events.Request.{Event, bad_packet};
 ghost use Rattle.app_host.specs.Hosted.{shown};
 ghost use Rattle.app_host.specs.Whole.{AreSeated, IsWhole, IsQuiet};
 ghost use Rattle.app_host.specs.Told.{HasTold, TellsAlone};
+ghost use Rattle.app_host.specs.Response.{only_telling, Responds};
 
 use crate::error::WriteFault;
 use crate::host::Host;
@@ -22,7 +23,7 @@ impl Host {
     {
         table_services_go_by_names();
         self.services.tables.is_service();
-        self.services.tell(None, id, kind, text.as_bytes());
+        self.services.ask(None, id, kind, text.as_bytes());
     }
 
     /// The same, and it is written, which is all that a record leads to.
@@ -36,7 +37,8 @@ impl Host {
         requires whole { IsWhole (shown state called held self.old) }
         requires quiet { IsQuiet (shown state called held self.old) }
         requires none_yet { self.old.calls ≡ 0 }
-        ensures { TellsAlone (Event host_name id kind text.now) (shown state called held self.old) (shown state called held self.new) (W.sink out.old) (W.sink out.new) result }
+        ensures handled { TellsAlone (Event host_name id kind text.now) (shown state called held self.old) (shown state called held self.new) (W.sink out.old) (W.sink out.new) result }
+        ensures own { Responds self.old.services.moment (only_telling (Event host_name id kind text.now) (shown state called held self.old)) (shown state called held self.old) (shown state called held self.new) (W.sink out.old).gained (W.sink out.new).gained result }
     {
         self.tell(id, kind, text);
         self.flush(out, 0)
@@ -51,7 +53,8 @@ impl Host {
         requires whole { IsWhole (shown state called held self.old) }
         requires quiet { IsQuiet (shown state called held self.old) }
         requires none_yet { self.old.calls ≡ 0 }
-        ensures { TellsAlone (bad_packet reason) (shown state called held self.old) (shown state called held self.new) (W.sink out.old) (W.sink out.new) result }
+        ensures handled { TellsAlone (bad_packet reason) (shown state called held self.old) (shown state called held self.new) (W.sink out.old) (W.sink out.new) result }
+        ensures own { Responds self.old.services.moment (only_telling (bad_packet reason) (shown state called held self.old)) (shown state called held self.old) (shown state called held self.new) (W.sink out.old).gained (W.sink out.new).gained result }
     {
         let text = host::bad_packet(u16::from(reason));
         self.tell_alone(1, EventKind::Error, &text, out)

@@ -6,6 +6,7 @@ ghost use Rattle.lc_model.specs.Kept.Executive.{tick_packet};
 ghost use Rattle.app_host.specs.Hosted.{shown};
 ghost use Rattle.app_host.specs.Whole.{IsWhole, IsQuiet};
 ghost use Rattle.app_host.specs.Writing.{PassesOn};
+ghost use Rattle.app_host.specs.Response.{handing_on, Responds};
 
 use crate::error::WriteFault;
 use crate::host::Host;
@@ -26,11 +27,12 @@ impl Host {
         requires quiet { IsQuiet (shown state called held self.old) }
         requires none_yet { self.old.calls ≡ 0 }
         requires good { header_fault packet.now ≡ None }
-        ensures { PassesOn packet.now (shown state called held self.old) (shown state called held self.new) (W.sink out.old) (W.sink out.new) result }
+        ensures handled { PassesOn packet.now (shown state called held self.old) (shown state called held self.new) (W.sink out.old) (W.sink out.new) result }
+        ensures own { Responds self.old.services.moment (handing_on (shown state called held self.old)) (shown state called held self.old) (shown state called held self.new) (W.sink out.old).gained (W.sink out.new).gained result }
     {
         table_services_go_by_names();
         self.services.tables.is_service();
-        self.services.bus.publish(packet).unwrap();
+        self.services.bus.publish_judged(packet).unwrap();
         self.drain(out)
     }
 
@@ -39,7 +41,8 @@ impl Host {
         requires whole { IsWhole (shown state called held self.old) }
         requires quiet { IsQuiet (shown state called held self.old) }
         requires none_yet { self.old.calls ≡ 0 }
-        ensures { PassesOn tick_packet (shown state called held self.old) (shown state called held self.new) (W.sink out.old) (W.sink out.new) result }
+        ensures handled { PassesOn tick_packet (shown state called held self.old) (shown state called held self.new) (W.sink out.old) (W.sink out.new) result }
+        ensures own { Responds self.old.services.moment (handing_on (shown state called held self.old)) (shown state called held self.old) (shown state called held self.new) (W.sink out.old).gained (W.sink out.new).gained result }
     {
         self.pass_on(&TICK, out)
     }

@@ -19,7 +19,7 @@ impl Services {
     {
         bus_is_seen();
         bus_has_room();
-        self.bus.publish(packet).unwrap();
+        self.bus.publish_judged(packet).unwrap();
     }
 }
 

@@ -1,9 +1,10 @@
 //! What the host's applications share (cFE user's guide: software bus, event and table services).
 
-ghost use Rattle.std.specs.Prelude.{◌≡◌, ◌+◌, ◌<◌, ◌≤◌, ◌++◌, [], ◌∷◌, length, replicate, IfOk, IfSome};
+ghost use Rattle.std.specs.Prelude.{◌≡◌, ◌+◌, ◌<◌, ◌≤◌, ◌++◌, [], ◌∷◌, length, replicate, option_to_list, IfOk, IfSome};
+ghost use Rattle.std.specs.List.{concat};
 ghost use Rattle.lc_model.specs.Events.Request.{Event, Sequence, Housekeeping};
 ghost use Rattle.lc_model.specs.Services.Bus.{no_pipes};
-ghost use Rattle.lc_model.specs.Services.Events.{Sender, first_events, sender_at};
+ghost use Rattle.lc_model.specs.Services.Events.{Sender, first_events, sender_at, event_asked};
 ghost use Rattle.lc_model.specs.Services.Tables.{first_tables};
 ghost use Rattle.app_host.specs.Telling.{Tells};
 
@@ -58,6 +59,18 @@ impl Services {
         requires room { length self.old.outgoing + 168 ≤ 65536 }
         ensures told { IfSome (sender_at from self.old.events) (λ (sender : Sender). Tells from sender.name (Event sender.name id kind text.now ∷ []) self.old self.new) }
         ensures size { length self.new.outgoing ≤ length self.old.outgoing + 168 }
+    {
+        self.ask(from, id, kind, text);
+    }
+
+    /// The same; contracts see by seats what the event services become, too.
+    pub(crate) fn ask(&mut self, from: Option<Seat>, id: u16, kind: EventKind, text: &[u8])
+        requires text { length text.now ≤ 121 }
+        requires room { length self.old.outgoing + 168 ≤ 65536 }
+        ensures told { IfSome (sender_at from self.old.events) (λ (sender : Sender). Tells from sender.name (Event sender.name id kind text.now ∷ []) self.old self.new) }
+        ensures size { length self.new.outgoing ≤ length self.old.outgoing + 168 }
+        ensures events { self.new.events ≡ (event_asked from self.old.moment id kind text.now self.old.events).0 }
+        ensures outgoing { self.new.outgoing ≡ self.old.outgoing ++ concat (option_to_list (event_asked from self.old.moment id kind text.now self.old.events).1) }
     {
         event_services_go_by_names();
         self.events.is_service();

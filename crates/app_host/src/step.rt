@@ -5,6 +5,7 @@ ghost use Rattle.lc_model.specs.Packet.{stream_fault};
 ghost use Rattle.lc_model.specs.Host.React.{Packet};
 ghost use Rattle.app_host.specs.Hosted.{shown};
 ghost use Rattle.app_host.specs.Whole.{IsWhole, IsQuiet};
+ghost use Rattle.app_host.specs.Response.{response_to, response_to_packet, routed_to, Responds};
 ghost use Rattle.app_host.specs.Step.{input_by, IsNamed, HasBegun, Takes, IsBetween, IsTurnedAway, Steps, Counts, without_count};
 
 use crate::error::WriteFault;
@@ -24,6 +25,7 @@ impl Host {
         ensures between { IsBetween (shown state called held self.new) }
         ensures closed { (shown state called held self.old).is_closed ≡ true → IsTurnedAway (shown state called held self.old) (shown state called held self.new) (W.sink out.old) (W.sink out.new) result }
         ensures open { (shown state called held self.old).is_closed ≡ false → Steps entry.now.moment (input_by entry.now.body) (shown state called held self.old) (shown state called held self.new) (W.sink out.old) (W.sink out.new) result }
+        ensures own { (shown state called held self.old).is_closed ≡ false → Responds entry.now.moment (response_to entry.now.body (shown state called held self.old)) (shown state called held self.old) (shown state called held self.new) (W.sink out.old).gained (W.sink out.new).gained result }
     {
         match self.step_counted(entry, out) {
             Ok(_total) => Ok(()),
@@ -42,6 +44,7 @@ impl Host {
         ensures between { IsBetween (shown state called held self.new) }
         ensures closed { (shown state called held self.old).is_closed ≡ true → IsTurnedAway (shown state called held self.old) (shown state called held self.new) (W.sink out.old) (W.sink out.new) (without_count result) }
         ensures open { (shown state called held self.old).is_closed ≡ false → Steps entry.now.moment (input_by entry.now.body) (shown state called held self.old) (shown state called held self.new) (W.sink out.old) (W.sink out.new) (without_count result) }
+        ensures own { (shown state called held self.old).is_closed ≡ false → Responds entry.now.moment (response_to entry.now.body (shown state called held self.old)) (shown state called held self.old) (shown state called held self.new) (W.sink out.old).gained (W.sink out.new).gained result }
         ensures count { (shown state called held self.old).is_closed ≡ false → Counts entry.now.moment (input_by entry.now.body) (shown state called held self.old) result }
     {
         if self.closed {
@@ -68,7 +71,8 @@ impl Host {
         requires quiet { IsQuiet (shown state called held self.old) }
         requires none_yet { self.old.calls ≡ 0 }
         requires named { IsNamed body.now }
-        ensures { Takes (input_by body.now) (shown state called held self.old) (shown state called held self.new) (W.sink out.old) (W.sink out.new) result }
+        ensures handled { Takes (input_by body.now) (shown state called held self.old) (shown state called held self.new) (W.sink out.old) (W.sink out.new) result }
+        ensures own { Responds self.old.services.moment (response_to body.now (shown state called held self.old)) (shown state called held self.old) (shown state called held self.new) (W.sink out.old).gained (W.sink out.new).gained result }
     {
         match *body {
             Body::Packet(bytes) => self.take_packet(bytes, out),
@@ -82,7 +86,8 @@ impl Host {
         requires whole { IsWhole (shown state called held self.old) }
         requires quiet { IsQuiet (shown state called held self.old) }
         requires none_yet { self.old.calls ≡ 0 }
-        ensures { Takes (Packet packet.now) (shown state called held self.old) (shown state called held self.new) (W.sink out.old) (W.sink out.new) result }
+        ensures handled { Takes (Packet packet.now) (shown state called held self.old) (shown state called held self.new) (W.sink out.old) (W.sink out.new) result }
+        ensures own { Responds self.old.services.moment (response_to_packet packet.now (shown state called held self.old)) (shown state called held self.old) (shown state called held self.new) (W.sink out.old).gained (W.sink out.new).gained result }
     {
         match stream_fault(packet) {
             Some(reason) => self.refuse_packet(reason, out),
@@ -97,7 +102,8 @@ impl Host {
         requires none_yet { self.old.calls ≡ 0 }
         requires good { stream_fault packet.now ≡ None }
         requires headers { 8 ≤ length packet.now }
-        ensures { Takes (Packet packet.now) (shown state called held self.old) (shown state called held self.new) (W.sink out.old) (W.sink out.new) result }
+        ensures handled { Takes (Packet packet.now) (shown state called held self.old) (shown state called held self.new) (W.sink out.old) (W.sink out.new) result }
+        ensures own { Responds self.old.services.moment (routed_to packet.now (shown state called held self.old)) (shown state called held self.old) (shown state called held self.new) (W.sink out.old).gained (W.sink out.new).gained result }
     {
         match message_id(packet) {
             mids::EVENT_SERVICES => self.obey_events(packet, out),

@@ -8,6 +8,7 @@ ghost use Rattle.lc_model.specs.Command.{Load, Manage, of_length, table_command}
 ghost use Rattle.app_host.specs.Hosted.{shown};
 ghost use Rattle.app_host.specs.Whole.{IsWhole, IsQuiet};
 ghost use Rattle.app_host.specs.Told.{ObeysTables};
+ghost use Rattle.app_host.specs.Response.{obeying_tables, Responds};
 ghost use Rattle.app_host.specs.Obeyed.{obeyed_by};
 ghost use Rattle.app_host.specs.ObeyedTables.{tables_by};
 
@@ -106,7 +107,8 @@ impl Host {
         requires quiet { IsQuiet (shown state called held self.old) }
         requires none_yet { self.old.calls ≡ 0 }
         requires headers { 8 ≤ length packet.now }
-        ensures { ObeysTables packet.now (shown state called held self.old) (shown state called held self.new) (W.sink out.old) (W.sink out.new) result }
+        ensures handled { ObeysTables packet.now (shown state called held self.old) (shown state called held self.new) (W.sink out.old) (W.sink out.new) result }
+        ensures own { Responds self.old.services.moment (obeying_tables packet.now (shown state called held self.old) (tables_by (table_command (function_code packet.now) (payload packet.now)) self.old.services.tables)) (shown state called held self.old) (shown state called held self.new) (W.sink out.old).gained (W.sink out.new).gained result }
     {
         table_services_go_by_names();
         table_commands_go_by_names();

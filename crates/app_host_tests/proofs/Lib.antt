@@ -1,2 +1,3 @@
 mod Homes
 mod Names
+mod Spoken

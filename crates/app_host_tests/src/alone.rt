@@ -38,6 +38,16 @@ pub fn give<A: App>(app: &mut A, services: &mut Services, packet: &[u8])
     app.on_packet(services, packet);
 }
 
+/// The application has the same packet so many times, and what it sends of the last waits to be written.
+pub fn give_often<A: App>(app: &mut A, services: &mut Services, packet: &[u8], times: u32)
+    requires { IsSomeAnd (A.held app.old) (λ seat. IsAtHome (A.state app.old) (A.called app.old) seat services.old) }
+    ensures { IsSomeAnd (A.held app.new) (λ seat. IsAtHome (A.state app.new) (A.called app.new) seat services.new) }
+{
+    for _ in 0..times {
+        give(app, services, packet);
+    }
+}
+
 /// The application retires.
 pub fn end<A: App>(app: &mut A, services: &mut Services)
     requires { IsSomeAnd (A.held app.old) (λ seat. IsAtHome (A.state app.old) (A.called app.old) seat services.old) }

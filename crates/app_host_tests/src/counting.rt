@@ -1,6 +1,6 @@
 //! The counter, over services of its own.
 
-use crate::alone::{begin, end, give};
+use crate::alone::{begin, end, give, give_often};
 use crate::shared::{event, fresh, same};
 use flight_core::Counter;
 
@@ -54,4 +54,18 @@ fn counts_accepted_commands_since_its_start(rt: HostRuntime) {
     );
     end(&mut counter, &mut services);
     same(&rt, "the retirement", services.outgoing.as_slice(), b"");
+}
+
+#[test]
+fn counts_beyond_16_bits(rt: HostRuntime) {
+    let mut services = fresh(&rt);
+    let mut counter = Counter::new();
+    begin(&mut counter, &mut services);
+    give_often(&mut counter, &mut services, COUNT, 70_000);
+    same(
+        &rt,
+        "the last of 70,000",
+        event(services.outgoing.as_slice()),
+        (1, 2, &b"count 70000"[..]),
+    );
 }

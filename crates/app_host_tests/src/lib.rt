@@ -1,7 +1,7 @@
 //! The tests of `app_host`, of its services and of the applications that stand on them, by public calls alone. A host plays
-//! scripts of records and questions (`playing`, `script`) over applications that count and write letters (`tracked`, `named`);
-//! and one application has services of its own and is called by the rules of the interface (`alone`). Expected values come from
-//! the packets' layout.
+//! scripts of records and questions (`playing`, `script`) over applications that count, that write letters, and that speak as
+//! they come and go (`tracked`, `named`, `speaking`); and one application has services of its own and is called by the rules of
+//! the interface (`alone`). Expected values come from the packets' layout.
 #![tactic(auto)]
 
 pub mod alone;
@@ -16,6 +16,8 @@ pub mod named;
 #[cfg(test)]
 mod orders;
 pub mod output;
+#[cfg(test)]
+mod own_words;
 pub mod packets;
 pub mod playing;
 pub mod recorder;
@@ -28,6 +30,7 @@ mod seats;
 mod shared;
 #[cfg(test)]
 mod sharing;
+pub mod speaking;
 pub mod tally;
 pub mod tracked;
 #[cfg(test)]

@@ -107,7 +107,7 @@ fn publish_eight(services: &mut Services)
 }
 
 /// The seat has no pipe, no sender of events and no table from now on, whatever of them it had.
-fn leave(seat: Seat, services: &mut Services)
+pub fn leave(seat: Seat, services: &mut Services)
     ensures { IsClosed seat services.old services.new }
 {
     event_services_go_by_names();

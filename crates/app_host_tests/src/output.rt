@@ -42,6 +42,7 @@ fn begins(bytes: &[u8], said: Said<'_>) -> (bool, usize) {
             is_event(bytes, b"COUNTER", 1, INFORMATION, text),
             EVENT_SIZE,
         ),
+        Said::Here(name) => (is_event(bytes, name, 1, INFORMATION, b"here"), EVENT_SIZE),
         Said::Letters(letters) => (bytes.starts_with(letters), letters.len()),
     }
 }

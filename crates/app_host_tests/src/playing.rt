@@ -11,6 +11,7 @@ use crate::output::says;
 use crate::packets::packet;
 use crate::recorder::{ROOM, Recorder};
 use crate::script::{Given, Line, Spare};
+use crate::speaking::Speaking;
 use crate::tally::Tally;
 use crate::tracked::Tracked;
 use app_host::{App, Host, WriteFault};
@@ -142,6 +143,9 @@ pub fn plays(
             }
             Spare::Publishing(number) => {
                 add(&mut stock, Box::new(alloc, Named::new(number, true))?)?;
+            }
+            Spare::Speaking(number) => {
+                add(&mut stock, Box::new(alloc, Speaking::new(number))?)?;
             }
         }
     }

@@ -9,6 +9,9 @@ pub enum Spare {
     Writing(u8),
     /// The same, and at each tick it publishes eight packets.
     Publishing(u8),
+    /// The application whose name is the letter of this number. It tells of its start, and writes its letter for each packet of
+    /// 0x18D0 and at its retirement.
+    Speaking(u8),
 }
 
 /// A record.
@@ -40,6 +43,8 @@ pub enum Said<'a> {
     Refused(u16, &'a [u8]),
     /// Event 1 of `COUNTER`, of type information.
     Count(&'a [u8]),
+    /// Event 1 of the application whose name is this letter, of type information: `here`.
+    Here(&'a [u8]),
     /// What applications with letters write.
     Letters(&'a [u8]),
 }

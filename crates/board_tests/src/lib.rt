@@ -1,4 +1,4 @@
-//! The tests of the crates that fly (`table_file`, `table_validator`, `limit_checker`), and of the sources and sinks of
+//! The tests of the crates that fly (`table_file`, `table_validator`, `limit_engine`), and of the sources and sinks of
 //! `lc_model` below them.
 //!
 //! They stand here, by public calls alone, since the gate proves a crate with tests twice, and the crates above wait for it.

@@ -1,8 +1,7 @@
-//! A Limit Checker that is set from images, driven through packets, samples and agings.
+//! An engine that is set from images, driven through packets, samples and agings.
 
 mod engine;
 mod one_rule;
-mod random;
 mod sound_tables;
 mod versions;
 
@@ -14,8 +13,8 @@ ghost use Rattle.lc_model.specs.Tables.Image.{Actionpoints, FitsWatchpoint, Fits
 use crate::images::valid;
 use crate::shared::{holds, same};
 use crate::values::{actionpoint, encoded_adt, encoded_wdt};
-use lc_model::{ApMode, Kind, Term};
-use limit_checker::LimitChecker;
+use lc_model::{ApMode, Kind, SampleRequest, TABLE_ENTRIES, Term};
+use limit_engine::{Asked, Engine, Failure};
 use std::process::Abort;
 use table_file::{AdtVersion, TableEntry, preamble};
 
@@ -23,6 +22,9 @@ use table_file::{AdtVersion, TableEntry, preamble};
 const LOW: &[u8] = &[
     0x08, 0x83, 0xC0, 0, 0, 9, 0, 0, 0, 0, 0, 0, 0x09, 0x5F, 0, 0,
 ];
+
+/// A number that no rule has.
+const NO_RULE: u16 = TABLE_ENTRIES as u16;
 
 /// Images of tables.
 #[derive(Drop)]
@@ -103,20 +105,20 @@ fn at_once<R: Abort + AllocGlobal>(rt: &R, sequence: u16, words: &[u16]) -> Tabl
     rule(rt, ApMode::Active, 1, sequence, words)
 }
 
-/// A Limit Checker without tables.
-fn fresh<R: Abort + AllocGlobal>(rt: &R) -> LimitChecker {
-    LimitChecker::new(rt.alloc()).expect(rt, "out of memory")
+/// An engine without tables.
+fn fresh<R: Abort + AllocGlobal>(rt: &R) -> Engine {
+    Engine::new(rt.alloc()).expect(rt, "out of memory")
 }
 
-/// Sets the Limit Checker from the images, which are sound and belong together.
-fn set<R: Abort>(rt: &R, checker: &mut LimitChecker, tables: &Images) {
+/// Puts tables in force, whose images are sound and belong together.
+fn set<R: Abort>(rt: &R, engine: &mut Engine, tables: &Images) {
     let wdt = valid(rt, Kind::Wdt, tables.wdt.as_slice());
     let adt = valid(rt, Kind::Adt, tables.adt.as_slice());
     let is_match = preamble::hash(wdt.image()) == preamble::hash(adt.image())
         && preamble::watchpoint_count(wdt.image()) == preamble::watchpoint_count(adt.image());
     holds(rt, "the images belong together", is_match);
     if is_match {
-        checker.adopt(&wdt, &adt);
+        engine.adopt(&wdt, &adt);
     }
 }
 
@@ -127,36 +129,60 @@ enum Step {
     /// A sample of the first rule, and the sequence that it is to request.
     Sample(Option<u16>),
     /// The same of another rule.
-    SampleOf(usize, Option<u16>),
+    SampleOf(u16, Option<u16>),
 }
 
-/// Drives a Limit Checker through the steps.
-fn drive<R: Abort>(rt: &R, checker: &mut LimitChecker, steps: &[Step]) {
+/// Drives an engine through the steps.
+fn drive<R: Abort + AllocGlobal>(rt: &R, engine: &mut Engine, steps: &[Step]) {
     for (at, step) in steps.iter().enumerate() {
         match step {
             Step::Packet(bytes) => {
-                checker.telemetry(bytes);
+                engine.telemetry(bytes);
             }
-            Step::Age => checker.age(),
-            Step::Sample(want) => same(rt, ("step", at), sample(checker, 0), *want),
+            Step::Age => age(rt, engine),
+            Step::Sample(want) => same(rt, ("step", at), sample(rt, engine, 0), *want),
             Step::SampleOf(number, want) => {
-                same(rt, ("step", at), sample(checker, *number), *want);
+                same(rt, ("step", at), sample(rt, engine, *number), *want);
             }
         }
     }
 }
 
-/// Drives a Limit Checker with these tables through the steps.
+/// Drives an engine with these tables through the steps.
 fn run<R: Abort + AllocGlobal>(rt: &R, tables: &Images, steps: &[Step]) {
-    let mut checker = fresh(rt);
-    set(rt, &mut checker, tables);
-    drive(rt, &mut checker, steps);
+    let mut engine = fresh(rt);
+    set(rt, &mut engine, tables);
+    drive(rt, &mut engine, steps);
 }
 
-/// Samples a rule, if there is one of this number.
-fn sample(checker: &mut LimitChecker, number: usize) -> Option<u16> {
-    if number >= checker.rule_count() {
-        return None;
+/// What the rules of these numbers ask for in a sample.
+fn asked_by<R: Abort + AllocGlobal>(
+    rt: &R,
+    engine: &mut Engine,
+    first: u16,
+    last: u16,
+    ages: bool,
+) -> Vec<Asked> {
+    let mut asked = Vec::with_capacity(rt.alloc(), TABLE_ENTRIES).expect(rt, "out of memory");
+    if asked.capacity() >= TABLE_ENTRIES {
+        engine.sample(&SampleRequest { first, last, ages }, &mut asked);
     }
-    checker.sample_one(number)
+    asked
+}
+
+/// All watchpoints age: a sample of no rule.
+fn age<R: Abort + AllocGlobal>(rt: &R, engine: &mut Engine) {
+    asked_by(rt, engine, NO_RULE, NO_RULE, true);
+}
+
+/// Samples a rule, if there is one of this number: the sequence that it requests.
+fn sample<R: Abort + AllocGlobal>(rt: &R, engine: &mut Engine, number: u16) -> Option<u16> {
+    let asked = asked_by(rt, engine, number, number, false);
+    let index = usize::from(number);
+    match asked.first()?.reactions.failure {
+        Some(Failure::Requested(_)) if index < engine.rule_count() => Some(
+            engine.rule_event(index).sequence,
+        ),
+        _ => None,
+    }
 }

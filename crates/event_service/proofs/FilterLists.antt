@@ -8,6 +8,7 @@ use Rattle.std.proofs.lemmas.Bool.Decides.{Decides-eqb}
 use Rattle.lc_model.specs.Kept.Summary.{Filter}
 use Rattle.lc_model.specs.Kept.Next.{filter_of, filters_with, filter_put}
 use Rattle.lc_model.specs.Events.Log.{is_full_for}
+use Rattle.lc_model.proofs.Facts.{or_first, or_second, unequal_turned}
 use Rattle.event_service.specs.Filters.{ids_of, AreDistinct, HaveOwnIds, renewed}
 
 -- a filter is the id's
@@ -172,32 +173,17 @@ same_ids_of_all change [] keeps = refl
 same_ids_of_all change (filter ∷ filters) keeps = λ i. keeps filter i ∷ same_ids_of_all change filters keeps i
 
 -- one more id, which no filter has
-either_left : (a b : Bool) → (a || b) ≡ false → a ≡ false
-either_left true b h = h
-either_left false b h = refl
-
-either_right : (a b : Bool) → (a || b) ≡ false → b ≡ false
-either_right true b h = absurd (true≢false h)
-either_right false b h = h
-
 absent_more : (x id : ℕ) (ids : List ℕ) → (x == id) ≡ false → IsFalse (list_any (λ other. x == other) ids) → IsFalse (list_any (λ other. x == other) (ids ++ id ∷ []))
 absent_more x id [] h old = ap (λ t. t || false) h
 absent_more x id (y ∷ ids) h old =
-    ap (λ t. t || list_any (λ other. x == other) (ids ++ id ∷ [])) (either_left (x == y) (list_any (λ other. x == other) ids) old)
-    ∙ absent_more x id ids h (either_right (x == y) (list_any (λ other. x == other) ids) old)
-
-turned : (x id : ℕ) → (id == x) ≡ false → (x == id) ≡ false
-turned x id h = by_test (x == id) refl
-  where
-    by_test : (t : Bool) → (x == id) ≡ t → t ≡ false
-    by_test true e = absurd (true≢false (sym ((Decides-eqb id x).1 (sym ((Decides-eqb x id).0 e))) ∙ h))
-    by_test false e = refl
+    ap (λ t. t || list_any (λ other. x == other) (ids ++ id ∷ [])) (or_first (x == y) (list_any (λ other. x == other) ids) old)
+    ∙ absent_more x id ids h (or_second (x == y) (list_any (λ other. x == other) ids) old)
 
 distinct_more : (id : ℕ) (ids : List ℕ) → AreDistinct ids → IsFalse (list_any (λ other. id == other) ids) → AreDistinct (ids ++ id ∷ [])
 distinct_more id [] own new = (refl, tt)
 distinct_more id (x ∷ ids) own new = (
-  absent_more x id ids (turned x id (either_left (id == x) (list_any (λ other. id == other) ids) new)) own.0,
-  distinct_more id ids own.1 (either_right (id == x) (list_any (λ other. id == other) ids) new),
+  absent_more x id ids (unequal_turned id x (or_first (id == x) (list_any (λ other. id == other) ids) new)) own.0,
+  distinct_more id ids own.1 (or_second (id == x) (list_any (λ other. id == other) ids) new),
 )
 
 ids_more : (filters : List Filter) (filter : Filter) → ids_of (filters ++ filter ∷ []) ≡ ids_of filters ++ filter.id ∷ []

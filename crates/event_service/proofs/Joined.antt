@@ -1,6 +1,6 @@
 -- The fields of an event packet, laid one after the other over zeros.
 use Rattle.std.proofs.Common.{◌≡◌, ℕ, ◌+◌, ◌≤◌, ◌-◌, List, [], ◌++◌, length, replicate, refl, ap, sym, ◌∙◌, arith, length-append, append_assoc}
-use Rattle.std.proofs.lemmas.List.{length-replicate, replicate-append-replicate, drop-replicate}
+use Rattle.std.proofs.lemmas.List.{replicate-append-replicate, drop-replicate}
 use Rattle.std.proofs.Math.Seq.{take-append_seam, drop-append-add}
 use Rattle.lc_model.specs.Bytes.{u16, u32, zero_filled}
 use Rattle.lc_model.specs.declared.record.Moment.{Moment}
@@ -8,6 +8,7 @@ use Rattle.lc_model.specs.declared.rule.EventKind.{EventKind}
 use Rattle.lc_model.specs.Codes.{event_code}
 use Rattle.lc_model.specs.Packet.{telemetry, event_mid}
 use Rattle.lc_model.specs.Events.Outgoing.{event_packet}
+use Rattle.lc_model.proofs.Tables.EntryLengths.{length-zero_filled}
 use Rattle.event_service.specs.Packet.{laid}
 
 -- a field behind what is written so far
@@ -30,10 +31,6 @@ filled_up size left rest written field new fits all is =
 longer : (m n : ℕ) (written field : List ℕ) → length written ≡ m → length field ≡ n → length (written ++ field) ≡ m + n
 longer m n written field e f = length-append written field ∙ (λ i. e i + f i)
 
--- a field that is filled up
-filled_size : (size : ℕ) (field : List ℕ) → length field ≤ size → length (zero_filled size field) ≡ size
-filled_size size field fits = omega (arith, length-append field (replicate (size - length field) 0), length-replicate {A = ℕ} (size - length field) 0)
-
 -- an event's payload
 payload_size : (sender text : List ℕ) (id code : ℕ) → length sender ≤ 20 → length text ≤ 121 →
     length (zero_filled 20 sender ++ u16 id ++ u16 code ++ u32 66 ++ u32 1 ++ zero_filled 124 text) ≡ 156
@@ -41,8 +38,8 @@ payload_size sender text id code s t =
     longer 32 124 (zero_filled 20 sender ++ u16 id ++ u16 code ++ u32 66 ++ u32 1) (zero_filled 124 text)
     (longer 28 4 (zero_filled 20 sender ++ u16 id ++ u16 code ++ u32 66) (u32 1)
     (longer 24 4 (zero_filled 20 sender ++ u16 id ++ u16 code) (u32 66)
-    (longer 22 2 (zero_filled 20 sender ++ u16 id) (u16 code) (longer 20 2 (zero_filled 20 sender) (u16 id) (filled_size 20 sender s) refl) refl) refl) refl)
-    (filled_size 124 text (omega arith))
+    (longer 22 2 (zero_filled 20 sender ++ u16 id) (u16 code) (longer 20 2 (zero_filled 20 sender) (u16 id) (length-zero_filled 20 sender s) refl) refl) refl) refl)
+    (length-zero_filled 124 text (omega arith))
 
 in_groups : (a b d e f g h i j k l m n : List ℕ) →
     (((((((((((a ++ b) ++ d) ++ e) ++ f) ++ g) ++ h) ++ i) ++ j) ++ k) ++ l) ++ m) ++ n ≡ (a ++ b ++ d) ++ e ++ f ++ ((g ++ h) ++ i ++ j ++ k ++ l ++ (m ++ n))
@@ -102,7 +99,7 @@ written count moment sender text id code kind its_code short_name short_text s�
     p₆ = filled_up 20 156 136 header sender s₆ short_name refl (laid_next 12 156 header sender s₅ s₆ refl p₅ e₆)
 
     named_size : length named ≡ 32
-    named_size = ap length (append_assoc header sender (replicate (20 - length sender) 0)) ∙ longer 12 20 header (zero_filled 20 sender) refl (filled_size 20 sender short_name)
+    named_size = ap length (append_assoc header sender (replicate (20 - length sender) 0)) ∙ longer 12 20 header (zero_filled 20 sender) refl (length-zero_filled 20 sender short_name)
 
     p₇ : s₇ ≡ (named ++ u16 id) ++ replicate 134 0
     p₇ = laid_next 32 136 named (u16 id) s₆ s₇ named_size p₆ e₇

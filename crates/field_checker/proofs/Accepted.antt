@@ -1,18 +1,15 @@
 -- What is known of items of which nothing is refused.
-use Rattle.std.proofs.Common.{◌≡◌, refl, sym, ◌∙◌, ap, subst, ◌^◌, ℕ, zero, suc, ◌+◌, ◌<◌, ◌≤◌, Bool, true, false, cond, ◌||◌, List, [], ◌∷◌, Option, Some, ℤ, pos, negsuc, bytes_eq, length, get_or, arith}
+use Rattle.std.proofs.Common.{◌≡◌, sym, ◌∙◌, ap, subst, ◌^◌, ℕ, zero, suc, ◌+◌, ◌<◌, ◌≤◌, Bool, true, false, cond, ◌||◌, List, [], ◌∷◌, Option, Some, ℤ, pos, negsuc, bytes_eq, length, get_or, arith}
 use Rattle.std.specs.Prelude.{nat_abs, int_lt, is_none, flat_map}
 use Rattle.std.proofs.lemmas.Bool.Decides.{nat_tests}
 use Rattle.lc_model.specs.Condition.{Operator}
 use Rattle.lc_model.specs.Text.Token.{Token}
 use Rattle.lc_model.specs.Text.Syntax as model
-use Rattle.lc_model.specs.Text.Meaning.{TextFault, fault_if, fault_outside, faults, faults_of, name_faults, packet_faults, field_faults, condition_faults, packet_named, field_named}
+use Rattle.lc_model.specs.Text.Meaning.{TextFault, fault_outside, faults, faults_of, name_faults, packet_faults, field_faults, condition_faults, packet_named, field_named}
 use Rattle.lc_model.proofs.Facts.{append_none_first, append_none_second, some_same}
+use Rattle.lc_model.proofs.Texts.ItemsInRange.{not_refused}
 
 -- ---- lists of faults
-
-not_refused : (b : Bool) (code at : ℕ) → fault_if b code at ≡ [] → b ≡ false
-not_refused true code at e = absurd (cc e)
-not_refused false code at e = refl
 
 -- nothing of the item at an index is refused
 pub clean_at : {A : Type 0} (f : A → List TextFault) (xs : List A) (i : ℕ) (d : A) → i < length xs → flat_map f xs ≡ [] → f (get_or xs i d) ≡ []

@@ -5,7 +5,7 @@ ghost use Rattle.lc_model.specs.declared.kind.Kind.TheVariants.{Wdt, Adt};
 
 use crate::texts;
 use lc_model::{ALL_RULES, Kind, SampleRequest, TABLE_ENTRIES};
-use limit_checker::{Asked, LimitChecker};
+use limit_engine::{Asked, Engine};
 use rpn_compiler::compile;
 use std::alloc::{AllocError, Global};
 use std::time::Instant;
@@ -46,7 +46,7 @@ fn packets(alloc: Global, first: u16, count: u16) -> Result<Vec<[u8; 16]>, Alloc
 }
 
 /// Puts tables in force, where they belong together.
-fn put_in_force(engine: &mut LimitChecker, wdt: &ValidImage<'_>, adt: &ValidImage<'_>)
+fn put_in_force(engine: &mut Engine, wdt: &ValidImage<'_>, adt: &ValidImage<'_>)
     requires wdt { wdt.now.kind ≡ Wdt }
     requires adt { adt.now.kind ≡ Adt }
 {
@@ -58,25 +58,25 @@ fn put_in_force(engine: &mut LimitChecker, wdt: &ValidImage<'_>, adt: &ValidImag
 }
 
 /// A Limit Checker with the tables of a text.
-fn engine_with(rt: &HostRuntime, text: &[u8]) -> anyhow::Result<LimitChecker> {
+fn engine_with(rt: &HostRuntime, text: &[u8]) -> anyhow::Result<Engine> {
     let pair = compile(rt.alloc(), text)?;
     let wdt = open(pair.wdt.as_slice())?;
     let adt = open(pair.adt.as_slice())?;
     let wdt = validate(Kind::Wdt, wdt.image())?;
     let adt = validate(Kind::Adt, adt.image())?;
-    let mut engine = LimitChecker::new(rt.alloc())?;
+    let mut engine = Engine::new(rt.alloc())?;
     put_in_force(&mut engine, &wdt, &adt);
     Ok(engine)
 }
 
 /// Gives a packet to the engine, of which this place knows nothing.
 #[inline(never)]
-fn see(engine: &mut LimitChecker, packet: &[u8]) {
+fn see(engine: &mut Engine, packet: &[u8]) {
     engine.telemetry(packet);
 }
 
 /// Gives each packet to the engine, again and again.
-fn see_all(engine: &mut LimitChecker, packets: &[[u8; 16]]) {
+fn see_all(engine: &mut Engine, packets: &[[u8; 16]]) {
     for _ in 0..ROUNDS {
         for packet in packets {
             see(engine, packet);
@@ -108,7 +108,7 @@ fn measure_telemetry(
 
 /// Samples all rules once. Answers how many words that were.
 #[inline(never)]
-fn sample_all(engine: &mut LimitChecker, asked: &mut Vec<Asked>) -> usize {
+fn sample_all(engine: &mut Engine, asked: &mut Vec<Asked>) -> usize {
     let request = SampleRequest {
         first: ALL_RULES,
         last: ALL_RULES,
@@ -152,9 +152,9 @@ struct Row {
     seen: u16,
 }
 
-/// The rows of packets: 176 ids of one watchpoint, 16 of eleven, ten of one, one of 176; packets of other ids where one id has
-/// all watchpoints, and where 176 have one each.
-const ROWS: [Row; 6] = [
+/// The rows of packets: 176 ids of one watchpoint, 16 of eleven, ten of one, one of one, one of 176; packets of other ids where
+/// one id has all watchpoints, and where 176 have one each.
+const ROWS: [Row; 7] = [
     Row {
         name: "ids",
         ids: 176,
@@ -175,6 +175,13 @@ const ROWS: [Row; 6] = [
         each: 1,
         first: FIRST_ID,
         seen: 10,
+    },
+    Row {
+        name: "one",
+        ids: 1,
+        each: 1,
+        first: FIRST_ID,
+        seen: 1,
     },
     Row {
         name: "hits",

@@ -1,11 +1,13 @@
-//! How fast the crates are: those on the ground, and the Limit Checker's engine.
+//! How fast the crates are: those on the ground, the Limit Checker's engine, and whole runs.
 //!
 //! A word names what is measured: `lexer`, `checker`, `compiler` with the text that is compiled (`tables`, `declarations` or
-//! `longest`), or `engine`, with a row's name behind it where that row alone is measured. A run of one text tells its peak
-//! memory, too, to the shell that measures the process.
+//! `longest`), `engine` or `run`, these two with a row's name behind it where that row alone is measured. A measurement of
+//! one text or one row tells its peak memory, too, to the shell that measures the process.
 #![tactic(auto)]
 
 mod engine;
+mod flights;
+mod loads;
 mod texts;
 
 use crate::texts::{SHORT_NAME, TEXT_SIZE};
@@ -106,9 +108,10 @@ fn main(rt: HostRuntime) -> anyhow::Result<()> {
         ),
         (Some("compiler"), Some("longest")) => measure_compiler(&rt, &texts::longest(rt.alloc())?),
         (Some("engine"), row) => engine::measure(&rt, row),
+        (Some("run"), row) => flights::measure(&rt, row),
         _ => {
             println!(rt;
-                "usage: flight_bench lexer | checker | compiler tables | compiler declarations | compiler longest | engine"
+                "usage: flight_bench lexer | checker | compiler tables | compiler declarations | compiler longest | engine | run"
             )?;
             Ok(())
         }

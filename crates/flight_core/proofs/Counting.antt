@@ -1,5 +1,5 @@
 -- What the counter does at its seat, by the rules of the interface and by the definitions.
-use Rattle.std.proofs.Common.{◌≡◌, refl, ap, sym, ◌∙◌, subst, ℕ, ◌+◌, ◌≤◌, Bool, true, false, ◌==◌, List, [], ◌∷◌, length, map, arith, Option, Some, None, Ok, Err, min, if◌then◌else◌}
+use Rattle.std.proofs.Common.{◌≡◌, refl, ap, sym, ◌∙◌, subst, ℕ, ◌+◌, ◌≤◌, Bool, true, false, ◌==◌, List, [], ◌∷◌, length, arith, Option, Some, None, Ok, Err, min, if◌then◌else◌}
 use Rattle.std.specs.Prelude.{IfSome, IsSomeAnd, codes}
 use Rattle.lc_model.specs.declared.rule.EventKind.{EventKind}
 use Rattle.lc_model.specs.declared.rule.EventKind.TheVariants.{Information}
@@ -12,9 +12,9 @@ use Rattle.lc_model.specs.Kept.Summary.{CounterState}
 use Rattle.lc_model.specs.Kept.Next.{next_answer, next_count}
 use Rattle.lc_model.specs.Kept.Call.{with_mids, counter_subscriptions, counter_told, silent, registered, next_start, next_on_packet, next_retire}
 use Rattle.lc_model.specs.Services.Events.{Sender, sender_at}
-use Rattle.lc_model.specs.Services.Tables.{Table, tables_at}
+use Rattle.lc_model.specs.Services.Tables.{tables_at}
 use Rattle.lc_model.specs.Services.Interface.{MayBeStarted, MayBeGiven, IsGiven, IsRetired}
-use Rattle.lc_model.proofs.Facts.{tested_equal}
+use Rattle.lc_model.proofs.Facts.{tested_equal, map_none}
 use Rattle.lc_model.specs.Services.Settled.{IsSettled, form_of}
 use Rattle.app_host.specs.declared.services.Services.{Services}
 use Rattle.app_host.specs.Shared.{on_board, held_by, shared}
@@ -128,13 +128,9 @@ pub retires : ClosingRetires → (place : Option ℕ) (before after : Services) 
 retires law None before after closed idle = tt
 retires law (Some seat) before after closed idle = law seat counter_name before after closed idle
 
-no_forms : (tables : List Table) → map form_of tables ≡ [] → tables ≡ []
-no_forms [] e = refl
-no_forms (table ∷ tables) e = cc
-
 pub leaves_empty : ClosingLeaves → NoTablesGo → (place : Option ℕ) (count : ℕ) (before after : Services) → IsHome place count before →
     IfSome place (λ seat. IsClosed seat before after) → before.outgoing ≡ [] →
     IfSome place (λ seat. IfSome (next_retire (CounterState count) (shared before)) (LeavesEmpty seat before after))
 leaves_empty law none None count before after home closed idle = tt
 leaves_empty law none (Some seat) count before after home closed idle =
-    law seat counter_name before after closed idle home.settled.sender (shared before).slots (none seat before (no_forms (tables_at seat before.tables.places) home.settled.tables))
+    law seat counter_name before after closed idle home.settled.sender (shared before).slots (none seat before (map_none form_of (tables_at seat before.tables.places) home.settled.tables))

@@ -9,3 +9,6 @@ mod NextHandled
 mod Courses
 mod Endings
 mod Outset
+mod Failures
+mod Fitting
+mod Asides

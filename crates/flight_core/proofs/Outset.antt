@@ -19,6 +19,7 @@ use Rattle.lc_model.specs.Kept.Stations.{first_host}
 use Rattle.lc_model.proofs.Tables.HalfFiles.{half_file_opens}
 use Rattle.lc_model.proofs.Host.RunsKept.{files_of_halves}
 use Rattle.lc_model.proofs.Host.WholeRuns.{numbered}
+use Rattle.lc_model.proofs.Facts.{tested_not_less}
 use Rattle.rpn_compiler.specs.declared.files.TablePair.{TablePair}
 use Rattle.host_laws.specs.Keeping.{IsSpare}
 use Rattle.host_laws.specs.Keeping as keeping
@@ -73,9 +74,6 @@ known_first h members is all = record {
 
 -- ---- the files
 
-not_below : (a b : ℕ) → nat_lt a b ≡ false → b ≤ a
-not_below a b is = grind (arith, is)
-
 -- a file that opens is as long as its headers and its image
 length_of_opened : (bytes : List ℕ) (f : TableFile) → opened bytes ≡ Ok f → length bytes ≡ 116 + length f.image
 length_of_opened bytes f e =
@@ -85,7 +83,7 @@ length_of_opened bytes f e =
     whole : nat_lt (length bytes) 116 ≡ false → ◌≡◌ {A = Result TableFile ℕ} (Ok (fields_of bytes)) (Ok f) → length bytes ≡ 116 + length f.image
     whole long is =
         let same : fields_of bytes ≡ f = cc is in
-        let enough : 116 ≤ length bytes = not_below (length bytes) 116 long in
+        let enough : 116 ≤ length bytes = tested_not_less (length bytes) 116 long in
         let size : length (fields_of bytes).image ≡ length bytes - 116 = length-drop 116 bytes in
         omega (arith, enough, size, ap (λ (g : TableFile). length g.image) same)
 

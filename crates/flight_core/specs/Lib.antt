@@ -13,3 +13,6 @@ pub mod Brought
 pub mod Going
 pub mod Flight
 pub mod Run
+pub mod Failures
+pub mod Fitting
+pub mod Asides

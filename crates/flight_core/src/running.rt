@@ -5,8 +5,12 @@ ghost use Rattle.lc_model.specs.Host.Outcome.{devices};
 ghost use Rattle.lc_model.specs.Host.Promise.{FollowsTexts, IsRun, WritesWhatBytesCallFor, WritesWhatIsCalledFor, WritesWithFixedTables};
 ghost use Rattle.app_host.specs.Hosted.{object};
 ghost use Rattle.app_host.specs.Whole.{AreSpares};
+ghost use Rattle.flight_core.specs.Asides.{IsNotTouchedByAsides, IsNotTouchedByAsidesInBytes};
 ghost use Rattle.flight_core.specs.Brought.{AreWhole};
+ghost use Rattle.flight_core.specs.Compiled.{sources_of};
 ghost use Rattle.flight_core.specs.Ending.{ending_of};
+ghost use Rattle.flight_core.specs.Failures.{TellsFailures};
+ghost use Rattle.flight_core.specs.Fitting.{RefusesUnfitAlone};
 ghost use Rattle.flight_core.specs.Run.{AreOfProfile, IsOfProfile, RunsSo, members_of, mission_of};
 
 use crate::compiling::compile_all;
@@ -16,6 +20,7 @@ use crate::pieces::{MOST_READS, PIECE};
 use crate::records::Records;
 use app_host::{App, Host};
 use host_laws::writes_a_mission;
+use lc_model::laws::isolation::asides_do_not_count;
 use lc_model::laws::runs::runs_write_what_is_called_for;
 use lc_model::{ByteSink, ByteSource};
 use rpn_compiler::TablePair;
@@ -97,10 +102,29 @@ pub fn run_within<R: ByteSource, W: ByteSink>(
     ensures whatever_fails { IsOfProfile schedule.now (map (object state called held) stock.items) →
         FollowsTexts (mission_of texts.now schedule.now (map (object state called held) stock.items) reads) (devices (R.source reader.old) (R.source reader.new) (W.sink writer.old) (W.sink writer.new)) (ending_of result) }
 
+    // A failed read or write is answered where one failed, and nowhere else, with how many bytes the writer took.
+    ensures failures { IsOfProfile schedule.now (map (object state called held) stock.items) →
+        TellsFailures reads (devices (R.source reader.old) (R.source reader.new) (W.sink writer.old) (W.sink writer.new)) (ending_of result) }
+
+    // Memory aside, the texts that are refused are those that say no rules, or too many or too long ones: none for how many
+    // operands of a condition wait.
+    ensures refuses { IsOfProfile schedule.now (map (object state called held) stock.items) →
+        RefusesUnfitAlone (sources_of texts.now) (ending_of result) }
+
+    // Commands to event services, to the counter and to other applications can't touch the sequence requests: with others,
+    // or with none, these are the same.
+    ensures asides { IsOfProfile schedule.now (map (object state called held) stock.items) →
+        IsNotTouchedByAsides (mission_of texts.now schedule.now (map (object state called held) stock.items) reads) (devices (R.source reader.old) (R.source reader.new) (W.sink writer.old) (W.sink writer.new)) (ending_of result) }
+
+    // The same without premises on hashes and raw files.
+    ensures asides_in_bytes { IsOfProfile schedule.now (map (object state called held) stock.items) →
+        IsNotTouchedByAsidesInBytes (mission_of texts.now schedule.now (map (object state called held) stock.items) reads) (devices (R.source reader.old) (R.source reader.new) (W.sink writer.old) (W.sink writer.new)) (ending_of result) }
+
     // However it ends, and whatever is in stock: at most so many reads were made.
     ensures bounded { (R.source reader.new).reads ≤ reads }
 {
     runs_write_what_is_called_for();
+    asides_do_not_count();
     begin(alloc, texts, schedule, stock, reader, writer, reads)
 }
 
@@ -175,6 +199,24 @@ pub fn run<R: ByteSource, W: ByteSink>(
     // Whatever fails: over the bytes that were taken, what the texts call for, or the first bytes of it.
     ensures whatever_fails { IsOfProfile schedule.now (map (object state called held) stock.items) →
         FollowsTexts (mission_of texts.now schedule.now (map (object state called held) stock.items) MOST_READS) (devices (R.source reader.old) (R.source reader.new) (W.sink writer.old) (W.sink writer.new)) (ending_of result) }
+
+    // A failed read or write is answered where one failed, and nowhere else, with how many bytes the writer took.
+    ensures failures { IsOfProfile schedule.now (map (object state called held) stock.items) →
+        TellsFailures MOST_READS (devices (R.source reader.old) (R.source reader.new) (W.sink writer.old) (W.sink writer.new)) (ending_of result) }
+
+    // Memory aside, the texts that are refused are those that say no rules, or too many or too long ones: none for how many
+    // operands of a condition wait.
+    ensures refuses { IsOfProfile schedule.now (map (object state called held) stock.items) →
+        RefusesUnfitAlone (sources_of texts.now) (ending_of result) }
+
+    // Commands to event services, to the counter and to other applications can't touch the sequence requests: with others,
+    // or with none, these are the same.
+    ensures asides { IsOfProfile schedule.now (map (object state called held) stock.items) →
+        IsNotTouchedByAsides (mission_of texts.now schedule.now (map (object state called held) stock.items) MOST_READS) (devices (R.source reader.old) (R.source reader.new) (W.sink writer.old) (W.sink writer.new)) (ending_of result) }
+
+    // The same without premises on hashes and raw files.
+    ensures asides_in_bytes { IsOfProfile schedule.now (map (object state called held) stock.items) →
+        IsNotTouchedByAsidesInBytes (mission_of texts.now schedule.now (map (object state called held) stock.items) MOST_READS) (devices (R.source reader.old) (R.source reader.new) (W.sink writer.old) (W.sink writer.new)) (ending_of result) }
 
     // However it ends, and whatever is in stock: at most so many reads were made.
     ensures bounded { (R.source reader.new).reads ≤ MOST_READS }

@@ -39,7 +39,7 @@ use Rattle.lc_model.specs.Kept.Call.{ServicesNow, Called, lc_with, with_tables, 
 use Rattle.lc_model.specs.Kept.GoesWith.{IsInStep}
 use Rattle.lc_model.proofs.Tables.SaidLaws.{all_append}
 use Rattle.lc_model.proofs.Tables.SoundImages.{SoundParts, sound_parts}
-use Rattle.lc_model.proofs.Tables.ImageParts.{SoundPreamble, sound_preamble}
+use Rattle.lc_model.proofs.Tables.ImageParts.{SoundPreamble, sound_preamble, length_numbers}
 use Rattle.host_laws.specs.Calls.{WritesLittle, StartsWriteLittle}
 use Rattle.host_laws.proofs.Sizes.{Bounded, nothing, wider, one_more, both, either, all_size, decimal_few, numbered_one, behind_text, five_digits}
 use Rattle.host_laws.proofs.InStep.{housekeeping_in_step}
@@ -404,13 +404,6 @@ few_of f each (x ∷ xs) =
     let whole : length (f x ++ flat_map f xs) ≡ length (f x) + length (flat_map f xs) = length-append (f x) (flat_map f xs) in
     omega (arith, first, others, whole)
 
-below_many : (n : ℕ) → length (numbers_below n) ≡ n
-below_many zero = refl
-below_many (suc n) =
-    let whole : length (numbers_below n ++ n ∷ []) ≡ length (numbers_below n) + 1 = length-append (numbers_below n) (n ∷ []) in
-    let others : length (numbers_below n) ≡ n = below_many n in
-    omega (arith, whole, others)
-
 module _ (layouts : List Layout) where
   abbrev rule_at : List ℕ → List ℕ → Layout → ℕ → List Actionpoint
   rule_at wdt adt l n = let e : List ℕ = entry_at l adt n in spelled_rule_if e (spelled_condition (spelled_terms wdt) (words_before_equal (all_words e)))
@@ -441,7 +434,7 @@ module _ (layouts : List Layout) where
       by_layout (Some l) =
           let all : length (flat_map (rule_at wdt adt l) (numbers_below (own_count adt))) ≤ length (numbers_below (own_count adt)) =
           few_of (rule_at wdt adt l) (λ n. one (entry_at l adt n) _) (numbers_below (own_count adt)) in
-          let many : length (numbers_below (own_count adt)) ≡ own_count adt = below_many (own_count adt) in
+          let many : length (numbers_below (own_count adt)) ≡ own_count adt = length_numbers (own_count adt) in
           omega (arith, all, many, few)
 
   pub bytes_have_short_rules : HasShortRules (as_bytes layouts)

@@ -5,13 +5,9 @@ use Rattle.lc_model.specs.Name.{Name, name_in}
 use Rattle.lc_model.specs.Bytes.{u16_at}
 use Rattle.lc_model.specs.Host.Stream.{StreamEntry, Contents, Packet, Tick, File, Half, Front, EndOfStream, Record, NoRecord, CutRecord, all_kinds, header_size, name_size, body_size, fits_body, half_contents, contents_of, moment_of, record_of, front, records_by_front, records_from}
 use Rattle.lc_model.proofs.Host.WholeRuns.{IsHalfBelow, contents_below}
+use Rattle.lc_model.proofs.Tables.SaidLaws.{bytes_in_front}
 use Rattle.host_laws.specs.Statements.{AreBytes, IsBrought, AreBrought, StreamsBring}
 use Rattle.host_laws.proofs.FineFiles.{dropped}
-
-taken : (n : ℕ) (bytes : List ℕ) → AreBytes bytes → AreBytes (take n bytes)
-taken zero bytes all = tt
-taken (suc n) [] all = tt
-taken (suc n) (byte ∷ bytes) all = (all.0, taken n bytes all.1)
 
 -- the bytes of a file are some of the body's
 IsFileOf : List ℕ → Contents → Type 0
@@ -74,7 +70,7 @@ front_brings kinds texts (kind ∷ bytes) entry rest all e =
     body = drop header_size (take (header_size + body_size stream) stream)
 
     are : AreBytes body
-    are = dropped header_size (take (header_size + body_size stream) stream) (taken (header_size + body_size stream) stream all)
+    are = dropped header_size (take (header_size + body_size stream) stream) (bytes_in_front (header_size + body_size stream) stream all)
 
     by_tests : (short fits cut : Bool) (contents : Option Contents) → contents_of texts kind body ≡ contents →
         cond short CutRecord (cond (not fits) NoRecord (cond cut CutRecord

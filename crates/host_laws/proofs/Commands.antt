@@ -20,10 +20,10 @@ use Rattle.lc_model.specs.Laws.TablesByName.{TablesAreFound, ChangingTables}
 use Rattle.lc_model.specs.Services.Seen.{files_seen, meaning_of, slot_in, slot_among}
 use Rattle.lc_model.specs.Services.Settled.{Form, form_of}
 use Rattle.lc_model.specs.Services.Tables.{Table, TableService, Places, Handle, IsTableService, tables_at, table_at, number_named, handle_from, handle_named, fits_table, with_slot, with_places, file_refusal, moved_among, image_loaded_among, loaded_among, table_commanded}
-use Rattle.lc_model.proofs.Events.LogLaws.{eq_either_way}
 use Rattle.lc_model.proofs.Services.SenderNames.{same_name}
 use Rattle.lc_model.proofs.Services.TableNames.{no_handle}
 use Rattle.lc_model.proofs.Services.TableServiceLaws.{then_ok}
+use Rattle.lc_model.proofs.Facts.{equal_either_way}
 use Rattle.host_laws.specs.Commands.{HasKnownForm, MovesByName, LoadsByName, CommandsKeepForms}
 
 -- ---- what a handle of a name finds
@@ -155,13 +155,13 @@ kind_known : (table : Table) → HasKnownForm table → HasKind table
 kind_known table (inl e) = record {
   kind = Wdt;
   is_kind = ap (λ (f : Form). kind_named f.name) e;
-  sizes = λ size. ap (λ b. b || false) (eq_either_way 4264 size)
+  sizes = λ size. ap (λ b. b || false) (equal_either_way 4264 size)
       ∙ sym (ap (λ (f : Form). size == f.size || option_map_or (λ other. size == other) f.other false) e);
 }
 kind_known table (inr e) = record {
   kind = Adt;
   is_kind = ap (λ (f : Form). kind_named f.name) e;
-  sizes = λ size. ap (λ b. b || (19400 == size || false)) (eq_either_way 15176 size) ∙ ap (λ b. size == 15176 || (b || false)) (eq_either_way 19400 size)
+  sizes = λ size. ap (λ b. b || (19400 == size || false)) (equal_either_way 15176 size) ∙ ap (λ b. size == 15176 || (b || false)) (equal_either_way 19400 size)
       ∙ either (size == 15176) (size == 19400)
       ∙ sym (ap (λ (f : Form). size == f.size || option_map_or (λ other. size == other) f.other false) e);
 }

@@ -18,8 +18,9 @@ use Rattle.lc_model.specs.Kept.Next.{Accounts, next_delivered, next_all_delivere
 use Rattle.lc_model.specs.Kept.Call.{with_at, ServicesNow, sent_by, accounted}
 use Rattle.lc_model.specs.Laws.Events.{HasLog, log_after, accounts_of}
 use Rattle.lc_model.proofs.Events.SendLaws.{same_delivery}
+use Rattle.lc_model.proofs.Services.SenderNames.{with_at_twice}
 use Rattle.host_laws.specs.Keeping.{state_of, standing_of, events_of}
-use Rattle.host_laws.proofs.Names.{by_names, host_changed, lc_changed, sch_changed, counter_changed, pushed, with_at_twice}
+use Rattle.host_laws.proofs.Names.{by_names, host_changed, lc_changed, sch_changed, counter_changed, pushed}
 
 -- ---- logs
 

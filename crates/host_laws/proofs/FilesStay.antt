@@ -19,17 +19,13 @@ use Rattle.host_laws.specs.Keeping.{Standing}
 use Rattle.host_laws.specs.Invariants.{FilesStayAMap}
 use Rattle.host_laws.proofs.Deliveries.{all_stand}
 use Rattle.host_laws.proofs.HostRecords.{IfOk}
+use Rattle.host_laws.proofs.Stays.{ok_after}
 
 -- ---- one file more
 
 one_or_other : {A : Type 0} (P : A → Type 0) (test : Bool) (x y : Result A Refusal) → (test ≡ true → IfOk P x) → (test ≡ false → IfOk P y) → IfOk P (if test then x else y)
 one_or_other P true x y a b = a refl
 one_or_other P false x y a b = b refl
-
--- a chain of refusals
-then_ok : {A B : Type 0} (P : B → Type 0) (r : Result A Refusal) (next : A → Result B Refusal) → ((a : A) → IfOk P (next a)) → IfOk P (r >>= next)
-then_ok P (Ok a) next each = each a
-then_ok P (Err refusal) next each = tt
 
 module _ {Image : Type 0} where
   stored_map : (name : Name) (size : ℕ) (meaning : FileMeaning Image) (files : List (Name × FileMeaning Image)) → IsFileMap files → IfOk IsFileMap (stored name size meaning files)
@@ -72,9 +68,9 @@ module _ {Image : Type 0} where
 
   event_same : (packet : List ℕ) (w : World Image) → IfOk (Same w) (event_service packet w)
   event_same packet w =
-      then_ok (Same w) (event_command (function_code packet) (payload packet)) _ (λ command.
-      then_ok (Same w) (found (log_of w command.0) 101) _ (λ log.
-      then_ok (Same w) (joined command.1 log) _ (λ longer. kept_log command.0 longer w)))
+      ok_after (Same w) (event_command (function_code packet) (payload packet)) _ (λ command.
+      ok_after (Same w) (found (log_of w command.0) 101) _ (λ log.
+      ok_after (Same w) (joined command.1 log) _ (λ longer. kept_log command.0 longer w)))
 
 module _ {Image : Type 0} where
   left_same : (name : Name) (w : World Image) → (left name w).files ≡ w.files
@@ -86,14 +82,14 @@ module _ {Image : Type 0} where
 module _ {Image : Type 0} (images : Interpretation Image) where
   managed_same : (command : TableCommand) (w : World Image) → IfOk (λ (after : World Image). after.files ≡ w.files) (managed images command w)
   managed_same (Load file) w =
-      then_ok _ (found (held file w.files) 111) _ (λ meaning. then_ok _ (opened_file meaning) _ (λ contents. then_ok _ (table_named contents.0 w) _ (λ table.
-      then_ok _ (provided (images.has_size table.0 contents.1) 114 contents.2) _ (λ image. then_ok _ (loaded image (slot_of table.0 table.1)) _ (λ slot. refl)))))
+      ok_after _ (found (held file w.files) 111) _ (λ meaning. ok_after _ (opened_file meaning) _ (λ contents. ok_after _ (table_named contents.0 w) _ (λ table.
+      ok_after _ (provided (images.has_size table.0 contents.1) 114 contents.2) _ (λ image. ok_after _ (loaded image (slot_of table.0 table.1)) _ (λ slot. refl)))))
   managed_same (Manage move name) w =
-      then_ok _ (table_named name w) _ (λ table. then_ok _ (moved move (slot_of table.0 table.1)) _ (λ slot. refl))
+      ok_after _ (table_named name w) _ (λ table. ok_after _ (moved move (slot_of table.0 table.1)) _ (λ slot. refl))
 
   table_same : (packet : List ℕ) (w : World Image) → IfOk (Same w) (table_service images packet w)
   table_same packet w =
-      then_ok (Same w) (table_command (function_code packet) (payload packet)) _ (λ command. by_managed (managed images command w) (managed_same command w))
+      ok_after (Same w) (table_command (function_code packet) (payload packet)) _ (λ command. by_managed (managed images command w) (managed_same command w))
     where
       by_managed : (r : Result (World Image) Refusal) → IfOk (λ (after : World Image). after.files ≡ w.files) r → IfOk (Same w) (r >>= (λ after. Ok (after, [])))
       by_managed (Ok after) same = same
@@ -127,7 +123,7 @@ module _ {Image : Type 0} (images : Interpretation Image) where
       (λ y. started_same name (spare_taken name (left name w)) ∙ spare_same name (left name w) ∙ left_same name w))
 
   executive_same : (packet : List ℕ) (w : World Image) → IfOk (Same w) (executive_service images packet w)
-  executive_same packet w = then_ok (Same w) (app_command (function_code packet) (payload packet)) _ (λ command. ordered_same command.0 command.1 w)
+  executive_same packet w = ok_after (Same w) (app_command (function_code packet) (payload packet)) _ (λ command. ordered_same command.0 command.1 w)
 
   to_lc_same : (packet : List ℕ) (w : World Image) → Same w (to_lc images packet w)
   to_lc_same packet w = by_running w.lc.running

@@ -1,39 +1,27 @@
 -- Records that the host handles with no application: bad packets, files, and commands to event services.
-use Rattle.std.proofs.Common.{◌≡◌, ℕ, ◌<◌, Bool, true, false, List, [], ◌∷◌, refl, ap, sym, ◌∙◌, subst, Option, Some, None, option_map, if◌then◌else◌, Result, Ok, Err, slice_index, ◌%◌, ◌==◌, arith}
+use Rattle.std.proofs.Common.{◌≡◌, ℕ, ◌<◌, Bool, true, false, List, [], ◌∷◌, refl, sym, subst, Option, Some, None, option_map, if◌then◌else◌, Result, Ok, Err, slice_index, ◌%◌, ◌==◌, arith}
 use Rattle.std.proofs.Math.Nat.{mod-lt}
 use Rattle.lc_model.specs.declared.record.Moment.{Moment}
-use Rattle.lc_model.specs.Name.{Name, is_named, host_name, lc_name, sch_name, counter_name}
+use Rattle.lc_model.specs.Name.{Name}
 use Rattle.lc_model.specs.Packet.{function_code, payload}
 use Rattle.lc_model.specs.Refusal.{Refusal, ◌>>=◌, found}
 use Rattle.lc_model.specs.Tables.Interpretation.{FileMeaning, Interpretation}
 use Rattle.lc_model.specs.Events.Request.{bad_packet, file_stored, file_refused}
-use Rattle.lc_model.specs.Events.Log.{Log, LogItem, Requested, FilterSet, FiltersReset, TypesSet, joined, is_full_for, filtered_ids}
+use Rattle.lc_model.specs.Events.Log.{Log, LogItem, joined}
 use Rattle.lc_model.specs.Command.{event_command}
 use Rattle.lc_model.specs.Host.Schedule.{Schedule}
-use Rattle.lc_model.specs.Host.World.{World, logged, log_of, with_log}
+use Rattle.lc_model.specs.Host.World.{World, log_of, with_log}
 use Rattle.lc_model.specs.Host.React.{stored, filed, on_file, event_service}
 use Rattle.lc_model.specs.Kept.Effort.{Effort}
-use Rattle.lc_model.specs.Kept.Summary.{EventState, event_state, counts_of}
+use Rattle.lc_model.specs.Kept.Summary.{event_state, counts_of}
 use Rattle.lc_model.specs.Kept.Call.{with_at}
 use Rattle.lc_model.specs.Kept.Executive.{Member, told_by_host, filed_now, with_services, joined_now, event_service_now}
 use Rattle.lc_model.specs.Laws.Events.{IsOfFourTypes}
-use Rattle.lc_model.proofs.Events.LogLaws.{another_item, same_fullness}
+use Rattle.lc_model.proofs.Events.SendLaws.{log_keeps}
+use Rattle.lc_model.proofs.Services.SenderLogs.{logged, same_joined}
 use Rattle.host_laws.specs.Keeping.{App, no_packets, Standing, standing_of, events_of, numbers_by, numbers_of, executive_of, IsSeated}
 use Rattle.host_laws.proofs.Deliveries.{events_with, log_stands}
 use Rattle.host_laws.proofs.Steps.{kept, StepKept, told, BothKept}
-
--- a changed log changes nothing of what was sent
-log_keeps_sent : {Image : Type 0} (sender : Name) (log : Log) (w : World Image) → (with_log sender log w).sent ≡ w.sent
-log_keeps_sent sender log w = at_tests (is_named sender host_name) (is_named sender lc_name) (is_named sender sch_name) (is_named sender counter_name)
-  where
-    at_tests : (a b c d : Bool) →
-        (if a then record w { host = log } else if b then record w { lc = logged log w.lc } else if c then record w { sch = logged log w.sch }
-        else if d then record w { counter = logged log w.counter } else w).sent ≡ w.sent
-    at_tests true b c d = refl
-    at_tests false true c d = refl
-    at_tests false false true d = refl
-    at_tests false false false true = refl
-    at_tests false false false false = refl
 
 -- a fact about what is not refused
 abbrev pub IfOk : {A : Type 0} → (A → Type 0) → Result A Refusal → Type 0
@@ -55,22 +43,6 @@ four_types code bytes =
   where
     small : slice_index bytes 20 % 16 < 16
     small = mod-lt (slice_index bytes 20) (omega arith)
-
-abbrev in_numbers : Result Log Refusal → Result EventState Refusal
-in_numbers (Ok log) = Ok (event_state log)
-in_numbers (Err refusal) = Err refusal
-
-joined_alike : (item : LogItem) (log : Log) → IsOfFourTypes item → joined_now item (event_state log) ≡ in_numbers (joined item log)
-joined_alike (Requested id kind) log small = ap Ok (another_item (Requested id kind) log small)
-joined_alike FiltersReset log small = ap Ok (another_item FiltersReset log small)
-joined_alike (TypesSet bits on) log small = ap Ok (another_item (TypesSet bits on) log small)
-joined_alike (FilterSet id mask) log small =
-    (λ i. if same_fullness id log i then Err (102 ∷ []) else Ok (another_item (FilterSet id mask) log small i)) ∙ by_test (is_full_for id (filtered_ids log))
-  where
-    by_test : (test : Bool) → (if test then Err (102 ∷ []) else Ok (event_state (FilterSet id mask ∷ log)))
-        ≡ in_numbers (if test then Err (102 ∷ []) else Ok (FilterSet id mask ∷ log))
-    by_test true = refl
-    by_test false = refl
 
 module _ {Image : Type 0} (images : Interpretation Image) (schedule : Schedule) (moment : Moment) (effort : Effort) (stock : List Member) (order : List (Option App)) (w : World Image)
     (seated : IsSeated images schedule (standing_of w) stock order) where
@@ -118,7 +90,7 @@ module _ {Image : Type 0} (images : Interpretation Image) (schedule : Schedule) 
     seated = subst (λ (s : Standing Image). IsSeated images schedule s stock order) (sym (log_stands name longer w)) seated;
     same = λ i. (
       executive_of images schedule stock order no_packets
-          (numbers_by images schedule effort (sym (log_stands name longer w) i) (sym (events_with name longer log w has) i) (counts_of (sym (log_keeps_sent name longer w) i))),
+          (numbers_by images schedule effort (sym (log_stands name longer w) i) (sym (events_with name longer log w has) i) (counts_of (sym (log_keeps name longer w) i))),
       [],
     );
   }
@@ -133,11 +105,11 @@ module _ {Image : Type 0} (images : Interpretation Image) (schedule : Schedule) 
   event_by_log name item (Some log) has small =
       subst (λ r. BothKept images schedule moment (joined item log >>= (λ longer. Ok (with_log name longer w, [])))
       (with_services (kept images schedule effort stock order w) (r >>= (λ after. Ok (record (numbers_of images schedule effort w).services { events = with_at name (Some after) (events_of w) })))))
-      (sym (joined_alike item log small)) (by_joined (joined item log))
+      (sym (same_joined item log small)) (by_joined (joined item log))
     where
       by_joined : (r : Result Log Refusal) →
           BothKept images schedule moment (r >>= (λ longer. Ok (with_log name longer w, [])))
-          (with_services (kept images schedule effort stock order w) (in_numbers r >>= (λ after. Ok (record (numbers_of images schedule effort w).services { events = with_at name (Some after) (events_of w) }))))
+          (with_services (kept images schedule effort stock order w) (logged r >>= (λ after. Ok (record (numbers_of images schedule effort w).services { events = with_at name (Some after) (events_of w) }))))
       by_joined (Err refusal) = refl
       by_joined (Ok longer) = with_log_kept name log longer has
 

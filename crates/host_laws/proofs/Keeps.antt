@@ -10,7 +10,7 @@ use Rattle.lc_model.specs.declared.kind.Kind.TheVariants.{Wdt, Adt}
 use Rattle.lc_model.specs.declared.record.Moment.{Moment}
 use Rattle.lc_model.specs.Name.{Name, is_named, lc_name, sch_name, counter_name, held}
 use Rattle.lc_model.specs.Packet.{function_code, payload, message_id, tick_mid, counter_mid}
-use Rattle.lc_model.specs.Refusal.{Refusal, ◌>>=◌, found, provided}
+use Rattle.lc_model.specs.Refusal.{Refusal, ◌>>=◌, provided}
 use Rattle.lc_model.specs.Tables.File.{table_name}
 use Rattle.lc_model.specs.Tables.Slot.{Slot, no_images, loaded, moved}
 use Rattle.lc_model.specs.Tables.Interpretation.{FileMeaning, Interpretation, kind_named}
@@ -27,21 +27,12 @@ use Rattle.lc_model.specs.Kept.Call.{effort_after, with_at, ServicesNow, Called,
 use Rattle.lc_model.specs.Kept.Next.{next_all_delivered}
 use Rattle.lc_model.specs.Kept.Executive.{joined_now, event_service_now, managed_now, table_service_now}
 use Rattle.lc_model.specs.Kept.GoesWith.{own_name, IsSender, IsJudged, IsInStep, LcGoesWith, GoesWith}
+use Rattle.lc_model.proofs.Services.TableServiceLaws.{then_ok, found_ok}
 use Rattle.host_laws.specs.Calls.{StartsGoWith, PacketsKeep, CallsKeepOthers, TheHostKeeps, CopiesServe, IsPublication, PublishesFew}
 use Rattle.host_laws.proofs.Copies.{packet_so}
 use Rattle.host_laws.proofs.HostRecords as host
 use Rattle.host_laws.proofs.InStep.{loaded_judged, moved_judged, start_in_step, packet_in_step}
 use Rattle.host_laws.proofs.TableRecords.{loaded_active, moved_active}
-
--- ---- results
-
-ok_so : {A B : Type 0} (P : B → Type 0) (r : Result A Refusal) (f : A → Result B Refusal) → ((x : A) → r ≡ Ok x → IfOk (f x) P) → IfOk (r >>= f) P
-ok_so P (Ok x) f h = h x refl
-ok_so P (Err refusal) f h = tt
-
-found_so : {A B : Type 0} (P : B → Type 0) (o : Option A) (code : ℕ) (f : A → Result B Refusal) → ((x : A) → o ≡ Some x → IfOk (f x) P) → IfOk (found o code >>= f) P
-found_so P (Some x) code f h = h x refl
-found_so P None code f h = tt
 
 -- ---- senders
 
@@ -180,9 +171,9 @@ module _ {Image : Type 0} (images : Interpretation Image) where
       IfOk (event_service_now packet services) (λ (after : ServicesNow Image). GoesWith images state after)
   events_keep state services g packet =
       let P : ServicesNow Image → Type 0 = λ after. GoesWith images state after in
-      ok_so P (event_command (function_code packet) (payload packet)) _ (λ (command : Name × LogItem) e.
-      found_so P (services.events command.0) 101 _ (λ (events : EventState) there.
-      ok_so P (joined_now command.1 events) _ (λ (after : EventState) joined.
+      then_ok P (event_command (function_code packet) (payload packet)) _ (λ (command : Name × LogItem) e.
+      found_ok P (services.events command.0) 101 _ (λ (events : EventState) there.
+      then_ok P (joined_now command.1 events) _ (λ (after : EventState) joined.
       carried state services (record services { events = with_at command.0 (Some after) services.events })
       (record { slots = refl; senders = λ name h. kept_at name command.0 after services.events h }) g)))
 
@@ -239,21 +230,21 @@ module _ {Image : Type 0} (images : Interpretation Image) where
       IfOk (managed_now images command services) (λ (after : ServicesNow Image). GoesWith images state after)
   managed_keeps state services g (Load file) =
       let P : ServicesNow Image → Type 0 = λ after. GoesWith images state after in
-      found_so P (held file services.files) 111 _ (λ (meaning : FileMeaning Image) is.
-      ok_so P (opened_file meaning) _ (λ (contents : Name × ℕ × Image) opens.
-      found_so P (kind_named contents.0) 113 _ (λ (kind : Kind) named.
-      found_so P (services.slots contents.0) 113 _ (λ (slot : Slot Image) there.
-      ok_so P (provided (images.has_size kind contents.1) 114 contents.2) _ (λ (image : Image) fits.
+      found_ok P (held file services.files) 111 _ (λ (meaning : FileMeaning Image) is.
+      then_ok P (opened_file meaning) _ (λ (contents : Name × ℕ × Image) opens.
+      found_ok P (kind_named contents.0) 113 _ (λ (kind : Kind) named.
+      found_ok P (services.slots contents.0) 113 _ (λ (slot : Slot Image) there.
+      then_ok P (provided (images.has_size kind contents.1) 114 contents.2) _ (λ (image : Image) fits.
       tables_placed state services contents.0 slot (loaded image slot) there (loaded_active image slot) (λ kind h. loaded_judged images kind image slot h) g)))))
   managed_keeps state services g (Manage move name) =
       let P : ServicesNow Image → Type 0 = λ after. GoesWith images state after in
-      found_so P (services.slots name) 113 _ (λ (slot : Slot Image) there.
+      found_ok P (services.slots name) 113 _ (λ (slot : Slot Image) there.
       tables_placed state services name slot (moved move slot) there (moved_active move slot) (λ kind h. moved_judged images kind move slot h) g)
 
   tables_keep : (state : AppState) (services : ServicesNow Image) → GoesWith images state services → (packet : List ℕ) →
       IfOk (table_service_now images packet services) (λ (after : ServicesNow Image). GoesWith images state after)
   tables_keep state services g packet =
-      ok_so (λ (after : ServicesNow Image). GoesWith images state after) (table_command (function_code packet) (payload packet)) _ (λ (command : TableCommand) e. managed_keeps state services g command)
+      then_ok (λ (after : ServicesNow Image). GoesWith images state after) (table_command (function_code packet) (payload packet)) _ (λ (command : TableCommand) e. managed_keeps state services g command)
 
   pub the_host_keeps : TheHostKeeps images
   the_host_keeps state services g = record {

@@ -65,10 +65,3 @@ pub pushed : {X Y : Type 0} (f : X → Y) (x y : X) (test : Bool) → f (if test
 pushed f x y true = refl
 pushed f x y false = refl
 
--- of two values under one name the last one stays
-pub with_at_twice : {X : Type 0} (name : Name) (x y : X) (held : Name → X) → with_at name x (with_at name y held) ≡ with_at name x held
-with_at_twice {X} name x y held i other = choice (is_named other name) i
-  where
-    choice : (test : Bool) → (if test then x else (if test then y else held other)) ≡ (if test then x else held other)
-    choice true = refl
-    choice false = refl

@@ -29,6 +29,7 @@ use Rattle.lc_model.specs.Laws.LimitChecker.{IsSettled, InForceIsSensible}
 use Rattle.lc_model.proofs.Events.SendLaws.{same_count}
 use Rattle.lc_model.proofs.LimitChecker.StepLaws.{same_packet_step}
 use Rattle.lc_model.proofs.Host.UnheardLaws.{unheard_packet}
+use Rattle.lc_model.proofs.Facts.{or_false}
 use Rattle.host_laws.specs.Keeping.{App, LimitChecker, Scheduler, Counter, holds, times, no_packets, pipe_with, Standing, standing_of, events_of, Numbers, numbers_by, numbers_of, slot_now, slots_in, subscriptions_in, executive_of, IsSeated}
 use Rattle.host_laws.proofs.Copies.{world_so}
 use Rattle.host_laws.proofs.Deliveries.{all_stand, services_with, sent_alike}
@@ -37,10 +38,6 @@ use Rattle.host_laws.proofs.Places.{Stands, stands, map_absent}
 use Rattle.host_laws.proofs.Seats.{lc_agree, counter_agree, lc_on, lc_off, counter_on, counter_off}
 use Rattle.host_laws.proofs.Queues.{only, heard, published_alike, heard_by_all, idle, delivery}
 use Rattle.host_laws.proofs.Steps.{by_lc, by_counter, kept, StepKept}
-
-or_none : (b : Bool) → (b || false) ≡ b
-or_none true = refl
-or_none false = refl
 
 module _ {Image : Type 0} (images : Interpretation Image) (schedule : Schedule) (moment : Moment) where
   -- what is asked of a running Limit Checker
@@ -295,8 +292,8 @@ module _ {Image : Type 0} (images : Interpretation Image) (schedule : Schedule) 
         where
           who : (other : App) → IsFalse (heard packet (subscriptions_in images schedule (numbers_of images schedule effort (lc_off w spares)) other))
           who LimitChecker = refl
-          who Scheduler = or_none (message_id packet == tick_mid) ∙ not_tick
-          who Counter = or_none (message_id packet == counter_mid) ∙ not_counter
+          who Scheduler = or_false (message_id packet == tick_mid) ∙ not_tick
+          who Counter = or_false (message_id packet == counter_mid) ∙ not_counter
 
       on : (w : World Image) (spares : ℕ) (r : Running (Lc Image)) → IsSeated images schedule (standing_of (lc_on w spares r)) stock order → Fits (lc_on w spares r) →
           StepKept images schedule moment (to_lc images packet (lc_on w spares r)) (passed_on images moment packet (kept images schedule effort stock order (lc_on w spares r)))
@@ -331,8 +328,8 @@ module _ {Image : Type 0} (images : Interpretation Image) (schedule : Schedule) 
 
           who : (b : Bool) → list_any (λ mid. message_id packet == mid) (lc_mids images r.state) ≡ b → (other : App) → heard packet (subscriptions_in images schedule n other) ≡ (let yes : Bool = holds LimitChecker (Some other) in if yes then b else false)
           who b e LimitChecker = heard_by_all packet (lc_mids images (lc_now images r.state)) ∙ e
-          who b e Scheduler = or_none (message_id packet == tick_mid) ∙ not_tick
-          who b e Counter = or_none (message_id packet == counter_mid) ∙ not_counter
+          who b e Scheduler = or_false (message_id packet == tick_mid) ∙ not_tick
+          who b e Counter = or_false (message_id packet == counter_mid) ∙ not_counter
 
           who_true : list_any (λ mid. message_id packet == mid) (lc_mids images r.state) ≡ true → (other : App) → heard packet (subscriptions_in images schedule n other) ≡ holds LimitChecker (Some other)
           who_true e LimitChecker = who true e LimitChecker

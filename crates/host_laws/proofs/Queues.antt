@@ -9,6 +9,7 @@ use Rattle.lc_model.specs.Tables.Interpretation.{Interpretation}
 use Rattle.lc_model.specs.Host.Schedule.{Schedule}
 use Rattle.lc_model.specs.Kept.Call.{Called, with_mid, with_mids, next_on_packet}
 use Rattle.lc_model.specs.Kept.Executive.{Member, Executive, Written, Pipe, no_member, offered, published_to, all_published_to, has_some, is_ready, ready_seat, seated, followed, after_call, after_taking, handed, delivered_at, drained}
+use Rattle.lc_model.proofs.Facts.{or_false, or_true, or_assoc}
 use Rattle.host_laws.specs.Keeping.{App, name_of, holds, Queues, no_packets, seat_with, pipe_with, Numbers, state_in, subscriptions_in, executive_of}
 use Rattle.host_laws.proofs.Places.{Stands, place_found, at_place, set_place, holds_own}
 use Rattle.host_laws.proofs.Seats.{Agree}
@@ -42,21 +43,9 @@ published_alike subscriptions queues packet (seat ∷ order) = ap₂ (λ x xs. x
 
 -- ---- subscriptions
 
-or_none : (b : Bool) → (b || false) ≡ b
-or_none true = refl
-or_none false = refl
-
-or_true : (b : Bool) → (b || true) ≡ true
-or_true true = refl
-or_true false = refl
-
-or_twice : (a b c : Bool) → ((a || b) || c) ≡ (a || (b || c))
-or_twice true b c = refl
-or_twice false b c = refl
-
 any_append : (test : ℕ → Bool) (xs ys : List ℕ) → list_any test (xs ++ ys) ≡ (list_any test xs || list_any test ys)
 any_append test [] ys = refl
-any_append test (x ∷ xs) ys = ap (λ b. test x || b) (any_append test xs ys) ∙ sym (or_twice (test x) (list_any test xs) (list_any test ys))
+any_append test (x ∷ xs) ys = ap (λ b. test x || b) (any_append test xs ys) ∙ sym (or_assoc (test x) (list_any test xs) (list_any test ys))
 
 heard_more : (packet : List ℕ) (mid : ℕ) (mids : List ℕ) → heard packet (with_mid mid mids) ≡ (heard packet mids || (message_id packet == mid))
 heard_more packet mid mids = by_test (list_any (λ other. mid == other) mids) refl
@@ -66,18 +55,18 @@ heard_more packet mid mids = by_test (list_any (λ other. mid == other) mids) re
 
     there : (b : Bool) → (m == mid) ≡ b → list_any (λ other. mid == other) mids ≡ true → heard packet mids ≡ (heard packet mids || b)
     there true e is = ap (λ n. list_any (λ other. n == other) mids) ((Decides-eqb m mid).0 e) ∙ is ∙ sym (or_true (heard packet mids))
-    there false e is = sym (or_none (heard packet mids))
+    there false e is = sym (or_false (heard packet mids))
 
     by_test : (b : Bool) → list_any (λ other. mid == other) mids ≡ b → list_any (λ other. m == other) (if b then mids else mids ++ mid ∷ []) ≡ (heard packet mids || (m == mid))
     by_test true is = there (m == mid) refl is
-    by_test false is = any_append (λ other. m == other) mids (mid ∷ []) ∙ ap (λ b. heard packet mids || b) (or_none (m == mid))
+    by_test false is = any_append (λ other. m == other) mids (mid ∷ []) ∙ ap (λ b. heard packet mids || b) (or_false (m == mid))
 
 heard_with : (packet : List ℕ) (more mids : List ℕ) → heard packet (with_mids more mids) ≡ (heard packet mids || heard packet more)
 unfolding with_mids
-heard_with packet [] mids = sym (or_none (heard packet mids))
+heard_with packet [] mids = sym (or_false (heard packet mids))
 heard_with packet (mid ∷ more) mids =
     heard_with packet more (with_mid mid mids) ∙ ap (λ b. b || heard packet more) (heard_more packet mid mids)
-    ∙ or_twice (heard packet mids) (message_id packet == mid) (heard packet more)
+    ∙ or_assoc (heard packet mids) (message_id packet == mid) (heard packet more)
 
 -- a pipe that was subscribed to these message ids hears them
 pub heard_by_all : (packet : List ℕ) (mids : List ℕ) → heard packet (with_mids mids []) ≡ heard packet mids

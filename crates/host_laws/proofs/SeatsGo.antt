@@ -21,13 +21,9 @@ use Rattle.lc_model.specs.Laws.Correspondence.{BothOrNone, IsFound, WaitingAlike
 use Rattle.host_laws.specs.Keeping.{App, LimitChecker, Scheduler, Counter, holds, times, seat_with, standing_of, runs_in, numbers_of, state_in}
 use Rattle.host_laws.specs.Statements.{IsOne, IsWhole, SeatsGoWith}
 use Rattle.host_laws.proofs.Steps.{by_lc, by_sch, by_counter}
+use Rattle.host_laws.proofs.Places.{holds_own}
 
 -- ---- who has a seat runs
-
-holds_own : (app : App) → holds app (Some app) ≡ true
-holds_own LimitChecker = refl
-holds_own Scheduler = refl
-holds_own Counter = refl
 
 no_more_behind : (test : Bool) (n : ℕ) → (if test then suc n else n) ≡ 0 → n ≡ 0
 no_more_behind true n e = absurd (omega (arith, e))

@@ -29,7 +29,7 @@ use Rattle.host_laws.proofs.HostRecords.{IfOk, either_ok}
 use Rattle.host_laws.proofs.TableRecords.{loaded_active, moved_active}
 use Rattle.host_laws.proofs.Steps.{by_lc}
 
-ok_after : {A B : Type 0} (P : B → Type 0) (r : Result A Refusal) (f : A → Result B Refusal) → ((x : A) → IfOk P (f x)) → IfOk P (r >>= f)
+pub ok_after : {A B : Type 0} (P : B → Type 0) (r : Result A Refusal) (f : A → Result B Refusal) → ((x : A) → IfOk P (f x)) → IfOk P (r >>= f)
 ok_after P (Ok x) f h = h x
 ok_after P (Err refusal) f h = tt
 

@@ -1,38 +1,22 @@
 -- The watchpoints of a sound WDT image watch telemetry.
-use Rattle.std.proofs.Common.{◌≡◌, ℕ, zero, suc, ◌<◌, Bool, true, false, not, ◌||◌, ◌==◌, List, [], ◌∷◌, map, refl, ap, sym, ◌∙◌, subst, arith, None, is_none, IsTrue, true≢false, slice_index}
+use Rattle.std.proofs.Common.{◌≡◌, ℕ, ◌<◌, Bool, false, not, ◌||◌, ◌==◌, List, [], ◌∷◌, ap, sym, ◌∙◌, arith, None, is_none, IsTrue, slice_index}
 use Rattle.std.specs.Option.{option_map_or}
 use Rattle.std.specs.Int.{is_in_range}
 use Rattle.std.specs.List.{list_any, AllByRecursion}
-use Rattle.std.proofs.lemmas.List.{map-append}
 use Rattle.lc_model.specs.declared.field.Term.{Term}
 use Rattle.lc_model.specs.declared.kind.Kind.TheVariants.{Wdt}
 use Rattle.lc_model.specs.Bytes.{u16_at, u32_at}
 use Rattle.lc_model.specs.Packet.{reserved_mids, is_telemetry_mid}
-use Rattle.lc_model.specs.Codes.{is_kind, table_entries}
+use Rattle.lc_model.specs.Codes.{table_entries}
 use Rattle.lc_model.specs.Field.{full_mask, is_in_type}
-use Rattle.lc_model.specs.Tables.Image.{Layout, Watchpoints, Actionpoints, WideActionpoints, kind_of, own_count, watchpoint_count, entry_at, used_code, numbers_below, type_of_code, twos_complement_32, watchpoint_code}
+use Rattle.lc_model.specs.Tables.Image.{Layout, Watchpoints, own_count, watchpoint_count, entry_at, used_code, type_of_code, twos_complement_32, watchpoint_code}
 use Rattle.lc_model.specs.Tables.Spelled.{spelled_term}
 use Rattle.lc_model.proofs.Tables.SoundWords.{none_stands}
-use Rattle.lc_model.proofs.Facts.{or_first}
+use Rattle.lc_model.proofs.Facts.{or_first, not_false}
 use Rattle.lc_model.proofs.Tables.SoundImages.{SoundParts, sound_parts}
-use Rattle.lc_model.proofs.Tables.SaidLaws.{all_append}
+use Rattle.lc_model.proofs.Tables.SaidLaws.{each_listed, only_watchpoints}
 use Rattle.lc_model.proofs.Tables.ImageParts.{SoundPreamble, sound_preamble, used_is_sound}
 use Rattle.host_laws.specs.Statements.{TermsAreTelemetry}
-
-each_listed : {A : Type 0} (P : A → Type 0) (f : ℕ → A) (k : ℕ) → ((n : ℕ) → n < k → P (f n)) → AllByRecursion P (map f (numbers_below k))
-each_listed P f zero each = tt
-each_listed P f (suc k) each =
-    subst (AllByRecursion P) (sym (map-append f (numbers_below k) (k ∷ [])))
-    (all_append P (map f (numbers_below k)) (f k ∷ []) (each_listed P f k (λ n below. each n (omega (arith, below)))) (each k (omega arith), tt))
-
-not_false : (b : Bool) → not b ≡ false → b ≡ true
-not_false true e = refl
-not_false false e = absurd (true≢false e)
-
-wdt_layout : (l : Layout) → is_kind Wdt (kind_of l) ≡ true → l ≡ Watchpoints
-wdt_layout Watchpoints e = refl
-wdt_layout Actionpoints e = absurd (true≢false (sym e))
-wdt_layout WideActionpoints e = absurd (true≢false (sym e))
 
 -- the tests of an entry
 abbrev tests_of : List ℕ → List (Bool × ℕ)
@@ -57,7 +41,7 @@ terms_are_telemetry layouts wdt bytes sound =
     parts = sound_parts layouts Wdt wdt sound
 
     is : parts.layout ≡ Watchpoints
-    is = wdt_layout parts.layout parts.of_kind
+    is = only_watchpoints parts.layout parts.of_kind
 
     p : SoundPreamble parts.layout wdt
     p = sound_preamble parts.layout wdt parts.preamble

@@ -1,5 +1,5 @@
 -- A tick: the scheduler publishes, and the Limit Checker has one packet after the other.
-use Rattle.std.proofs.Common.{◌≡◌, ℕ, zero, suc, ◌+◌, ◌≤◌, Bool, true, false, ◌||◌, ◌==◌, List, [], ◌∷◌, ◌++◌, map, length, slice_index_or, refl, ap, sym, ◌∙◌, subst, arith, Option, Some, None, is_some, unwrap_or, if◌then◌else◌, IsFalse, IsTrue, IfSome, true≢false}
+use Rattle.std.proofs.Common.{◌≡◌, ℕ, zero, suc, ◌+◌, ◌≤◌, Bool, true, false, ◌||◌, ◌==◌, List, [], ◌∷◌, ◌++◌, map, length, slice_index_or, refl, ap, sym, ◌∙◌, subst, arith, Option, Some, None, is_some, if◌then◌else◌, IsFalse, IsTrue, IfSome, true≢false}
 use Rattle.std.specs.Option.{option_map_or}
 use Rattle.std.specs.List.{list_any, AllByRecursion}
 use Rattle.std.proofs.lemmas.List.{append-nil, append_assoc, length-map}
@@ -23,6 +23,7 @@ use Rattle.lc_model.specs.Kept.Summary.{LcNow, lc_now}
 use Rattle.lc_model.specs.Kept.Call.{sch_told, lc_subscriptions}
 use Rattle.lc_model.specs.Kept.Executive.{Member, Written, all_published_to, followed, drained, most_deliveries, passed_on, tick_packet}
 use Rattle.lc_model.proofs.Events.SendLaws.{same_tick}
+use Rattle.lc_model.proofs.Facts.{some_same}
 use Rattle.host_laws.specs.Keeping.{App, LimitChecker, Scheduler, Counter, holds, no_packets, pipe_with, state_of, Standing, standing_of, Numbers, numbers_of, subscriptions_in, executive_of, IsSeated}
 use Rattle.host_laws.proofs.Deliveries.{all_stand}
 use Rattle.host_laws.proofs.Places.{Stands, stands}
@@ -164,9 +165,6 @@ module _ {Image : Type 0} (images : Interpretation Image) where
 state_put : {Image : Type 0} (w : World Image) (lc x : Lc Image) → state_of w.lc ≡ Some lc → state_of (put_lc x w).lc ≡ Some x
 state_put w lc x = by_lc (λ w. state_of w.lc ≡ Some lc → state_of (put_lc x w).lc ≡ Some x)
     (λ w spares e. absurd (true≢false (sym (ap is_some e)))) (λ w spares r e. refl) w
-
-some_same : {A : Type 0} (a b : A) → Some a ≡ Some b → a ≡ b
-some_same a b e = ap (λ o. unwrap_or o a) e
 
 put_own : {Image : Type 0} (w : World Image) (lc : Lc Image) → state_of w.lc ≡ Some lc → w ≡ put_lc lc w
 put_own w lc = by_lc (λ w. state_of w.lc ≡ Some lc → w ≡ put_lc lc w)

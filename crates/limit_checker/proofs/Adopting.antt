@@ -25,7 +25,7 @@ use Rattle.table_validator.specs.Sound.{TableImage}
 use Rattle.app_host.specs.Shared.{on_board}
 use Rattle.app_host.proofs.Resubscribed.{both_changes, is_there, still_there}
 use Rattle.limit_checker.specs.Adoption.{are_matching, pair_of, HasSoundSlot}
-use Rattle.limit_checker.specs.Engine.{with_tables}
+use Rattle.limit_engine.specs.Engine.{with_tables}
 use Rattle.limit_checker.specs.Housekeeping.{adt_of, wdt_of, own_adopted, pair_at}
 use Rattle.limit_checker.proofs.TwoTables.{HasTwo, two_tables, as_is, first_changed, second_registered}
 

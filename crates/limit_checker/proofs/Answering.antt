@@ -1,11 +1,10 @@
 -- A packet that leaves the tables alone is answered by the rules of the interface and as the definitions say.
-use Rattle.std.proofs.Common.{◌≡◌, refl, ap, sym, ◌∙◌, subst, ℕ, ◌+◌, ◌≤◌, Bool, true, false, List, [], ◌∷◌, length, map, arith, Option, Some, None, true≢false, if◌then◌else◌}
+use Rattle.std.proofs.Common.{◌≡◌, refl, ap, sym, ◌∙◌, subst, ℕ, ◌+◌, ◌≤◌, List, [], ◌∷◌, length, map, arith, Option, Some, None, true≢false}
 use Rattle.std.specs.Prelude.{IfSome, IsTrue, is_some, unwrap_or}
-use Rattle.std.proofs.lemmas.Slice.Eq.{bytes_eq-Decides}
 use Rattle.lc_model.specs.declared.kind.Kind.TheVariants.{Wdt, Adt}
 use Rattle.lc_model.specs.declared.field.Term.{Term}
 use Rattle.lc_model.specs.declared.mode.LcMode.{LcMode}
-use Rattle.lc_model.specs.Name.{Name, is_named, lc_name}
+use Rattle.lc_model.specs.Name.{Name, lc_name}
 use Rattle.lc_model.specs.Packet.{lc_command_mid, lc_housekeeping_request_mid, sample_mid}
 use Rattle.lc_model.specs.Events.Request.{Request}
 use Rattle.lc_model.specs.LimitChecker.Steps.{Point}
@@ -17,6 +16,7 @@ use Rattle.lc_model.specs.Kept.GoesWith.{LcGoesWith, subscriptions_of}
 use Rattle.lc_model.specs.Services.Interface.{MayBeGiven}
 use Rattle.lc_model.specs.Services.Settled.{IsSettled}
 use Rattle.lc_model.specs.Services.Events.{Sender, sender_at}
+use Rattle.lc_model.proofs.Services.SenderNames.{with_at_own}
 use Rattle.app_host.specs.declared.services.Services.{Services}
 use Rattle.app_host.specs.Shared.{on_board, held_by, shared}
 use Rattle.app_host.specs.Telling.{Tells}
@@ -26,16 +26,6 @@ use Rattle.limit_checker.specs.Application.{IsHome, MayHave, Answers}
 
 -- ---- what is held under a name
 
-own_again : {X : Type 0} (name : Name) (x : X) (held : Name → X) → held name ≡ x → with_at name x held ≡ held
-own_again {X} name x held is = λ i other. at other i
-  where
-    at : (other : Name) → (if is_named other name then x else held other) ≡ held other
-    at other = by_test (is_named other name) refl
-      where
-        by_test : (test : Bool) → is_named other name ≡ test → (if test then x else held other) ≡ held other
-        by_test true e = sym is ∙ ap held (sym ((bytes_eq-Decides other name).0 e))
-        by_test false e = refl
-
 there : {X : Type 0} (place : Option X) (d : X) → IsTrue (is_some place) → place ≡ Some (unwrap_or place d)
 there None d some = absurd (true≢false (sym some))
 there (Some x) d some = refl
@@ -43,9 +33,9 @@ there (Some x) d some = refl
 tables_stay : (own : LcOwn) (services : ServicesNow (List ℕ)) → LcGoesWith on_board own services → with_tables (lc_with own services) services ≡ services
 tables_stay own services goes =
     (λ i. record services {
-      slots = with_at (table_name Wdt) (Some (slot_named (table_name Wdt) services)) (own_again (table_name Adt) (Some (slot_named (table_name Adt) services)) services.slots (there (services.slots (table_name Adt)) no_images goes.adt) i);
+      slots = with_at (table_name Wdt) (Some (slot_named (table_name Wdt) services)) (with_at_own (table_name Adt) (Some (slot_named (table_name Adt) services)) services.slots (there (services.slots (table_name Adt)) no_images goes.adt) i);
     })
-    ∙ (λ i. record services { slots = own_again (table_name Wdt) (Some (slot_named (table_name Wdt) services)) services.slots (there (services.slots (table_name Wdt)) no_images goes.wdt) i })
+    ∙ (λ i. record services { slots = with_at_own (table_name Wdt) (Some (slot_named (table_name Wdt) services)) services.slots (there (services.slots (table_name Wdt)) no_images goes.wdt) i })
 
 -- ---- one call
 

@@ -30,13 +30,14 @@ use Rattle.app_host.specs.Shared.{on_board, held_by, shared}
 use Rattle.app_host.specs.Statements.{TellingAnswers, TellingLeaves, TellingSettles}
 use Rattle.app_host.specs.Telling.{Tells, name_of}
 use Rattle.app_host.specs.Calls.{IsAtHome}
-use Rattle.limit_checker.specs.declared.application.housekeeping.Renewal.{Renewal}
+use Rattle.limit_checker.specs.declared.housekeeping.Renewal.{Renewal}
 use Rattle.limit_checker.specs.Application.{IsHome, MayHave, Answers}
 use Rattle.limit_checker.specs.Housekeeping.{adoption_requests, both_judged, both_taken, own_adopted, pair_at, renewal_requests, requested_by, requests_of, tables_after, validation, MayRenew, Renews}
 use Rattle.limit_checker.specs.Sending.{MaySend}
 use Rattle.limit_checker.proofs.Answering.{answers, little_after}
 use Rattle.limit_checker.proofs.Rearranged.{Rearranges, HasQueue, queue_there, rearranged}
 use Rattle.limit_checker.proofs.TwoTables.{HasTwo, two_tables, both, first_slot, second_slot, first_slot_is, second_slot_is, forms_stay, others_stay, judged_are, taken_are, slots_named, first_found, second_found}
+use Rattle.limit_checker.proofs.Leaving.{slots_are}
 
 -- ---- the step of the definitions, by its slots
 
@@ -103,10 +104,6 @@ module _ (packet : List ℕ) (own : LcOwn) (lc : LcNow (List ℕ)) (kind : messa
       ap (λ mid. if mid == sample_mid then sample_effort own (sample_request (function_code packet) (payload packet)) else if is_telemetry_mid mid then telemetry_effort own mid else own.effort) kind
 
 -- ---- a request that is attended to
-
-slots_are : (s : Services) → slot_among s.tables.places ≡ (shared s).slots
-unfolding shared
-slots_are s = refl
 
 shared_with : (before between : Services) (slots : Name → Option (Slot (List ℕ))) → between ≡ record before { tables = between.tables; bus = between.bus } → between.tables.files ≡ before.tables.files →
     slot_among between.tables.places ≡ slots → shared between ≡ record (shared before) { slots = slots }

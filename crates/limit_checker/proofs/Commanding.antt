@@ -20,8 +20,8 @@ use Rattle.app_host.specs.Statements.{TellingAnswers, TellingLeaves, TellingSett
 use Rattle.app_host.specs.Sending.{NothingIsTold}
 use Rattle.limit_checker.specs.Application.{IsHome, MayHave, Answers}
 use Rattle.limit_checker.specs.Commands.{own_obeyed, own_commanded}
-use Rattle.limit_checker.specs.Engine.{after_telemetry, tells_short}
-use Rattle.limit_checker.specs.States.{outcome, unless_refused}
+use Rattle.limit_engine.specs.Engine.{after_telemetry, tells_short}
+use Rattle.limit_engine.specs.States.{outcome, unless_refused}
 use Rattle.limit_checker.proofs.Answering.{now_with, answers, little_after}
 
 -- ---- a command

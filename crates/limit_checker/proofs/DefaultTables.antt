@@ -1,5 +1,5 @@
 -- The pair of tables that the application starts with.
-use Rattle.std.proofs.Common.{◌≡◌, refl, ap, sym, ◌∙◌, subst, ℕ, ◌==◌, ◌&&◌, Bool, true, false, not, List, ◌∷◌, [], length, if◌then◌else◌, Option, Some, None, Result, Ok, Err, true≢false, bytes_eq}
+use Rattle.std.proofs.Common.{◌≡◌, refl, ap, sym, ◌∙◌, subst, ℕ, ◌==◌, ◌&&◌, Bool, true, false, not, List, length, if◌then◌else◌, Option, Some, None, Result, Ok, Err, true≢false, bytes_eq}
 use Rattle.std.specs.Prelude.{IsTrue, MatchOption, option_map, is_none}
 use Rattle.std.specs.Option.{option_map_or}
 use Rattle.std.proofs.lemmas.Slice.Eq.{bytes_eq-Decides}
@@ -15,8 +15,8 @@ use Rattle.lc_model.specs.Tables.HalvesAndBytes.{meaning_by}
 use Rattle.lc_model.specs.Tables.Interpretation.{FileMeaning, Pair, default_file}
 use Rattle.lc_model.specs.Tables.Spelled.{spelled_terms, spelled_rules}
 use Rattle.lc_model.specs.LimitChecker.Steps.{sound_image, paired}
-use Rattle.lc_model.specs.Services.Seen.{files_seen, meaning_of}
-use Rattle.lc_model.specs.Services.Tables.{TableService, fits_table, stored_image, image_in}
+use Rattle.lc_model.specs.Services.Seen.{meaning_of}
+use Rattle.lc_model.specs.Services.Tables.{TableService, fits_table, image_in}
 use Rattle.host_laws.proofs.Commands.{held_meaning}
 use Rattle.lc_model.proofs.Facts.{and_first, and_second, and_second_false, tested_equal}
 use Rattle.lc_model.proofs.Tables.SoundImages.{sound_parts}
@@ -25,7 +25,7 @@ use Rattle.table_file.specs.Error.{error_code, Answers}
 use Rattle.table_validator.specs.Sound.{TableImage}
 use Rattle.app_host.specs.Shared.{on_board}
 use Rattle.limit_checker.specs.Adoption.{are_matching, pair_of}
-use Rattle.limit_checker.specs.Engine.{without_tables, with_tables}
+use Rattle.limit_engine.specs.Engine.{without_tables, with_tables}
 use Rattle.limit_checker.specs.Starting.{new_of, start_image, start_pair, IsDefault, own_started}
 
 -- ---- the image of a default file

@@ -1,5 +1,5 @@
 -- A packet of another message id than the application's changes nothing.
-use Rattle.std.proofs.Common.{◌≡◌, ◌≢◌, refl, ap, sym, ◌∙◌, ℕ, Bool, true, false, ◌==◌, List, [], arith, if◌then◌else◌, Option, Some, None}
+use Rattle.std.proofs.Common.{◌≡◌, ◌≢◌, ap, sym, ◌∙◌, ℕ, false, List, [], arith, if◌then◌else◌, Option, Some, None}
 use Rattle.std.specs.Prelude.{IfSome}
 use Rattle.lc_model.specs.Name.{lc_name}
 use Rattle.lc_model.specs.Packet.{message_id, function_code, payload, lc_command_mid, lc_housekeeping_request_mid, sample_mid, is_telemetry_mid}
@@ -8,7 +8,7 @@ use Rattle.lc_model.specs.LimitChecker.Steps.{lc_commanded, lc_housekeeping, unl
 use Rattle.lc_model.specs.Kept.Summary.{LcNow, LcOwn}
 use Rattle.lc_model.specs.Kept.Next.{by_counts}
 use Rattle.lc_model.specs.Kept.Call.{lc_with, effort_after, sample_effort, telemetry_effort, telemetry_seen, sample_taken, next_lc_packet}
-use Rattle.lc_model.proofs.Facts.{tested_equal}
+use Rattle.lc_model.proofs.Facts.{test_unequal}
 use Rattle.app_host.specs.declared.services.Services.{Services}
 use Rattle.app_host.specs.Shared.{on_board, shared}
 use Rattle.app_host.specs.Sending.{NothingIsTold}
@@ -17,23 +17,16 @@ use Rattle.app_host.specs.Telling.{Tells}
 use Rattle.limit_checker.specs.Application.{IsHome, MayHave, Answers}
 use Rattle.limit_checker.proofs.Answering.{answers, little_after}
 
-another : (mid known : ℕ) → mid ≢ known → (mid == known) ≡ false
-another mid known two = by_test (mid == known) refl
-  where
-    by_test : (test : Bool) → (mid == known) ≡ test → test ≡ false
-    by_test true e = absurd (two (tested_equal mid known e))
-    by_test false e = refl
-
 module _ (packet : List ℕ) (own : LcOwn) (lc : LcNow (List ℕ)) (command : message_id packet ≢ lc_command_mid) (request : message_id packet ≢ lc_housekeeping_request_mid)
     (sample : message_id packet ≢ sample_mid) (other : is_telemetry_mid (message_id packet) ≡ false) where
   other_effort : effort_after packet own ≡ own.effort
-  other_effort = λ i. if another (message_id packet) sample_mid sample i then sample_effort own (sample_request (function_code packet) (payload packet))
+  other_effort = λ i. if test_unequal (message_id packet) sample_mid sample i then sample_effort own (sample_request (function_code packet) (payload packet))
       else if other i then telemetry_effort own (message_id packet) else own.effort
 
   other_step : next_lc_packet on_board packet own lc ≡ (lc, [])
-  other_step = λ i. if another (message_id packet) lc_command_mid command i then unless_refused lc (lc_commanded packet lc)
-      else if another (message_id packet) lc_housekeeping_request_mid request i then unless_refused lc (lc_housekeeping by_counts on_board packet lc)
-      else if another (message_id packet) sample_mid sample i then unless_refused lc (sample_taken on_board own packet lc)
+  other_step = λ i. if test_unequal (message_id packet) lc_command_mid command i then unless_refused lc (lc_commanded packet lc)
+      else if test_unequal (message_id packet) lc_housekeeping_request_mid request i then unless_refused lc (lc_housekeeping by_counts on_board packet lc)
+      else if test_unequal (message_id packet) sample_mid sample i then unless_refused lc (sample_taken on_board own packet lc)
       else if other i then telemetry_seen on_board own packet lc
       else (lc, [])
 

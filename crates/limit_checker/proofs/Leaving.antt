@@ -27,7 +27,7 @@ names_of_forms : (tables : List Table) → map (λ (form : Form). form.name) (ma
 names_of_forms [] = refl
 names_of_forms (table ∷ tables) = ap (λ names. table.name ∷ names) (names_of_forms tables)
 
-slots_are : (s : Services) → slot_among s.tables.places ≡ (shared s).slots
+pub slots_are : (s : Services) → slot_among s.tables.places ≡ (shared s).slots
 unfolding shared
 slots_are s = refl
 

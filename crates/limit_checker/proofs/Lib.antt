@@ -1,19 +1,3 @@
-pub mod Ascending
-pub mod Halves
-pub mod Ranges
-pub mod Grouping
-pub mod Reacting
-pub mod Results
-pub mod OperandsWaiting
-pub mod Running
-pub mod Tables
-pub mod Laying
-pub mod Setting
-pub mod OneSample
-pub mod SampledRules
-pub mod CountedWords
-pub mod Whole
-pub mod Packing
 mod Answering
 mod Commanding
 mod Sizes

@@ -1,20 +1,20 @@
 -- A packet that changes the application's tables, its pipe's subscriptions and its engine, and then tells of it, is answered by the
 -- rules of the interface and as the definitions say.
 use Rattle.std.proofs.Common.{◌≡◌, ◌≢◌, inl, refl, ap, sym, ◌∙◌, subst, ℕ, ◌≤◌, ◌<◌, zero, suc, lit≤, List, [], ◌∷◌, ◌++◌, length, map, arith, Option, Some, None}
-use Rattle.std.specs.Prelude.{IfSome, IsTrue, option_map, filter, slice_index_or, slice_set}
+use Rattle.std.specs.Prelude.{IfSome, IsTrue, option_map, slice_index_or, slice_set}
 use Rattle.std.specs.List.{AllByRecursion, concat}
 use Rattle.std.proofs.lemmas.List.{append-nil, get_or-set_same, get_or-set_other, length-map}
 use Rattle.lc_model.specs.declared.field.Term.{Term}
 use Rattle.lc_model.specs.Name.{Name, lc_name}
 use Rattle.lc_model.specs.Packet.{lc_command_mid, lc_housekeeping_request_mid, sample_mid}
 use Rattle.lc_model.specs.Events.Request.{Request}
-use Rattle.lc_model.specs.Kept.Summary.{LcNow, LcOwn, LcState, lc_own, EventState}
-use Rattle.lc_model.specs.Kept.Call.{Called, new_sender, with_mids, with_tables, lc_with, lc_told, sent_by, effort_after, next_lc_packet}
-use Rattle.lc_model.specs.Kept.Executive.{Pipe, hears, all_published_to}
+use Rattle.lc_model.specs.Kept.Summary.{LcNow, LcOwn, LcState, lc_own}
+use Rattle.lc_model.specs.Kept.Call.{Called, with_mids, with_tables, lc_with, lc_told, sent_by, effort_after, next_lc_packet}
+use Rattle.lc_model.specs.Kept.Executive.{Pipe}
 use Rattle.lc_model.specs.Kept.GoesWith.{subscriptions_of}
 use Rattle.lc_model.specs.Services.Bus.{Queue, Publication, seen, seen_pipe, pipe_at, with_pipe}
 use Rattle.lc_model.specs.Services.Events.{Sender, Origin, sender_at}
-use Rattle.lc_model.specs.Services.Interface.{MayBeGiven, MayPublish, IsOwnPipe, IsGiven, seen_at, waiting_in, is_table_of}
+use Rattle.lc_model.specs.Services.Interface.{MayBeGiven, IsOwnPipe, IsGiven, seen_at, waiting_in, is_table_of}
 use Rattle.lc_model.specs.Services.Settled.{IsSettled, form_of, wdt_form, adt_form}
 use Rattle.lc_model.specs.Services.Tables.{Table, TableService, tables_at}
 use Rattle.lc_model.proofs.Facts.{some_same}
@@ -22,7 +22,7 @@ use Rattle.app_host.specs.declared.services.Services.{Services}
 use Rattle.app_host.specs.Shared.{on_board, held_by, shared}
 use Rattle.app_host.specs.Telling.{Tells, name_of}
 use Rattle.app_host.specs.Calls.{IsAtHome, Leaves}
-use Rattle.app_host.proofs.Rules.{seen_of_place, seen_with}
+use Rattle.app_host.proofs.Rules.{seen_of_place, seen_with, nothing_heard, none_published, nothing_published, host_in}
 use Rattle.limit_checker.specs.Application.{Answers}
 use Rattle.limit_checker.proofs.TwoTables.{HasTwo, two_tables, first_named, second_named}
 
@@ -46,25 +46,6 @@ queue_there seat s mids heard = by_place (pipe_at seat s.bus) refl (ap (option_m
     by_place : (place : Option Queue) → pipe_at seat s.bus ≡ place → option_map (λ (pipe : Pipe). pipe.subscriptions) (option_map seen_pipe place) ≡ Some mids → HasQueue seat s mids
     by_place None e h = cc
     by_place (Some queue) e h = record { queue = queue; there = e; heard = some_same queue.subscriptions mids h; inside = inside_of s.bus seat queue e }
-
--- nothing that was published is heard
-abbrev hearing : List (List ℕ) → Pipe → Pipe
-hearing published pipe = record pipe { waiting = pipe.waiting ++ filter (λ packet. hears packet pipe) published }
-
-nothing_heard : (place : Option Pipe) → place ≡ option_map (hearing []) place
-nothing_heard None = refl
-nothing_heard (Some pipe) = ap Some (λ i. record pipe { waiting = sym (append-nil pipe.waiting) i })
-
-none_published : (pipes : List (Option Pipe)) → all_published_to pipes [] ≡ pipes
-unfolding all_published_to
-none_published pipes = refl
-
-nothing_published : (packet : List ℕ) → MayPublish packet []
-nothing_published packet = record { few = lit≤ tt; for_ticks = λ some. absurd (some refl); no_ticks = tt }
-
-abbrev host_in : Option Sender → EventState
-host_in None = new_sender
-host_in (Some sender) = sender.events
 
 named_so : (name : Name) (place : Option Sender) → option_map name_of place ≡ Some name → IfSome place (λ (s : Sender). s.name ≡ name)
 named_so name None e = tt

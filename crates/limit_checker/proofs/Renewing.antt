@@ -12,7 +12,7 @@ use Rattle.lc_model.specs.Services.Tables.{TableService, Handle, tables_at, slot
 use Rattle.host_laws.proofs.InStep.{validated_judged}
 use Rattle.app_host.specs.declared.services.Services.{Services}
 use Rattle.app_host.specs.Shared.{on_board}
-use Rattle.limit_checker.specs.declared.application.verdict.Verdict.{Verdict}
+use Rattle.limit_checker.specs.declared.verdict.Verdict.{Verdict}
 use Rattle.limit_checker.specs.Housekeeping.{adt_of, both_judged, both_taken, own_adopted, pair_at, requested_by, requests_of, validation, wdt_of, MayRenew, Renews}
 use Rattle.limit_checker.proofs.TwoTables.{HasTwo, two_tables, as_is, first_changed, first_slot, second_slot, first_slot_is, second_slot_is, forms_stay, judged_are}
 

@@ -13,15 +13,15 @@ use Rattle.app_host.specs.declared.services.Services.{Services}
 use Rattle.app_host.specs.Telling.{Tells}
 use Rattle.app_host.specs.Sending.{NothingIsTold, TellingGoesOn, TellingKeepsSenders, RequestsSequence}
 use Rattle.app_host.specs.Statements.{TellingIsByName}
-use Rattle.limit_checker.specs.declared.checker.RuleEvent.{RuleEvent}
-use Rattle.limit_checker.specs.declared.reaction.Turn.{Turn}
-use Rattle.limit_checker.specs.declared.reaction.Turn.TheVariants.{ToFail, ToPass}
-use Rattle.limit_checker.specs.declared.reaction.Failure.{Failure}
-use Rattle.limit_checker.specs.declared.reaction.Failure.TheVariants.{Requested, LcPassive, Passive}
-use Rattle.limit_checker.specs.declared.reaction.Reactions.{Reactions}
-use Rattle.limit_checker.specs.declared.reaction.Asked.{Asked}
+use Rattle.limit_engine.specs.declared.engine.RuleEvent.{RuleEvent}
+use Rattle.limit_engine.specs.declared.reaction.Turn.{Turn}
+use Rattle.limit_engine.specs.declared.reaction.Turn.TheVariants.{ToFail, ToPass}
+use Rattle.limit_engine.specs.declared.reaction.Failure.{Failure}
+use Rattle.limit_engine.specs.declared.reaction.Failure.TheVariants.{Requested, LcPassive, Passive}
+use Rattle.limit_engine.specs.declared.reaction.Reactions.{Reactions}
+use Rattle.limit_engine.specs.declared.reaction.Asked.{Asked}
 use Rattle.limit_checker.specs.Application.{IsHome}
-use Rattle.limit_checker.specs.Reactions.{failure_requests, requests_at, requests_in, requests_of, turn_requests}
+use Rattle.limit_engine.specs.Reactions.{failure_requests, requests_at, requests_in, requests_of, turn_requests}
 use Rattle.limit_checker.specs.Sending.{IsEventOf, MaySend, failure_size, reactions_size, sizes, turn_size}
 use Rattle.limit_checker.proofs.Sizes.{both}
 

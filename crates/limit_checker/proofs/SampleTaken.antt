@@ -17,9 +17,9 @@ use Rattle.app_host.specs.Shared.{on_board, shared}
 use Rattle.app_host.specs.Telling.{Tells}
 use Rattle.app_host.specs.Statements.{TellingAnswers, TellingLeaves, TellingSettles}
 use Rattle.limit_checker.specs.Application.{IsHome, MayHave, Answers}
-use Rattle.limit_checker.specs.Engine.{after_sample, points_sampled, words_sampled}
-use Rattle.limit_checker.specs.declared.reaction.Asked.{Asked}
-use Rattle.limit_checker.specs.Reactions.{requests_in}
+use Rattle.limit_engine.specs.Engine.{after_sample, points_sampled, words_sampled}
+use Rattle.limit_engine.specs.declared.reaction.Asked.{Asked}
+use Rattle.limit_engine.specs.Reactions.{requests_in}
 use Rattle.limit_checker.specs.Sending.{sizes}
 use Rattle.limit_checker.proofs.Answering.{now_with, answers, little_after}
 use Rattle.limit_checker.proofs.Sizes.{sample_few}

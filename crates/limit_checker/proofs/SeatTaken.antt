@@ -11,19 +11,19 @@ use Rattle.lc_model.specs.declared.rule.EventKind.TheVariants.{Information}
 use Rattle.lc_model.specs.Packet.{lc_command_mid, lc_housekeeping_request_mid, sample_mid}
 use Rattle.lc_model.specs.Name.{Name, is_named, lc_name}
 use Rattle.lc_model.specs.Tables.File.{table_name}
-use Rattle.lc_model.specs.Tables.Slot.{Slot, no_images, in_use}
+use Rattle.lc_model.specs.Tables.Slot.{Slot}
 use Rattle.lc_model.specs.Tables.Interpretation.{Pair}
 use Rattle.lc_model.specs.Events.Request.{Request, Event, lc_started}
 use Rattle.lc_model.specs.LimitChecker.Steps.{paired, started_with, default_image, lc_start}
-use Rattle.lc_model.specs.Kept.Summary.{AppState, LcState, LcNow, LcOwn, EventState, lc_own}
+use Rattle.lc_model.specs.Kept.Summary.{LcState, LcNow, LcOwn, lc_own}
 use Rattle.lc_model.specs.Kept.Next.{by_counts}
 use Rattle.lc_model.specs.Kept.Effort.{no_effort}
-use Rattle.lc_model.specs.Kept.Call.{ServicesNow, Called, with_at, with_tables, with_mids, registered, new_sender, silent, lc_subscriptions, lc_told, sent_by, next_start}
+use Rattle.lc_model.specs.Kept.Call.{with_at, with_tables, with_mids, registered, new_sender, silent, lc_subscriptions, lc_told, sent_by, next_start}
 use Rattle.lc_model.specs.Kept.Executive.{Pipe, all_published_to}
 use Rattle.lc_model.specs.Kept.GoesWith.{subscriptions_of}
 use Rattle.lc_model.specs.Services.Bus.{Bus, Queue, seen, seen_pipe, pipe_at, with_pipe}
-use Rattle.lc_model.specs.Services.Events.{EventService, Sender, Origin, sender_at}
-use Rattle.lc_model.specs.Services.Interface.{MayBeStarted, IsStarted, IsUnusedName, LeavesOthersAlone, is_table_of, seen_at, waiting_in}
+use Rattle.lc_model.specs.Services.Events.{EventService, Sender, sender_at}
+use Rattle.lc_model.specs.Services.Interface.{MayBeStarted, IsStarted, LeavesOthersAlone, is_table_of, seen_at, waiting_in}
 use Rattle.lc_model.specs.Services.Seen.{files_seen, slot_in, slot_among, services_seen}
 use Rattle.lc_model.specs.Services.Settled.{IsSettled, form_of, own_forms}
 use Rattle.lc_model.specs.Services.Tables.{Table, TableService, Places, IsTableService, tables_at}
@@ -35,9 +35,8 @@ use Rattle.app_host.specs.Telling.{Tells, name_of}
 use Rattle.app_host.specs.Seating.{IsOpened}
 use Rattle.app_host.specs.Statements.{OpeningStarts, OpeningLeaves, TellingIsByName}
 use Rattle.app_host.specs.Calls.{Leaves}
-use Rattle.app_host.proofs.Rules.{seen_of_place}
+use Rattle.app_host.proofs.Rules.{seen_of_place, host_in}
 use Rattle.app_host.proofs.Seats.{no_more}
-use Rattle.limit_checker.specs.Engine.{without_tables}
 use Rattle.limit_checker.specs.Starting.{new_wdt, new_adt, with_both, start_pair, own_started, tables_started, started_wdt, started_adt, started_tables}
 use Rattle.limit_checker.proofs.TablesBegun.{AreOthers, no_number, others_among}
 
@@ -143,10 +142,6 @@ all_its_own (Some pair) = (refl, (refl, tt))
 record HasSeat (seat : ℕ) (before after : Services) : Type 0 where
   pub opened : IsOpened seat lc_name (subscriptions_of (LcState (own_started (start_pair before.tables)))) before (record after { tables = before.tables })
   pub tables : after.tables ≡ record before.tables { places = slice_set before.tables.places seat (started_tables (start_pair before.tables)) }
-
-abbrev host_in : Option Sender → EventState
-host_in None = new_sender
-host_in (Some sender) = sender.events
 
 module _ (seat : ℕ) (before between after : Services) (may : MayBeStarted seat lc_name (held_by before)) (few : seat < length before.tables.places) (has : HasSeat seat before between) where
   abbrev pair : Option (Pair (List ℕ))

@@ -17,7 +17,7 @@ use Rattle.lc_model.specs.LimitChecker.Steps.{Point, is_disabled, is_sampled, sa
 use Rattle.lc_model.specs.Rule.{Actionpoint}
 use Rattle.lc_model.specs.Kept.Summary.{LcOwn, Tally, WatchResult}
 use Rattle.lc_model.specs.Kept.Next.{by_counts, is_last, tally_after, next_turn_reports, next_on_failure, next_reaction}
-use Rattle.limit_checker.specs.Engine.{points_sampled}
+use Rattle.limit_engine.specs.Engine.{points_sampled}
 use Rattle.limit_checker.specs.Sending.{sizes}
 
 pub both : (xs ys : List Request) → sizes (xs ++ ys) ≡ sizes xs + sizes ys

@@ -1,14 +1,12 @@
 -- How the rules stand, rule by rule.
-use Rattle.std.proofs.Common.{◌≡◌, refl, ap, sym, ◌∙◌, ℕ, zero, suc, ◌+◌, ◌<◌, List, [], ◌∷◌, ◌++◌, length, map, take, arith, Option, Some, None}
+use Rattle.std.proofs.Common.{◌≡◌, refl, ap, sym, ◌∙◌, ℕ, zero, suc, ◌+◌, ◌<◌, List, [], ◌∷◌, ◌++◌, length, map, take, arith, Some}
 use Rattle.std.specs.Prelude.{option_map, slice_get}
-use Rattle.lc_model.specs.declared.mode.ApMode.{ApMode}
-use Rattle.lc_model.specs.declared.mode.ApResult.{ApResult}
 use Rattle.lc_model.specs.Events.Outgoing.{standing_byte}
 use Rattle.lc_model.specs.Kept.Next.{by_counts}
 use Rattle.lc_model.specs.Kept.Summary.{Tally}
 use Rattle.lc_model.specs.LimitChecker.Steps.{Point, standing}
 use Rattle.lc_model.proofs.Facts.{some_same}
-use Rattle.limit_checker.specs.declared.checker.Standing.{Standing}
+use Rattle.limit_engine.specs.declared.engine.Standing.{Standing}
 use Rattle.limit_checker.specs.Standings.{standing_of}
 
 abbrev pub bytes_of : List (Point Tally) → List ℕ

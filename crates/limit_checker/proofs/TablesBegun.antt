@@ -7,14 +7,14 @@ use Rattle.std.proofs.lemmas.List.{get_or-set_same, set-get_or, set-set}
 use Rattle.std.proofs.lemmas.Slice.Eq.{bytes_eq-Decides}
 use Rattle.lc_model.specs.declared.kind.Kind.TheVariants.{Wdt, Adt}
 use Rattle.lc_model.specs.Name.{Name, is_named, lc_name}
-use Rattle.lc_model.specs.Refusal.{Refusal, refused}
+use Rattle.lc_model.specs.Refusal.{refused}
 use Rattle.lc_model.specs.Tables.File.{table_name}
 use Rattle.lc_model.specs.Tables.Image.{Watchpoints, Actionpoints, WideActionpoints, image_length}
 use Rattle.lc_model.specs.Tables.Interpretation.{Pair, default_file}
 use Rattle.lc_model.specs.Tables.Slot.{in_use, installed}
 use Rattle.lc_model.specs.Kept.Executive.{seat_count}
 use Rattle.lc_model.specs.Services.Interface.{is_table_of}
-use Rattle.lc_model.specs.Services.Tables.{Table, TableService, Handle, Places, IsTableService, new_table, tables_at, table_at, number_named, handle_from, handle_named, table_registered, with_slot, fits_table, fits_at, stored_image, image_installed}
+use Rattle.lc_model.specs.Services.Tables.{Table, TableService, Handle, Places, IsTableService, tables_at, handle_from, table_registered, fits_table, fits_at, stored_image, image_installed}
 use Rattle.tbl_service.specs.declared.error.TableError.{TableError}
 use Rattle.tbl_service.specs.Error.{answered}
 use Rattle.table_validator.specs.Sound.{TableImage}

@@ -10,6 +10,11 @@ use Rattle.app_host.specs.declared.services.Services.{Services}
 use Rattle.app_host.specs.Shared.{on_board, held_by, shared}
 use Rattle.app_host.specs.Calls.{IsAtHome, Leaves}
 
+-- the object: its engine, and the seat that it holds
+pub record LcObject : Type 0 where
+  pub engine : LcOwn
+  pub seat : Option ℕ
+
 -- it is at home there, and the packet may be given to it
 abbrev pub IsHome : Option ℕ → LcOwn → Services → Type 0
 IsHome place own s = IsSomeAnd place (λ seat. IsAtHome (LcState own) lc_name seat s)

@@ -8,11 +8,11 @@ use Rattle.lc_model.specs.Kept.Summary.{LcOwn}
 use Rattle.lc_model.specs.LimitChecker.Steps.{one_set, states_set, turned_permanently_off}
 use Rattle.lc_model.specs.Packet.{function_code, payload}
 use Rattle.lc_model.specs.Refusal.{Refusal, ◌>>=◌, found}
-use Rattle.limit_checker.specs.States as states
-use Rattle.limit_checker.specs.declared.application.command.Command.{Command}
-use Rattle.limit_checker.specs.declared.application.command.Command.TheVariants.{NoOperation, SetMode, SetState, TurnPermanentlyOff}
-use Rattle.limit_checker.specs.declared.application.command.Refused.{Refused}
-use Rattle.limit_checker.specs.declared.application.command.Refused.TheVariants.{Unread, Unobeyed}
+use Rattle.limit_engine.specs.States as states
+use Rattle.limit_checker.specs.declared.command.Command.{Command}
+use Rattle.limit_checker.specs.declared.command.Command.TheVariants.{NoOperation, SetMode, SetState, TurnPermanentlyOff}
+use Rattle.limit_checker.specs.declared.command.Refused.{Refused}
+use Rattle.limit_checker.specs.declared.command.Refused.TheVariants.{Unread, Unobeyed}
 
 -- a command as the definitions have it
 abbrev pub command_of : Command → LcCommand

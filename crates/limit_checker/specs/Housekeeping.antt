@@ -17,10 +17,10 @@ use Rattle.lc_model.specs.Services.Tables.{Handle, TableService, slot_at, slot_c
 use Rattle.table_validator.specs.Fault.{code_number, fault_in}
 use Rattle.app_host.specs.declared.services.Services.{Services}
 use Rattle.app_host.specs.Shared.{on_board}
-use Rattle.limit_checker.specs.declared.application.housekeeping.Renewal.{Renewal}
-use Rattle.limit_checker.specs.declared.application.verdict.Verdict.{Verdict}
-use Rattle.limit_checker.specs.declared.application.verdict.Verdict.TheVariants.{Unasked, Sound, Faulty}
-use Rattle.limit_checker.specs.Engine.{with_tables}
+use Rattle.limit_checker.specs.declared.housekeeping.Renewal.{Renewal}
+use Rattle.limit_checker.specs.declared.verdict.Verdict.{Verdict}
+use Rattle.limit_checker.specs.declared.verdict.Verdict.TheVariants.{Unasked, Sound, Faulty}
+use Rattle.limit_engine.specs.Engine.{with_tables}
 
 -- ---- verdicts
 

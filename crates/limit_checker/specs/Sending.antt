@@ -8,11 +8,11 @@ use Rattle.lc_model.specs.Services.Events.{Origin, sender_at}
 use Rattle.app_host.specs.declared.services.Services.{Services}
 use Rattle.app_host.specs.Shared.{shared}
 use Rattle.app_host.specs.Telling.{name_of}
-use Rattle.limit_checker.specs.declared.checker.RuleEvent.{RuleEvent}
-use Rattle.limit_checker.specs.declared.reaction.Turn.{Turn}
-use Rattle.limit_checker.specs.declared.reaction.Failure.{Failure}
-use Rattle.limit_checker.specs.declared.reaction.Failure.TheVariants.{Requested, LcPassive, Passive}
-use Rattle.limit_checker.specs.declared.reaction.Reactions.{Reactions}
+use Rattle.limit_engine.specs.declared.engine.RuleEvent.{RuleEvent}
+use Rattle.limit_engine.specs.declared.reaction.Turn.{Turn}
+use Rattle.limit_engine.specs.declared.reaction.Failure.{Failure}
+use Rattle.limit_engine.specs.declared.reaction.Failure.TheVariants.{Requested, LcPassive, Passive}
+use Rattle.limit_engine.specs.declared.reaction.Reactions.{Reactions}
 
 -- the most bytes of a request's packet
 abbrev pub size_of : Request → ℕ

@@ -16,7 +16,7 @@ use Rattle.lc_model.specs.Services.Seen.{files_seen}
 use Rattle.lc_model.specs.Services.Tables.{Table, TableService, new_table, fits_table, stored_image}
 use Rattle.table_validator.specs.Sound.{TableImage}
 use Rattle.app_host.specs.Shared.{on_board}
-use Rattle.limit_checker.specs.Engine.{without_tables, with_tables}
+use Rattle.limit_engine.specs.Engine.{without_tables, with_tables}
 
 -- ---- the two tables
 

@@ -1,4 +1,5 @@
-//! The application `LC` (cFS Limit Checker user's guide), over the services that applications share.
+//! The parts of the application, and how they answer packets (cFS Limit Checker user's guide), over the services that applications
+//! share.
 
 ghost use Rattle.std.specs.Prelude.{◌≡◌, ◌+◌, ◌≤◌, true, [], ◌∷◌, length, map, None, IfOk, IfSome};
 ghost use Rattle.lc_model.specs.Events.Request.{Housekeeping};
@@ -13,71 +14,45 @@ ghost use Rattle.lc_model.specs.Kept.Summary.{LcState};
 ghost use Rattle.lc_model.specs.Services.Interface.{IsRetired};
 ghost use Rattle.app_host.specs.Calls.{LeavesEmpty};
 ghost use Rattle.app_host.specs.Shared.{held_by, shared};
-ghost use Rattle.limit_checker.specs.Engine.{without_tables};
+ghost use Rattle.limit_engine.specs.Engine.{without_tables};
 ghost use Rattle.limit_checker.specs.Application.{IsHome, MayHave, Answers};
 
-mod adoption;
-mod asked;
-mod command;
-mod dispatch;
-mod housekeeping;
-mod reacting;
-mod standings;
-mod starting;
-mod verdict;
-
-use crate::application::asked::AskedList;
-use crate::checker::LimitChecker as Engine;
+use crate::asked::AskedList;
+use crate::{command, reacting, standings};
+use app_host::Services;
 use app_host::laws::seats_are_kept_by_the_rules;
 use app_host::sending::telling_goes_on;
-use app_host::{App, Services};
 use event_service::limit_checker as texts;
 use lc_model::laws::table_services::table_services_go_by_names;
 use lc_model::packet::{function_code, message_id};
 use lc_model::{EventKind, Seat, sample_request};
+use limit_engine::Engine;
 use std::alloc::{AllocError, Global};
 
-/// The application's name.
-const NAME: &[u8] = b"LC";
-
-/// The Limit Checker with the seat that it holds: the application `LC`.
+/// The parts of the application: its engine, the seat that it holds, and room for what a sample asks for.
 #[derive(Debug, Drop)]
-pub struct LimitChecker {
-    engine: Engine,
-    seat: Option<Seat>,
+pub(crate) struct Application {
+    pub(crate) engine: Engine,
+    pub(crate) seat: Option<Seat>,
     asked: AskedList,
 }
 
-impl LimitChecker {
+impl Application {
     /// An active Limit Checker without tables, on no seat. It takes all the memory there will ever be; out of memory is the only
     /// error.
-    pub fn new(alloc: Global) -> Result<LimitChecker, AllocError>
+    pub(crate) fn new(alloc: Global) -> Result<Application, AllocError>
         ensures own { IfOk result (λ lc. lc.engine ≡ without_tables) }
         ensures seat { IfOk result (λ lc. lc.seat ≡ None) }
     {
-        Ok(LimitChecker {
+        Ok(Application {
             engine: Engine::new(alloc)?,
             seat: None,
             asked: AskedList::new(alloc)?,
         })
     }
 
-    /// The words that the last sample evaluated, EQUAL included.
-    pub fn steps(&self) -> usize
-        ensures { result ≡ self.now.engine.effort.steps }
-    {
-        self.engine.steps()
-    }
-
-    /// The message ids that the last packet of telemetry was compared with.
-    pub fn probes(&self) -> usize
-        ensures { result ≡ self.now.engine.effort.probes }
-    {
-        self.engine.probes()
-    }
-
     /// A command (message id 0x18A4) is obeyed, or refused: events 8 and 9.
-    fn command(&mut self, services: &mut Services, packet: &[u8])
+    pub(crate) fn command(&mut self, services: &mut Services, packet: &[u8])
         requires home { IsHome self.old.seat self.old.engine services.old }
         requires given { MayHave self.old.seat packet.now services.old }
         requires kind { message_id packet.now ≡ lc_command_mid }
@@ -98,7 +73,7 @@ impl LimitChecker {
     }
 
     /// A packet of telemetry (message ids 0x0800 to 0x0FFF) is seen: event 7, where it is too short for a watchpoint of its id.
-    fn telemetry(&mut self, services: &mut Services, packet: &[u8])
+    pub(crate) fn telemetry(&mut self, services: &mut Services, packet: &[u8])
         requires home { IsHome self.old.seat self.old.engine services.old }
         requires given { MayHave self.old.seat packet.now services.old }
         requires kind { is_telemetry_mid (message_id packet.now) ≡ true }
@@ -114,7 +89,7 @@ impl LimitChecker {
     }
 
     /// A sample request (message id 0x18A6) is taken: what the rules ask for is sent, in order. One that is refused: event 9.
-    fn sample(&mut self, services: &mut Services, packet: &[u8])
+    pub(crate) fn sample(&mut self, services: &mut Services, packet: &[u8])
         requires home { IsHome self.old.seat self.old.engine services.old }
         requires given { MayHave self.old.seat packet.now services.old }
         requires kind { message_id packet.now ≡ sample_mid }
@@ -136,7 +111,7 @@ impl LimitChecker {
     }
 
     /// How the Limit Checker and its rules stand is told (message id 0x08A7). Condition: room for the packet's 192 bytes.
-    fn tell_standing(&self, services: &mut Services)
+    pub(crate) fn tell_standing(&self, services: &mut Services)
         requires sends { MaySend self.now.seat services.old }
         requires room { length services.old.outgoing + 192 ≤ 65536 }
         ensures told { Tells self.now.seat lc_name (Housekeeping self.now.engine.mode (map (standing by_counts) self.now.engine.points) ∷ []) services.old services.new }
@@ -148,7 +123,7 @@ impl LimitChecker {
 
     /// The seat is given back, with the pipe, the sender of events and the tables that are there. Condition: nothing waits to be
     /// written.
-    fn leave(&mut self, services: &mut Services)
+    pub(crate) fn leave(&mut self, services: &mut Services)
         requires home { IsHome self.old.seat self.old.engine services.old }
         requires idle { services.old.outgoing ≡ [] }
         ensures seat { self.new.seat ≡ None }
@@ -162,33 +137,5 @@ impl LimitChecker {
         if let Some(seat) = self.seat.take() {
             services.close(seat);
         }
-    }
-}
-
-impl App for LimitChecker {
-    ghost use Rattle.lc_model.specs.Name.{lc_name};
-    ghost use Rattle.lc_model.specs.Kept.Summary.{LcState};
-
-    ghost state = { λ lc. LcState lc.engine };
-
-    ghost called = { λ lc. lc_name };
-
-    ghost held = { λ lc. lc.seat };
-
-    fn name(&self) -> &[u8] {
-        NAME
-    }
-
-    fn start(&mut self, seat: Seat, services: &mut Services) {
-        starting::take_seat(&mut self.engine, seat, services);
-        self.seat = Some(seat);
-    }
-
-    fn on_packet(&mut self, services: &mut Services, packet: &[u8]) {
-        self.answer(services, packet);
-    }
-
-    fn retire(&mut self, services: &mut Services) {
-        self.leave(services);
     }
 }

@@ -1,21 +1,17 @@
-//! The Limit Checker application of the core Flight System: it watches telemetry, ages what it has seen, samples the
-//! rules of its tables, and tells what they ask for (cFS Limit Checker user's guide).
+//! The Limit Checker application `LC` of the core Flight System (cFS Limit Checker user's guide): the engine of `limit_engine` on
+//! a seat of the host, with its tables, its commands and what it sends.
 #![tactic(auto)]
 
-mod actionpoint;
-pub mod application;
+mod adoption;
+mod application;
+mod asked;
 mod checker;
-mod equation;
-mod field;
-mod groups;
-mod ids;
-mod layout;
-mod operands;
-mod reaction;
-mod sampling;
-mod states;
-mod watchpoint;
+mod command;
+mod dispatch;
+mod housekeeping;
+mod reacting;
+mod standings;
+mod starting;
+mod verdict;
 
-pub use checker::{LimitChecker, RuleEvent, Standing};
-pub use reaction::{Asked, Failure, Reactions, Turn};
-pub use states::StateRefusal;
+pub use checker::LimitChecker;

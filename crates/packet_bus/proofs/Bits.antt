@@ -5,6 +5,7 @@ use Rattle.std.specs.List.{list_any, position_from}
 use Rattle.std.specs.Int.{bit_at, trailing_zeros, w8}
 use Rattle.std.proofs.lemmas.Nat.Bits.{bit_at_and, bit_at_or, bit_at-lt}
 use Rattle.std.proofs.lemmas.Nat.{and_le_l}
+use Rattle.lc_model.proofs.Facts.{and_first, and_second, tested_equal}
 use Rattle.packet_bus.specs.Seats.{is_in, seats_in, meet, together}
 use lib.Count.{ones, count_trailing_zeros}
 
@@ -13,14 +14,6 @@ abbrev passes : (ℕ → Bool) → ℕ → Bool
 passes p zero = true
 passes p (suc n) = p n && passes p n
 
-and_left : (a b : Bool) → (a && b) ≡ true → a ≡ true
-and_left true b e = refl
-and_left false b e = e
-
-and_right : (a b : Bool) → (a && b) ≡ true → b ≡ true
-and_right true b e = e
-and_right false b e = cc
-
 by_last : (p : ℕ → Bool) (m n : ℕ) (b : Bool) → (n == m) ≡ b → p m ≡ true → n < suc m → (n < m → p n ≡ true) → p n ≡ true
 by_last p m n true is last below before = let e : n ≡ m = grind (arith, is) in rw e last
 by_last p m n false is last below before = let less : n < m = grind (arith, is, below) in before less
@@ -28,7 +21,7 @@ by_last p m n false is last below before = let less : n < m = grind (arith, is, 
 pub each_below : (p : ℕ → Bool) (count : ℕ) → passes p count ≡ true → (n : ℕ) → n < count → p n ≡ true
 each_below p zero e n below = absurd (omega arith)
 each_below p (suc m) e n below =
-    by_last p m n (n == m) refl (and_left (p m) (passes p m) e) below (λ less. each_below p m (and_right (p m) (passes p m) e) n less)
+    by_last p m n (n == m) refl (and_first (p m) (passes p m) e) below (λ less. each_below p m (and_second (p m) (passes p m) e) n less)
 
 -- two lists of tests are the same
 abbrev same : List Bool → List Bool → Bool
@@ -69,12 +62,9 @@ seats_without bits seat byte eight =
     same_is _ _ (each_below (p seat) 256 (each_below (λ s. passes (p s) 256) 8 refl seat eight) bits byte)
 
 -- how many seats there are
-number_is : (m n : ℕ) → (m == n) ≡ true → m ≡ n
-number_is m n e = grind (arith, e)
-
 pub seats_counted : (bits : ℕ) → bits < 256 → ones bits ≡ count_by is_in (seats_in bits)
 unfolding ones
-seats_counted bits byte = number_is _ _ (each_below (λ b. ones b == count_by is_in (seats_in b)) 256 refl bits byte)
+seats_counted bits byte = tested_equal _ _ (each_below (λ b. ones b == count_by is_in (seats_in b)) 256 refl bits byte)
 
 pub no_seats : (bits : ℕ) → bits < 256 → (bits == 0) ≡ (count_by is_in (seats_in bits) == 0)
 no_seats bits byte = same_bool _ _ (each_below (λ b. is_equal (b == 0) (count_by is_in (seats_in b) == 0)) 256 refl bits byte)
@@ -86,7 +76,7 @@ is_place n (Some m) = n == m
 
 place_is : (n : ℕ) (o : Option ℕ) → is_place n o ≡ true → Some n ≡ o
 place_is n None e = cc
-place_is n (Some m) e = ap Some (number_is n m e)
+place_is n (Some m) e = ap Some (tested_equal n m e)
 
 seat_is : (b : ℕ) (t : Bool) → 0 < b → ((b == 0) || t) ≡ true → t ≡ true
 seat_is b t some e = let nonzero : (b == 0) ≡ false = grind (arith, some) in rw nonzero at e
@@ -113,10 +103,6 @@ bit_test m n a b = grind (arith, a, b)
 
 in_both : (a b seat : ℕ) → (bit_at (bit_and a b) seat == 1) ≡ ((bit_at a seat == 1) && (bit_at b seat == 1))
 in_both a b seat = rw bit_at_and (bit_test (bit_at a seat) (bit_at b seat) (bit_at-lt a seat) (bit_at-lt b seat))
-
-or_false : (b : Bool) → (b || false) ≡ b
-or_false true = refl
-or_false false = refl
 
 any_in_both : (a b : ℕ) → either (seats_in (bit_and a b)) ≡ meet (seats_in a) (seats_in b)
 any_in_both a b =

@@ -4,6 +4,7 @@ use Rattle.std.specs.Prelude.{Option, Some, None, option_map, slice_set, slice_i
 use Rattle.std.specs.List.{position_from}
 use Rattle.std.proofs.lemmas.List.{get_or-set_same, get_or-set_other}
 use Rattle.std.proofs.lemmas.List.Sums.{sum_by-set}
+use Rattle.lc_model.proofs.Facts.{or_true, or_false}
 use Rattle.packet_bus.proofs.Places.{sum_by_cons}
 use Rattle.packet_bus.specs.Seats.{is_in, together}
 use Rattle.packet_bus.specs.Line.{Line, with_slot, has_slots, is_long}
@@ -75,14 +76,6 @@ longer (s ∷ slots) slot = grind arith
 has_one : (slot : ℕ) (place : Option Line) → is_some place ≡ true → has_slots (option_map (with_slot slot) place) ≡ true
 has_one slot None e = cc
 has_one slot (Some line) e = longer line.slots slot
-
-or_true : (b : Bool) → (b || true) ≡ true
-or_true true = refl
-or_true false = refl
-
-or_false : (b : Bool) → (b || false) ≡ b
-or_false true = refl
-or_false false = refl
 
 pub ready_then : (slot : ℕ) (hearers : List Bool) (places : List (Option Line)) → HaveRoom hearers places →
     together (map has_slots places) hearers ≡ map has_slots (delivered slot hearers places)

@@ -1,15 +1,10 @@
 -- A bus without pipes.
 use Rattle.std.proofs.Common.{◌≡◌, ◌∙◌, ap, sym, refl, ℕ, zero, suc, length, map, replicate, arith}
 use Rattle.std.specs.Prelude.{None, slice_index_or}
+use Rattle.lc_model.proofs.Facts.{same_at}
 use Rattle.packet_bus.specs.Slots.{PooledPacket, slot_at, no_packet}
 use Rattle.packet_bus.specs.Line.{hears_mid}
 use Rattle.packet_bus.specs.Inside.{no_lines, nobody, place_at, audience_of, IsBus}
-
--- what is the same everywhere is so at each place, and beyond
-same_at : {X : Type 0} (n k : ℕ) (x : X) → slice_index_or (replicate n x) k x ≡ x
-same_at zero k x = refl
-same_at (suc n) zero x = refl
-same_at (suc n) (suc k) x = same_at n k x
 
 length_of : {X : Type 0} (n : ℕ) (x : X) → length (replicate n x) ≡ n
 length_of zero x = refl

@@ -6,6 +6,7 @@ use Rattle.std.proofs.lemmas.List.{map-set, get_or-set_same, get_or-set_other, g
 use Rattle.std.proofs.lemmas.List.Folds.{list_any-append}
 use Rattle.std.proofs.lemmas.Map.Views.{any-filter_same}
 use Rattle.std.proofs.Math.Seq.{map-set_same}
+use Rattle.lc_model.proofs.Facts.{or_true, or_false, test_unequal, equal_itself}
 use Rattle.packet_bus.specs.Slots.{PooledPacket}
 use Rattle.packet_bus.specs.Line.{Line, slots_in, hears_mid, with_subscription, without_subscription}
 use Rattle.packet_bus.specs.Inside.{place_at, audience_of, nobody, IsBus}
@@ -17,10 +18,6 @@ use Rattle.packet_bus.proofs.Places.{resubscribed}
 one_more : (mid other : ℕ) (mids : List ℕ) → list_any (λ o. mid == o) (mids ++ other ∷ []) ≡ (list_any (λ o. mid == o) mids || mid == other)
 one_more mid other mids =
     list_any-append (λ o. mid == o) mids (other ∷ []) ∙ ap (λ b. list_any (λ o. mid == o) mids || b) (or_false (mid == other))
-  where
-    or_false : (b : Bool) → (b || false) ≡ b
-    or_false true = refl
-    or_false false = refl
 
 -- with one less
 one_less : (mid other : ℕ) (mids : List ℕ) →
@@ -30,38 +27,24 @@ one_less mid other mids =
 
 -- ---- a place
 
-same_number : (n : ℕ) → (n == n) ≡ true
-same_number n = grind arith
-
-differs : (m n : ℕ) → m ≢ n → (m == n) ≡ false
-differs m n other = grind (arith, other)
-
-or_true : (b : Bool) → (b || true) ≡ true
-or_true true = refl
-or_true false = refl
-
-or_no : (b : Bool) → (b || false) ≡ b
-or_no true = refl
-or_no false = refl
-
 pub hears_more : (mid : ℕ) (place : Option Line) → is_some place ≡ true → hears_mid mid (option_map (with_subscription mid) place) ≡ true
 hears_more mid None e = cc
-hears_more mid (Some line) e = one_more mid mid line.subscriptions ∙ ap (λ b. list_any (λ o. mid == o) line.subscriptions || b) (same_number mid) ∙ or_true _
+hears_more mid (Some line) e = one_more mid mid line.subscriptions ∙ ap (λ b. list_any (λ o. mid == o) line.subscriptions || b) (equal_itself mid) ∙ or_true _
 
 pub hears_others_too : (mid other : ℕ) (place : Option Line) → other ≢ mid → hears_mid other (option_map (with_subscription mid) place) ≡ hears_mid other place
 hears_others_too mid other None not_same = refl
 hears_others_too mid other (Some line) not_same =
-    one_more other mid line.subscriptions ∙ ap (λ b. list_any (λ o. other == o) line.subscriptions || b) (differs other mid not_same) ∙ or_no _
+    one_more other mid line.subscriptions ∙ ap (λ b. list_any (λ o. other == o) line.subscriptions || b) (test_unequal other mid not_same) ∙ or_false _
 
 pub hears_less : (mid : ℕ) (place : Option Line) → hears_mid mid (option_map (without_subscription mid) place) ≡ false
 hears_less mid None = refl
-hears_less mid (Some line) = one_less mid mid line.subscriptions ∙ ap (λ b. not b && list_any (λ o. mid == o) line.subscriptions) (same_number mid)
+hears_less mid (Some line) = one_less mid mid line.subscriptions ∙ ap (λ b. not b && list_any (λ o. mid == o) line.subscriptions) (equal_itself mid)
 
 pub hears_others_still : (mid other : ℕ) (place : Option Line) → other ≢ mid → hears_mid other (option_map (without_subscription mid) place) ≡ hears_mid other place
 hears_others_still mid other None not_same = refl
 hears_others_still mid other (Some line) not_same =
     one_less other mid line.subscriptions
-    ∙ ap (λ b. not b && list_any (λ o. other == o) line.subscriptions) (differs mid other (λ e. not_same (sym e)))
+    ∙ ap (λ b. not b && list_any (λ o. other == o) line.subscriptions) (test_unequal mid other (λ e. not_same (sym e)))
 
 -- ---- the rows
 

@@ -5,6 +5,7 @@ use Rattle.std.specs.List.{position_from}
 use Rattle.lc_model.specs.Packet.{message_id}
 use Rattle.lc_model.specs.Kept.Executive.{ready_seat, is_ready}
 use Rattle.lc_model.specs.Services.Bus.{seen, seen_pipe, hears_packet, is_blocked, is_full}
+use Rattle.lc_model.proofs.Facts.{or_first, or_second, and_other}
 use Rattle.packet_bus.specs.Seats.{is_in, meet}
 use Rattle.packet_bus.specs.Slots.{PooledPacket}
 use Rattle.packet_bus.specs.Line.{Line, slots_in, has_slots, is_long, hears_mid}
@@ -58,23 +59,11 @@ hears_some : (mid : ℕ) (place : Option Line) → hears_mid mid place ≡ true 
 hears_some mid None e = cc
 hears_some mid (Some line) e = refl
 
-and_false : (a b : Bool) → a ≡ true → (a && b) ≡ false → b ≡ false
-and_false true b e f = f
-and_false false b e f = cc
-
-or_first : (a b : Bool) → (a || b) ≡ false → a ≡ false
-or_first true b e = e
-or_first false b e = refl
-
-or_second : (a b : Bool) → (a || b) ≡ false → b ≡ false
-or_second true b e = cc
-or_second false b e = e
-
 pub have_room : (mid : ℕ) (places : List (Option Line)) → meet (map (hears_mid mid) places) (map is_long places) ≡ false → HaveRoom (map (hears_mid mid) places) places
 have_room mid [] apart seat inside = cc
 have_room mid (place ∷ places) apart zero inside = (
   hears_some mid place inside,
-  and_false (hears_mid mid place) (is_long place) inside (or_first (hears_mid mid place && is_long place) (meet (map (hears_mid mid) places) (map is_long places)) apart),
+  and_other (hears_mid mid place) (is_long place) inside (or_first (hears_mid mid place && is_long place) (meet (map (hears_mid mid) places) (map is_long places)) apart),
 )
 have_room mid (place ∷ places) apart (suc seat) inside =
     have_room mid places (or_second (hears_mid mid place && is_long place) (meet (map (hears_mid mid) places) (map is_long places)) apart) seat inside

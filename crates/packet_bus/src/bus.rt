@@ -2,7 +2,7 @@
 
 ghost use Rattle.std.specs.Prelude.{◌≡◌, ◌≤◌, ◌<◌, ◌+◌, ◌++◌, ℕ, true, false, length, drop, map, None, is_some, IfOk, IfErr, OnOk, OnErr, replicate, IfSome, IfNone, option_map, slice_set, count_by};
 ghost use Rattle.lc_model.specs.Kept.Executive.{ready_seat};
-ghost use Rattle.lc_model.specs.Packet.{header_fault};
+ghost use Rattle.lc_model.specs.Packet.{header_fault, message_id};
 ghost use Rattle.lc_model.specs.Services.Bus as model;
 ghost use Rattle.lc_model.specs.Services.Bus.{after, refusal_of, seen, pipe_at, oldest_at, no_pipes, publish_refusal, IsPublished, free_publications};
 ghost use Rattle.packet_bus.specs.Error.{refusal_in};
@@ -14,7 +14,7 @@ ghost use Rattle.packet_bus.specs.Seats.{is_in};
 ghost use Rattle.packet_bus.specs.Slots.{slot_at, used_slots};
 
 use crate::BusError;
-use crate::header::checked_message_id;
+use crate::header::{checked_message_id, judged_message_id};
 use crate::pipe::Place;
 use crate::pool::{PACKET_SIZE, Pool};
 use crate::seats::SeatSet;
@@ -269,10 +269,34 @@ impl Bus {
         ensures refused { OnErr result (self.new ≡ self.old) }
         ensures eight { OnOk result (length self.old ≡ 8) }
     {
-        let mid = match checked_message_id(packet) {
-            Ok(mid) => mid,
-            Err(reason) => return Err(BusError::BadPacket { reason }),
-        };
+        match checked_message_id(packet) {
+            Ok(mid) => self.publish_as(mid, packet),
+            Err(reason) => Err(BusError::BadPacket { reason }),
+        }
+    }
+
+    /// The same for who has judged the packet already: 92 alone is answered. Condition: its header has no fault.
+    #[inline]
+    pub fn publish_judged(&mut self, packet: &[u8]) -> Result<(), BusError>
+        requires good { header_fault packet.now ≡ None }
+        ensures answer { refusal_in result ≡ publish_refusal packet.now self.old }
+        ensures published { OnOk result (IsPublished packet.now self.old self.new) }
+        ensures refused { OnErr result (self.new ≡ self.old) }
+        ensures eight { OnOk result (length self.old ≡ 8) }
+    {
+        self.publish_as(judged_message_id(packet), packet)
+    }
+
+    /// The same of a packet with this message id.
+    #[inline]
+    fn publish_as(&mut self, mid: u16, packet: &[u8]) -> Result<(), BusError>
+        requires good { header_fault packet.now ≡ None }
+        requires own { mid ≡ message_id packet.now }
+        ensures answer { refusal_in result ≡ publish_refusal packet.now self.old }
+        ensures published { OnOk result (IsPublished packet.now self.old self.new) }
+        ensures refused { OnErr result (self.new ≡ self.old) }
+        ensures eight { OnOk result (length self.old ≡ 8) }
+    {
         let hearers = self.audience[mid as usize].copy();
         if hearers.meets(&self.full) {
             return Err(BusError::PipeFull);

@@ -1,6 +1,6 @@
 //! The headers of space packets (CCSDS 133.0-B; cFE user's guide, message headers).
 
-ghost use Rattle.std.specs.Prelude.{◌≡◌, ◌≤◌, ◌==◌, false, is_none, length, Some, IfOk};
+ghost use Rattle.std.specs.Prelude.{◌≡◌, ◌≤◌, ◌==◌, false, is_none, length, Some, None, IfOk};
 ghost use Rattle.lc_model.specs.Packet.{header_fault, message_id, sequence_flags};
 ghost use Rattle.packet_bus.specs.Header.{fault_number, fault_in, header_of, header_size};
 
@@ -132,6 +132,15 @@ pub(crate) fn checked_message_id(bytes: &[u8]) -> Result<u16, HeaderFault>
     } else {
         Err(fault_of(bytes))
     }
+}
+
+/// The message id of bytes that are known to be a packet.
+#[inline]
+pub(crate) fn judged_message_id(bytes: &[u8]) -> u16
+    requires good { header_fault bytes.now ≡ None }
+    ensures { result ≡ message_id bytes.now }
+{
+    u16_at(bytes, 0)
 }
 
 /// Reads the header of a packet, or answers why the bytes are none: the first of the reasons 1 to 6.

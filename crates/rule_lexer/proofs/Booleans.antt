@@ -23,6 +23,3 @@ only_third false false true d p q r = refl
 only_third false false false true p q r = absurd (cc r)
 only_third false false false false p q r = refl
 
-pub not_true : (b : Bool) → (b ≡ true → ⊥) → b ≡ false
-not_true true never = absurd (never refl)
-not_true false never = refl

@@ -10,14 +10,13 @@ use Rattle.lc_model.specs.declared.rule.EventKind.TheVariants.{Debug}
 use Rattle.lc_model.specs.Text.Token.{at_most_32_bits, is_letter, is_sign, is_string, is_word, magnitude, magnitude_text, number, signs, with_sign}
 use Rattle.lc_model.specs.Text.Class as class
 use Rattle.lc_model.specs.Text.Class.{Class, event_kind, field_type, fits, is_name, is_reserved, other_words, state}
+use Rattle.lc_model.proofs.Texts.OneClass.{none_of}
+use Rattle.lc_model.proofs.Facts.{and_second_false, or_none_of_four, and_first_false, and_first, not_true}
 use Rattle.rule_lexer.specs.declared.token.TokenKind.{TokenKind}
 use Rattle.rule_lexer.specs.declared.token.TokenKind.TheVariants.{FieldKind, State, Level, Name, Number, Text, Compare}
 use Rattle.rule_lexer.specs.Token.{IsKind}
 use Rattle.rule_lexer.specs.Fitting.{IsOfGrammar, kind_fits}
 use Rattle.rule_lexer.specs.Front.{begins, begins_numeral, is_quote}
-use Rattle.rule_lexer.proofs.Booleans.{not_true}
-use Rattle.lc_model.proofs.Texts.OneClass.{none_of}
-use Rattle.lc_model.proofs.Facts.{and_second_false, or_none_of_four, and_first_false, and_first}
 use Rattle.rule_lexer.proofs.Lexemes.{letter_begins_no_numeral, letter_begins_no_string, no_string, no_word, numeral_begins_no_string, numeral_begins_no_word, quote_begins_no_numeral, quote_begins_no_word}
 use Rattle.rule_lexer.proofs.Tables.{no_value, text_of_value}
 use Rattle.rule_lexer.proofs.Spelled.{comparisons, event_kinds, field_types, same_text, spelled_fits, states, text_of}

@@ -3,9 +3,8 @@ use Rattle.std.proofs.Common.{◌≡◌, refl, sym, ◌∙◌, ap, subst, ℕ, �
 use Rattle.std.specs.List.{list_all, prefix_len}
 use Rattle.std.proofs.lemmas.List.Folds.{length-prefix_len}
 use Rattle.lc_model.specs.Text.Token.{BeginsNoLexeme, IsLongest, is_closed, is_lexeme, is_string, is_text_byte, quote}
-use Rattle.lc_model.proofs.Facts.{tested_equal, and_first, and_second, and_true}
+use Rattle.lc_model.proofs.Facts.{tested_equal, and_first, and_second, and_true, not_true}
 use Rattle.rule_lexer.specs.Front.{IsFront, begins, is_quote}
-use Rattle.rule_lexer.proofs.Booleans.{not_true}
 use Rattle.rule_lexer.proofs.Runs.{drop_more, run_passes, run_begins}
 use Rattle.rule_lexer.proofs.TextFronts.{front_of}
 use Rattle.rule_lexer.proofs.Lexemes.{string_alone}

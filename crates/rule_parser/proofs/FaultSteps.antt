@@ -7,9 +7,10 @@ use Rattle.lc_model.specs.Text.Class.{Class, Name, Number, word, sign, fits, Fit
 use Rattle.lc_model.specs.Text.Reading.{Expected, TooNested, nests, ends_item}
 use Rattle.lc_model.proofs.Texts.OneClass.{none_of}
 use Rattle.lc_model.proofs.Facts.{or_neither, and_first}
+use Rattle.lc_model.proofs.Texts.OneFile.{word_text}
 use Rattle.rule_parser.specs.Stack.{Symbol, Room, one, option, operand, after, outside, inside, joins, less, narrowed, step, wanted, is_finished, fault_at}
 use Rattle.rule_parser.specs.Front.{place_in, begins}
-use Rattle.rule_parser.proofs.Runs.{word_text, sign_text}
+use Rattle.rule_parser.proofs.Runs.{sign_text}
 
 -- ---- a token that fits, and one that doesn't
 

@@ -7,8 +7,8 @@ use Rattle.lc_model.specs.Text.Token.{Token}
 use Rattle.lc_model.specs.Text.Class.{word, fits, Fits}
 use Rattle.lc_model.specs.Text.Reading.{IsShallow, nests, ends_item}
 use Rattle.lc_model.proofs.Facts.{or_first, or_second, or_neither}
+use Rattle.lc_model.proofs.Texts.OneFile.{word_text}
 use Rattle.rule_parser.specs.Stack.{Room, outside, inside, less, narrowed}
-use Rattle.rule_parser.proofs.Runs.{word_text}
 
 -- ---- the last token of a list
 

@@ -8,6 +8,7 @@ use Rattle.lc_model.specs.Text.Class.{Class, Name, Number, Word, word, sign, fit
 use Rattle.lc_model.specs.Text.Grammar as grammar
 use Rattle.lc_model.specs.Text.Grammar.{Part, Derives, DerivesOption, DerivesReport, DerivesItem, DerivesFile}
 use Rattle.lc_model.proofs.Facts.{and_second}
+use Rattle.lc_model.proofs.Texts.OneFile.{word_text}
 use Rattle.rule_parser.specs.Stack.{Symbol, one, option, operand, after, ones, packet_left, field_left, rule_left, joins, step}
 
 -- from one stack to another
@@ -30,9 +31,6 @@ one_run [] s u v r q = sym r ∙ q
 one_run (t ∷ ts) s u v r q = one_run ts q.0 u v (subst (λ m. Runs m ts u) (cc (r.1, q.1)) r.2) q.2
 
 -- ---- single tokens
-
-pub word_text : (letters : List ℕ) (t : Token) → Fits (Word letters) t → letters ≡ t.text
-word_text letters t fit = (bytes_eq-Decides letters t.text).0 (and_second (is_word t.text) _ fit)
 
 pub sign_text : (letters : List ℕ) (t : Token) → Fits (Class.Sign letters) t → letters ≡ t.text
 sign_text letters t fit = (bytes_eq-Decides letters t.text).0 (and_second (is_sign t.text) _ fit)

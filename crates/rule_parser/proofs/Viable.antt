@@ -12,9 +12,10 @@ use Rattle.lc_model.specs.Text.Grammar.{DerivesFile, number_of}
 use Rattle.lc_model.specs.Text.Reading.{IsViable, Wants, optional_words, is_optional}
 use Rattle.lc_model.proofs.Texts.OneClass.{none_of}
 use Rattle.lc_model.proofs.Facts.{and_first, and_second, and_true}
+use Rattle.lc_model.proofs.Texts.OneFile.{word_text}
 use Rattle.rule_parser.specs.Stack.{Symbol, one, option, operand, after, ones, packet_left, field_left, rule_left, joins, step, wanted}
 use Rattle.rule_parser.proofs.Levels.{Operands, no_tail, operand_then}
-use Rattle.rule_parser.proofs.Runs.{Runs, Runs-append, Runs-split, one_run, runs_file, word_text, sign_text}
+use Rattle.rule_parser.proofs.Runs.{Runs, Runs-append, Runs-split, one_run, runs_file, sign_text}
 use Rattle.rule_parser.proofs.Completions.{Completes, prepend, finished}
 
 -- ---- the stacks that are met

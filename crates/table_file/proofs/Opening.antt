@@ -1,5 +1,5 @@
 -- What a file's headers lead to, by the tests that they pass; and what an opened file holds.
-use Rattle.std.proofs.Common.{◌≡◌, ◌≢◌, refl, sym, ◌∙◌, subst, ℕ, ◌+◌, ◌-◌, ◌≤◌, ◌<◌, ◌^◌, Bool, true, false, not, if◌then◌else◌, nat_lt, ◌==◌, List, [], ◌∷◌, suc, length, get_or, drop, Result, Ok, Err, arith, length-drop}
+use Rattle.std.proofs.Common.{◌≡◌, ◌≢◌, sym, ◌∙◌, subst, ℕ, ◌+◌, ◌-◌, ◌≤◌, ◌<◌, ◌^◌, Bool, true, false, nat_lt, ◌==◌, List, [], ◌∷◌, suc, length, get_or, drop, Result, Ok, Err, arith, length-drop}
 use Rattle.std.specs.Prelude.{IfOk}
 use Rattle.std.proofs.lemmas.List.{get_or-drop, length-take, take_all}
 use Rattle.std.specs.List.{AllByRecursion, slice_range}
@@ -7,6 +7,7 @@ use Rattle.lc_model.specs.Bytes.{u32_at}
 use Rattle.lc_model.specs.Tables.File.{TableFile, content_type, subtype, file_header_length, headers_length, file_bytes, fields_of, opened}
 use Rattle.lc_model.specs.Laws.Tables.{IsTableFile, OneSpelling}
 use Rattle.lc_model.proofs.Facts.{tested_equal, tested_not_less}
+use Rattle.lc_model.proofs.Tables.FileLaws.{passes, answer, Passes}
 use Rattle.table_file.specs.declared.error.FileError.{FileError}
 use Rattle.table_file.specs.declared.error.FileError.TheVariants.{ShortFile, NotCfe, WrongSubtype, HeaderLength, PartialLoad, SizeMismatch, Memory}
 use Rattle.table_file.specs.Error.{Answers}
@@ -18,12 +19,6 @@ is_read number there asked read tested_equal = grind (arith, read, tested_equal)
 pub is_not_read : (number there asked : ℕ) → number ≡ there → number ≢ asked → (there == asked) ≡ false
 is_not_read number there asked read other = grind (arith, read, other)
 
--- what the tests lead to
-abbrev answer : (short content table header whole size : Bool) → TableFile → Result TableFile ℕ
-answer short content table header whole size found =
-    if short then Err 51 else if not content then Err 52 else if not table then Err 53 else if not header then Err 54
-    else if not whole then Err 55 else if not size then Err 56 else Ok found
-
 pub by_tests : (bytes : List ℕ) {short content table header whole size : Bool} → nat_lt (length bytes) headers_length ≡ short →
     (u32_at bytes 0 == content_type) ≡ content → (u32_at bytes 4 == subtype) ≡ table → (u32_at bytes 8 == file_header_length) ≡ header →
     (u32_at bytes 68 == 0) ≡ whole → (u32_at bytes 72 == length bytes - headers_length) ≡ size →
@@ -34,22 +29,6 @@ by_tests bytes a b c d e f = λ i. answer (a i) (b i) (c i) (d i) (e i) (f i) (f
 
 abbrev IsBytes : List ℕ → Type 0
 IsBytes bytes = (i : ℕ) → get_or bytes i 0 < 256
-
--- what holds where a file was opened
-record Passes (short content table header whole size : Bool) (found f : TableFile) : Type 0 where
-  is_long : short ≡ false
-  has_size : size ≡ true
-  is_found : found ≡ f
-
-passes : (short content table header whole size : Bool) (found f : TableFile) →
-    answer short content table header whole size found ≡ Ok f → Passes short content table header whole size found f
-passes true content table header whole size found f e = absurd (cc e)
-passes false false table header whole size found f e = absurd (cc e)
-passes false true false header whole size found f e = absurd (cc e)
-passes false true true false whole size found f e = absurd (cc e)
-passes false true true true false size found f e = absurd (cc e)
-passes false true true true true false found f e = absurd (cc e)
-passes false true true true true true found f e = record { is_long = refl; has_size = refl; is_found = cc e }
 
 four_fit : (bytes : List ℕ) (n : ℕ) → IsBytes bytes → u32_at bytes n < 2 ^ 32
 four_fit bytes n fits =

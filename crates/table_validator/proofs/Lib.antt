@@ -1,4 +1,3 @@
-pub mod Decided
 pub mod Reading
 pub mod Chosen
 pub mod FirstFault

@@ -5,17 +5,12 @@ use Rattle.std.proofs.lemmas.List.Sums.{sum_by-append}
 use Rattle.lc_model.specs.Tables.Equation.{equal_word, is_mention, is_binary, waiting}
 use Rattle.lc_model.specs.Tables.Image.{first_code, most_waiting, operands_of, with_words_before, words_before_equal, words_after_equal}
 use Rattle.lc_model.proofs.Tables.SoundWords.{unknown, missing, too_few, too_many}
-use Rattle.lc_model.proofs.Facts.{or_false, tested_equal}
+use Rattle.lc_model.proofs.Facts.{or_false, tested_equal, or_assoc, unequal_turned}
 use Rattle.table_validator.specs.declared.operands.OperandCount.{OperandCount}
 use Rattle.table_validator.specs.declared.words.WordScan.{WordScan}
 use Rattle.table_validator.specs.Scan.{operands_waiting, word_counted, unread, word_read, scan_tests, word_tests}
-use Rattle.table_validator.proofs.Decided.{turned}
 
 -- ---- truth values
-
-or_assoc : (a b c : Bool) → ((a || b) || c) ≡ (a || (b || c))
-or_assoc true b c = refl
-or_assoc false b c = refl
 
 or_and : (a b c : Bool) → ((a || not b) || not c) ≡ (a || not (b && c))
 or_and true b c = refl
@@ -45,7 +40,7 @@ ends_before (w ∷ ws) e = go (w == equal_word) refl (ends_before ws)
         length (words_before_equal (w ∷ ws)) < length (w ∷ ws)
     go true is others = rw is (omega arith)
     go false is others =
-        let rest : list_any (◌==◌ equal_word) ws ≡ true = rw (turned w equal_word is) at e in
+        let rest : list_any (◌==◌ equal_word) ws ≡ true = rw (unequal_turned w equal_word is) at e in
         rw (before_later w ws is) (omega (arith, others rest))
 
 -- ---- counts of operands
@@ -111,7 +106,7 @@ never_ended count (w ∷ ws) u v c d m j e =
         (fold (word_read count) (scan_before u v c d m j) (w ∷ ws)).ended ≡ false
     go true is others = let same : w ≡ equal_word = tested_equal w equal_word is in absurd (cc (rw same at e))
     go false is others =
-        let rest : list_any (◌==◌ equal_word) ws ≡ false = rw (turned w equal_word is) at e in
+        let rest : list_any (◌==◌ equal_word) ws ≡ false = rw (unequal_turned w equal_word is) at e in
         ap (λ (s : WordScan). (fold (word_read count) s ws).ended) (one_word count w u v c d m j is) ∙ others rest
 
 -- what the pass leaves, where these words stand before EQUAL and those after it
@@ -178,7 +173,7 @@ leaves count (w ∷ ws) before u v c d m j counts e =
     go true is others = subst (λ x. Leaves count before (words_before_equal (x ∷ ws)) (words_after_equal (x ∷ ws)) u v c d (fold (word_read count) (scan_before u v c d m j) (x ∷ ws)))
         (sym (tested_equal w equal_word is)) (at_equal count before ws u v c d m j counts)
     go false is others =
-        let rest : list_any (◌==◌ equal_word) ws ≡ true = rw (turned w equal_word is) at e in
+        let rest : list_any (◌==◌ equal_word) ws ≡ true = rw (unequal_turned w equal_word is) at e in
         let here : LeavesBehind count w before ws u v c d m j (fold (word_read count) (scan_before u v c d m j) (w ∷ ws)) =
         subst (λ (s : WordScan). LeavesBehind count w before ws u v c d m j (fold (word_read count) s ws)) (sym (one_word count w u v c d m j is)) (others rest) in
         rw (before_later w ws is, after_later w ws is)

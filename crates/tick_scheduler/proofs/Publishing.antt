@@ -10,10 +10,10 @@ use Rattle.lc_model.specs.Kept.Summary.{AppState, SchState}
 use Rattle.lc_model.specs.Kept.Next.{next_tick}
 use Rattle.lc_model.specs.Kept.Call.{with_mids, sch_subscriptions, sch_told, silent, registered, next_start, next_on_packet, next_retire}
 use Rattle.lc_model.specs.Services.Bus.{Bus}
-use Rattle.lc_model.specs.Services.Tables.{Table, tables_at}
+use Rattle.lc_model.specs.Services.Tables.{tables_at}
 use Rattle.lc_model.specs.Services.Interface.{MayBeStarted, MayBeGiven, MayPublish, IsGiven, IsRetired}
 use Rattle.lc_model.specs.Services.Settled.{IsSettled, form_of}
-use Rattle.lc_model.proofs.Facts.{tested_equal}
+use Rattle.lc_model.proofs.Facts.{tested_equal, map_none, test_equal}
 use Rattle.app_host.specs.declared.services.Services.{Services}
 use Rattle.app_host.specs.Shared.{on_board, held_by, shared}
 use Rattle.app_host.specs.Seating.{IsOpened, IsClosed}
@@ -35,11 +35,8 @@ is_no_tick Housekeeping = refl
 is_no_tick (Sample first last true) = refl
 is_no_tick (Sample first last false) = refl
 
-equal_is_tested : (n m : ℕ) → n ≡ m → (n == m) ≡ true
-equal_is_tested n m same = grind (arith, same)
-
 no_tick : (entry : ScheduleEntry) → message_id (entry_packet entry) ≢ tick_mid
-no_tick entry same = let never : true ≡ false = sym (equal_is_tested (message_id (entry_packet entry)) tick_mid same) ∙ is_no_tick entry in cc
+no_tick entry same = let never : true ≡ false = sym (test_equal (message_id (entry_packet entry)) tick_mid same) ∙ is_no_tick entry in cc
 
 no_ticks : (entries : List ScheduleEntry) → AllByRecursion (λ (other : List ℕ). message_id other ≢ tick_mid) (map entry_packet entries)
 no_ticks [] = tt
@@ -178,16 +175,12 @@ module _ (schedule : Schedule) where
 
 -- ---- the retirement
 
-no_forms : (tables : List Table) → map form_of tables ≡ [] → tables ≡ []
-no_forms [] e = refl
-no_forms (table ∷ tables) e = cc
-
 pub leaves_empty : ClosingLeaves → NoTablesGo → (place : Option ℕ) (schedule : Schedule) (slot : ℕ) (before after : Services) → IsHome schedule place slot before →
     IfSome place (λ seat. IsClosed seat before after) → before.outgoing ≡ [] →
     IfSome place (λ seat. IfSome (next_retire (SchState schedule slot) (shared before)) (LeavesEmpty seat before after))
 leaves_empty law none None schedule slot before after home closed idle = tt
 leaves_empty law none (Some seat) schedule slot before after home closed idle =
-    law seat sch_name before after closed idle home.settled.sender (shared before).slots (none seat before (no_forms (tables_at seat before.tables.places) home.settled.tables))
+    law seat sch_name before after closed idle home.settled.sender (shared before).slots (none seat before (map_none form_of (tables_at seat before.tables.places) home.settled.tables))
 
 pub retires : ClosingRetires → (place : Option ℕ) (before after : Services) → IfSome place (λ seat. IsClosed seat before after) → before.outgoing ≡ [] →
     IfSome place (λ seat. IsRetired seat sch_name (held_by before) (held_by after))

@@ -2,14 +2,11 @@
 
 use crate::flight::{fails, scene_of, text_refused};
 use crate::flying::Devices;
-use crate::rows::{PRELUDE, SECOND_FAILURE};
+use crate::rows::{PRELUDE, SEVEN_RECORDS};
 use crate::scene::Given::*;
 use crate::scene::Sent::*;
 use crate::scene::{Half, Row};
 use crate::texts::{LOW, LOW_ALONE};
-
-/// Seven records of 255 bytes, which lead to 852 bytes. The first three have 54, 54 and 39 bytes, the others 27 each.
-const SEVEN_RECORDS: &[&[Row]] = &[PRELUDE, SECOND_FAILURE];
 
 /// A piece of a stream, so many bytes of it, the read that fails, the room of the writer, the write that fails, and the most
 /// reads; then how the run ends, and the bytes that are written.

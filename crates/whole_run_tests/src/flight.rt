@@ -36,14 +36,23 @@ pub fn scene_of<R: Abort + AllocGlobal>(rt: &R, texts: &[&[u8]], parts: &[&[Row]
 
 /// A run with these texts and this schedule over these parts writes what their rows say, to the byte.
 pub fn runs<R: Abort + AllocGlobal>(rt: &R, texts: &[&[u8]], schedule: &[u8], parts: &[&[Row]]) {
-    let scene = scene_of(rt, texts, parts);
+    whole(rt, texts, schedule, &scene_of(rt, texts, parts));
+}
+
+/// The same over a scene, without a schedule.
+pub fn plays<R: Abort + AllocGlobal>(rt: &R, texts: &[&[u8]], scene: &Scene) {
+    whole(rt, texts, NO_ENTRIES, scene);
+}
+
+/// A run over the whole of a scene writes all that is expected, to the byte.
+fn whole<R: Abort + AllocGlobal>(rt: &R, texts: &[&[u8]], schedule: &[u8], scene: &Scene) {
     let devices = Devices(8_192, usize::MAX, 0, ROOM, 0, None);
     let size = scene.expected.as_slice().len();
     flies(
         rt,
         texts,
         schedule,
-        &scene,
+        scene,
         devices,
         (0, scene.records()),
         size,
@@ -84,8 +93,20 @@ pub fn fails<R: Abort + AllocGlobal>(
     rows: &[(Devices, (u8, u128), usize)],
 ) {
     for (devices, ending, size) in rows {
-        flies(rt, texts, NO_ENTRIES, scene, *devices, *ending, *size);
+        fail(rt, texts, scene, *devices, *ending, *size);
     }
+}
+
+/// One such run.
+pub fn fail<R: Abort + AllocGlobal>(
+    rt: &R,
+    texts: &[&[u8]],
+    scene: &Scene,
+    devices: Devices,
+    ending: (u8, u128),
+    size: usize,
+) {
+    flies(rt, texts, NO_ENTRIES, scene, devices, ending, size);
 }
 
 /// One of the texts is refused, with its number and the refusal's, and nothing is read.

@@ -7,7 +7,7 @@ ghost use Rattle.app_host.specs.Whole.{AreSpares};
 use app_host::App;
 use flight_core::{Counter, Report, RunError, run, run_within};
 use lc_model::{Limited, Pieces};
-use limit_checker::application::LimitChecker;
+use limit_checker::LimitChecker;
 use std::alloc::{AllocError, Global};
 use tick_scheduler::{Schedule, Scheduler};
 

@@ -6,13 +6,21 @@
 mod commands;
 #[cfg(test)]
 mod devices;
+#[cfg(test)]
+mod each_fault;
 pub mod expected;
 #[cfg(test)]
 mod flight;
 pub mod flying;
+pub mod full;
+#[cfg(test)]
+mod full_tables;
 #[cfg(test)]
 mod hostile;
 pub mod images;
+pub mod low_volts;
+#[cfg(test)]
+mod memory;
 #[cfg(test)]
 mod rows;
 #[cfg(test)]
@@ -22,6 +30,8 @@ pub mod scene;
 mod services;
 #[cfg(test)]
 mod slots;
+#[cfg(test)]
+mod speed;
 #[cfg(test)]
 mod starting;
 pub mod stream;

@@ -45,3 +45,6 @@ pub const SECOND_FAILURE: &[Row] = &[
         ],
     ),
 ];
+
+/// Seven records of 255 bytes, which lead to 852 bytes. The first three have 54, 54 and 39 bytes, the others 27 each.
+pub const SEVEN_RECORDS: &[&[Row]] = &[PRELUDE, SECOND_FAILURE];

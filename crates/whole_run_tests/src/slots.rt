@@ -117,139 +117,141 @@ const BOTH_ADOPTED: &[Row] = &[
     ),
 ];
 
+/// What waits for the watchpoints, and what for the actionpoints.
+const COMBINATIONS: &[&[Row]] = &[
+    PRELUDE,
+    FILES,
+    // None, none.
+    NOTHING,
+    // None, loaded.
+    A_LOADED,
+    NOTHING,
+    A_ABORTED,
+    // None, asked.
+    A_ASKED,
+    SECOND_VALID,
+    A_ABORTED,
+    // None, valid.
+    A_VALID,
+    NOTHING,
+    A_ABORTED,
+    // None, activated.
+    A_ACTIVATED,
+    NOTHING,
+    A_ABORTED,
+    // Loaded, none.
+    W_LOADED,
+    NOTHING,
+    W_ABORTED,
+    // Loaded, loaded.
+    W_LOADED,
+    A_LOADED,
+    NOTHING,
+    W_ABORTED,
+    A_ABORTED,
+    // Loaded, asked.
+    A_ASKED,
+    W_LOADED,
+    SECOND_VALID,
+    W_ABORTED,
+    A_ABORTED,
+    // Loaded, valid.
+    A_VALID,
+    W_LOADED,
+    NOTHING,
+    W_ABORTED,
+    A_ABORTED,
+    // Loaded, activated.
+    A_ACTIVATED,
+    W_LOADED,
+    NOTHING,
+    W_ABORTED,
+    A_ABORTED,
+    // Asked, none.
+    W_ASKED,
+    FIRST_VALID,
+    W_ABORTED,
+    // Asked, loaded.
+    W_ASKED,
+    A_LOADED,
+    FIRST_VALID,
+    W_ABORTED,
+    A_ABORTED,
+    // Asked, asked.
+    W_ASKED,
+    A_ASKED,
+    BOTH_VALID,
+    W_ABORTED,
+    A_ABORTED,
+    // Asked, valid.
+    A_VALID,
+    W_ASKED,
+    FIRST_VALID,
+    W_ABORTED,
+    A_ABORTED,
+    // Asked, activated.
+    A_ACTIVATED,
+    W_ASKED,
+    FIRST_VALID,
+    W_ABORTED,
+    A_ABORTED,
+    // Valid, none.
+    W_VALID,
+    NOTHING,
+    W_ABORTED,
+    // Valid, loaded.
+    W_VALID,
+    A_LOADED,
+    NOTHING,
+    W_ABORTED,
+    A_ABORTED,
+    // Valid, asked.
+    W_VALID,
+    A_ASKED,
+    SECOND_VALID,
+    W_ABORTED,
+    A_ABORTED,
+    // Valid, valid.
+    W_VALID,
+    A_VALID,
+    NOTHING,
+    W_ABORTED,
+    A_ABORTED,
+    // Valid, activated.
+    A_ACTIVATED,
+    W_VALID,
+    NOTHING,
+    W_ABORTED,
+    A_ABORTED,
+    // Activated, none.
+    W_ACTIVATED,
+    NOTHING,
+    W_ABORTED,
+    // Activated, loaded.
+    W_ACTIVATED,
+    A_LOADED,
+    NOTHING,
+    W_ABORTED,
+    A_ABORTED,
+    // Activated, asked.
+    W_ACTIVATED,
+    A_ASKED,
+    SECOND_VALID,
+    W_ABORTED,
+    A_ABORTED,
+    // Activated, valid.
+    W_ACTIVATED,
+    A_VALID,
+    NOTHING,
+    W_ABORTED,
+    A_ABORTED,
+    // Both activated.
+    W_ACTIVATED,
+    A_ACTIVATED,
+    BOTH_ADOPTED,
+];
+
 #[test]
 fn what_waits_is_judged_and_adopted_in_each_combination(rt: HostRuntime) {
-    let parts: &[&[Row]] = &[
-        PRELUDE,
-        FILES,
-        // None, none.
-        NOTHING,
-        // None, loaded.
-        A_LOADED,
-        NOTHING,
-        A_ABORTED,
-        // None, asked.
-        A_ASKED,
-        SECOND_VALID,
-        A_ABORTED,
-        // None, valid.
-        A_VALID,
-        NOTHING,
-        A_ABORTED,
-        // None, activated.
-        A_ACTIVATED,
-        NOTHING,
-        A_ABORTED,
-        // Loaded, none.
-        W_LOADED,
-        NOTHING,
-        W_ABORTED,
-        // Loaded, loaded.
-        W_LOADED,
-        A_LOADED,
-        NOTHING,
-        W_ABORTED,
-        A_ABORTED,
-        // Loaded, asked.
-        A_ASKED,
-        W_LOADED,
-        SECOND_VALID,
-        W_ABORTED,
-        A_ABORTED,
-        // Loaded, valid.
-        A_VALID,
-        W_LOADED,
-        NOTHING,
-        W_ABORTED,
-        A_ABORTED,
-        // Loaded, activated.
-        A_ACTIVATED,
-        W_LOADED,
-        NOTHING,
-        W_ABORTED,
-        A_ABORTED,
-        // Asked, none.
-        W_ASKED,
-        FIRST_VALID,
-        W_ABORTED,
-        // Asked, loaded.
-        W_ASKED,
-        A_LOADED,
-        FIRST_VALID,
-        W_ABORTED,
-        A_ABORTED,
-        // Asked, asked.
-        W_ASKED,
-        A_ASKED,
-        BOTH_VALID,
-        W_ABORTED,
-        A_ABORTED,
-        // Asked, valid.
-        A_VALID,
-        W_ASKED,
-        FIRST_VALID,
-        W_ABORTED,
-        A_ABORTED,
-        // Asked, activated.
-        A_ACTIVATED,
-        W_ASKED,
-        FIRST_VALID,
-        W_ABORTED,
-        A_ABORTED,
-        // Valid, none.
-        W_VALID,
-        NOTHING,
-        W_ABORTED,
-        // Valid, loaded.
-        W_VALID,
-        A_LOADED,
-        NOTHING,
-        W_ABORTED,
-        A_ABORTED,
-        // Valid, asked.
-        W_VALID,
-        A_ASKED,
-        SECOND_VALID,
-        W_ABORTED,
-        A_ABORTED,
-        // Valid, valid.
-        W_VALID,
-        A_VALID,
-        NOTHING,
-        W_ABORTED,
-        A_ABORTED,
-        // Valid, activated.
-        A_ACTIVATED,
-        W_VALID,
-        NOTHING,
-        W_ABORTED,
-        A_ABORTED,
-        // Activated, none.
-        W_ACTIVATED,
-        NOTHING,
-        W_ABORTED,
-        // Activated, loaded.
-        W_ACTIVATED,
-        A_LOADED,
-        NOTHING,
-        W_ABORTED,
-        A_ABORTED,
-        // Activated, asked.
-        W_ACTIVATED,
-        A_ASKED,
-        SECOND_VALID,
-        W_ABORTED,
-        A_ABORTED,
-        // Activated, valid.
-        W_ACTIVATED,
-        A_VALID,
-        NOTHING,
-        W_ABORTED,
-        A_ABORTED,
-        // Both activated.
-        W_ACTIVATED,
-        A_ACTIVATED,
-        BOTH_ADOPTED,
-    ];
-    runs(&rt, LOW_AND_LOWER, NO_ENTRIES, parts);
+    runs(&rt, LOW_AND_LOWER, NO_ENTRIES, COMBINATIONS);
 }

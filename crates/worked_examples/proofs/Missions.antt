@@ -13,7 +13,7 @@ use Rattle.lc_model.specs.declared.mode.LcMode.TheVariants as mode
 use Rattle.lc_model.specs.Bytes.{zero_filled, u16, u32}
 use Rattle.lc_model.specs.Name.{is_named, lc_name, sch_name, counter_name}
 use Rattle.lc_model.specs.Packet.{command, executive_services_mid, sample_mid}
-use Rattle.lc_model.specs.Tables.Image.{Actionpoints, wdt_image, adt_image, version_1_layouts}
+use Rattle.lc_model.specs.Tables.Image.{Layout, Actionpoints, wdt_image, adt_image, version_1_layouts}
 use Rattle.lc_model.specs.Tables.File.{file_bytes, wrapped}
 use Rattle.lc_model.specs.Tables.Interpretation.{Interpretation, FileMeanings}
 use Rattle.lc_model.specs.Tables.HalvesAndBytes.{Text, as_bytes, byte_meanings}
@@ -45,7 +45,7 @@ use Rattle.worked_examples.proofs.Records.{stock, order, volts, sample}
 abbrev low_volts_mission : Mission
 low_volts_mission = record { edition = heavier_first_edition; sources = low_volts_text ∷ []; schedule = [] ∷ []; stock = stock; most_reads = 2 }
 
-abbrev text : Text
+abbrev pub text : Text
 text = record { source = low_volts_text; rules = low_volts_rules }
 
 of_texts : IsOfTexts low_volts_mission (text ∷ [])
@@ -82,7 +82,7 @@ are_compiled : AreCompiledFiles heavier_first_edition (text ∷ []) compiled
 are_compiled Wdt number other is = subst (IsCompiledFile heavier_first_edition Wdt (compiled Wdt 0)) (only text other number is) wdt_compiled
 are_compiled Adt number other is = subst (IsCompiledFile heavier_first_edition Adt (compiled Adt 0)) (only text other number is) adt_compiled
 
-own_hashes : HaveOwnHashes (text ∷ [])
+pub own_hashes : HaveOwnHashes (text ∷ [])
 own_hashes a b in_a in_b same = ap (λ (t : Text). t.source) (sym (one_text a in_a) ∙ one_text b in_b)
 
 -- ---- its stream
@@ -132,7 +132,7 @@ unfolding stream voltage sampling packet_record half_record header
 seven = refl
 
 -- none of its records is a raw file
-is_no_file : Contents → Bool
+unfoldable pub is_no_file : Contents → Bool
 is_no_file (File name bytes) = false
 is_no_file (Packet bytes) = true
 is_no_file Tick = true
@@ -142,9 +142,10 @@ no_files : list_all (λ (entry : StreamEntry). is_no_file entry.contents) (recor
 unfolding is_no_file stream voltage sampling packet_record half_record header
 no_files = refl
 
-carries_none : (entries : List StreamEntry) → list_all (λ (entry : StreamEntry). is_no_file entry.contents) entries ≡ true → CarryHalves version_1_layouts (text ∷ []) entries
+pub carries_none : (layouts : List Layout) (texts : List Text) (entries : List StreamEntry) → list_all (λ (entry : StreamEntry). is_no_file entry.contents) entries ≡ true →
+    CarryHalves layouts texts entries
 unfolding is_no_file
-carries_none entries all entry name bytes (k, less, there) is =
+carries_none layouts texts entries all entry name bytes (k, less, there) is =
     absurd (true≢false (sym (no_file_at entries k less all entry) ∙ ap (λ (e : StreamEntry). is_no_file e.contents) there ∙ ap is_no_file is))
   where
     no_file_at : (entries : List StreamEntry) (k : ℕ) → k < length entries → list_all (λ (entry : StreamEntry). is_no_file entry.contents) entries ≡ true → (d : StreamEntry) →
@@ -162,7 +163,7 @@ carries_none entries all entry name bytes (k, less, there) is =
         second false b e = absurd (true≢false (sym e))
 
 carry : CarryHalves version_1_layouts (text ∷ []) (records_in low_volts_mission stream).0
-carry = carries_none (records_in low_volts_mission stream).0 no_files
+carry = carries_none version_1_layouts (text ∷ []) (records_in low_volts_mission stream).0 no_files
 
 -- ---- its stock
 

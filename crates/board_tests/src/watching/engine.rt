@@ -3,11 +3,11 @@
 ghost use Rattle.std.specs.Prelude.{◌<◌, ◌^◌};
 ghost use Rattle.lc_model.specs.Tables.Image.{FitsWatchpoint};
 
-use super::{Images, LOW, fresh, rule, set, with_one};
+use super::{Images, LOW, age, asked_by, fresh, rule, set, with_one};
 use crate::images::{self, EQUAL, XOR, put, wdt, wide_actionpoint, wide_table};
 use crate::shared::same;
 use lc_model::{ALL_RULES, ApMode, ApResult, CmpOp, FieldType, LcMode, SampleRequest, Term};
-use limit_checker::{Asked, Failure, LimitChecker, Reactions, StateRefusal, Turn};
+use limit_engine::{Asked, Engine, Failure, Reactions, StateRefusal, Turn};
 use std::process::Abort;
 
 /// Telemetry of message id 0x0883 whose 16 bits at byte 12 are not low, and a packet that ends before them.
@@ -30,24 +30,16 @@ fn request(first: u16, last: u16, ages: bool) -> SampleRequest {
 /// A sample of these rules; what the first that asks for something asks for, and how many ask.
 fn sampled<R: Abort + AllocGlobal>(
     rt: &R,
-    checker: &mut LimitChecker,
+    engine: &mut Engine,
     request: SampleRequest,
 ) -> (Option<Asked>, usize) {
-    let mut asked = Vec::with_capacity(rt.alloc(), 176).expect(rt, "out of memory");
-    if asked.capacity() >= 176 {
-        checker.sample(&request, &mut asked);
-    }
+    let asked = asked_by(rt, engine, request.first, request.last, request.ages);
     (asked.first().copied(), asked.len())
 }
 
 /// A sample of all rules, the first of which asks for this, and no other for anything.
-fn reacts<R: Abort + AllocGlobal>(
-    rt: &R,
-    of: &str,
-    checker: &mut LimitChecker,
-    expected: Reactions,
-) {
-    let (asked, count) = sampled(rt, checker, request(ALL_RULES, ALL_RULES, false));
+fn reacts<R: Abort + AllocGlobal>(rt: &R, of: &str, engine: &mut Engine, expected: Reactions) {
+    let (asked, count) = sampled(rt, engine, request(ALL_RULES, ALL_RULES, false));
     let found = asked.map_or(NOTHING, |asked| asked.reactions);
     same(
         rt,
@@ -103,19 +95,19 @@ enum Act {
     Age,
 }
 
-/// Puts tables in force, and drives the Limit Checker through the acts.
+/// Puts tables in force, and drives the engine through the acts.
 fn play<R: Abort + AllocGlobal>(rt: &R, of: &str, tables: &Images, acts: &[Act]) {
-    let mut checker = fresh(rt);
-    set(rt, &mut checker, tables);
+    let mut engine = fresh(rt);
+    set(rt, &mut engine, tables);
     for act in acts {
         match act {
             Act::Packet(bytes) => {
-                checker.telemetry(bytes);
+                engine.telemetry(bytes);
             }
-            Act::Reacts(expected) => reacts(rt, of, &mut checker, *expected),
-            Act::State(number) => same(rt, of, checker.set_state(ALL_RULES, *number), Ok(())),
-            Act::Mode(number) => same(rt, of, checker.set_mode(*number), Ok(())),
-            Act::Age => checker.age(),
+            Act::Reacts(expected) => reacts(rt, of, &mut engine, *expected),
+            Act::State(number) => same(rt, of, engine.set_state(ALL_RULES, *number), Ok(())),
+            Act::Mode(number) => same(rt, of, engine.set_mode(*number), Ok(())),
+            Act::Age => age(rt, &mut engine),
         }
     }
 }
@@ -165,15 +157,15 @@ fn failures_by_mode_and_state(rt: HostRuntime) {
 
 #[test]
 fn a_passive_rule_reports_255_times(rt: HostRuntime) {
-    let mut checker = fresh(&rt);
-    set(&rt, &mut checker, &reporting(&rt, 1, 255, 0, 0));
-    checker.telemetry(LOW);
+    let mut engine = fresh(&rt);
+    set(&rt, &mut engine, &reporting(&rt, 1, 255, 0, 0));
+    engine.telemetry(LOW);
     let requested = failure(Failure::Requested(1));
-    reacts(&rt, "active", &mut checker, requested);
+    reacts(&rt, "active", &mut engine, requested);
     for _ in 0..255 {
-        reacts(&rt, "passive", &mut checker, failure(Failure::Passive));
+        reacts(&rt, "passive", &mut engine, failure(Failure::Passive));
     }
-    reacts(&rt, "quiet", &mut checker, NOTHING);
+    reacts(&rt, "quiet", &mut engine, NOTHING);
 }
 
 #[test]
@@ -229,55 +221,55 @@ fn a_stale_result_ends_a_run_and_a_skip_does_not(rt: HostRuntime) {
 
 #[test]
 fn a_run_of_failures_stops_at_65535(rt: HostRuntime) {
-    let mut checker = fresh(&rt);
-    set(&rt, &mut checker, &reporting(&rt, 65_535, 0, 0, 0));
-    checker.telemetry(LOW);
+    let mut engine = fresh(&rt);
+    set(&rt, &mut engine, &reporting(&rt, 65_535, 0, 0, 0));
+    engine.telemetry(LOW);
     for _ in 0..65_534 {
-        sampled(&rt, &mut checker, request(0, 0, false));
+        sampled(&rt, &mut engine, request(0, 0, false));
     }
     let requested = failure(Failure::Requested(65_535));
-    reacts(&rt, "65,535", &mut checker, requested);
-    same(&rt, "active again", checker.set_state(0, 1), Ok(()));
-    reacts(&rt, "more", &mut checker, requested);
+    reacts(&rt, "65,535", &mut engine, requested);
+    same(&rt, "active again", engine.set_state(0, 1), Ok(()));
+    reacts(&rt, "more", &mut engine, requested);
 }
 
 #[test]
 fn refusals_in_order(rt: HostRuntime) {
-    let mut checker = fresh(&rt);
-    set(&rt, &mut checker, &reporting(&rt, 1, 0, 0, 0));
+    let mut engine = fresh(&rt);
+    set(&rt, &mut engine, &reporting(&rt, 1, 0, 0, 0));
     same(
         &rt,
         "mode 4",
-        checker.set_mode(4),
+        engine.set_mode(4),
         Err(StateRefusal::NoState),
     );
-    same(&rt, "mode", checker.mode(), LcMode::Active);
+    same(&rt, "mode", engine.mode(), LcMode::Active);
     same(
         &rt,
         "rule 1, state 9",
-        checker.set_state(1, 9),
+        engine.set_state(1, 9),
         Err(StateRefusal::NoRule),
     );
     same(
         &rt,
         "state 0",
-        checker.set_state(0, 0),
+        engine.set_state(0, 0),
         Err(StateRefusal::NoState),
     );
     same(
         &rt,
         "all, state 4",
-        checker.set_state(ALL_RULES, 4),
+        engine.set_state(ALL_RULES, 4),
         Err(StateRefusal::NoState),
     );
     let refused = Err(StateRefusal::RuleStands);
-    same(&rt, "off, active", checker.turn_permanently_off(0), refused);
-    same(&rt, "disabled", checker.set_state(0, 3), Ok(()));
-    same(&rt, "off", checker.turn_permanently_off(0), Ok(()));
-    same(&rt, "on again", checker.set_state(0, 1), refused);
-    same(&rt, "all on", checker.set_state(ALL_RULES, 1), Ok(()));
-    if checker.rule_count() == 1 {
-        same(&rt, "state", checker.standing(0).state, ApMode::PermOff);
+    same(&rt, "off, active", engine.turn_permanently_off(0), refused);
+    same(&rt, "disabled", engine.set_state(0, 3), Ok(()));
+    same(&rt, "off", engine.turn_permanently_off(0), Ok(()));
+    same(&rt, "on again", engine.set_state(0, 1), refused);
+    same(&rt, "all on", engine.set_state(ALL_RULES, 1), Ok(()));
+    if engine.rule_count() == 1 {
+        same(&rt, "state", engine.standing(0).state, ApMode::PermOff);
     }
 }
 
@@ -300,21 +292,21 @@ fn flag(mid: u16, offset: u32) -> Term
 fn two_fields_of_one_id_and_another_id(rt: HostRuntime) {
     let terms = [flag(0x0884, 12), flag(0x0883, 12), flag(0x0883, 13)];
     let entry = rule(&rt, ApMode::Active, 1, 7, &[0, 1, XOR, 2, XOR]);
-    let mut checker = fresh(&rt);
-    set(&rt, &mut checker, &with_one(&rt, &terms, entry));
-    same(&rt, "short", checker.telemetry(SHORT), true);
-    same(&rt, "probes of two ids", checker.probes(), 2);
-    same(&rt, "long", checker.telemetry(LOW), false);
+    let mut engine = fresh(&rt);
+    set(&rt, &mut engine, &with_one(&rt, &terms, entry));
+    same(&rt, "short", engine.telemetry(SHORT), true);
+    same(&rt, "probes of two ids", engine.probes(), 2);
+    same(&rt, "long", engine.telemetry(LOW), false);
     let other = [0x08, 0x84, 0xC0, 0, 0, 6, 0, 0, 0, 0, 0, 0, 1];
-    same(&rt, "other", checker.telemetry(&other), false);
-    same(&rt, "probes of the later", checker.probes(), 1);
+    same(&rt, "other", engine.telemetry(&other), false);
+    same(&rt, "probes of the later", engine.probes(), 1);
     reacts(
         &rt,
         "one of three",
-        &mut checker,
+        &mut engine,
         failure(Failure::Requested(1)),
     );
-    same(&rt, "steps", checker.steps(), 6);
+    same(&rt, "steps", engine.steps(), 6);
 }
 
 /// 176 watchpoints of one message id each, every second one from 0x0900 on.
@@ -332,15 +324,15 @@ fn many_ids<R: Abort + AllocGlobal>(rt: &R) -> Images {
 
 #[test]
 fn an_id_is_found_with_eight_comparisons_at_most(rt: HostRuntime) {
-    let mut checker = fresh(&rt);
-    set(&rt, &mut checker, &many_ids(&rt));
+    let mut engine = fresh(&rt);
+    set(&rt, &mut engine, &many_ids(&rt));
     let mut most = 0;
     for mid in 0x08F0..0x0A70u16 {
         let [high, low] = mid.to_be_bytes();
-        let short = checker.telemetry(&[high, low, 0xC0, 0]);
+        let short = engine.telemetry(&[high, low, 0xC0, 0]);
         let watched = mid % 2 == 0 && (0x0900..=0x0A5E).contains(&mid);
         same(&rt, mid, short, watched);
-        most = checker.probes().max(most);
+        most = engine.probes().max(most);
     }
     same(&rt, "most probes", most, 8);
 }
@@ -356,21 +348,21 @@ fn words_of_full_tables(rt: HostRuntime) {
         wdt: wdt(&rt, 176),
         adt: wide_table(&rt, 176, 176, &entry),
     };
-    let mut checker = fresh(&rt);
-    set(&rt, &mut checker, &tables);
-    same(&rt, "short", checker.telemetry(SHORT), true);
-    same(&rt, "probes", checker.probes(), 1);
+    let mut engine = fresh(&rt);
+    set(&rt, &mut engine, &tables);
+    same(&rt, "short", engine.telemetry(SHORT), true);
+    same(&rt, "probes", engine.probes(), 1);
     let all = request(ALL_RULES, ALL_RULES, true);
-    same(&rt, "no requests", sampled(&rt, &mut checker, all).1, 0);
-    same(&rt, "steps", checker.steps(), 5_632);
-    if checker.rule_count() == 176 {
+    same(&rt, "no requests", sampled(&rt, &mut engine, all).1, 0);
+    same(&rt, "steps", engine.steps(), 5_632);
+    if engine.rule_count() == 176 {
         same(
             &rt,
             "error",
-            checker.standing(175).last,
+            engine.standing(175).last,
             Some(ApResult::Error),
         );
     }
-    let none = sampled(&rt, &mut checker, request(3, 4, false)).1;
-    same(&rt, "of two rules", (none, checker.steps()), (0, 64));
+    let none = sampled(&rt, &mut engine, request(3, 4, false)).1;
+    same(&rt, "of two rules", (none, engine.steps()), (0, 64));
 }

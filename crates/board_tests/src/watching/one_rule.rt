@@ -1,11 +1,11 @@
-//! A Limit Checker with one rule of one watchpoint.
+//! An engine with one rule of one watchpoint.
 
 ghost use Rattle.std.specs.Prelude.{IsTrue};
 ghost use Rattle.lc_model.specs.Field.{is_in_type};
 ghost use Rattle.lc_model.specs.declared.field.FieldType.TheVariants.{I8};
 ghost use Rattle.lc_model.specs.Tables.Image.{FitsWatchpoint};
 
-use super::{LOW, Step, fresh, rule, run, sample, with_one};
+use super::{LOW, Step, age, fresh, rule, run, sample, with_one};
 use crate::shared::same;
 use crate::values::low;
 use lc_model::{ApMode, CmpOp, FieldType, Term};
@@ -204,9 +204,9 @@ fn signed_bytes_are_masked_and_compared(rt: HostRuntime) {
 
 #[test]
 fn a_new_one_has_no_rules(rt: HostRuntime) {
-    let mut checker = fresh(&rt);
-    checker.telemetry(LOW);
-    checker.age();
-    same(&rt, "rules", checker.rule_count(), 0);
-    same(&rt, "sample", sample(&mut checker, 0), None);
+    let mut engine = fresh(&rt);
+    engine.telemetry(LOW);
+    age(&rt, &mut engine);
+    same(&rt, "rules", engine.rule_count(), 0);
+    same(&rt, "sample", sample(&rt, &mut engine, 0), None);
 }

@@ -9,7 +9,7 @@ use crate::images::{self, AND, EQUAL, NOT, OR, XOR, put, table, wdt};
 use crate::shared::same;
 use crate::values::low;
 use lc_model::{ApMode, CmpOp, FieldType, Term};
-use limit_checker::LimitChecker;
+use limit_engine::Engine;
 use std::process::Abort;
 
 /// Telemetry of message id 0x0883 with eight bytes at byte 12: none is 1; the second; the first and the third; the first,
@@ -139,16 +139,16 @@ fn eight_operands_that_wait(rt: HostRuntime) {
 }
 
 /// With these tables in force there are so many rules, and this is what comes of the steps.
-fn goes_on_with<R: Abort>(
+fn goes_on_with<R: Abort + AllocGlobal>(
     rt: &R,
-    checker: &mut LimitChecker,
+    engine: &mut Engine,
     tables: &Images,
     rules: usize,
     steps: &[Step],
 ) {
-    set(rt, checker, tables);
-    same(rt, "rules", checker.rule_count(), rules);
-    drive(rt, checker, steps);
+    set(rt, engine, tables);
+    same(rt, "rules", engine.rule_count(), rules);
+    drive(rt, engine, steps);
 }
 
 /// 176 times the low-volts watchpoint, and 176 times a rule of twenty words and one failure.
@@ -165,7 +165,7 @@ fn full<R: Abort + AllocGlobal>(rt: &R) -> Images {
 
 #[test]
 fn full_tables(rt: HostRuntime) {
-    let mut checker = fresh(&rt);
+    let mut engine = fresh(&rt);
     let steps = [
         Step::Packet(LOW),
         Step::Sample(Some(7)),
@@ -173,7 +173,7 @@ fn full_tables(rt: HostRuntime) {
         Step::SampleOf(174, Some(7)),
         Step::SampleOf(175, Some(7)),
     ];
-    goes_on_with(&rt, &mut checker, &full(&rt), 176, &steps);
+    goes_on_with(&rt, &mut engine, &full(&rt), 176, &steps);
 }
 
 /// Two rules over the low-volts watchpoint, of which the first requests sequence 7.
@@ -195,13 +195,13 @@ fn no_rules<R: Abort + AllocGlobal>(rt: &R) -> Images {
 
 #[test]
 fn tables_one_after_another(rt: HostRuntime) {
-    let mut checker = fresh(&rt);
+    let mut engine = fresh(&rt);
     let steps = [Step::Sample(None), Step::Packet(LOW), Step::Sample(Some(7))];
     let two = two_rules(&rt);
-    goes_on_with(&rt, &mut checker, &two, 2, &steps);
-    goes_on_with(&rt, &mut checker, &two, 2, &steps);
+    goes_on_with(&rt, &mut engine, &two, 2, &steps);
+    goes_on_with(&rt, &mut engine, &two, 2, &steps);
     let steps = [Step::Packet(LOW), Step::Sample(Some(9))];
-    goes_on_with(&rt, &mut checker, &one_rule(&rt), 1, &steps);
+    goes_on_with(&rt, &mut engine, &one_rule(&rt), 1, &steps);
     let steps = [Step::Packet(LOW), Step::Sample(None)];
-    goes_on_with(&rt, &mut checker, &no_rules(&rt), 0, &steps);
+    goes_on_with(&rt, &mut engine, &no_rules(&rt), 0, &steps);
 }

@@ -43,21 +43,21 @@ fn full<R: Abort + AllocGlobal>(rt: &R) -> Images {
 
 #[test]
 fn one_version_after_the_other(rt: HostRuntime) {
-    let mut checker = fresh(&rt);
-    set(&rt, &mut checker, &full(&rt));
-    same(&rt, "rules", checker.rule_count(), 176);
+    let mut engine = fresh(&rt);
+    set(&rt, &mut engine, &full(&rt));
+    same(&rt, "rules", engine.rule_count(), 176);
     let steps = [
         Step::Packet(LOW),
         Step::Sample(Some(7)),
         Step::SampleOf(175, Some(7)),
     ];
-    drive(&rt, &mut checker, &steps);
+    drive(&rt, &mut engine, &steps);
     for version in [AdtVersion::One, AdtVersion::Two] {
-        set(&rt, &mut checker, &low_volts(&rt, version));
-        same(&rt, "rules", checker.rule_count(), 1);
+        set(&rt, &mut engine, &low_volts(&rt, version));
+        same(&rt, "rules", engine.rule_count(), 1);
         let steps = [Step::Packet(LOW), Step::Sample(None), Step::Sample(Some(7))];
-        drive(&rt, &mut checker, &steps);
+        drive(&rt, &mut engine, &steps);
     }
-    set(&rt, &mut checker, &full(&rt));
-    same(&rt, "rules", checker.rule_count(), 176);
+    set(&rt, &mut engine, &full(&rt));
+    same(&rt, "rules", engine.rule_count(), 176);
 }

@@ -21,7 +21,8 @@ use Rattle.lc_model.specs.Kept.Summary.{event_state, count_now, counts_of}
 use Rattle.lc_model.specs.Kept.Next.{next_answer, events_after, Accounts, counts_after}
 use Rattle.lc_model.specs.Laws.Events.{HousekeepingHas192Bytes, SameDelivery}
 use Rattle.lc_model.specs.Laws.Counters.{SameTick, SameCount}
-use Rattle.lc_model.proofs.Events.LogLaws.{eq_either_way, same_choice, another_item}
+use Rattle.lc_model.proofs.Events.LogLaws.{same_choice, another_item}
+use Rattle.lc_model.proofs.Facts.{equal_either_way}
 
 pub same_tick : SameTick
 same_tick schedule ticks = ap (λ n. (n, map entry_packet (entries_at schedule (slot_number schedule ticks)))) (mod-add-mod ticks (length schedule) 1)
@@ -49,13 +50,13 @@ one_more false n = ap (λ m. m % 16384) (let none : n ≡ 0 + n = omega arith in
 counted_on : (mid : ℕ) (packet : List ℕ) (packets : List (List ℕ)) → message_id packet ≡ mid → counts_after mid (counts_of packets) ≡ counts_of (packet ∷ packets)
 counted_on mid packet packets its_mid i other =
     (one_more (other == mid) (count_by (λ p. message_id p == other) packets)
-    ∙ ap (λ test. (cond test 1 0 + count_by (λ p. message_id p == other) packets) % 16384) (eq_either_way other mid ∙ ap (λ m. m == other) (sym its_mid))
+    ∙ ap (λ test. (cond test 1 0 + count_by (λ p. message_id p == other) packets) % 16384) (equal_either_way other mid ∙ ap (λ m. m == other) (sym its_mid))
     ∙ ap (λ n. n % 16384) (sym (sum_by-cons (λ p. cond (message_id p == other) 1 0) packet packets))) i
 
 -- ---- deliveries
 
 -- a changed log changes nothing of what was sent
-log_keeps : {Image : Type 0} (sender : Name) (log : Log) (w : World Image) → (with_log sender log w).sent ≡ w.sent
+pub log_keeps : {Image : Type 0} (sender : Name) (log : Log) (w : World Image) → (with_log sender log w).sent ≡ w.sent
 log_keeps sender log w = at_host (is_named sender host_name) (is_named sender lc_name) (is_named sender sch_name) (is_named sender counter_name)
   where
     at_host : (a b c d : Bool) →

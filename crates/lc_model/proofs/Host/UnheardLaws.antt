@@ -13,18 +13,7 @@ use Rattle.lc_model.specs.Host.World.{Lc}
 use Rattle.lc_model.specs.Kept.Summary.{watch_result, tallied, LcNow, now_by, lc_now}
 use Rattle.lc_model.specs.Kept.Next.{seen_result, results_by, by_counts}
 use Rattle.lc_model.specs.Laws.LimitChecker.{UnheardPacket}
-use Rattle.lc_model.proofs.Events.LogLaws.{eq_either_way}
-
-or_left : (a b : Bool) → IsFalse (a || b) → IsFalse a
-or_left true b h = h
-or_left false b h = refl
-
-or_right : (a b : Bool) → IsFalse (a || b) → IsFalse b
-or_right true b h = absurd (true≢false h)
-or_right false b h = h
-
-flipped : (m n : ℕ) → (m == n) ≡ (n == m)
-flipped m n = eq_either_way m n
+use Rattle.lc_model.proofs.Facts.{or_first, or_second, equal_either_way}
 
 -- none of these watchpoints is the packet's
 Unheard : List ℕ → List Term → Type 0
@@ -37,16 +26,16 @@ results_stay packet h [] unheard = refl
 results_stay packet h (t ∷ terms) unheard =
     let others : Bool = list_any (λ mid. message_id packet == mid) (map (λ (u : Term). u.mid) terms) in
     ap₂ (λ r rs. r ∷ rs)
-    (ap (λ heard. if heard then record { truth = judgement t (value_of t packet); countdown = t.stale } else watch_result h t) (or_left (message_id packet == t.mid) others unheard))
-    (results_stay packet h terms (or_right (message_id packet == t.mid) others unheard))
+    (ap (λ heard. if heard then record { truth = judgement t (value_of t packet); countdown = t.stale } else watch_result h t) (or_first (message_id packet == t.mid) others unheard))
+    (results_stay packet h terms (or_second (message_id packet == t.mid) others unheard))
 
 none_short : (packet : List ℕ) (terms : List Term) → Unheard packet terms → IsFalse (is_short terms packet)
 unfolding Unheard
 none_short packet [] unheard = refl
 none_short packet (t ∷ terms) unheard =
     let others : Bool = list_any (λ mid. message_id packet == mid) (map (λ (u : Term). u.mid) terms) in
-    ap₂ (λ a b. a && is_none (value_of t packet) || b) (flipped t.mid (message_id packet) ∙ or_left (message_id packet == t.mid) others unheard)
-    (none_short packet terms (or_right (message_id packet == t.mid) others unheard))
+    ap₂ (λ a b. a && is_none (value_of t packet) || b) (equal_either_way t.mid (message_id packet) ∙ or_first (message_id packet == t.mid) others unheard)
+    (none_short packet terms (or_second (message_id packet == t.mid) others unheard))
 
 module _ {Image : Type 0} (images : Interpretation Image) where
   by_force : Option (Pair Image) → Lc Image → LcNow Image
@@ -79,12 +68,12 @@ module _ {Image : Type 0} (images : Interpretation Image) where
       let now : LcNow Image = lc_now images lc in
       let terms : List Term = option_map_or images.terms (in_force images lc) [] in
       let watchpoints : Bool = list_any (λ other. mid == other) (map (λ (t : Term). t.mid) terms) in
-      let not_4 = or_left (mid == lc_command_mid) (mid == lc_housekeeping_request_mid || (mid == sample_mid || watchpoints)) unheard in
-      let rest_4 = or_right (mid == lc_command_mid) (mid == lc_housekeeping_request_mid || (mid == sample_mid || watchpoints)) unheard in
-      let not_5 = or_left (mid == lc_housekeeping_request_mid) (mid == sample_mid || watchpoints) rest_4 in
-      let rest_5 = or_right (mid == lc_housekeeping_request_mid) (mid == sample_mid || watchpoints) rest_4 in
-      let not_6 = or_left (mid == sample_mid) watchpoints rest_5 in
-      let rest_6 = or_right (mid == sample_mid) watchpoints rest_5 in
+      let not_4 = or_first (mid == lc_command_mid) (mid == lc_housekeeping_request_mid || (mid == sample_mid || watchpoints)) unheard in
+      let rest_4 = or_second (mid == lc_command_mid) (mid == lc_housekeeping_request_mid || (mid == sample_mid || watchpoints)) unheard in
+      let not_5 = or_first (mid == lc_housekeeping_request_mid) (mid == sample_mid || watchpoints) rest_4 in
+      let rest_5 = or_second (mid == lc_housekeeping_request_mid) (mid == sample_mid || watchpoints) rest_4 in
+      let not_6 = or_first (mid == sample_mid) watchpoints rest_5 in
+      let rest_6 = or_second (mid == sample_mid) watchpoints rest_5 in
       stays (mid == lc_command_mid) (unless_refused now (lc_commanded packet now)) _ (now, []) not_4
       (stays (mid == lc_housekeeping_request_mid) (unless_refused now (lc_housekeeping by_counts images packet now)) _ (now, []) not_5
       (stays (mid == sample_mid) (unless_refused now (lc_sample by_counts images packet now)) _ (now, []) not_6

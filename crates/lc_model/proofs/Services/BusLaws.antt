@@ -6,6 +6,7 @@ use Rattle.lc_model.specs.Packet.{message_id}
 use Rattle.lc_model.specs.Kept.Executive.{Pipe, offered, published_to}
 use Rattle.lc_model.specs.Services.Bus.{Publication, Queue, Bus, seen, seen_pipe, pipe_at, is_subscribed, hears_packet, is_full, offered_as, published_as}
 use Rattle.lc_model.specs.Laws.Bus.{PublicationIsSeen, PipeIsSeen, RemovalIsSeen, ReceiptIsSeen, IsShort, HasRoom, FillsByOne}
+use Rattle.lc_model.proofs.Facts.{and_false}
 
 -- ---- what is seen
 
@@ -22,7 +23,7 @@ offered_is_seen number packet queue true is =
     (bytes_behind queue.waiting (record { number = number; bytes = packet })))
 offered_is_seen number packet queue false is = rw is refl
 
-published_is_seen : (number : ℕ) (packet : List ℕ) (bus : Bus) → seen (published_as number packet bus) ≡ published_to (seen bus) packet
+pub published_is_seen : (number : ℕ) (packet : List ℕ) (bus : Bus) → seen (published_as number packet bus) ≡ published_to (seen bus) packet
 published_is_seen number packet [] = refl
 published_is_seen number packet (None ∷ bus) = ap (λ rest. None ∷ rest) (published_is_seen number packet bus)
 published_is_seen number packet (Some queue ∷ bus) =
@@ -46,10 +47,6 @@ receipt_is_seen queue = ap (λ (waiting : List (List ℕ)). record { subscriptio
 
 -- ---- room
 
-and_no : (b : Bool) → (b && false) ≡ false
-and_no true = refl
-and_no false = refl
-
 not_full : (n : ℕ) (place : Option Queue) → IsShort n place → n < 72 → is_full place ≡ false
 not_full n None short less = refl
 not_full n (Some queue) short less = grind (arith, short, less)
@@ -58,7 +55,7 @@ pub has_room : HasRoom
 has_room n packet [] short less = refl
 has_room n packet (place ∷ bus) short less =
     ap₂ (λ a b. a || b)
-    (ap (λ b. hears_packet packet place && b) (not_full n place (short 0) less) ∙ and_no (hears_packet packet place))
+    (ap (λ b. hears_packet packet place && b) (not_full n place (short 0) less) ∙ and_false (hears_packet packet place))
     (has_room n packet bus (λ seat. short (suc seat)) less)
 
 one_more : (n number : ℕ) (packet : List ℕ) (queue : Queue) (b : Bool) → is_subscribed (message_id packet) queue ≡ b → length queue.waiting ≤ n →

@@ -1,22 +1,14 @@
 -- Lists of what is held under names.
-use Rattle.std.proofs.Common.{◌≡◌, refl, ap, sym, ◌∙◌, subst, ℕ, zero, suc, ◌≤◌, ◌<◌, Bool, true, false, ◌||◌, List, [], ◌∷◌, map, length, arith, if◌then◌else◌, Option, Some, is_none, IsFalse, true≢false}
+use Rattle.std.proofs.Common.{◌≡◌, refl, sym, subst, ℕ, zero, suc, ◌≤◌, ◌<◌, Bool, true, false, ◌||◌, List, [], ◌∷◌, map, length, arith, if◌then◌else◌, Option, Some, is_none, IsFalse, true≢false}
 use Rattle.std.specs.List.{list_any}
 use Rattle.std.proofs.lemmas.Slice.Eq.{bytes_eq-Decides}
 use Rattle.lc_model.specs.Name.{Name, is_named, AreDistinct, held, put}
+use Rattle.lc_model.proofs.Facts.{or_neither}
+use Rattle.lc_model.proofs.Services.SenderNames.{other_way}
 
 neither : (a b : Bool) → (a || b) ≡ false → (a ≡ false) × (b ≡ false)
 neither true b e = absurd (true≢false e)
 neither false b e = (refl, e)
-
-both_none : (a b : Bool) → a ≡ false → b ≡ false → (a || b) ≡ false
-both_none a b x y = ap (λ c. c || b) x ∙ y
-
-turned : (name other : Name) → IsFalse (is_named name other) → IsFalse (is_named other name)
-turned name other two = by_test (is_named other name) refl
-  where
-    by_test : (b : Bool) → is_named other name ≡ b → IsFalse (is_named other name)
-    by_test true e = absurd (true≢false (sym ((bytes_eq-Decides name other).1 (sym ((bytes_eq-Decides other name).0 e))) ∙ two))
-    by_test false e = e
 
 module _ {X : Type 0} where
   abbrev pub names : List (Name × X) → List Name
@@ -25,15 +17,15 @@ module _ {X : Type 0} where
   -- a name that is none of these, and not the one that is put, is none afterwards
   put_names : (other name : Name) (x : X) (files : List (Name × X)) → IsFalse (is_named other name) → IsFalse (list_any (is_named other) (names files)) →
       IsFalse (list_any (is_named other) (names (put name x files)))
-  put_names other name x [] two none = both_none (is_named other name) false two refl
+  put_names other name x [] two none = or_neither (is_named other name) false two refl
   put_names other name x (file ∷ files) two none =
       by_test (neither (is_named other file.0) (list_any (is_named other) (names files)) none) (put_names other name x files two) (is_named name file.0)
     where
       by_test : IsFalse (is_named other file.0) × IsFalse (list_any (is_named other) (names files)) →
           (IsFalse (list_any (is_named other) (names files)) → IsFalse (list_any (is_named other) (names (put name x files)))) → (test : Bool) →
           IsFalse (list_any (is_named other) (names (if test then (name, x) ∷ files else file ∷ put name x files)))
-      by_test parts behind true = both_none (is_named other name) (list_any (is_named other) (names files)) two parts.1
-      by_test parts behind false = both_none (is_named other file.0) (list_any (is_named other) (names (put name x files))) parts.0 (behind parts.1)
+      by_test parts behind true = or_neither (is_named other name) (list_any (is_named other) (names files)) two parts.1
+      by_test parts behind false = or_neither (is_named other file.0) (list_any (is_named other) (names (put name x files))) parts.0 (behind parts.1)
 
   pub put_distinct : (name : Name) (x : X) (files : List (Name × X)) → AreDistinct (names files) → AreDistinct (names (put name x files))
   put_distinct name x [] all = (refl, tt)
@@ -41,7 +33,7 @@ module _ {X : Type 0} where
     where
       by_test : AreDistinct (names (put name x files)) → (test : Bool) → is_named name file.0 ≡ test → AreDistinct (names (if test then (name, x) ∷ files else file ∷ put name x files))
       by_test behind true same = (subst (λ first. IsFalse (list_any (is_named first) (names files))) (sym ((bytes_eq-Decides name file.0).0 same)) all.0, all.1)
-      by_test behind false two = (put_names file.0 name x files (turned name file.0 two) all.0, behind)
+      by_test behind false two = (put_names file.0 name x files (other_way name file.0 two) all.0, behind)
 
   pub put_length : (name : Name) (x : X) (files : List (Name × X)) (count : ℕ) → length files ≤ count → (is_none (held name files) ≡ true → length files < count) → length (put name x files) ≤ count
   put_length name x [] count few room = omega (arith, room refl)

@@ -20,6 +20,7 @@ use Rattle.lc_model.specs.Kept.Executive.{joined_now}
 use Rattle.lc_model.specs.Services.Events.{counts_with, Sender, EventService, Origin, IsEventService, is_sender, events_among, sender_named, origin_named, sender_at, with_events, registered_at, asked_by, accounted_at, event_asked}
 use Rattle.lc_model.specs.Laws.Senders.{ChangesKeep, RegisteringKeeps, UnregisteringKeeps, CommandsKeep, EventsKeep, RegisteringByName, UnregisteringByName, CommandsByName, EventsByName}
 use Rattle.lc_model.proofs.Services.SenderNames.{same_name, other_way, IsAbsent, IsFirst, alone_is_first, absent_at, alone, set_first, set_free, set_gone, absent_has_nothing, first, not_found, first_has, first_is_some, same_names, absent_without, distinct_without, absent_with, distinct_with}
+use Rattle.lc_model.proofs.Facts.{or_first, or_second}
 
 -- ---- HOST and the seats
 
@@ -97,14 +98,6 @@ no_sender : (o : Option Sender) → is_some o ≡ false → o ≡ None
 no_sender None e = refl
 no_sender (Some s) e = absurd (true≢false e)
 
-or_left : (a b : Bool) → (a || b) ≡ false → a ≡ false
-or_left true b h = h
-or_left false b h = refl
-
-or_right : (a b : Bool) → (a || b) ≡ false → b ≡ false
-or_right true b h = absurd (true≢false h)
-or_right false b h = h
-
 -- what holds of a registered service where nothing is refused
 registered : (P : EventService → Type 0) (seat : ℕ) (name : Name) (service : EventService) →
     (slice_index_or service.places seat None ≡ None → IsFalse (is_named name host_name) → IsAbsent name service.places →
@@ -116,8 +109,8 @@ registered P seat name service goes = by_test (is_some (slice_index_or service.p
         IfOk (if t then refused 103 else Ok (record service { places = slice_set service.places seat (Some (record { name = name; events = new_sender })) })) P
     by_test true h = tt
     by_test false h =
-        let absent = nowhere name service (or_right (is_some (slice_index_or service.places seat None)) (is_some (origin_named name service)) h) in
-        goes (no_sender (slice_index_or service.places seat None) (or_left (is_some (slice_index_or service.places seat None)) (is_some (origin_named name service)) h))
+        let absent = nowhere name service (or_second (is_some (slice_index_or service.places seat None)) (is_some (origin_named name service)) h) in
+        goes (no_sender (slice_index_or service.places seat None) (or_first (is_some (slice_index_or service.places seat None)) (is_some (origin_named name service)) h))
         absent.0 absent.1
 
 pub registering_keeps : RegisteringKeeps

@@ -107,11 +107,11 @@ same_unregistered seat history =
 -- ---- commands
 
 -- what joins a log, in numbers
-abbrev logged : Result Log Refusal → Result EventState Refusal
+abbrev pub logged : Result Log Refusal → Result EventState Refusal
 logged (Ok log) = Ok (event_state log)
 logged (Err refusal) = Err refusal
 
-same_joined : (item : LogItem) (log : Log) → IsOfFourTypes item → joined_now item (event_state log) ≡ logged (joined item log)
+pub same_joined : (item : LogItem) (log : Log) → IsOfFourTypes item → joined_now item (event_state log) ≡ logged (joined item log)
 same_joined (Requested id kind) log four = ap Ok (another_item (Requested id kind) log four)
 same_joined FiltersReset log four = ap Ok (another_item FiltersReset log four)
 same_joined (TypesSet bits on) log four = ap Ok (another_item (TypesSet bits on) log four)

@@ -6,6 +6,8 @@ use Rattle.std.proofs.lemmas.Slice.Eq.{bytes_eq-Decides}
 use Rattle.lc_model.specs.Name.{Name, is_named, AreDistinct}
 use Rattle.lc_model.specs.Kept.Summary.{EventState}
 use Rattle.lc_model.specs.Services.Events.{Sender, is_sender, events_among, names_of}
+use Rattle.lc_model.proofs.Facts.{or_first, or_second}
+use Rattle.lc_model.specs.Kept.Call.{with_at}
 
 -- ---- names
 
@@ -26,13 +28,23 @@ other_way a b h = by_test (is_named b a) refl
     by_test true e = apart a b h (sym (same_name b a e))
     by_test false e = refl
 
-or_left : (a b : Bool) → IsFalse (a || b) → IsFalse a
-or_left true b h = h
-or_left false b h = refl
+-- what is held under a name, put under it again; and the last of two puts counts
+pub with_at_own : {X : Type 0} (name : Name) (x : X) (held : Name → X) → held name ≡ x → with_at name x held ≡ held
+with_at_own {X} name x held is = λ i other. at other i
+  where
+    at : (other : Name) → (if is_named other name then x else held other) ≡ held other
+    at other = by_test (is_named other name) refl
+      where
+        by_test : (test : Bool) → is_named other name ≡ test → (if test then x else held other) ≡ held other
+        by_test true e = sym is ∙ ap held (sym ((bytes_eq-Decides other name).0 e))
+        by_test false e = refl
 
-or_right : (a b : Bool) → IsFalse (a || b) → IsFalse b
-or_right true b h = absurd (true≢false h)
-or_right false b h = h
+pub with_at_twice : {X : Type 0} (name : Name) (x y : X) (held : Name → X) → with_at name x (with_at name y held) ≡ with_at name x held
+with_at_twice {X} name x y held i other = choice (is_named other name) i
+  where
+    choice : (test : Bool) → (if test then x else (if test then y else held other)) ≡ (if test then x else held other)
+    choice true = refl
+    choice false = refl
 
 -- ---- places
 
@@ -59,10 +71,10 @@ alone_is_first name (place ∷ places) (suc k) h = (h.0, alone_is_first name pla
 
 -- where a name is absent, another sender has another name
 pub absent_here : (name : Name) (sender : Sender) (places : List (Option Sender)) → IsAbsent name (Some sender ∷ places) → IsFalse (is_named name sender.name)
-absent_here name sender places h = or_left (is_named name sender.name) (list_any (is_named name) (names_of places)) h
+absent_here name sender places h = or_first (is_named name sender.name) (list_any (is_named name) (names_of places)) h
 
 pub absent_behind : (name : Name) (sender : Sender) (places : List (Option Sender)) → IsAbsent name (Some sender ∷ places) → IsAbsent name places
-absent_behind name sender places h = or_right (is_named name sender.name) (list_any (is_named name) (names_of places)) h
+absent_behind name sender places h = or_second (is_named name sender.name) (list_any (is_named name) (names_of places)) h
 
 pub absent_of : (name : Name) (sender : Sender) (places : List (Option Sender)) → IsFalse (is_named name sender.name) → IsAbsent name places → IsAbsent name (Some sender ∷ places)
 absent_of name sender places here behind = either (is_named name sender.name) (list_any (is_named name) (names_of places)) here behind

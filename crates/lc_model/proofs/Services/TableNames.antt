@@ -1,6 +1,6 @@
 -- Tables under their names, by the seats that they are kept at.
-use Rattle.std.proofs.Common.{◌≡◌, refl, ap, sym, ◌∙◌, subst, ℕ, zero, suc, ◌+◌, ◌≤◌, ◌<◌, lit≤, Bool, true, false, List, [], ◌∷◌, ◌++◌, map, length, arith, if◌then◌else◌, Option, Some, None, slice_get, slice_index_or, slice_set, true≢false}
-use Rattle.std.specs.Prelude.{IfOk, Result, Ok, Err, is_none, is_some, nat_le, nat_lt, ◌&&◌, ◌||◌}
+use Rattle.std.proofs.Common.{◌≡◌, refl, ap, sym, ◌∙◌, ℕ, zero, suc, ◌+◌, ◌≤◌, ◌<◌, Bool, true, false, List, [], ◌∷◌, ◌++◌, map, length, arith, if◌then◌else◌, Option, Some, None, slice_get, slice_index_or, slice_set, true≢false}
+use Rattle.std.specs.Prelude.{IfOk, Result, Ok, is_none, is_some, nat_le, nat_lt, ◌&&◌, ◌||◌}
 use Rattle.std.specs.Option.{option_or, option_map_or}
 use Rattle.std.specs.List.{list_any, position_from}
 use Rattle.lc_model.specs.Name.{Name, is_named, held, put}
@@ -10,7 +10,7 @@ use Rattle.lc_model.specs.Tables.Interpretation.{FileMeaning}
 use Rattle.lc_model.specs.Host.World.{max_files}
 use Rattle.lc_model.specs.Host.React.{max_file_size}
 use Rattle.lc_model.specs.Kept.Call.{with_at}
-use Rattle.lc_model.specs.Services.Tables.{Table, TableService, Places, Handle, tables_a_seat, tables_at, table_at, number_named, handle_from, handle_named, new_table, with_slot, times_in, times_among, IsTableService}
+use Rattle.lc_model.specs.Services.Tables.{Table, TableService, Places, Handle, tables_a_seat, tables_at, number_named, handle_from, handle_named, new_table, with_slot, times_in, times_among}
 use Rattle.lc_model.proofs.Facts.{or_first, or_second}
 use Rattle.lc_model.proofs.Services.SenderNames.{same_name, is_itself}
 use Rattle.lc_model.specs.Services.Seen.{files_seen, meaning_of, slot_in, slot_among}

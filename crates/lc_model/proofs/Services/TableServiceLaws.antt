@@ -197,6 +197,10 @@ pub then_ok : {A B : Type 0} (P : B → Type 0) (r : Result A Refusal) (next : A
 then_ok P (Ok a) next each = each a refl
 then_ok P (Err refusal) next each = tt
 
+pub found_ok : {A B : Type 0} (P : B → Type 0) (o : Option A) (code : ℕ) (next : A → Result B Refusal) → ((x : A) → o ≡ Some x → IfOk (next x) P) → IfOk (found o code >>= next) P
+found_ok P (Some x) code next each = each x refl
+found_ok P None code next each = tt
+
 module _ (service : TableService) (is : IsTableService service) where
   Sound : Places → Type 0
   Sound places = IsTableService (record service { places = places })

@@ -10,7 +10,7 @@ use Rattle.lc_model.specs.Condition.{Operator, And, Or, Xor, Condition}
 use Rattle.lc_model.specs.Rule.{NamedRule, actions}
 use Rattle.lc_model.specs.Codes.{table_entries}
 use Rattle.lc_model.specs.Text.Token.{is_text_byte}
-use Rattle.lc_model.specs.Tables.Equation.{terms_of, words, equal_word, operator_word, SpellsInOrder, Spells, IsRearranged}
+use Rattle.lc_model.specs.Tables.Equation.{terms_of, words, equal_word, operator_word, SpellsInOrder, Spells}
 use Rattle.lc_model.specs.Tables.InForce.{limits, layouts, arranged, compiled_actionpoints}
 use Rattle.lc_model.specs.Tables.Lowering.{words_in, NeedsFew}
 use Rattle.lc_model.specs.Tables.Image.{Watchpoints, filled, term_bytes, TableEntry, FitsEntry, EndsOnce, entry_bytes, HasPreamble, adt_image, equation_tests}

@@ -3,7 +3,7 @@ use Rattle.std.proofs.Common.{◌≡◌, refl, sym, ◌∙◌, ap, subst, ℕ, �
 use Rattle.std.specs.List.{AllZip, AllByRecursion}
 use Rattle.std.specs.Option.{option_map_or}
 use Rattle.std.specs.Int.{w16, from_be_bytes}
-use Rattle.std.proofs.lemmas.List.{drop_at, take_at}
+use Rattle.std.proofs.lemmas.List.{drop_at}
 use Rattle.std.proofs.lemmas.Nat.{from_be_bytes-to_be_bytes_2}
 use Rattle.sha2.specs.Sha256.{sha256}
 use Rattle.sha2.proofs.Facts256.{length-sha256}
@@ -25,11 +25,9 @@ use Rattle.lc_model.proofs.Tables.TermsFit.{terms_fit, terms_in_type}
 use Rattle.lc_model.proofs.Tables.SpellsOnce.{one_condition}
 use Rattle.lc_model.proofs.Tables.ImageBytes.{same_items, one_watchpoint, same_length, one_entry}
 use Rattle.lc_model.proofs.Facts.{and_second, tested_equal}
+use Rattle.lc_model.proofs.Tables.FilesAlike.{hash_of_preamble}
 
 -- ---- the parts of an image
-
-hash_again : (l : Layout) (own n : ℕ) (h rest : List ℕ) → length h ≡ 32 → hash_of (preamble l own n h ++ rest) ≡ h
-hash_again l own n h rest long = take_at h rest 32 long
 
 body_again : (l : Layout) (own n : ℕ) (h rest : List ℕ) → length h ≡ 32 → drop 40 (preamble l own n h ++ rest) ≡ rest
 body_again l own n h rest long = drop_at h rest 32 long
@@ -207,10 +205,10 @@ module _ (layouts : List Layout) (text wdt adt : List ℕ) (rules : List NamedRu
       (one_reading text adt_half.0 rules adt_half.1 reads) adt_half.3
 
   wdt_hash : hash_of wdt ≡ sha256 text
-  wdt_hash = ap hash_of wdt_is ∙ hash_again Watchpoints (length (terms_of rules)) (length (terms_of rules)) (sha256 text) (filled Watchpoints (map term_bytes (terms_of rules))) (length-sha256 text)
+  wdt_hash = ap hash_of wdt_is ∙ hash_of_preamble Watchpoints (length (terms_of rules)) (length (terms_of rules)) (sha256 text) (filled Watchpoints (map term_bytes (terms_of rules))) (length-sha256 text)
 
   pub adt_hash : hash_of adt ≡ sha256 text
-  adt_hash = ap hash_of adt_has.2 ∙ hash_again adt_has.0 (length adt_has.1) (length (terms_of rules)) (sha256 text) (filled adt_has.0 (map (entry_bytes adt_has.0) adt_has.1)) (length-sha256 text)
+  adt_hash = ap hash_of adt_has.2 ∙ hash_of_preamble adt_has.0 (length adt_has.1) (length (terms_of rules)) (sha256 text) (filled adt_has.0 (map (entry_bytes adt_has.0) adt_has.1)) (length-sha256 text)
 
   pub few_terms : length (terms_of rules) ≤ 19400
   few_terms =

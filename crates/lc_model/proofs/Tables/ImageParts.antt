@@ -18,7 +18,7 @@ use Rattle.lc_model.proofs.Tables.SoundImages.{SoundParts, two_at}
 -- ---- what is listed of the numbers below one
 
 -- there are as many
-length_numbers : (k : ℕ) → length (numbers_below k) ≡ k
+pub length_numbers : (k : ℕ) → length (numbers_below k) ≡ k
 length_numbers zero = refl
 length_numbers (suc k) = omega (arith, length-append (numbers_below k) (k ∷ []), length_numbers k)
 

@@ -1,5 +1,5 @@
 -- The words of rules within the limits can be run.
-use Rattle.std.proofs.Common.{◌≡◌, refl, sym, ℕ, zero, suc, ◌+◌, ◌^◌, ◌≤◌, Bool, true, false, if◌then◌else◌, List, [], ◌∷◌, ◌++◌, length, flat_map, slice_get, filter_map, Option, Some, None, option_map, IsTrue, true≢false, nat_lt, Contains, arith, length-append}
+use Rattle.std.proofs.Common.{◌≡◌, refl, sym, ℕ, zero, suc, ◌+◌, ◌^◌, ◌≤◌, Bool, true, false, List, [], ◌∷◌, ◌++◌, length, flat_map, slice_get, filter_map, Option, Some, None, option_map, IsTrue, true≢false, nat_lt, Contains, arith, length-append}
 use Rattle.std.specs.List.{list_any, enumerate_from, AllByRecursion}
 use Rattle.lc_model.specs.declared.field.Term.{Term}
 use Rattle.lc_model.specs.Condition.{Condition, Watch, Not, Join}
@@ -18,14 +18,9 @@ use Rattle.lc_model.proofs.Tables.SensibleLaws.{all_among}
 use Rattle.lc_model.proofs.Tables.SoundWords.{sound_words_spell}
 use Rattle.lc_model.proofs.Tables.SpellsOnce.{computed}
 use Rattle.lc_model.proofs.Tables.WordsSpell.{words_spell_in}
-use Rattle.lc_model.proofs.Facts.{tested_not_less}
+use Rattle.lc_model.proofs.Facts.{tested_not_less, none_of_if}
 
 -- ---- limits
-
--- a test that would have refused
-passed : {A : Type 0} (b : Bool) (refusal : A) (others : Option A) → (if b then Some refusal else others) ≡ None → (b ≡ false) × (others ≡ None)
-passed true refusal others e = absurd (cc e)
-passed false refusal others e = (refl, e)
 
 -- no rule is refused
 none_refused : (n : ℕ) (rules : List NamedRule) →
@@ -51,7 +46,7 @@ record Fits (c : Condition) : Type 0 where
 fits : (rule : NamedRule) → equation_fault limits rule ≡ None → Fits rule.action.condition
 fits rule e =
     let c : Condition = rule.action.condition in
-    let short : size c + 1 ≤ limits.words = tested_not_less limits.words (size c + 1) (passed (nat_lt limits.words (size c + 1)) 42 None e).0 in
+    let short : size c + 1 ≤ limits.words = tested_not_less limits.words (size c + 1) (none_of_if (nat_lt limits.words (size c + 1)) 42 None e).0 in
     record {
       short = short;
       same = (light c).same;
@@ -119,8 +114,8 @@ each_runs terms few (rule ∷ rules) none over = (
 
 pub lowered_words_run : LoweredWordsRun
 lowered_words_run rules within =
-    let one = passed (nat_lt table_entries (length (terms_of rules))) (ForText 31) _ within in
-    let two = passed (nat_lt table_entries (length rules)) (ForText 41) _ one.1 in
+    let one = none_of_if (nat_lt table_entries (length (terms_of rules))) (ForText 31) _ within in
+    let two = none_of_if (nat_lt table_entries (length rules)) (ForText 41) _ one.1 in
     let few : length (terms_of rules) ≤ table_entries = tested_not_less _ _ one.0 in
     record {
       watchpoints = few;

@@ -24,7 +24,7 @@ AreBytes bytes = AllByRecursion (λ b. b < 256) bytes
 
 -- ---- lists
 
-bytes_in_front : (n : ℕ) (bytes : List ℕ) → AreBytes bytes → AreBytes (take n bytes)
+pub bytes_in_front : (n : ℕ) (bytes : List ℕ) → AreBytes bytes → AreBytes (take n bytes)
 bytes_in_front zero bytes all = tt
 bytes_in_front (suc n) [] all = tt
 bytes_in_front (suc n) (b ∷ bytes) all = (all.0, bytes_in_front n bytes all.1)
@@ -38,7 +38,7 @@ all_append P [] ys a b = b
 all_append P (x ∷ xs) ys a b = (a.0, all_append P xs ys a.1 b)
 
 -- what holds of each number below holds of the list
-each_listed : {A : Type 0} (P : A → Type 0) (f : ℕ → A) (k : ℕ) → ((n : ℕ) → n < k → P (f n)) → AllByRecursion P (map f (numbers_below k))
+pub each_listed : {A : Type 0} (P : A → Type 0) (f : ℕ → A) (k : ℕ) → ((n : ℕ) → n < k → P (f n)) → AllByRecursion P (map f (numbers_below k))
 each_listed P f zero each = tt
 each_listed P f (suc k) each =
     subst (AllByRecursion P) (sym (map-append f (numbers_below k) (k ∷ [])))
@@ -165,7 +165,7 @@ says_actionpoints terms adt all parts few count = (l, entries, again, fit, said)
 
 -- ---- both
 
-only_watchpoints : (l : Layout) → is_kind Wdt (kind_of l) ≡ true → l ≡ Watchpoints
+pub only_watchpoints : (l : Layout) → is_kind Wdt (kind_of l) ≡ true → l ≡ Watchpoints
 only_watchpoints Watchpoints is = refl
 only_watchpoints Actionpoints is = absurd (cc is)
 only_watchpoints WideActionpoints is = absurd (cc is)

@@ -8,12 +8,9 @@ use Rattle.lc_model.specs.Text.Token.{is_text_byte, quote}
 use Rattle.lc_model.specs.Tables.Equation.{equal_word}
 use Rattle.lc_model.specs.Tables.Image.{words_from, words_before_equal, words_after_equal}
 use Rattle.lc_model.proofs.Tables.SoundImages.{below_2_16, two_at}
-use Rattle.lc_model.proofs.Facts.{tested_equal, test_equal, tested_unequal, tested_at_most, and_first, and_second, or_other}
+use Rattle.lc_model.proofs.Facts.{tested_equal, test_equal, tested_unequal, tested_at_most, and_first, and_second, or_other, unequal_turned}
 
 -- ---- tests
-
-turned : (m n : ℕ) → (m == n) ≡ false → (n == m) ≡ false
-turned m n e = grind (arith, e)
 
 above_zero : (n : ℕ) → 0 < n → (n == 0) ≡ false
 above_zero n h = grind (arith, h)
@@ -153,7 +150,7 @@ equation_again (w ∷ ws) all ends behind = by_test (w == equal_word) refl (equa
         let before : words_before_equal (w ∷ ws) ≡ w ∷ words_before_equal ws = before_later (λ v. v == equal_word) w ws is in
         let after : words_after_equal (w ∷ ws) ≡ words_after_equal ws = after_later (λ v. v == equal_word) w ws is in
         let rest : IsWordField ws =
-        others (or_other (equal_word == w) (list_any (◌==◌ equal_word) ws) ends (turned w equal_word is)) (ap (list_all (◌==◌ 0)) (sym after) ∙ behind) in
+        others (or_other (equal_word == w) (list_any (◌==◌ equal_word) ws) ends (unequal_turned w equal_word is)) (ap (list_all (◌==◌ 0)) (sym after) ∙ behind) in
         let front : List ℕ = words_before_equal ws ++ equal_word ∷ [] in
         let fewer : length (w ∷ ws) - length (w ∷ front) ≡ length ws - length front = omega arith in
         record {

@@ -22,7 +22,7 @@ use Rattle.lc_model.specs.Text.Token.{is_text_byte}
 use Rattle.lc_model.specs.Tables.Equation.{equal_word}
 use Rattle.lc_model.specs.Tables.Image.{Layout, words_in, bits_32, twos_complement_32, term_bytes, type_of_code, watchpoint_code, TableEntry, entry_bytes, FitsEntry, EndsOnce, all_words, words_from, words_before_equal, words_after_equal, is_text_field, first_code, equation_tests, actionpoint_code, watchpoint_tests, actionpoint_tests}
 use Rattle.lc_model.proofs.Tables.SoundWords.{none_stands, stands_none, list_any-append}
-use Rattle.lc_model.proofs.Facts.{or_neither, test_at_most, test_not_less, test_less, or_true}
+use Rattle.lc_model.proofs.Facts.{or_neither, test_at_most, test_not_less, test_less, or_true, test_unequal}
 use Rattle.lc_model.proofs.Tables.NumbersIn32Bits.{bits_small, value_again}
 use Rattle.lc_model.proofs.Tables.TermsFit.{IsSoundTerm}
 use Rattle.lc_model.proofs.Tables.EntryLengths.{length-zero_filled}
@@ -33,9 +33,6 @@ use Rattle.lc_model.proofs.CodesAgain.{type_again}
 
 not_zero : (n : ℕ) → 1 ≤ n → (n == 0) ≡ false
 not_zero n h = grind (arith, h)
-
-differs : (m n : ℕ) → m ≢ n → (m == n) ≡ false
-differs m n h = grind (arith, h)
 
 in_range : (low high n : ℕ) → low ≤ n → n ≤ high → not (is_in_range low high n) ≡ false
 in_range low high n a b = λ i. not (test_at_most low n a i && test_at_most n high b i)
@@ -112,7 +109,7 @@ small_zeros (suc n) = (omega arith, small_zeros n)
 
 not_equal : (ws : List ℕ) → AllByRecursion (λ w. w ≢ equal_word) ws → AllByRecursion (λ w. (w == equal_word) ≡ false) ws
 not_equal [] all = tt
-not_equal (w ∷ ws) all = (differs w equal_word all.0, not_equal ws all.1)
+not_equal (w ∷ ws) all = (test_unequal w equal_word all.0, not_equal ws all.1)
 
 module _ (p : ℕ → Bool) (z : ℕ) (here : p z ≡ true) (rest : List ℕ) where
   pub before_at : (xs : List ℕ) → AllByRecursion (λ x. p x ≡ false) xs → before_first p (xs ++ z ∷ rest) ≡ xs

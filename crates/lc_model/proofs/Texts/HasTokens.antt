@@ -66,10 +66,6 @@ comment_end (c ∷ cs) = go (line_feed == c) refl (comment_end cs)
 
 -- ---- a lexeme is a token, or bad
 
-not_second : (a b : Bool) → a ≡ true → (a && b) ≡ false → b ≡ false
-not_second true b e f = f
-not_second false b e f = absurd (cc e)
-
 no_value : {A : Type 0} (o : Option A) → is_some o ≡ false → o ≡ None
 no_value None e = refl
 no_value (Some n) e = absurd (cc e)

@@ -65,7 +65,7 @@ one_end (x ∷ cs) (y ∷ ds) xs ys e f a b c d s =
 
 -- ---- items
 
-word_text : (letters : List ℕ) (t : Token) → Fits (Word letters) t → letters ≡ t.text
+pub word_text : (letters : List ℕ) (t : Token) → Fits (Word letters) t → letters ≡ t.text
 word_text letters t fit = (bytes_eq-Decides letters t.text).0 (and_second (is_word t.text) _ fit)
 
 end_text : (t : Token) → Fits (sign ";") t → codes ";" ≡ t.text

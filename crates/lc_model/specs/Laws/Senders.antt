@@ -1,5 +1,5 @@
 -- What the calls of the event services do to what is held under names, and by whole logs.
-use Rattle.std.specs.Prelude.{◌≡◌, ℕ, ◌<◌, ◌==◌, List, [], ◌∷◌, Option, Some, None, if◌then◌else◌, option_to_list, Ok, IfOk}
+use Rattle.std.specs.Prelude.{◌≡◌, ℕ, ◌<◌, List, [], ◌∷◌, Option, Some, None, option_to_list, Ok, IfOk}
 use Rattle.std.specs.List.{AllByRecursion}
 use Rattle.lc_model.specs.declared.record.Moment.{Moment}
 use Rattle.lc_model.specs.declared.rule.EventKind.{EventKind}

@@ -146,14 +146,3 @@ pub record IsGiven (seat : ℕ) (name : Name) (packet : List ℕ) (before after 
 pub record IsRetired (seat : ℕ) (name : Name) (before after : Held) : Type 0 where
   pub call : IsCallOf seat name [] before after
   pub free : IsFreeSeat seat after
-
--- ---- between records
-
--- what each step keeps, whatever the objects are: each seat is free, or belongs to an object of a name of its own, and no packet
--- waits
-pub record IsInOrder (names : List (Option Name)) (held : Held) : Type 0 where
-  pub eight : length names ≡ seat_count
-  pub free : (seat : ℕ) → slice_index_or names seat None ≡ None → IsFreeSeat seat held
-  pub taken : (seat : ℕ) (name : Name) → slice_index_or names seat None ≡ Some name → IsApplicationName name × BelongsTo seat name held
-  pub own : (name : Name) (j k : ℕ) → slice_index_or names j None ≡ Some name → slice_index_or names k None ≡ Some name → j ≡ k
-  pub empty : AllByRecursion (λ (pipe : Option Pipe). IfSome pipe (λ (pipe : Pipe). pipe.waiting ≡ [])) (seen held.bus)

@@ -8,9 +8,8 @@ use Rattle.lc_model.specs.Tables.Image.{Watchpoints, Actionpoints, WideActionpoi
 use Rattle.lc_model.specs.Kept.Summary.{AppState, LcState, SchState, CounterState, Other}
 use Rattle.lc_model.specs.Kept.Executive.{Pipe}
 use Rattle.lc_model.specs.Kept.GoesWith.{own_name, subscriptions_of}
-use Rattle.lc_model.specs.Services.Bus.{seen}
 use Rattle.lc_model.specs.Services.Events.{Sender, sender_at}
-use Rattle.lc_model.specs.Services.Tables.{Table, Places, tables_at}
+use Rattle.lc_model.specs.Services.Tables.{Table, tables_at}
 use Rattle.lc_model.specs.Services.Interface.{Held, seen_at}
 
 -- how a table is registered: its name, and the one or two sizes of its images, in bytes

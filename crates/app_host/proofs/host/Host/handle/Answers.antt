@@ -3,5 +3,5 @@ use Rattle.app_host.specs.Step.{input_by}
 use Rattle.app_host.proofs.Stepping.{filed_so}
 use Rattle.app_host.proofs.host.Host.handle.Goals as goal
 
-pub returns-in-File : goal.returns-in-File
-returns-in-File g c = filed_so _ _ _ _ c.store_file.result c.in-File.name.now c.in-File.bytes.now _ (ap input_by c.in-File.is) c.store_file.ensures
+pub returns-in-File-clause-handled : goal.returns-in-File-clause-handled
+returns-in-File-clause-handled g c = filed_so _ _ _ _ c.store_file.result c.in-File.name.now c.in-File.bytes.now _ (ap input_by c.in-File.is) c.store_file.ensures.handled

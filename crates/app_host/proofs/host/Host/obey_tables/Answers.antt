@@ -3,6 +3,7 @@ use Rattle.lc_model.specs.Packet.{function_code, payload}
 use Rattle.lc_model.specs.Command.{table_command}
 use Rattle.lc_model.specs.Events.Request.{table_services, command_done, command_refused}
 use Rattle.app_host.proofs.TablesObeyed.{kept_by, whole_obeyed, whole_refused, is_obeyed, is_not_obeyed}
+use Rattle.app_host.proofs.Responding.{tables_obeyed, tables_refused}
 use Rattle.app_host.proofs.host.Host.obey_tables.Goals as goal
 
 pub tell_alone-requires-clause-whole : goal.tell_alone-requires-clause-whole
@@ -17,17 +18,27 @@ tell_alone-requires-in-Err-clause-whole g c =
     whole_refused _ _ c.requires.whole (record { stock = refl; seats = refl; is_closed = refl; bus = refl; events = refl; counts = refl; moment = refl; outgoing = refl })
     c.table_services_go_by_names.ensures.found c.is_service.ensures c.in-Err.ensures.refused
 
-pub returns-in-Ok : goal.returns-in-Ok
-returns-in-Ok g c =
+pub returns-in-Ok-clause-handled : goal.returns-in-Ok-clause-handled
+returns-in-Ok-clause-handled g c =
     is_obeyed _ _ c.requires.whole (record { stock = refl; seats = refl; is_closed = refl; bus = refl; events = refl; counts = refl; moment = refl; outgoing = refl })
     c.table_commands_go_by_names.ensures.moves c.table_commands_go_by_names.ensures.loads c.is_service.ensures c.args.packet.now c.in-Ok.ensures.answer
     (kept_by c.table_commands_go_by_names.ensures.forms (table_command (function_code c.args.packet.now) (payload c.args.packet.now)) c.args.self.now.services.tables c.obey-obeyed.new.tables
     c.in-Ok.ensures.answer)
-    _ (c.command_done-text.ensures ∙ ap (command_done table_services) c.function_code.ensures) _ _ _ c.tell_alone.result c.tell_alone.ensures
+    _ (c.command_done-text.ensures ∙ ap (command_done table_services) c.function_code.ensures) _ _ _ c.tell_alone.result c.tell_alone.ensures.handled
 
-pub returns-in-Err : goal.returns-in-Err
-returns-in-Err g c =
+pub returns-in-Err-clause-handled : goal.returns-in-Err-clause-handled
+returns-in-Err-clause-handled g c =
     is_not_obeyed _ _ c.requires.whole (record { stock = refl; seats = refl; is_closed = refl; bus = refl; events = refl; counts = refl; moment = refl; outgoing = refl })
     c.table_commands_go_by_names.ensures.moves c.table_commands_go_by_names.ensures.loads c.is_service.ensures c.args.packet.now
     c.in-Err.ensures.refused c.in-Err.numbers c.in-Err.ensures.answer
-    _ (c.command_refused-text.ensures ∙ ap (command_refused table_services) c.as_slice.ensures.numbers) _ _ _ c.tell_alone-in-Err.result c.tell_alone-in-Err.ensures
+    _ (c.command_refused-text.ensures ∙ ap (command_refused table_services) c.as_slice.ensures.numbers) _ _ _ c.tell_alone-in-Err.result c.tell_alone-in-Err.ensures.handled
+
+pub returns-in-Ok-clause-own : goal.returns-in-Ok-clause-own
+returns-in-Ok-clause-own g c =
+    tables_obeyed _ _ _ refl refl refl _ _ _ c.tell_alone.result c.tell_alone.ensures.own refl c.args.packet.now _ c.in-Ok.ensures.answer
+    (c.command_done-text.ensures ∙ ap (command_done table_services) c.function_code.ensures)
+
+pub returns-in-Err-clause-own : goal.returns-in-Err-clause-own
+returns-in-Err-clause-own g c =
+    tables_refused _ _ _ refl refl refl _ _ _ c.tell_alone-in-Err.result c.tell_alone-in-Err.ensures.own refl c.in-Err.ensures.refused c.args.packet.now _ c.in-Err.numbers c.in-Err.ensures.answer
+    (c.command_refused-text.ensures ∙ ap (command_refused table_services) c.as_slice.ensures.numbers)

@@ -1,8 +1,15 @@
-use Rattle.app_host.proofs.Prepared.{is_there, restart_ready}
+use Rattle.std.proofs.Common.{sym, ◌∙◌}
+use Rattle.app_host.proofs.Prepared.{runs_there, is_there, restart_ready}
+use Rattle.app_host.proofs.MadeWay.{restarted}
 use Rattle.app_host.proofs.host.Host.prepare_restart.Goals as goal
 
 pub withdraw-requires-clause-there : goal.withdraw-requires-clause-there
-withdraw-requires-clause-there g c = is_there _ c.args.name.now c.requires.whole _ c.in-Some.seat c.runs_at.ensures c.in-Some.is
+withdraw-requires-clause-there g c = is_there _ c.args.name.now c.requires.whole _ c.in-Some.seat c.runs_at.ensures.kept c.in-Some.is
 
-pub returns-in-Some : goal.returns-in-Some
-returns-in-Some g c = restart_ready _ c.args.name.now c.requires.whole _ c.runs_at.ensures c.in-Some.seat c.in-Some.is _ _ c.withdraw.ensures
+pub returns-in-Some-clause-prepared : goal.returns-in-Some-clause-prepared
+returns-in-Some-clause-prepared g c = restart_ready _ c.args.name.now c.requires.whole _ c.runs_at.ensures.kept c.in-Some.seat c.in-Some.is _ _ c.withdraw.ensures
+
+pub returns-in-Some-clause-own : goal.returns-in-Some-clause-own
+returns-in-Some-clause-own g c =
+    restarted _ _ c.args.name.now c.requires.whole c.in-Some.seat _ c.withdraw.ensures _ c.runs_at.ensures.own c.in-Some.is
+    (runs_there _ c.args.name.now c.requires.whole c.in-Some.seat (sym c.in-Some.is ∙ c.runs_at.ensures.kept))

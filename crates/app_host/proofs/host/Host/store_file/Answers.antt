@@ -3,6 +3,7 @@ use Rattle.lc_model.specs.Services.Tables.{TableService}
 use Rattle.lc_model.specs.Events.Request.{file_refused}
 use Rattle.tbl_service.specs.Error.{refusal_of}
 use Rattle.app_host.proofs.Filed.{places_stay, whole_filed, is_filed, is_not_filed}
+use Rattle.app_host.proofs.Responding.{file_kept, file_turned_away}
 use Rattle.app_host.proofs.host.Host.store_file.Goals as goal
 
 pub tell_alone-requires-clause-whole : goal.tell_alone-requires-clause-whole
@@ -17,15 +18,23 @@ tell_alone-requires-in-Err-clause-whole g c =
     c.is_service-2.ensures (record { stock = refl; seats = refl; is_closed = refl; bus = refl; events = refl; counts = refl; moment = refl; outgoing = refl })
     (ap (λ (t : TableService). t.places) c.in-Err.ensures.refused)
 
-pub returns-in-Ok : goal.returns-in-Ok
-returns-in-Ok g c =
+pub returns-in-Ok-clause-handled : goal.returns-in-Ok-clause-handled
+returns-in-Ok-clause-handled g c =
     is_filed c.table_services_go_by_names.ensures.found c.table_services_go_by_names.ensures.files _ _ c.args.name.now c.args.bytes.now c.requires.whole c.requires.quiet c.is_service.ensures
     c.is_service-2.ensures (record { stock = refl; seats = refl; is_closed = refl; bus = refl; events = refl; counts = refl; moment = refl; outgoing = refl })
-    c.in-Ok.ensures.answer _ c.file_stored-text.ensures _ _ _ c.tell_alone.result c.tell_alone.ensures
+    c.in-Ok.ensures.answer _ c.file_stored-text.ensures _ _ _ c.tell_alone.result c.tell_alone.ensures.handled
 
-pub returns-in-Err : goal.returns-in-Err
-returns-in-Err g c =
+pub returns-in-Err-clause-handled : goal.returns-in-Err-clause-handled
+returns-in-Err-clause-handled g c =
     is_not_filed c.table_services_go_by_names.ensures.found c.table_services_go_by_names.ensures.files _ _ c.args.name.now c.args.bytes.now c.requires.whole c.requires.quiet c.is_service.ensures
     c.is_service-2.ensures (record { stock = refl; seats = refl; is_closed = refl; bus = refl; events = refl; counts = refl; moment = refl; outgoing = refl })
     c.in-Err.ensures.refused (refusal_of c.in-Err.error) c.in-Err.ensures.answer _
-    (c.file_refused-text.ensures ∙ ap file_refused (c.as_slice.ensures.numbers ∙ c.of_tables-numbers.ensures)) _ _ _ c.tell_alone-in-Err.result c.tell_alone-in-Err.ensures
+    (c.file_refused-text.ensures ∙ ap file_refused (c.as_slice.ensures.numbers ∙ c.of_tables-numbers.ensures)) _ _ _ c.tell_alone-in-Err.result c.tell_alone-in-Err.ensures.handled
+
+pub returns-in-Ok-clause-own : goal.returns-in-Ok-clause-own
+returns-in-Ok-clause-own g c = file_kept _ _ _ refl refl refl _ _ _ c.tell_alone.result c.tell_alone.ensures.own refl _ c.in-Ok.ensures.answer c.file_stored-text.ensures
+
+pub returns-in-Err-clause-own : goal.returns-in-Err-clause-own
+returns-in-Err-clause-own g c =
+    file_turned_away _ _ _ refl refl refl _ _ _ c.tell_alone-in-Err.result c.tell_alone-in-Err.ensures.own refl c.in-Err.ensures.refused _ (refusal_of c.in-Err.error) c.in-Err.ensures.answer
+    (c.file_refused-text.ensures ∙ ap file_refused (c.as_slice.ensures.numbers ∙ c.of_tables-numbers.ensures))

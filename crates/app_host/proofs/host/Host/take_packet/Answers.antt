@@ -1,7 +1,11 @@
 use Rattle.std.proofs.Common.{sym}
 use Rattle.app_host.proofs.Stepping.{refused_so}
+use Rattle.app_host.proofs.Responses.{turned_away}
 use Rattle.app_host.proofs.host.Host.take_packet.Goals as goal
 
-pub returns-in-Some : goal.returns-in-Some
-returns-in-Some g c =
-    refused_so _ _ _ _ c.refuse_packet.result c.args.packet.now c.in-Some.reason (sym c.in-Some.ensures.fault) c.refuse_packet.ensures
+pub returns-in-Some-clause-handled : goal.returns-in-Some-clause-handled
+returns-in-Some-clause-handled g c =
+    refused_so _ _ _ _ c.refuse_packet.result c.args.packet.now c.in-Some.reason (sym c.in-Some.ensures.fault) c.refuse_packet.ensures.handled
+
+pub returns-in-Some-clause-own : goal.returns-in-Some-clause-own
+returns-in-Some-clause-own g c = turned_away _ _ _ _ _ c.refuse_packet.result c.args.packet.now c.in-Some.reason (sym c.in-Some.ensures.fault) c.refuse_packet.ensures.own

@@ -4,4 +4,5 @@ use Rattle.app_host.proofs.host.Host.tell.Goals as goal
 
 pub returns : goal.returns
 returns g c =
-    has_told c.table_services_go_by_names.ensures.found _ _ _ (rw c.as_bytes.ensures.bytes at c.tell.ensures.told) c.is_service.ensures c.requires.seated c.requires.idle refl refl refl refl c.tell.ensures.size
+    has_told c.table_services_go_by_names.ensures.found _ _ _ (rw c.as_bytes.ensures.bytes at c.ask.ensures.told) c.is_service.ensures c.requires.seated c.requires.idle refl refl refl refl
+    c.ask.ensures.events (rw c.as_bytes.ensures.bytes at c.ask.ensures.outgoing) c.ask.ensures.size

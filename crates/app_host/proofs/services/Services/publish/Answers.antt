@@ -5,13 +5,13 @@ use Rattle.app_host.proofs.Published.{not_refused, one_published, where_taken}
 use Rattle.app_host.proofs.services.Services.publish.Goals as goal
 
 pub unwrap-requires : goal.unwrap-requires
-unwrap-requires c = is_taken c.publish.result (c.publish.ensures.answer ∙ not_refused c.args.packet.now c.args.self.now.bus c.requires.good c.requires.room)
+unwrap-requires c = is_taken c.publish_judged.result (c.publish_judged.ensures.answer ∙ not_refused c.args.packet.now c.args.self.now.bus c.requires.good c.requires.room)
 
 pub returns-clause-published : goal.returns-clause-published
 returns-clause-published c =
-    let is = where_taken _ c.publish.result (c.publish.ensures.answer ∙ not_refused c.args.packet.now c.args.self.now.bus c.requires.good c.requires.room) c.publish.ensures.published in
+    let is = where_taken _ c.publish_judged.result (c.publish_judged.ensures.answer ∙ not_refused c.args.packet.now c.args.self.now.bus c.requires.good c.requires.room) c.publish_judged.ensures.published in
     record {
-      pipes = c.bus_is_seen.ensures.publication c.args.packet.now c.args.self.now.bus c.publish.new.self is ∙ one_published (seen c.args.self.now.bus) c.args.packet.now;
+      pipes = c.bus_is_seen.ensures.publication c.args.packet.now c.args.self.now.bus c.publish_judged.new.self is ∙ one_published (seen c.args.self.now.bus) c.args.packet.now;
       events = refl;
       tables = refl;
       counts = refl;
@@ -21,5 +21,5 @@ returns-clause-published c =
 
 pub returns-clause-fills : goal.returns-clause-fills
 returns-clause-fills c =
-    let is = where_taken _ c.publish.result (c.publish.ensures.answer ∙ not_refused c.args.packet.now c.args.self.now.bus c.requires.good c.requires.room) c.publish.ensures.published in
-    λ n short. c.bus_has_room.ensures.fills n c.args.packet.now c.args.self.now.bus c.publish.new.self short is
+    let is = where_taken _ c.publish_judged.result (c.publish_judged.ensures.answer ∙ not_refused c.args.packet.now c.args.self.now.bus c.requires.good c.requires.room) c.publish_judged.ensures.published in
+    λ n short. c.bus_has_room.ensures.fills n c.args.packet.now c.args.self.now.bus c.publish_judged.new.self short is

@@ -1,0 +1,148 @@
+-- What HOST itself does for a record, whatever its applications are: the event that it tells, with its bytes, what it makes of files
+-- and of its own filters, and who is on the seats. Its event comes behind all that the applications sent that the record called.
+use Rattle.std.specs.Prelude.{◌≡◌, ℕ, ◌+◌, ◌*◌, ◌<◌, ◌≤◌, ◌⊎◌, ◌==◌, nat_lt, Bool, true, false, List, [], ◌++◌, length, take, if◌then◌else◌, Option, Some, None, IfSome, option_to_list, Result, Ok, Err}
+use Rattle.std.specs.Option.{option_map_or}
+use Rattle.std.specs.List.{concat}
+use Rattle.std.specs.Io.KnownBytes.{Appends}
+use Rattle.lc_model.specs.declared.record.Body.{Body}
+use Rattle.lc_model.specs.declared.record.Body.TheVariants as body
+use Rattle.lc_model.specs.declared.record.Moment.{Moment}
+use Rattle.lc_model.specs.Packet.{stream_fault, function_code, payload, message_id, event_services_mid, table_services_mid, executive_services_mid}
+use Rattle.lc_model.specs.Refusal.{Refusal}
+use Rattle.lc_model.specs.Command.{event_command, table_command}
+use Rattle.lc_model.specs.Events.Request.{Request, Event, Sequence, Housekeeping, bad_packet, file_stored, file_refused, event_services, table_services, executive_services, command_done, command_refused}
+use Rattle.lc_model.specs.Services.Events.{EventService, event_asked}
+use Rattle.lc_model.specs.Services.Tables.{TableService, file_put}
+use Rattle.app_host.specs.declared.error.WriteFault.{WriteFault}
+use Rattle.app_host.specs.Shared.{at_moment}
+use Rattle.app_host.specs.Hosted.{Hosted}
+use Rattle.app_host.specs.Left.{HasGone}
+use Rattle.app_host.specs.Obeyed.{events_by}
+use Rattle.app_host.specs.ObeyedTables.{tables_by}
+use Rattle.app_host.specs.Roster.{Roster, roster_of, Succession, succession_by}
+
+-- ---- what a record asks of HOST
+
+-- HOST's event, if it tells any; whether packets are given to applications; the seat that an object leaves, if any, and how many
+-- objects retire and start at most; who is where when the one that leaves has left, and when the one that comes has come; and what
+-- the event and the table services are behind HOST's work and before its event
+pub record Response : Type 0 where
+  pub request : Option Request
+  pub delivers : Bool
+  pub leaves : Option ℕ
+  pub changes : ℕ
+  pub left : Roster
+  pub come : Roster
+  pub events : EventService
+  pub tables : TableService
+
+-- a packet or a tick is handed to the applications, and HOST tells nothing
+abbrev pub handing_on : Hosted → Response
+handing_on h = record {
+  request = None;
+  delivers = true;
+  leaves = None;
+  changes = 0;
+  left = roster_of h;
+  come = roster_of h;
+  events = h.services.events;
+  tables = h.services.tables;
+}
+
+-- HOST tells this, and that is all
+abbrev pub only_telling : Request → Hosted → Response
+only_telling request h = record (handing_on h) { request = Some request; delivers = false }
+
+-- a file is stored, or refused
+abbrev pub filing : Hosted → Result TableService Refusal → Response
+filing h (Ok tables) = record (only_telling file_stored h) { tables = tables }
+filing h (Err refusal) = only_telling (file_refused refusal) h
+
+-- a command to the event services
+abbrev pub obeying_events : List ℕ → Hosted → Result EventService Refusal → Response
+obeying_events packet h (Ok events) = record (only_telling (command_done event_services (function_code packet)) h) { events = events }
+obeying_events packet h (Err refusal) = only_telling (command_refused event_services refusal) h
+
+-- a command to the table services
+abbrev pub obeying_tables : List ℕ → Hosted → Result TableService Refusal → Response
+obeying_tables packet h (Ok tables) = record (only_telling (command_done table_services (function_code packet)) h) { tables = tables }
+obeying_tables packet h (Err refusal) = only_telling (command_refused table_services refusal) h
+
+-- a command to the executive services: one object at most retires, and one at most starts
+abbrev pub obeying_orders : List ℕ → Hosted → Result Succession Refusal → Response
+obeying_orders packet h (Ok succession) =
+    record (only_telling (command_done executive_services (function_code packet)) h) { leaves = succession.leaves; changes = 2; left = succession.left; come = succession.come }
+obeying_orders packet h (Err refusal) = only_telling (command_refused executive_services refusal) h
+
+-- a good packet goes to a service of the host, or to the applications
+abbrev pub routed_to : List ℕ → Hosted → Response
+routed_to packet h =
+    let mid : ℕ = message_id packet in
+    if mid == event_services_mid then obeying_events packet h (events_by (event_command (function_code packet) (payload packet)) h.services.events)
+    else if mid == table_services_mid then obeying_tables packet h (tables_by (table_command (function_code packet) (payload packet)) h.services.tables)
+    else if mid == executive_services_mid then obeying_orders packet h (succession_by packet (roster_of h))
+    else handing_on h
+
+-- any packet
+abbrev pub response_to_packet : List ℕ → Hosted → Response
+response_to_packet packet h = option_map_or (λ reason. only_telling (bad_packet reason) h) (stream_fault packet) (routed_to packet h)
+
+-- any record
+abbrev pub response_to : Body → Hosted → Response
+response_to (body.Packet bytes) h = response_to_packet bytes.now h
+response_to body.Tick h = handing_on h
+response_to (body.File name bytes) h = filing h (file_put name.now bytes.now h.services.tables)
+
+-- ---- HOST's packet
+
+-- HOST asks for its event: the event services afterwards, and the bytes of its packet, where its types and filters let it through
+abbrev pub asked_by_host : Moment → Option Request → EventService → EventService × List ℕ
+asked_by_host moment None service = (service, [])
+asked_by_host moment (Some (Event sender id kind text)) service =
+    let asked : EventService × Option (List ℕ) = event_asked None moment id kind text service in
+    (asked.0, concat (option_to_list asked.1))
+asked_by_host moment (Some (Sequence number)) service = (service, [])
+asked_by_host moment (Some (Housekeeping mode points)) service = (service, [])
+
+-- ---- what is sent
+
+-- no application was called: the services are as HOST's own work left them, and no object on a seat has changed
+pub record IsAlone (response : Response) (old new : Hosted) (theirs : List ℕ) (behind : EventService) : Type 0 where
+  pub nothing : theirs ≡ []
+  pub events : behind ≡ response.events
+  pub tables : new.services.tables ≡ response.tables
+  pub seats : new.seats ≡ old.seats
+
+-- what the applications have sent that the record called, 65,536 bytes a call at most, and the event services behind that: HOST's
+-- own types and filters are not theirs to change. Who leaves a seat has been retired.
+pub record HasCalled (moment : Moment) (response : Response) (old new : Hosted) : Type 0 where
+  pub theirs : List ℕ
+  pub behind : EventService
+  pub own : behind.host ≡ response.events.host
+  pub few : length theirs ≤ 65536 * (new.calls + response.changes)
+  pub none_given : response.delivers ≡ false → new.calls ≡ 0
+  pub alone : new.calls + response.changes ≡ 0 → IsAlone response old new theirs behind
+  pub gone : IfSome response.leaves (λ seat. HasGone seat old.seats (at_moment moment old.services))
+
+-- all is written, HOST's packet behind theirs
+pub record RespondsWhole (moment : Moment) (response : Response) (old new : Hosted) (before now : Option (List ℕ)) : Type 0 where
+  pub called : HasCalled moment response old new
+  pub gains : Appends before now (called.theirs ++ (asked_by_host moment response.request called.behind).1)
+  pub events : new.services.events ≡ (asked_by_host moment response.request called.behind).0
+  pub files : new.services.tables.files ≡ response.tables.files
+  pub roster : roster_of new ≡ response.come
+
+-- a write failed, and so many bytes were taken, the first ones. Where that is inside what the applications sent, HOST has not asked
+-- for its event, and it may be that nobody has come.
+pub record RespondsPart (moment : Moment) (response : Response) (sent : ℕ) (old new : Hosted) (before now : Option (List ℕ)) : Type 0 where
+  pub called : HasCalled moment response old new
+  pub fewer : sent < length (called.theirs ++ (asked_by_host moment response.request called.behind).1)
+  pub gains : Appends before now (take sent (called.theirs ++ (asked_by_host moment response.request called.behind).1))
+  pub events : new.services.events ≡ (if nat_lt sent (length called.theirs) then called.behind else (asked_by_host moment response.request called.behind).0)
+  pub files : new.services.tables.files ≡ response.tables.files
+  pub roster : (roster_of new ≡ response.come) ⊎ ((roster_of new ≡ response.left) × (sent < length called.theirs))
+
+-- one of the two, by the answer
+abbrev pub Responds : {A : Type 0} → Moment → Response → Hosted → Hosted → Option (List ℕ) → Option (List ℕ) → Result A WriteFault → Type 0
+Responds moment response old new before now (Ok done) = RespondsWhole moment response old new before now
+Responds moment response old new before now (Err fault) = RespondsPart moment response fault.sent old new before now

@@ -1,0 +1,87 @@
+-- Who is in stock and who is on the seats, whatever the applications are, and what an order makes of it. Orders are those of the
+-- cFE user's guide (executive services); seats, and the numbers of the refusals, are this project's own.
+use Rattle.std.specs.Prelude.{◌≡◌, ℕ, Bool, false, List, map, remove, if◌then◌else◌, Option, Some, None, is_some, is_none, option_map, slice_set, Result, Ok}
+use Rattle.std.specs.List.{position_from}
+use Rattle.lc_model.specs.Name.{Name, is_named}
+use Rattle.lc_model.specs.Packet.{function_code, payload}
+use Rattle.lc_model.specs.Refusal.{Refusal, ◌>>=◌, refused, found}
+use Rattle.lc_model.specs.Command.{Order, Start, Stop, Restart, Reload, app_command}
+use Rattle.app_host.specs.Hosted.{Object, Hosted, spare_in}
+
+-- the spares in order, and the names on the eight seats
+pub record Roster : Type 0 where
+  pub stock : List Object
+  pub seats : List (Option Name)
+
+-- the name of an object
+abbrev pub name_of : Object → Name
+name_of o = o.called
+
+-- those of a host
+abbrev pub roster_of : Hosted → Roster
+roster_of h = record { stock = h.stock; seats = map (option_map name_of) h.seats }
+
+-- HOST's own types and filters and the stored files stay, and these are there now
+pub record ComesTo (wanted : Roster) (old new : Hosted) : Type 0 where
+  pub host : new.services.events.host ≡ old.services.events.host
+  pub files : new.services.tables.files ≡ old.services.tables.files
+  pub roster : roster_of new ≡ wanted
+
+-- ---- who is where
+
+-- a seat has this name
+abbrev pub has_name : Name → Option Name → Bool
+has_name name None = false
+has_name name (Some there) = is_named name there
+
+-- the seat of a name, the first spare of a name, and the least free seat
+abbrev pub seat_in : Name → Roster → Option ℕ
+seat_in name r = position_from (has_name name) 0 r.seats
+
+abbrev pub first_spare_in : Name → Roster → Option ℕ
+first_spare_in name r = position_from (λ (o : Object). is_named name o.called) 0 r.stock
+
+abbrev pub free_in : Roster → Option ℕ
+free_in r = position_from is_none 0 r.seats
+
+-- ---- who comes and goes
+
+-- a seat has this name, or is free
+abbrev pub with_seat : ℕ → Option Name → Roster → Roster
+with_seat seat name r = record r { seats = slice_set r.seats seat name }
+
+-- a spare takes a seat
+abbrev pub with_spare : ℕ → ℕ → Roster → Roster
+with_spare place seat r = record { stock = remove r.stock place; seats = slice_set r.seats seat (Some (spare_in r.stock place).called) }
+
+-- the seat that is left, if any; and who is where when the one that leaves has left, and when the one that comes has come
+pub record Succession : Type 0 where
+  pub leaves : Option ℕ
+  pub left : Roster
+  pub come : Roster
+
+-- what an order makes of it, or the number of its refusal. A start is of the first spare of the name, on the least free seat; a
+-- restart of the object that runs, and a reload of the first spare of the name, on the seat that it had.
+abbrev pub ordered_by : Order → Name → Roster → Result Succession Refusal
+ordered_by Start name r =
+    if is_some (seat_in name r) then refused 123
+    else (do
+      place ← found (first_spare_in name r) 122
+      seat ← found (free_in r) 124
+      Ok (record { leaves = None; left = r; come = with_spare place seat r }))
+ordered_by Stop name r = do
+  seat ← found (seat_in name r) 121
+  Ok (record { leaves = Some seat; left = with_seat seat None r; come = with_seat seat None r })
+ordered_by Restart name r = do
+  seat ← found (seat_in name r) 121
+  Ok (record { leaves = Some seat; left = with_seat seat None r; come = r })
+ordered_by Reload name r = do
+  seat ← found (seat_in name r) 121
+  place ← found (first_spare_in name r) 122
+  Ok (record { leaves = Some seat; left = with_seat seat None r; come = with_spare place seat r })
+
+-- the same of a command, which may be none
+abbrev pub succession_by : List ℕ → Roster → Result Succession Refusal
+succession_by packet r = do
+  command ← app_command (function_code packet) (payload packet)
+  ordered_by command.0 command.1 r

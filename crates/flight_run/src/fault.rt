@@ -1,0 +1,91 @@
+//! What ends the program with another status than 0, and the line that says so.
+
+ghost use Rattle.std.specs.Prelude.{◌≡◌};
+ghost use Rattle.flight_run.specs.Status.{status_of};
+
+use flight_core::{RunError, WordsError};
+use rpn_compiler::CompileError;
+use std::alloc::{AllocError, AllocFailed};
+use tick_scheduler::ScheduleError;
+
+/// Why the program ended.
+#[derive(Clone, Copy, Debug, PartialEq, Eq)]
+pub enum Fault<'a> {
+    /// A rule text is refused.
+    Text(CompileError),
+    /// A schedule is refused.
+    Schedule(ScheduleError),
+    /// The words are no command.
+    Words(WordsError),
+    /// A file can't be opened, read or written, or standard output can't.
+    File(&'a str),
+    /// A run was stopped.
+    Run(RunError),
+    /// No memory.
+    Memory,
+}
+
+impl From<AllocError> for Fault<'_> {
+    fn from(_error: AllocError) -> Self {
+        Fault::Memory
+    }
+}
+
+impl<T: Drop> From<AllocFailed<T>> for Fault<'_> {
+    fn from(_error: AllocFailed<T>) -> Self {
+        Fault::Memory
+    }
+}
+
+impl From<WordsError> for Fault<'_> {
+    fn from(error: WordsError) -> Self {
+        match error {
+            WordsError::Memory => Fault::Memory,
+            error => Fault::Words(error),
+        }
+    }
+}
+
+impl From<CompileError> for Fault<'_> {
+    fn from(error: CompileError) -> Self {
+        match error {
+            CompileError::Memory => Fault::Memory,
+            error => Fault::Text(error),
+        }
+    }
+}
+
+impl From<ScheduleError> for Fault<'_> {
+    fn from(error: ScheduleError) -> Self {
+        match error {
+            ScheduleError::Memory => Fault::Memory,
+            error => Fault::Schedule(error),
+        }
+    }
+}
+
+impl From<RunError> for Fault<'_> {
+    fn from(error: RunError) -> Self {
+        match error {
+            RunError::Memory => Fault::Memory,
+            RunError::Compile { text: _, error } => Fault::Text(error),
+            error => Fault::Run(error),
+        }
+    }
+}
+
+impl Fault<'_> {
+    /// The exit status: 1 a rule text or a schedule is refused; 2 the words are no command; 3 a file or a device; 4 the stream;
+    /// 5 no memory.
+    pub fn status(&self) -> u8
+        ensures { result ≡ status_of self.now }
+    {
+        match self {
+            Fault::Text(_) | Fault::Schedule(_) => 1,
+            Fault::Words(_) => 2,
+            Fault::File(_) | Fault::Run(RunError::Read | RunError::Write { .. }) => 3,
+            Fault::Run(_) => 4,
+            Fault::Memory => 5,
+        }
+    }
+}

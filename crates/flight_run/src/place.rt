@@ -1,0 +1,56 @@
+//! Where a rule text is refused.
+
+ghost use Rattle.std.specs.Prelude.{◌≡◌};
+ghost use Rattle.rpn_compiler.specs.Fault.{refusal_of};
+ghost use Rattle.flight_run.specs.Lines.{place_in};
+
+use field_checker::CheckError;
+use rpn_compiler::CompileError;
+use rule_lexer::LexError;
+use rule_parser::ParseError;
+
+/// What a refusal of a rule text is of.
+#[derive(Clone, Copy, Debug, PartialEq, Eq)]
+pub enum Place {
+    /// The whole text.
+    Whole,
+    /// The byte at this place, from 0.
+    At(usize),
+    /// This rule, from 0.
+    Rule(usize),
+}
+
+/// Where the text is refused.
+pub fn place_of(error: CompileError) -> Place
+    ensures { result ≡ place_in (refusal_of error) }
+{
+    match error {
+        CompileError::Lex(error) => match error {
+            LexError::BadByte { at }
+            | LexError::BadNumber { at }
+            | LexError::NameTooLong { at }
+            | LexError::BadString { at } => Place::At(at),
+            LexError::TextTooLong | LexError::Memory => Place::Whole,
+        },
+        CompileError::Parse(error) => match error {
+            ParseError::Expected { at, what: _ } | ParseError::TooNested { at } => Place::At(at),
+            ParseError::Memory => Place::Whole,
+        },
+        CompileError::Check(error) => match error {
+            CheckError::DuplicateName { at }
+            | CheckError::UnknownName { at }
+            | CheckError::MidRange { at }
+            | CheckError::ReservedMid { at }
+            | CheckError::FieldOutside { at }
+            | CheckError::MaskRange { at }
+            | CheckError::ConstRange { at }
+            | CheckError::NumberRange { at, number: _ }
+            | CheckError::LengthRange { at } => Place::At(at),
+            CheckError::Memory => Place::Whole,
+        },
+        CompileError::EquationTooLong { rule } => Place::Rule(rule),
+        CompileError::TooManyWatchpoints | CompileError::TooManyRules | CompileError::Memory => {
+            Place::Whole
+        }
+    }
+}

@@ -1,0 +1,146 @@
+//! The tables in force change where a pair of images is activated that belong together (cFS Limit Checker user's guide, tables).
+
+ghost use Rattle.std.specs.Prelude.{◌≡◌, ◌||◌, IfSome, IsTrue, is_some, if◌then◌else◌, option_map};
+ghost use Rattle.lc_model.specs.declared.kind.Kind.TheVariants.{Wdt, Adt};
+ghost use Rattle.lc_model.specs.LimitChecker.Steps.{pair_to_adopt};
+ghost use Rattle.lc_model.specs.Tables.Slot as model;
+ghost use Rattle.lc_model.specs.Tables.Slot.{Activated, taken, waiting_at};
+ghost use Rattle.lc_model.specs.Kept.GoesWith.{subscriptions_of};
+ghost use Rattle.lc_model.specs.Kept.Summary.{LcState};
+ghost use Rattle.lc_model.specs.Services.Bus.{Queue, pipe_at, with_pipe};
+ghost use Rattle.lc_model.specs.Services.Tables.{slot_at, slot_changed, table_at};
+ghost use Rattle.app_host.specs.Shared.{on_board};
+ghost use Rattle.limit_checker.specs.Housekeeping.{both_taken, own_adopted, pair_at, MayRenew};
+ghost use Rattle.limit_checker.specs.Adoption.{are_matching, pair_of, HasSoundSlot, IsSoundPair};
+
+use app_host::{Services, subscribe_to, unsubscribe_from};
+use lc_model::{Kind, Seat, mids};
+use limit_engine::Engine;
+use table_file::preamble;
+use table_validator::{ValidImage, validate};
+use tbl_service::{Slot, Stage, Tables};
+
+/// The message ids of commands, housekeeping requests and sample requests.
+pub(crate) const REQUESTS: [u16; 3] = [
+    mids::LC_COMMAND,
+    mids::LC_HOUSEKEEPING_REQUEST,
+    mids::SAMPLE,
+];
+
+/// The image that a table would have: the activated one, or else the active one.
+fn candidate(tables: &Tables, slot: Slot) -> Option<&[u8]>
+    requires { IsTrue (is_some (table_at slot tables.now.places)) }
+    ensures { option_map (λ image. image.now) result ≡ model.candidate (slot_at slot tables.now) }
+{
+    match tables.pending(slot) {
+        Some((Stage::Activated, image)) => Some(image),
+        _other => tables.active(slot),
+    }
+}
+
+/// Whether an activated image waits.
+fn is_activated(tables: &Tables, slot: Slot) -> bool
+    requires { IsTrue (is_some (table_at slot tables.now.places)) }
+    ensures { result ≡ is_some (waiting_at Activated (slot_at slot tables.now)) }
+{
+    match tables.pending(slot) {
+        Some((Stage::Activated, _image)) => true,
+        _other => false,
+    }
+}
+
+/// Whether an activated image waits at one of two tables.
+fn is_one_activated(tables: &Tables, wdt: Slot, adt: Slot) -> bool
+    requires wdt { IsTrue (is_some (table_at wdt tables.now.places)) }
+    requires adt { IsTrue (is_some (table_at adt tables.now.places)) }
+    ensures { result ≡ (is_some (waiting_at Activated (slot_at wdt tables.now)) || is_some (waiting_at Activated (slot_at adt tables.now))) }
+{
+    is_activated(tables, wdt) || is_activated(tables, adt)
+}
+
+/// The image that a table would have, which is sound.
+fn sound_candidate<'a>(tables: &'a Tables, slot: Slot, kind: Kind) -> Option<ValidImage<'a>>
+    requires registered { IsTrue (is_some (table_at slot tables.now.places)) }
+    requires sound { HasSoundSlot kind (slot_at slot tables.now) }
+    ensures image { option_map (λ valid. valid.bytes) result ≡ model.candidate (slot_at slot tables.now) }
+    ensures kind { IfSome result (λ valid. valid.kind ≡ kind) }
+{
+    match candidate(tables, slot) {
+        None => None,
+        Some(image) => Some(validate(kind, image).unwrap()),
+    }
+}
+
+/// Whether a table of watchpoints and one of actionpoints belong together: they have one hash and one count of watchpoints.
+pub(crate) fn belong_together(wdt: &ValidImage<'_>, adt: &ValidImage<'_>) -> bool
+    requires wdt { wdt.now.kind ≡ Wdt }
+    requires adt { adt.now.kind ≡ Adt }
+    ensures { result ≡ are_matching wdt.now.bytes adt.now.bytes }
+{
+    preamble::hash(wdt.image()) == preamble::hash(adt.image())
+        && preamble::watchpoint_count(wdt.image()) == preamble::watchpoint_count(adt.image())
+}
+
+/// The pair that is to be adopted, if there is one: for each table the image that it would have, where an activated one waits at
+/// one of them, and both belong together.
+fn pair_to_adopt<'a>(
+    tables: &'a Tables,
+    wdt: Slot,
+    adt: Slot,
+) -> Option<(ValidImage<'a>, ValidImage<'a>)>
+    requires wdt { IsTrue (is_some (table_at wdt tables.now.places)) }
+    requires adt { IsTrue (is_some (table_at adt tables.now.places)) }
+    requires sound_wdt { HasSoundSlot Wdt (slot_at wdt tables.now) }
+    requires sound_adt { HasSoundSlot Adt (slot_at adt tables.now) }
+    ensures pair { option_map pair_of result ≡ pair_to_adopt on_board (slot_at wdt tables.now) (slot_at adt tables.now) }
+    ensures sound { IfSome result IsSoundPair }
+{
+    if !is_one_activated(tables, wdt, adt) {
+        return None;
+    }
+    let Some(wdt_image) = sound_candidate(tables, wdt, Kind::Wdt) else {
+        return None;
+    };
+    let Some(adt_image) = sound_candidate(tables, adt, Kind::Adt) else {
+        return None;
+    };
+    if belong_together(&wdt_image, &adt_image) {
+        Some((wdt_image, adt_image))
+    } else {
+        None
+    }
+}
+
+/// Takes an activated image into use, where one waits.
+fn take_activated(tables: &mut Tables, slot: Slot)
+    requires { IsTrue (is_some (table_at slot tables.old.places)) }
+    ensures { tables.new ≡ slot_changed taken slot tables.old }
+{
+    if is_activated(tables, slot) {
+        tables.take(slot);
+    }
+}
+
+/// Adopts the pair of images that is activated at a seat, if there is one that belongs together, and answers whether there is:
+/// the engine has these tables, without any history, what waits activated is taken, and the pipe hears the message ids of
+/// requests and of the new watchpoints alone.
+pub(crate) fn adopt(engine: &mut Engine, services: &mut Services, seat: Seat) -> bool
+    requires { MayRenew seat engine.old services.old }
+    ensures answer { result ≡ is_some (pair_at seat services.old.tables) }
+    ensures engine { engine.new ≡ own_adopted (pair_at seat services.old.tables) engine.old }
+    ensures tables { services.new.tables ≡ (if result then both_taken seat services.old.tables else services.old.tables) }
+    ensures bus { IfSome (pipe_at seat services.old.bus) (λ (queue : Queue). services.new.bus ≡ with_pipe seat services.old.bus (record queue { subscriptions = subscriptions_of (LcState engine.new) })) }
+    ensures rest { services.new ≡ record services.old { tables = services.new.tables; bus = services.new.bus } }
+{
+    let wdt_slot = Slot::new(seat, 0);
+    let adt_slot = Slot::new(seat, 1);
+    let Some((wdt, adt)) = pair_to_adopt(&services.tables, wdt_slot, adt_slot) else {
+        return false;
+    };
+    unsubscribe_from(&mut services.bus, seat, &REQUESTS, engine.watchpoints());
+    engine.adopt(&wdt, &adt);
+    subscribe_to(&mut services.bus, seat, &REQUESTS, engine.watchpoints());
+    take_activated(&mut services.tables, wdt_slot);
+    take_activated(&mut services.tables, adt_slot);
+    true
+}

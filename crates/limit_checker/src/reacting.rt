@@ -1,0 +1,137 @@
+//! What sampled rules ask for is sent, in order (cFS Limit Checker user's guide).
+
+ghost use Rattle.std.specs.Prelude.{◌≡◌, ◌+◌, ◌≤◌, length, slice_get, Some};
+ghost use Rattle.lc_model.specs.Name.{lc_name};
+ghost use Rattle.lc_model.specs.Rule.{Actionpoint};
+ghost use Rattle.app_host.specs.Telling.{Tells};
+ghost use Rattle.limit_engine.specs.Reactions.{failure_requests, requests_at, requests_in, requests_of, turn_requests};
+ghost use Rattle.limit_engine.specs.declared.reaction.Failure.TheVariants.{Requested};
+ghost use Rattle.limit_checker.specs.Sending.{IsEventOf, MaySend, failure_size, reactions_size, sizes, turn_size};
+
+use app_host::Services;
+use app_host::laws::seats_are_kept_by_the_rules;
+use app_host::sending::telling_goes_on;
+use event_service::limit_checker as texts;
+use lc_model::{EventKind, Seat};
+use limit_engine::{Asked, Engine, Failure, Reactions, RuleEvent, Turn};
+
+/// The turn of a rule, if there is one, is told: event 5 or 6.
+fn tell_turn(rule: u16, turn: Option<Turn>, from: &Option<Seat>, services: &mut Services)
+    requires sends { MaySend from.now services.old }
+    requires room { length services.old.outgoing + turn_size turn ≤ 65536 }
+    ensures told { Tells from.now lc_name (turn_requests rule turn) services.old services.new }
+    ensures size { length services.new.outgoing ≤ length services.old.outgoing + turn_size turn }
+{
+    seats_are_kept_by_the_rules();
+    telling_goes_on();
+    match turn {
+        None => {}
+        Some(Turn::ToFail) => {
+            let text = texts::turned_to_fail(rule);
+            services.tell(*from, 5, EventKind::Information, text.as_bytes());
+        }
+        Some(Turn::ToPass) => {
+            let text = texts::turned_to_pass(rule);
+            services.tell(*from, 6, EventKind::Information, text.as_bytes());
+        }
+    }
+}
+
+/// A rule's sequence is requested, and then its own event is told, with so many failures in a row.
+fn request(rule: u16, run: u16, event: &RuleEvent<'_>, from: &Option<Seat>, services: &mut Services)
+    requires sends { MaySend from.now services.old }
+    requires short { length event.now.text.now ≤ 31 }
+    requires room { length services.old.outgoing + 180 ≤ 65536 }
+    ensures told { (this : Actionpoint) → IsEventOf this event.now → Tells from.now lc_name (failure_requests this rule (Some (Requested run))) services.old services.new }
+    ensures size { length services.new.outgoing ≤ length services.old.outgoing + 180 }
+{
+    seats_are_kept_by_the_rules();
+    telling_goes_on();
+    services.request_sequence(event.sequence);
+    let text = texts::rule_failed(event.text, rule, run, event.sequence);
+    services.tell(*from, event.id, event.kind, text.as_bytes());
+}
+
+/// What enough failures in a row lead to is sent.
+fn tell_failure(
+    rule: u16,
+    failure: Failure,
+    event: &RuleEvent<'_>,
+    from: &Option<Seat>,
+    services: &mut Services,
+)
+    requires sends { MaySend from.now services.old }
+    requires short { length event.now.text.now ≤ 31 }
+    requires room { length services.old.outgoing + failure_size (Some failure) ≤ 65536 }
+    ensures told { (this : Actionpoint) → IsEventOf this event.now → Tells from.now lc_name (failure_requests this rule (Some failure)) services.old services.new }
+    ensures size { length services.new.outgoing ≤ length services.old.outgoing + failure_size (Some failure) }
+{
+    seats_are_kept_by_the_rules();
+    match failure {
+        Failure::Requested(run) => request(rule, run, event, from, services),
+        Failure::LcPassive => {
+            let text = texts::failed_lc_passive(rule);
+            services.tell(*from, 3, EventKind::Information, text.as_bytes());
+        }
+        Failure::Passive => {
+            let text = texts::failed_passive(rule);
+            services.tell(*from, 4, EventKind::Information, text.as_bytes());
+        }
+    }
+}
+
+/// All that a sampled rule leads to is sent, the turn first.
+fn tell_reactions(
+    rule: u16,
+    reactions: Reactions,
+    event: &RuleEvent<'_>,
+    from: &Option<Seat>,
+    services: &mut Services,
+)
+    requires sends { MaySend from.now services.old }
+    requires short { length event.now.text.now ≤ 31 }
+    requires room { length services.old.outgoing + reactions_size reactions ≤ 65536 }
+    ensures told { (this : Actionpoint) → IsEventOf this event.now → Tells from.now lc_name (requests_of this rule reactions) services.old services.new }
+    ensures size { length services.new.outgoing ≤ length services.old.outgoing + reactions_size reactions }
+{
+    telling_goes_on();
+    tell_turn(rule, reactions.turn, from, services);
+    match reactions.failure {
+        None => {}
+        Some(failure) => tell_failure(rule, failure, event, from, services),
+    }
+}
+
+/// All that an item of a sample asks for is sent.
+fn tell_item(engine: &Engine, item: &Asked, from: &Option<Seat>, services: &mut Services)
+    requires sends { MaySend from.now services.old }
+    requires room { length services.old.outgoing + sizes (requests_at (slice_get engine.now.rules item.now.rule) item.now) ≤ 65536 }
+    ensures told { Tells from.now lc_name (requests_at (slice_get engine.now.rules item.now.rule) item.now) services.old services.new }
+    ensures size { length services.new.outgoing ≤ length services.old.outgoing + sizes (requests_at (slice_get engine.now.rules item.now.rule) item.now) }
+    ensures sends { MaySend from.now services.new }
+{
+    telling_goes_on();
+    let index = usize::from(item.rule);
+    if index < engine.rule_count() {
+        let event = engine.rule_event(index);
+        tell_reactions(item.rule, item.reactions, &event, from, services);
+    }
+}
+
+/// All that a sample asks for is sent, in order.
+pub(crate) fn tell_all(
+    engine: &Engine,
+    asked: &[Asked],
+    from: &Option<Seat>,
+    services: &mut Services,
+)
+    requires sends { MaySend from.now services.old }
+    requires room { length services.old.outgoing + sizes (requests_in engine.now.rules asked.now) ≤ 65536 }
+    ensures told { Tells from.now lc_name (requests_in engine.now.rules asked.now) services.old services.new }
+    ensures size { length services.new.outgoing ≤ length services.old.outgoing + sizes (requests_in engine.now.rules asked.now) }
+{
+    telling_goes_on();
+    for item in asked {
+        tell_item(engine, item, from, services);
+    }
+}

@@ -1,0 +1,14 @@
+mod Ascending
+mod Halves
+mod Ranges
+mod Grouping
+mod Reacting
+mod OperandsWaiting
+mod Running
+mod Tables
+mod Laying
+mod Setting
+mod SampledRules
+mod CountedWords
+mod Whole
+mod Packing

@@ -1,0 +1,81 @@
+use Rattle.std.proofs.Common.{refl, ◌∙◌, sym, ap, map, length, arith}
+use Rattle.std.proofs.lemmas.List.{length-set, length-map}
+use Rattle.lc_model.specs.LimitChecker.Steps.{Point, is_sampled, sampled_point}
+use Rattle.lc_model.specs.Kept.Next.{by_counts}
+use Rattle.lc_model.specs.Kept.Summary.{Tally}
+use Rattle.lc_model.proofs.Facts.{and_second_false}
+use Rattle.limit_engine.specs.Entry.{rule_in}
+use Rattle.limit_engine.proofs.SampledRules.{rule_skipped, rule_sampled, points_sampled_are, requests_sampled_are, steps_sampled_are, short_entry, as_many_points, first_point, first_point_at}
+use Rattle.limit_engine.proofs.sampling.sample_rules.Goals as goal
+use Rattle.limit_engine.proofs.sampling.sample_rules.Goals.{then-takes+then-is_sampled, else-takes, else-takes-via-then-takes+else-is_sampled, else-takes-via-else-takes}
+
+pub loop-rule-preserved : goal.loop-rule-preserved
+loop-rule-preserved c =
+    let kept = c.loop-rule.invariant in
+    let entry = c.index-entries-rule.result in
+    elim c.if-takes.branch [
+      | then-takes+then-is_sampled w ↦
+          record {
+            sampled = λ terms tables.
+                rule_sampled c.args.request.now terms c.args.mode c.args.watch.now c.args.entries.now c.args.words.now c.args.points.now tables c.loop-rule.rule c.loop-rule.points
+                c.loop-rule.asked.items c.loop-rule.steps (kept.sampled terms tables) kept.long c.loop-rule-test.true entry c.index-entries-rule.is
+                w.index-points-rule.result w.index-points-rule-then-is_sampled.result w.sample_rule-reactions.new.point w.sample_rule-reactions.result
+                w.index-points-rule.is w.index-points-rule-then-is_sampled.is (sym w.if-takes.ensures) (ap (λ (p : Point Tally). is_sampled p.state) w.index-points-rule.is ∙ sym w.if-is_sampled.ensures)
+                (w.sample_rule-reactions.ensures.point terms c.loop-rule.rule (sym tables.found) tables.shared
+                ∙ ap (λ (p : Point Tally). (sampled_point by_counts terms c.args.mode c.args.watch.now c.loop-rule.rule (rule_in terms c.args.words.now entry) p).0) (sym w.index-points-rule-then-is_sampled.is))
+                (w.sample_rule-reactions.ensures.requests terms c.loop-rule.rule (sym tables.found) tables.shared
+                ∙ ap (λ (p : Point Tally). (sampled_point by_counts terms c.args.mode c.args.watch.now c.loop-rule.rule (rule_in terms c.args.words.now entry) p).1) (sym w.index-points-rule-then-is_sampled.is))
+                c.if-takes.asked.items c.if-takes.points c.if-takes.steps (rw w.asked-is w.note.ensures.requests) w.points-is w.steps-is;
+            long = ap length w.points-is ∙ length-set c.loop-rule.points c.loop-rule.rule w.sample_rule-reactions.new.point ∙ kept.long;
+            few =
+                let short = short_entry c.args.watch.now c.args.entries.now c.args.points.now c.args.words.now c.requires.tables.0 c.requires.tables.1 c.loop-rule.rule entry c.loop-rule-test.true c.index-entries-rule.is in
+                omega (arith, w.steps-is, short, kept.few);
+            noted = rw w.asked-is (omega (arith, kept.noted, w.note.ensures.len));
+            capacity = rw w.asked-is (w.note.ensures.capacity ∙ kept.capacity);
+          }
+      | else-takes w ↦ elim w.else-takes.branch [
+        | else-takes-via-then-takes+else-is_sampled w2 ↦
+            rw (w.points-is, w.asked-is, w.steps-is)
+            (record {
+              sampled = λ terms tables.
+                  rule_skipped c.args.request.now terms c.args.mode c.args.watch.now c.args.entries.now c.args.words.now c.args.points.now tables c.loop-rule.rule c.loop-rule.points
+                  c.loop-rule.asked.items c.loop-rule.steps (kept.sampled terms tables) kept.long c.loop-rule-test.true entry c.index-entries-rule.is
+                  w2.index-points-rule.result w2.index-points-rule.is (and_second_false _ _ (ap (λ (p : Point Tally). is_sampled p.state) w2.index-points-rule.is ∙ sym w2.if-is_sampled.ensures));
+              long = kept.long;
+              few = omega (arith, kept.few);
+              noted = omega (arith, kept.noted);
+              capacity = kept.capacity;
+            })
+        | else-takes-via-else-takes w2 ↦
+            rw (w.points-is, w.asked-is, w.steps-is)
+            (record {
+              sampled = λ terms tables.
+                  rule_skipped c.args.request.now terms c.args.mode c.args.watch.now c.args.entries.now c.args.words.now c.args.points.now tables c.loop-rule.rule c.loop-rule.points
+                  c.loop-rule.asked.items c.loop-rule.steps (kept.sampled terms tables) kept.long c.loop-rule-test.true entry c.index-entries-rule.is
+                  (first_point c.loop-rule.points c.loop-rule.rule) (first_point_at c.loop-rule.points c.loop-rule.rule (omega (arith, c.loop-rule-test.true, kept.long, tables.counted)))
+                  (rw (sym w2.if-takes.ensures) refl);
+              long = kept.long;
+              few = omega (arith, kept.few);
+              noted = omega (arith, kept.noted);
+              capacity = kept.capacity;
+            })
+      ]
+    ]
+
+pub returns-clause-points : goal.returns-clause-points
+returns-clause-points c = λ terms tables.
+    points_sampled_are c.args.request.now terms c.args.mode c.args.watch.now (map (rule_in terms c.args.words.now) c.args.entries.now) c.args.points.now c.loop-rule.rule c.loop-rule.points _ _
+    (c.loop-rule.invariant.sampled terms tables) (as_many_points terms c.args.watch.now c.args.entries.now c.args.points.now c.args.words.now tables c.loop-rule.points c.loop-rule.invariant.long)
+    (omega (arith, c.loop-rule-test.false, length-map c.args.entries.now (rule_in terms c.args.words.now)))
+
+pub returns-clause-requests : goal.returns-clause-requests
+returns-clause-requests c = λ terms tables.
+    requests_sampled_are c.args.request.now terms c.args.mode c.args.watch.now (map (rule_in terms c.args.words.now) c.args.entries.now) c.args.points.now c.loop-rule.rule c.loop-rule.points _ _
+    (c.loop-rule.invariant.sampled terms tables) (as_many_points terms c.args.watch.now c.args.entries.now c.args.points.now c.args.words.now tables c.loop-rule.points c.loop-rule.invariant.long)
+    (omega (arith, c.loop-rule-test.false, length-map c.args.entries.now (rule_in terms c.args.words.now)))
+
+pub returns-clause-steps : goal.returns-clause-steps
+returns-clause-steps c = λ terms tables.
+    steps_sampled_are c.args.request.now terms c.args.mode c.args.watch.now (map (rule_in terms c.args.words.now) c.args.entries.now) c.args.points.now c.loop-rule.rule c.loop-rule.points _ _
+    (c.loop-rule.invariant.sampled terms tables) (as_many_points terms c.args.watch.now c.args.entries.now c.args.points.now c.args.words.now tables c.loop-rule.points c.loop-rule.invariant.long)
+    (omega (arith, c.loop-rule-test.false, length-map c.args.entries.now (rule_in terms c.args.words.now)))

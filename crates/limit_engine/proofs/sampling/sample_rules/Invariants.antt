@@ -1,0 +1,17 @@
+use Rattle.std.proofs.Common.{◌≡◌, ◌≤◌, ◌*◌, List, length, map, vec_len, vec_capacity}
+use Rattle.lc_model.specs.declared.field.Term.{Term}
+use Rattle.limit_engine.specs.Entry.{rule_in}
+use Rattle.limit_engine.specs.Reactions.{requests_in}
+use Rattle.limit_engine.specs.Tables.{AreTables}
+use Rattle.limit_engine.proofs.SampledRules.{SampledBelow}
+use Rattle.limit_engine.proofs.sampling.sample_rules.Given as goal
+
+abbrev pub invariant-loop-rule : goal.invariant-loop-rule
+invariant-loop-rule l = record {
+  sampled : (terms : List Term) → AreTables terms l.watch l.entries l.initial.points l.words →
+      SampledBelow l.request terms l.mode l.watch (map (rule_in terms l.words) l.entries) l.initial.points l.rule l.points (requests_in (map (rule_in terms l.words) l.entries) l.asked.items) l.steps;
+  long : length l.points ≡ length l.initial.points;
+  few : l.steps ≤ 32 * l.rule;
+  noted : vec_len l.asked ≤ l.rule;
+  capacity : vec_capacity l.asked ≡ vec_capacity l.initial.asked;
+}

@@ -1,0 +1,46 @@
+-- The entries of the actionpoint table.
+use Rattle.std.specs.Prelude.{ℕ, ◌+◌, ◌≤◌, List, length, slice_range, unwrap_or, pos}
+use Rattle.lc_model.specs.declared.field.Term.{Term}
+use Rattle.lc_model.specs.declared.field.FieldType.TheVariants.{U8}
+use Rattle.lc_model.specs.declared.field.CmpOp.TheVariants.{Less}
+use Rattle.lc_model.specs.Condition.{Condition, Watch}
+use Rattle.lc_model.specs.Rule.{Actionpoint}
+use Rattle.lc_model.specs.Tables.Spelled.{spelled_condition}
+use Rattle.table_validator.specs.Sound.{IsSoundEquation}
+use Rattle.limit_engine.specs.declared.actionpoint.Entry.{Entry}
+
+-- the rule of an entry with this condition
+abbrev pub rule_with : Entry → Condition → Actionpoint
+rule_with entry condition = record {
+  mode = entry.mode;
+  fails = entry.fails;
+  sequence = entry.sequence;
+  event_kind = entry.event_kind;
+  event_id = entry.event_id;
+  text = entry.text.items;
+  report = entry.report;
+  condition = condition;
+}
+
+-- the entry's words before EQUAL
+abbrev pub words_of : List ℕ → Entry → List ℕ
+words_of words entry = slice_range words entry.start entry.end
+
+-- in place of the condition of words that spell none; a Limit Checker keeps no such words
+abbrev pub no_condition : Condition
+no_condition = Watch (record { kind = U8; mid = 0; offset = 0; mask = 0; stale = 0; op = Less; value = pos 0 })
+
+-- the condition that the entry's words spell over these watchpoints
+abbrev pub condition_in : List Term → List ℕ → Entry → Condition
+condition_in terms words entry = unwrap_or (spelled_condition terms (words_of words entry)) no_condition
+
+-- the rule that the entry is
+abbrev pub rule_in : List Term → List ℕ → Entry → Actionpoint
+rule_in terms words entry = rule_with entry (condition_in terms words entry)
+
+-- the entry's words lie among the words, and can be run
+pub record IsRunnable (terms : List Term) (words : List ℕ) (entry : Entry) : Type 0 where
+  pub from : entry.start ≤ entry.end
+  pub to : entry.end ≤ length words
+  pub short : entry.end ≤ entry.start + 31
+  pub sound : IsSoundEquation (length terms) (words_of words entry)

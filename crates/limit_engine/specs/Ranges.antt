@@ -1,0 +1,39 @@
+-- Comparisons as ranges: the bits of a field whose sign is turned are ordered as its numbers are, so each comparison holds of
+-- those in a range, or of all others. This project's own.
+use Rattle.std.specs.Prelude.{ℕ, ◌+◌, ◌-◌, ◌^◌, ◌%◌, Bool, true, false, nat_le, if◌then◌else◌, ℤ, pos, negsuc}
+use Rattle.lc_model.specs.declared.field.FieldType.{FieldType}
+use Rattle.lc_model.specs.declared.field.CmpOp.{CmpOp}
+use Rattle.lc_model.specs.declared.field.CmpOp.TheVariants.{Less, LessOrEqual, NotEqual, Equal, GreaterOrEqual, Greater}
+use Rattle.lc_model.specs.Field.{is_signed, bit_width}
+use Rattle.limit_engine.specs.declared.field.Range.{Range}
+
+-- the weight of the sign
+abbrev pub sign_of : FieldType → ℕ
+sign_of kind = if is_signed kind then 2 ^ (bit_width kind - 1) else 0
+
+-- a number of the type as bits whose sign is turned
+abbrev pub ordered : FieldType → ℤ → ℕ
+ordered kind (pos n) = sign_of kind + n
+ordered kind (negsuc n) = sign_of kind - (n + 1)
+
+-- the range for a bound
+abbrev pub range_to : CmpOp → ℕ → Range
+range_to Less end = record { low = end; span = 4_294_967_295 - end; flip = true }
+range_to GreaterOrEqual end = record { low = end; span = 4_294_967_295 - end; flip = false }
+range_to LessOrEqual end = record { low = 0; span = end; flip = false }
+range_to Greater end = record { low = 0; span = end; flip = true }
+range_to Equal end = record { low = end; span = 0; flip = false }
+range_to NotEqual end = record { low = end; span = 0; flip = true }
+
+-- the range of a comparison with a number of the type
+abbrev pub range_of : FieldType → CmpOp → ℤ → Range
+range_of kind op value = range_to op (ordered kind value)
+
+-- outside where it is turned
+abbrev pub turned : Bool → Bool → Bool
+turned true within = if within then false else true
+turned false within = within
+
+-- whether the comparison holds of these bits
+abbrev pub holds_in : Range → ℕ → Bool
+holds_in range bits = turned range.flip (nat_le ((bits + (2 ^ 32 - range.low)) % 2 ^ 32) range.span)

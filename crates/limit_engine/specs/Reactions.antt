@@ -1,0 +1,37 @@
+-- What is requested by what a sample leads to.
+use Rattle.std.specs.Prelude.{ℕ, List, [], ◌∷◌, ◌++◌, flat_map, slice_get, Option, Some, None}
+use Rattle.lc_model.specs.Count.{capped}
+use Rattle.lc_model.specs.Rule.{Actionpoint}
+use Rattle.lc_model.specs.Events.Request.{Request, Sequence, rule_failed, failed_lc_passive, failed_passive, turned_to_fail, turned_to_pass}
+use Rattle.limit_engine.specs.declared.reaction.Turn.{Turn}
+use Rattle.limit_engine.specs.declared.reaction.Turn.TheVariants.{ToFail, ToPass}
+use Rattle.limit_engine.specs.declared.reaction.Failure.{Failure}
+use Rattle.limit_engine.specs.declared.reaction.Failure.TheVariants.{Requested, LcPassive, Passive}
+use Rattle.limit_engine.specs.declared.reaction.Reactions.{Reactions}
+use Rattle.limit_engine.specs.declared.reaction.Asked.{Asked}
+
+-- the event of a turn, of the rule with this number
+abbrev pub turn_requests : ℕ → Option Turn → List Request
+turn_requests n None = []
+turn_requests n (Some ToFail) = turned_to_fail n ∷ []
+turn_requests n (Some ToPass) = turned_to_pass n ∷ []
+
+-- what is requested where there were enough failures in a row
+abbrev pub failure_requests : Actionpoint → ℕ → Option Failure → List Request
+failure_requests rule n None = []
+failure_requests rule n (Some (Requested run)) = Sequence rule.sequence ∷ rule_failed rule n (capped run) ∷ []
+failure_requests rule n (Some LcPassive) = failed_lc_passive n ∷ []
+failure_requests rule n (Some Passive) = failed_passive n ∷ []
+
+-- all that the rule requests, in order
+abbrev pub requests_of : Actionpoint → ℕ → Reactions → List Request
+requests_of rule n reactions = turn_requests n reactions.turn ++ failure_requests rule n reactions.failure
+
+-- where there is such a rule
+abbrev pub requests_at : Option Actionpoint → Asked → List Request
+requests_at None asked = []
+requests_at (Some rule) asked = requests_of rule asked.rule asked.reactions
+
+-- what several of these rules request, in order
+abbrev pub requests_in : List Actionpoint → List Asked → List Request
+requests_in rules asked = flat_map (λ (a : Asked). requests_at (slice_get rules a.rule) a) asked

@@ -1,0 +1,26 @@
+-- What a command makes of the mode and of the rules' states, and why it is refused.
+use Rattle.std.specs.Prelude.{ℕ, [], ◌∷◌, Result, Ok, Err}
+use Rattle.lc_model.specs.Refusal.{Refusal}
+use Rattle.limit_engine.specs.declared.states.StateRefusal.{StateRefusal}
+use Rattle.limit_engine.specs.declared.states.StateRefusal.TheVariants.{NoRule, NoState, RuleStands}
+
+-- the number of a refusal
+abbrev pub refusal_number : StateRefusal → ℕ
+refusal_number NoRule = 153
+refusal_number NoState = 154
+refusal_number RuleStands = 155
+
+-- an answer without a value, with the refusal's number
+abbrev pub answered : Result (Unit {0}) StateRefusal → Result (Unit {0}) Refusal
+answered (Ok done) = Ok tt
+answered (Err refusal) = Err (refusal_number refusal ∷ [])
+
+-- whether there is an answer, or else the refusal
+abbrev pub outcome : {A : Type 0} → Result A Refusal → Result (Unit {0}) Refusal
+outcome (Ok x) = Ok tt
+outcome (Err refusal) = Err refusal
+
+-- the answer, and what there was before where it is refused
+abbrev pub unless_refused : {A : Type 0} → Result A Refusal → A → A
+unless_refused (Ok x) before = x
+unless_refused (Err refusal) before = before

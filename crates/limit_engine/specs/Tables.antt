@@ -1,0 +1,44 @@
+-- What a Limit Checker's tables always are.
+use Rattle.std.specs.Prelude.{◌≡◌, ℕ, ◌*◌, ◌≤◌, List, length, map, All}
+use Rattle.lc_model.specs.declared.field.Term.{Term}
+use Rattle.lc_model.specs.declared.mode.LcMode.{LcMode}
+use Rattle.lc_model.specs.Codes.{table_entries}
+use Rattle.lc_model.specs.LimitChecker.Steps.{Point}
+use Rattle.lc_model.specs.Kept.Summary.{WatchResult, Tally, LcOwn}
+use Rattle.lc_model.specs.Tables.Image.{WideActionpoints, words_in}
+use Rattle.limit_engine.specs.declared.actionpoint.Entry.{Entry}
+use Rattle.limit_engine.specs.Entry.{rule_in, IsRunnable}
+use Rattle.limit_engine.specs.Shared.{AreShared}
+
+-- the object in numbers, with what it tells of its own work
+abbrev pub own_of : LcMode → List Term → List WatchResult → List Entry → List (Point Tally) → List ℕ → (steps probes : ℕ) → LcOwn
+own_of mode terms watch entries points words steps probes = record {
+  mode = mode;
+  terms = terms;
+  rules = map (rule_in terms words) entries;
+  watch = watch;
+  points = points;
+  effort = record { steps = steps; probes = probes };
+}
+
+-- each watchpoint has its result, each entry its point; equal watchpoints have equal results, and each entry's words can
+-- be run
+pub record AreTables (terms : List Term) (watch : List WatchResult) (entries : List Entry) (points : List (Point Tally)) (words : List ℕ) : Type 0 where
+  pub few : length terms ≤ table_entries
+  pub few_rules : length entries ≤ table_entries
+  pub found : length watch ≡ length terms
+  pub counted : length points ≡ length entries
+  pub shared : AreShared terms watch
+  pub runnable : All (IsRunnable terms words) entries
+
+-- at most 32 words of each rule were evaluated, and at most eight message ids compared
+pub record IsFewEffort (steps probes : ℕ) : Type 0 where
+  pub few_steps : steps ≤ 5632
+  pub few_probes : probes ≤ 8
+
+-- there is room for the largest tables: results, actionpoints, and the words of each
+pub record HasRoom (watch entries points words : ℕ) : Type 0 where
+  pub for_watch : table_entries ≤ watch
+  pub for_entries : table_entries ≤ entries
+  pub for_points : table_entries ≤ points
+  pub for_words : words_in WideActionpoints * table_entries ≤ words

@@ -1,0 +1,279 @@
+//! The engine: its tables, and what it keeps of telemetry and samples (cFS Limit Checker user's guide).
+
+ghost use Rattle.std.specs.Prelude.{◌≡◌, ◌<◌, ◌≤◌, [], length, vec_capacity, option_map, slice_get, Some, IfOk};
+ghost use Rattle.lc_model.specs.Rule.{Actionpoint};
+ghost use Rattle.lc_model.specs.LimitChecker.Steps.{is_disabled as disabled, one_set, standing, states_set, turned_permanently_off};
+ghost use Rattle.lc_model.specs.Refusal.{found};
+ghost use Rattle.lc_model.specs.Command.{mode_numbered};
+ghost use Rattle.lc_model.specs.declared.kind.Kind.TheVariants.{Wdt, Adt};
+ghost use Rattle.lc_model.specs.Tables.Half.{IsMatch};
+ghost use Rattle.lc_model.specs.Tables.InForce.{layouts};
+ghost use Rattle.lc_model.specs.Tables.Spelled.{spelled_terms, spelled_rules};
+ghost use Rattle.limit_engine.specs.Engine as engine;
+ghost use Rattle.limit_engine.specs.Engine.{after_telemetry, points_sampled, tells_short, with_tables, without_tables};
+ghost use Rattle.limit_engine.specs.Reactions.{requests_in};
+ghost use Rattle.limit_engine.specs.States.{answered, outcome, unless_refused};
+
+use crate::actionpoint::{Entry, Point};
+use crate::groups::Watchpoints;
+use crate::reaction::Asked;
+use crate::states::{self, StateRefusal};
+use crate::watchpoint::{self, WatchResult};
+use crate::{field, layout, sampling};
+use lc_model::{ApMode, ApResult, EventKind, LcMode, SampleRequest, TABLE_ENTRIES, Term};
+use std::alloc::{AllocError, Global};
+use std::marker::Model;
+use table_validator::ValidImage;
+
+/// The most words of all equations: those of a table of version 2 are the longest, with 32.
+pub(crate) const TABLE_WORDS: usize = 32 * TABLE_ENTRIES;
+
+/// The engine of a Limit Checker, with the tables in force.
+///
+/// Watchpoints lie in groups by message id, actionpoints and words in flat tables in the order of their image. All memory is
+/// taken by `new`. Contracts see what it is in numbers: its mode, watchpoints and rules, what each watchpoint was found to
+/// be, each rule's state and counts, and what it tells of its own work.
+#[derive(Debug, Drop)]
+pub struct Engine {
+    mode: LcMode,
+    watchpoints: Watchpoints,
+    watch: Vec<WatchResult>,
+    entries: Vec<Entry>,
+    points: Vec<Point>,
+    words: Vec<u16>,
+    /// The words that the last sample evaluated, and the comparisons of the last packet's message id.
+    steps: usize,
+    probes: usize,
+}
+
+impl Model for Engine {
+    ghost use Rattle.std.specs.Prelude.{vec_capacity};
+    ghost use Rattle.std.specs.Coded.{codes};
+    ghost use Rattle.lc_model.specs.Condition.Coding.{coded_condition};
+    ghost use Rattle.lc_model.specs.Kept.Summary.{LcOwn};
+    ghost use Rattle.limit_engine.specs.Tables.{own_of, AreTables, HasRoom, IsFewEffort};
+
+    ghost Value = { LcOwn };
+
+    ghost coded = { Prim.hlevel (codes, coded_condition) };
+
+    ghost view = { λ s. own_of s.mode s.watchpoints s.watch.items s.entries.items s.points.items s.words.items s.steps s.probes };
+
+    ghost invariant = { λ s. AreTables s.watchpoints s.watch.items s.entries.items s.points.items s.words.items
+        × HasRoom (vec_capacity s.watch) (vec_capacity s.entries) (vec_capacity s.points) (vec_capacity s.words)
+        × IsFewEffort s.steps s.probes };
+}
+
+/// How a rule stands: its state, and its last result, if it was sampled.
+#[derive(Clone, Copy, Debug, PartialEq, Eq)]
+pub struct Standing {
+    pub state: ApMode,
+    pub last: Option<ApResult>,
+}
+
+/// What a rule's own event says, and the sequence that the rule requests.
+#[derive(Clone, Copy, Debug)]
+pub struct RuleEvent<'a> {
+    pub sequence: u16,
+    pub kind: EventKind,
+    pub id: u16,
+    /// At most 31 bytes.
+    pub text: &'a [u8],
+}
+
+impl Engine {
+    /// An active Limit Checker without tables. It takes all the memory there will ever be; out of memory is the only error.
+    pub fn new(alloc: Global) -> Result<Engine, AllocError>
+        ensures { IfOk result (λ lc. lc ≡ without_tables) }
+    {
+        Ok(Engine {
+            mode: LcMode::Active,
+            watchpoints: Watchpoints::new(alloc)?,
+            watch: Vec::with_capacity(alloc, TABLE_ENTRIES)?,
+            entries: Vec::with_capacity(alloc, TABLE_ENTRIES)?,
+            points: Vec::with_capacity(alloc, TABLE_ENTRIES)?,
+            words: Vec::with_capacity(alloc, TABLE_WORDS)?,
+            steps: 0,
+            probes: 0,
+        })
+    }
+
+    /// As new: active, without tables, and without any effort.
+    pub fn reset(&mut self)
+        ensures { self.new ≡ without_tables }
+    {
+        self.mode = LcMode::Active;
+        self.watchpoints.clear();
+        self.watch.clear();
+        self.entries.clear();
+        self.points.clear();
+        self.words.clear();
+        self.steps = 0;
+        self.probes = 0;
+    }
+
+    /// Puts these tables in force: nothing seen, nothing sampled, each rule in its default state. The mode stays, and so does
+    /// what is told of the last sample and the last packet. Conditions: a table of watchpoints and one of actionpoints, of
+    /// either version, with equal hashes and equal counts of watchpoints. It takes no memory.
+    pub fn adopt(&mut self, wdt: &ValidImage<'_>, adt: &ValidImage<'_>)
+        requires wdt { wdt.now.kind ≡ Wdt }
+        requires adt { adt.now.kind ≡ Adt }
+        requires matching { IsMatch wdt.now.bytes adt.now.bytes }
+        ensures { self.new ≡ with_tables (spelled_terms wdt.now.bytes) (spelled_rules layouts wdt.now.bytes adt.now.bytes) self.old }
+    {
+        self.watchpoints.set(wdt);
+        layout::lay_out_results(self.watchpoints.terms().len(), &mut self.watch);
+        layout::lay_out_rules(adt, &mut self.entries, &mut self.points, &mut self.words);
+    }
+
+    /// How many rules there are: at most as many as a table has entries.
+    pub fn rule_count(&self) -> usize
+        ensures count { result ≡ length self.now.rules }
+        ensures points { result ≡ length self.now.points }
+        ensures few { result ≤ TABLE_ENTRIES }
+    {
+        self.entries.len()
+    }
+
+    /// The watchpoints in force, as their table numbers them: at most as many as a table has entries.
+    pub fn watchpoints(&self) -> &[Term]
+        ensures watchpoints { result.now ≡ self.now.terms }
+        ensures few { length result.now ≤ TABLE_ENTRIES }
+    {
+        self.watchpoints.terms()
+    }
+
+    pub fn mode(&self) -> LcMode
+        ensures { result ≡ self.now.mode }
+    {
+        self.mode
+    }
+
+    /// The words that the last sample evaluated, EQUAL included: at most 32 of each of 176 rules.
+    pub fn steps(&self) -> usize
+        ensures steps { result ≡ self.now.effort.steps }
+        ensures few { result ≤ 5632 }
+    {
+        self.steps
+    }
+
+    /// The message ids that the last packet of telemetry was compared with, at most eight.
+    pub fn probes(&self) -> usize
+        ensures probes { result ≡ self.now.effort.probes }
+        ensures few { result ≤ 8 }
+    {
+        self.probes
+    }
+
+    /// What the event of the rule with this number says, and the rule's sequence.
+    pub fn rule_event(&self, index: usize) -> RuleEvent<'_>
+        requires { index < length self.now.rules }
+        ensures sequence { (rule : Actionpoint) → slice_get self.now.rules index ≡ Some rule → result.sequence ≡ rule.sequence }
+        ensures kind { (rule : Actionpoint) → slice_get self.now.rules index ≡ Some rule → result.kind ≡ rule.event_kind }
+        ensures id { (rule : Actionpoint) → slice_get self.now.rules index ≡ Some rule → result.id ≡ rule.event_id }
+        ensures text { (rule : Actionpoint) → slice_get self.now.rules index ≡ Some rule → result.text.now ≡ rule.text }
+        ensures short { length result.text.now ≤ 31 }
+    {
+        let entry = &self.entries[index];
+        RuleEvent {
+            sequence: entry.sequence,
+            kind: entry.event_kind,
+            id: entry.event_id,
+            text: entry.text.as_slice(),
+        }
+    }
+
+    /// How the rule with this number stands.
+    pub fn standing(&self, index: usize) -> Standing
+        requires { index < length self.now.points }
+        ensures state { option_map (λ point. point.state) (slice_get self.now.points index) ≡ Some result.state }
+        ensures last { option_map (λ point. point.past.last) (slice_get self.now.points index) ≡ Some result.last }
+    {
+        let point = &self.points[index];
+        Standing {
+            state: point.state(),
+            last: point.last(),
+        }
+    }
+
+    /// A packet of telemetry: all watchpoints of its message id are found anew. Answers whether the field of one of them is
+    /// not in the packet. A disabled Limit Checker sees nothing.
+    pub fn telemetry(&mut self, packet: &[u8]) -> bool
+        ensures after { self.new ≡ after_telemetry packet.now self.old }
+        ensures short { result ≡ tells_short packet.now self.old }
+    {
+        if is_disabled(self.mode) {
+            self.probes = 0;
+            return false;
+        }
+        let found = self.watchpoints.find(field::message_id(packet));
+        self.probes = found.probes;
+        watchpoint::see_group(found.group, self.watch.as_mut_slice(), packet)
+    }
+
+    /// Samples the rules that the request takes, in order, those that are disabled or off aside; then, where it is asked for,
+    /// all watchpoints age. What the rules ask for is put into `asked`, which is empty and has room for one item of each rule.
+    /// A disabled Limit Checker samples and ages nothing.
+    pub fn sample(&mut self, request: &SampleRequest, asked: &mut Vec<Asked>)
+        requires none { asked.old.items ≡ [] }
+        requires room { TABLE_ENTRIES ≤ vec_capacity asked.old }
+        ensures after { self.new ≡ engine.after_sample request.now self.old }
+        ensures asked { requests_in self.old.rules asked.new.items ≡ (points_sampled request.now self.old).1 }
+        ensures capacity { vec_capacity asked.new ≡ vec_capacity asked.old }
+    {
+        if is_disabled(self.mode) {
+            self.steps = 0;
+            return;
+        }
+        self.steps = sampling::sample_rules(
+            request,
+            self.mode,
+            self.entries.as_slice(),
+            self.words.as_slice(),
+            self.watch.as_slice(),
+            self.points.as_mut_slice(),
+            asked,
+        );
+        if request.ages {
+            watchpoint::age_all(self.watch.as_mut_slice());
+        }
+    }
+
+    /// Sets the mode of the Limit Checker: active (1), passive (2) or disabled (3).
+    pub fn set_mode(&mut self, number: u16) -> Result<(), StateRefusal>
+        ensures answer { answered result ≡ outcome (found (mode_numbered number) 154) }
+        ensures mode { self.new ≡ record self.old { mode = unless_refused (found (mode_numbered number) 154) self.old.mode } }
+    {
+        let Some(mode) = states::mode_numbered(number) else {
+            return Err(StateRefusal::NoState);
+        };
+        self.mode = mode;
+        Ok(())
+    }
+
+    /// Sets the state of the rule with this number, or of all rules (0xFFFF): active (1), passive (2) or disabled (3). What
+    /// was counted stays. A rule that is off for good stays so; where it is named itself, that is refused.
+    pub fn set_state(&mut self, index: u16, number: u16) -> Result<(), StateRefusal>
+        ensures answer { answered result ≡ outcome (states_set index number self.old.points) }
+        ensures points { self.new ≡ record self.old { points = unless_refused (states_set index number self.old.points) self.old.points } }
+    {
+        states::set_state(self.points.as_mut_slice(), index, number)
+    }
+
+    /// Turns the rule with this number off for good. It has to be disabled.
+    pub fn turn_permanently_off(&mut self, index: u16) -> Result<(), StateRefusal>
+        ensures answer { answered result ≡ outcome (one_set index turned_permanently_off self.old.points) }
+        ensures points { self.new ≡ record self.old { points = unless_refused (one_set index turned_permanently_off self.old.points) self.old.points } }
+    {
+        states::turn_permanently_off(self.points.as_mut_slice(), index)
+    }
+}
+
+fn is_disabled(mode: LcMode) -> bool
+    ensures { result ≡ disabled mode }
+{
+    match mode {
+        LcMode::Active | LcMode::Passive => false,
+        LcMode::Disabled => true,
+    }
+}

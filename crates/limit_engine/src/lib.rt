@@ -1,0 +1,20 @@
+//! The engine of the Limit Checker (cFS Limit Checker user's guide): it watches packets of telemetry, ages what it has seen,
+//! samples the rules of the tables in force, and says what they ask for. It sends nothing.
+#![tactic(auto)]
+
+mod actionpoint;
+mod engine;
+mod equation;
+mod field;
+mod groups;
+mod ids;
+mod layout;
+mod operands;
+mod reaction;
+mod sampling;
+mod states;
+mod watchpoint;
+
+pub use engine::{Engine, RuleEvent, Standing};
+pub use reaction::{Asked, Failure, Reactions, Turn};
+pub use states::StateRefusal;

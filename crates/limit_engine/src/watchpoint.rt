@@ -1,0 +1,134 @@
+//! Watchpoints: what each was found to be, and how that ages (cFS Limit Checker user's guide, watchpoint results).
+
+ghost use Rattle.std.specs.Prelude.{◌≡◌, ◌+◌, ◌<◌, length, map, fold, All, IsTrue};
+ghost use Rattle.std.specs.List.{list_any};
+ghost use Rattle.lc_model.specs.Field.{is_in_type, width};
+ghost use Rattle.lc_model.specs.Kept.Next.{unseen_result, aged_result};
+ghost use Rattle.limit_engine.specs.Grouped.{watch_for, watch_seen, lacks_field, judged_by};
+
+use crate::field::{self, Range};
+use lc_model::{FieldType, Term, Truth};
+use std::marker::Model;
+
+/// What a watchpoint was found to be, and after how many more agings it is stale. A countdown of 0 stays.
+#[derive(Clone, Copy, Debug)]
+pub(crate) struct WatchResult {
+    truth: Truth,
+    countdown: u32,
+}
+
+impl Model for WatchResult {
+    ghost use Rattle.lc_model.specs.Kept.Summary.{WatchResult as Kept};
+
+    ghost Value = { Kept };
+
+    ghost view = { λ r. record { truth = r.truth; countdown = r.countdown } };
+
+    ghost inverse = { λ r. record { truth = r.truth; countdown = r.countdown } };
+}
+
+impl WatchResult {
+    /// Before the first packet.
+    pub(crate) fn unseen() -> WatchResult
+        ensures { result ≡ unseen_result }
+    {
+        WatchResult {
+            truth: Truth::Stale,
+            countdown: 0,
+        }
+    }
+
+    pub(crate) fn truth(&self) -> Truth
+        ensures { result ≡ self.now.truth }
+    {
+        self.truth
+    }
+
+    /// After an aging: a countdown that comes to 0 makes the watchpoint stale.
+    fn age(&mut self)
+        ensures { self.new ≡ aged_result self.old }
+    {
+        if self.countdown == 1 {
+            self.truth = Truth::Stale;
+        }
+        self.countdown = self.countdown.saturating_sub(1);
+    }
+}
+
+/// A watchpoint among those of its message id, with what is worked out of it beforehand.
+#[derive(Clone, Copy, Debug)]
+pub(crate) struct Watch {
+    /// Its number in the table.
+    pub(crate) number: usize,
+    pub(crate) kind: FieldType,
+    /// Where its field begins, and the bytes that a packet with the whole field has.
+    pub(crate) start: usize,
+    pub(crate) need: usize,
+    pub(crate) mask: u32,
+    pub(crate) sign: u32,
+    pub(crate) range: Range,
+    pub(crate) stale: u32,
+}
+
+impl Watch {
+    pub(crate) fn of(number: usize, term: &Term) -> Watch
+        requires { IsTrue (is_in_type term.now.kind term.now.value) }
+        ensures { result ≡ watch_for number term.now }
+    {
+        let start = term.offset as usize;
+        Watch {
+            number,
+            kind: term.kind,
+            start,
+            need: start + term.kind.width(),
+            mask: term.mask,
+            sign: field::sign(term.kind),
+            range: Range::of(term.kind, term.op, term.value),
+            stale: term.stale,
+        }
+    }
+
+    /// What a packet of its message id says of it: an error where the field is not in it.
+    fn judged(&self, packet: &[u8]) -> Truth
+        requires { self.now.need ≡ self.now.start + width self.now.kind }
+        ensures truth { result ≡ judged_by packet.now self.now }
+    {
+        if packet.len() < self.need {
+            return Truth::Error;
+        }
+        let bits = field::bits_in(self.kind, &packet[self.start..self.need]);
+        if self.range.holds((bits & self.mask) ^ self.sign) {
+            Truth::True
+        } else {
+            Truth::False
+        }
+    }
+}
+
+/// A packet: all watchpoints of its message id, the group, are found anew, and what each says stands until it is stale.
+/// Answers whether some field was not in the packet.
+pub(crate) fn see_group(group: &[Watch], results: &mut [WatchResult], packet: &[u8]) -> bool
+    requires numbers { All (λ w. w.number < length results.old) group.now }
+    requires fields { All (λ w. w.need ≡ w.start + width w.kind) group.now }
+    ensures results { results.new ≡ fold (watch_seen packet.now) results.old group.now }
+    ensures short { result ≡ list_any (lacks_field packet.now) group.now }
+{
+    let mut short = false;
+    for watch in group {
+        results[watch.number] = WatchResult {
+            truth: watch.judged(packet),
+            countdown: watch.stale,
+        };
+        short |= packet.len() < watch.need;
+    }
+    short
+}
+
+/// An aging of all watchpoints.
+pub(crate) fn age_all(results: &mut [WatchResult])
+    ensures { results.new ≡ map aged_result results.old }
+{
+    for result in results.iter_mut() {
+        result.age();
+    }
+}

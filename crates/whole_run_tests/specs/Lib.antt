@@ -1,0 +1,2 @@
+-- What the proved run of these tests cites.
+pub mod LowVolts
