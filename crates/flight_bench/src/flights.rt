@@ -80,14 +80,7 @@ fn fly(
     stock.push(Box::new(alloc, LimitChecker::new(alloc)?)?)?;
     let mut reader = Reading::new(stream);
     let mut writer = Writing::new(io::sink());
-    Ok(run(
-        alloc,
-        texts,
-        schedule,
-        stock,
-        &mut reader,
-        &mut writer,
-    )?)
+    Ok(run(alloc, texts, schedule, stock, &mut reader, &mut writer)?)
 }
 
 /// The row's rules, and the same rules with a comment behind them.
@@ -110,7 +103,10 @@ fn measure_row(rt: &HostRuntime, row: &Row) -> anyhow::Result<()> {
     load.fill(row.kind, row.count)?;
     let (text, other) = texts_of(rt, row)?;
     let schedule = parse_schedule(rt.alloc(), NO_ENTRIES)?;
-    let mut report = Report { records: 0, bytes: 0 };
+    let mut report = Report {
+        records: 0,
+        bytes: 0,
+    };
     let mut least = u128::MAX;
     for _ in 0..RUNS {
         let stream = File::open(rt, name.as_str())?;

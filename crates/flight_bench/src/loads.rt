@@ -42,7 +42,10 @@ impl Load {
 
     /// The next number by chance, below a bound of at most 65,536 (linear congruence, by its upper half).
     fn chance(&mut self, bound: u16) -> u16 {
-        self.seed = self.seed.wrapping_mul(1_664_525).wrapping_add(1_013_904_223);
+        self.seed = self
+            .seed
+            .wrapping_mul(1_664_525)
+            .wrapping_add(1_013_904_223);
         let [high, low, _, _] = self.seed.to_be_bytes();
         u16::from_be_bytes([high, low]) % bound.max(1)
     }
@@ -51,7 +54,8 @@ impl Load {
     fn record(&mut self, kind: u8, body: &[u8]) -> io::Result<()> {
         let [_, _, _, _, s0, s1, s2, s3] = (self.records / 1_000).to_be_bytes();
         let [l0, l1] = u16::try_from(body.len()).unwrap_or(0).to_be_bytes();
-        self.out.write_all(&[kind, s0, s1, s2, s3, 0, 0, 0, 0, l0, l1])?;
+        self.out
+            .write_all(&[kind, s0, s1, s2, s3, 0, 0, 0, 0, l0, l1])?;
         self.out.write_all(body)?;
         self.records = self.records.wrapping_add(1);
         Ok(())

@@ -4,8 +4,8 @@ ghost use Rattle.std.specs.Prelude.{◌≤◌, length, IfSome};
 ghost use Rattle.flight_run.specs.Finished.{done_line};
 
 use flight_core::Report;
-use lc_model::packet::message_id;
 use lc_model::mids;
+use lc_model::packet::message_id;
 use std::fmt::{self, Display, Formatter, Write};
 
 /// The bytes of a packet's primary header, which ends with a length.

@@ -51,8 +51,14 @@ fn launch<I: Read + Drop, O: Write + Drop>(
     add(&mut stock, Box::new(alloc, LimitChecker::new(alloc)?)?)?;
     add(&mut stock, Box::new(alloc, LimitChecker::new(alloc)?)?)?;
     add(&mut stock, Box::new(alloc, LimitChecker::new(alloc)?)?)?;
-    add(&mut stock, Box::new(alloc, Scheduler::new(alloc, schedule)?)?)?;
-    add(&mut stock, Box::new(alloc, Scheduler::new(alloc, schedule)?)?)?;
+    add(
+        &mut stock,
+        Box::new(alloc, Scheduler::new(alloc, schedule)?)?,
+    )?;
+    add(
+        &mut stock,
+        Box::new(alloc, Scheduler::new(alloc, schedule)?)?,
+    )?;
     add(&mut stock, Box::new(alloc, Counter::new())?)?;
     add(&mut stock, Box::new(alloc, Counter::new())?)?;
     let mut reader = Reading::new(stream);

@@ -76,7 +76,8 @@ impl Display for NoCommand {
 
     fn fmt<W: Write>(&self, f: &mut Formatter<W>) -> fmt::Result {
         match self.0 {
-            WordsError::Usage => write!(f,
+            WordsError::Usage => write!(
+                f,
                 "usage: flight_run [compile RULES WDT ADT or run --schedule S --stream IN --out OUT RULES..]"
             ),
             WordsError::Memory => write!(f, "no memory"),

@@ -42,6 +42,9 @@ fn without_words_the_stored_run_requests_its_sequence(rt: HostRuntime) {
 
 #[test]
 fn the_status_is_answered(rt: HostRuntime) {
-    let found = (main_on(&rt, &["flight_run"]), main_on(&rt, &["flight_run", "--help"]));
+    let found = (
+        main_on(&rt, &["flight_run"]),
+        main_on(&rt, &["flight_run", "--help"]),
+    );
     assert_eq!(rt; found, (0, 2));
 }

@@ -64,4 +64,3 @@ module _ {X : Type 0} (h l s c n x : X) where
 pub pushed : {X Y : Type 0} (f : X → Y) (x y : X) (test : Bool) → f (if test then x else y) ≡ (if test then f x else f y)
 pushed f x y true = refl
 pushed f x y false = refl
-

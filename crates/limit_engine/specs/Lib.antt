@@ -2,7 +2,6 @@
 pub mod Reactions
 pub mod Engine
 pub mod States
-
 -- what its own functions and invariants name
 pub mod Ids
 pub mod Bytes

@@ -22,4 +22,3 @@ only_third false true c d p q r = absurd (cc q)
 only_third false false true d p q r = refl
 only_third false false false true p q r = absurd (cc r)
 only_third false false false false p q r = refl
-

@@ -5,7 +5,8 @@ use super::says;
 use crate::stored::TEXT;
 
 /// What is said of words that are no command.
-const USAGE: &str = "usage: flight_run [compile RULES WDT ADT or run --schedule S --stream IN --out OUT RULES..]";
+const USAGE: &str =
+    "usage: flight_run [compile RULES WDT ADT or run --schedule S --stream IN --out OUT RULES..]";
 
 #[test]
 fn words_that_are_no_command_are_refused(rt: HostRuntime) {
@@ -18,12 +19,70 @@ fn words_that_are_no_command_are_refused(rt: HostRuntime) {
         &["flight_run", ""],
         &["flight_run", "compile", "a", "b"],
         &["flight_run", "compile", "a", "b", "c", "d"],
-        &["flight_run", "run", "--schedule", "s", "--stream", "i", "--out", "o"],
-        &["flight_run", "run", "--schedule", "s", "--stream", "i", "rules"],
-        &["flight_run", "run", "--schedule", "s", "--stream", "i", "--out"],
-        &["flight_run", "run", "--schedule", "s", "--stream", "i", "--out", "o", "--out", "p", "r"],
-        &["flight_run", "run", "--schedule", "s", "--stream", "i", "--out", "o", "--quick", "r"],
-        &["flight_run", "run", "--sched", "s", "--stream", "i", "--out", "o", "r"],
+        &[
+            "flight_run",
+            "run",
+            "--schedule",
+            "s",
+            "--stream",
+            "i",
+            "--out",
+            "o",
+        ],
+        &[
+            "flight_run",
+            "run",
+            "--schedule",
+            "s",
+            "--stream",
+            "i",
+            "rules",
+        ],
+        &[
+            "flight_run",
+            "run",
+            "--schedule",
+            "s",
+            "--stream",
+            "i",
+            "--out",
+        ],
+        &[
+            "flight_run",
+            "run",
+            "--schedule",
+            "s",
+            "--stream",
+            "i",
+            "--out",
+            "o",
+            "--out",
+            "p",
+            "r",
+        ],
+        &[
+            "flight_run",
+            "run",
+            "--schedule",
+            "s",
+            "--stream",
+            "i",
+            "--out",
+            "o",
+            "--quick",
+            "r",
+        ],
+        &[
+            "flight_run",
+            "run",
+            "--sched",
+            "s",
+            "--stream",
+            "i",
+            "--out",
+            "o",
+            "r",
+        ],
         &["flight_run", "run", "--help"],
     ];
     for words in rows {

@@ -80,6 +80,9 @@ impl Flight {
     ) {
         says(rt, &self.words(), status, line);
         let written = read(rt, self.out.as_str());
-        assert!(rt; written.as_slice() == expected, "the bytes that were written");
+        assert!(rt;
+            written.as_slice() == expected,
+            "the bytes that were written"
+        );
     }
 }

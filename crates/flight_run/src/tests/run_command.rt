@@ -47,7 +47,12 @@ fn a_stream_that_is_cut_leaves_the_output_of_its_records(rt: HostRuntime) {
     let expected = of_two_failing_samples(rt.alloc()).expect(&rt, "memory for packets");
     let cut = front(stream.as_slice(), 180);
     let flight = Flight::new(&rt, "cut", NO_ENTRIES, cut, TEXT);
-    flight.writes(&rt, 4, "stopped: 142 record 5", front(expected.as_slice(), 672));
+    flight.writes(
+        &rt,
+        4,
+        "stopped: 142 record 5",
+        front(expected.as_slice(), 672),
+    );
     flight.folder.remove(&rt);
 }
 
@@ -67,7 +72,10 @@ fn several_texts_are_numbered_in_order(rt: HostRuntime) {
     let low_first = flight.words_over(low_volts.as_str(), flight.rules.as_str());
     says(&rt, &low_first, 0, "records 7, bytes 852\n");
     let written = read(&rt, flight.out.as_str());
-    assert!(rt; written.as_slice() == expected.as_slice(), "the first text's packets");
+    assert!(rt;
+        written.as_slice() == expected.as_slice(),
+        "the first text's packets"
+    );
     let low_second = flight.words_over(flight.rules.as_str(), low_volts.as_str());
     says(&rt, &low_second, 0, "records 7, bytes 672\n");
     flight.folder.remove(&rt);

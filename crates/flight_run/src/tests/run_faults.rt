@@ -1,9 +1,8 @@
 //! Files of `run` that are missing, are folders, or are refused, in the order in which they are used.
 
-use super::cannot_use;
 use super::flight::Flight;
 use super::folder::filled;
-use super::says;
+use super::{cannot_use, says};
 use crate::stored::{TEXT, two_failing_samples};
 use std::fs::{self, Files};
 use std::process::Abort;
@@ -40,7 +39,13 @@ fn a_refused_schedule_comes_before_missing_rules(rt: HostRuntime) {
 
 #[test]
 fn a_refused_text_leaves_an_empty_output(rt: HostRuntime) {
-    let flight = Flight::new(&rt, "refused_text", NO_ENTRIES, b"not a stream", b"field V = P u8 at 0;");
+    let flight = Flight::new(
+        &rt,
+        "refused_text",
+        NO_ENTRIES,
+        b"not a stream",
+        b"field V = P u8 at 0;",
+    );
     flight.writes(&rt, 1, "refused: 22 at 10", b"");
     flight.folder.remove(&rt);
 }
@@ -51,9 +56,22 @@ fn a_folder_opens_and_cannot_be_read(rt: HostRuntime) {
     let folder = flight.folder.path(&rt, ".");
     let [program, run, s, schedule, i, stream, o, out, rules] = flight.words();
     let place = folder.as_str();
-    cannot_use(&rt, &[program, run, s, place, i, stream, o, out, rules], place);
-    cannot_use(&rt, &[program, run, s, schedule, i, stream, o, out, place], place);
-    says(&rt, &[program, run, s, schedule, i, place, o, out, rules], 3, "stopped: 143");
+    cannot_use(
+        &rt,
+        &[program, run, s, place, i, stream, o, out, rules],
+        place,
+    );
+    cannot_use(
+        &rt,
+        &[program, run, s, schedule, i, stream, o, out, place],
+        place,
+    );
+    says(
+        &rt,
+        &[program, run, s, schedule, i, place, o, out, rules],
+        3,
+        "stopped: 143",
+    );
     flight.folder.remove(&rt);
 }
 

@@ -20,8 +20,14 @@ fn are_said<R: Abort + AllocGlobal>(rt: &R, status: u8, rows: &[(Fault<'_>, &str
 #[test]
 fn a_refused_text_is_said_with_its_place_or_its_rule(rt: HostRuntime) {
     let rows = &[
-        (Fault::Text(CompileError::Lex(LexError::BadByte { at: 0 })), "refused: 1 at 0"),
-        (Fault::Text(CompileError::Lex(LexError::TextTooLong)), "refused: 5"),
+        (
+            Fault::Text(CompileError::Lex(LexError::BadByte { at: 0 })),
+            "refused: 1 at 0",
+        ),
+        (
+            Fault::Text(CompileError::Lex(LexError::TextTooLong)),
+            "refused: 5",
+        ),
         (
             Fault::Text(CompileError::Parse(ParseError::TooNested { at: 12 })),
             "refused: 12 at 12",
@@ -42,8 +48,14 @@ fn a_refused_text_is_said_with_its_place_or_its_rule(rt: HostRuntime) {
 #[test]
 fn a_refused_schedule_is_said_with_its_line(rt: HostRuntime) {
     let rows = &[
-        (Fault::Schedule(ScheduleError::BadLine { n: 0 }), "schedule: 131 line 0"),
-        (Fault::Schedule(ScheduleError::TooManySlots { n: 1 }), "schedule: 132 line 1"),
+        (
+            Fault::Schedule(ScheduleError::BadLine { n: 0 }),
+            "schedule: 131 line 0",
+        ),
+        (
+            Fault::Schedule(ScheduleError::TooManySlots { n: 1 }),
+            "schedule: 132 line 1",
+        ),
         (
             Fault::Schedule(ScheduleError::TooManyEntries { n: 10 }),
             "schedule: 133 line 10",
@@ -54,7 +66,8 @@ fn a_refused_schedule_is_said_with_its_line(rt: HostRuntime) {
 
 #[test]
 fn other_words_are_told_which_there_are(rt: HostRuntime) {
-    let line = "usage: flight_run [compile RULES WDT ADT or run --schedule S --stream IN --out OUT RULES..]";
+    let line =
+        "usage: flight_run [compile RULES WDT ADT or run --schedule S --stream IN --out OUT RULES..]";
     are_said(&rt, 2, &[(Fault::Words(WordsError::Usage), line)]);
 }
 
@@ -71,8 +84,14 @@ fn a_file_and_a_device_are_3(rt: HostRuntime) {
 #[test]
 fn a_stream_is_4(rt: HostRuntime) {
     let rows = &[
-        (Fault::Run(RunError::BadRecord { n: 1 }), "stopped: 141 record 1"),
-        (Fault::Run(RunError::Truncated { n: 5 }), "stopped: 142 record 5"),
+        (
+            Fault::Run(RunError::BadRecord { n: 1 }),
+            "stopped: 141 record 1",
+        ),
+        (
+            Fault::Run(RunError::Truncated { n: 5 }),
+            "stopped: 142 record 5",
+        ),
         (Fault::Run(RunError::ReadBound), "stopped: 145"),
     ];
     are_said(&rt, 4, rows);
