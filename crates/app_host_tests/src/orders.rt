@@ -127,9 +127,9 @@ fn spares_are_taken_in_stock_order(rt: HostRuntime) {
     all_holds(&rt, &[Spare::Writing(0), Spare::Publishing(0)], script);
 }
 
-/// One runs, one was replaced, and one is left in stock.
+/// One runs, one was replaced, and one is left in stock: the close retires the one that runs.
 #[test]
-fn a_close_drops_all_that_is_left_once(rt: HostRuntime) {
+fn a_close_retires_who_runs_and_drops_all_that_is_left_once(rt: HostRuntime) {
     let script = &[
         Step(Order(START, b"COUNTER"), &[Done(8, b"app command 1 done")]),
         Step(Order(RELOAD, b"COUNTER"), &[Done(8, b"app command 4 done")]),

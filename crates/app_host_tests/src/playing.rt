@@ -123,7 +123,8 @@ fn add(stock: &mut Vec<Box<dyn App>>, app: Box<dyn App>) -> Result<(), AllocErro
 }
 
 /// A host with these spares plays the script, and is closed. The number of the first line that does not hold; the number of
-/// lines, where a counter was not dropped once; else none. Out of memory is the only error.
+/// lines, where a counter was not dropped once, or one that started was not retired as often; else none. Out of memory is the
+/// only error.
 pub fn plays(
     alloc: Global,
     spares: &[Spare],
@@ -156,7 +157,8 @@ pub fn plays(
     };
     let first = follow(alloc, &mut host, &tally, script)?;
     end(host);
-    if first.is_none() && tally.drops() != counters {
+    let all_left = tally.drops() == counters && tally.retirements() == tally.starts();
+    if first.is_none() && !all_left {
         return Ok(Some(script.len()));
     }
     Ok(first)

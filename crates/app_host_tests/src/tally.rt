@@ -4,11 +4,13 @@ use std::alloc::{AllocError, Global};
 use std::cell::Cell;
 use std::rc::Rc;
 
-/// The objects that were dropped, and the packets that they had.
+/// The starts and retirements of objects, the packets that they had, and those that were dropped.
 #[derive(Drop)]
 struct Numbers {
-    drops: Cell<u32>,
+    starts: Cell<u32>,
+    retirements: Cell<u32>,
     packets: Cell<u32>,
+    drops: Cell<u32>,
 }
 
 /// The same counts for all who hold one of its copies.
@@ -23,8 +25,10 @@ impl Tally {
         let counts = Rc::new(
             alloc,
             Numbers {
-                drops: Cell::new(0),
+                starts: Cell::new(0),
+                retirements: Cell::new(0),
                 packets: Cell::new(0),
+                drops: Cell::new(0),
             },
         )?;
         Ok(Tally { counts })
@@ -37,19 +41,35 @@ impl Tally {
         })
     }
 
-    pub fn drops(&self) -> u32 {
-        self.counts.drops.get()
+    pub fn starts(&self) -> u32 {
+        self.counts.starts.get()
+    }
+
+    pub fn retirements(&self) -> u32 {
+        self.counts.retirements.get()
     }
 
     pub fn packets(&self) -> u32 {
         self.counts.packets.get()
     }
 
-    pub fn count_drop(&self) {
-        self.counts.drops.set(self.drops().saturating_add(1));
+    pub fn drops(&self) -> u32 {
+        self.counts.drops.get()
+    }
+
+    pub fn count_start(&self) {
+        self.counts.starts.set(self.starts().saturating_add(1));
+    }
+
+    pub fn count_retirement(&self) {
+        self.counts.retirements.set(self.retirements().saturating_add(1));
     }
 
     pub fn count_packet(&self) {
         self.counts.packets.set(self.packets().saturating_add(1));
+    }
+
+    pub fn count_drop(&self) {
+        self.counts.drops.set(self.drops().saturating_add(1));
     }
 }

@@ -7,7 +7,7 @@ use app_host::{App, Services};
 use flight_core::Counter;
 use lc_model::Seat;
 
-/// A counter that tallies its packets and its drop.
+/// A counter that tallies its starts, its packets, its retirements and its drop.
 pub struct Tracked {
     counter: Counter,
     tally: Tally,
@@ -37,6 +37,7 @@ impl App for Tracked {
     }
 
     fn start(&mut self, seat: Seat, services: &mut Services) {
+        self.tally.count_start();
         self.counter.start(seat, services);
     }
 
@@ -46,6 +47,7 @@ impl App for Tracked {
     }
 
     fn retire(&mut self, services: &mut Services) {
+        self.tally.count_retirement();
         self.counter.retire(services);
     }
 }

@@ -1,9 +1,10 @@
 //! The event services: who sends events, at which seat, and the events that are sent (cFE user's guide, event services).
 
-ghost use Rattle.std.specs.Prelude.{◌≡◌, ◌<◌, ◌≤◌, length, IfOk, IfSome, OnErr};
+ghost use Rattle.std.specs.Prelude.{◌≡◌, ◌<◌, ◌≤◌, length, IfErr, IfOk, IfSome, OnErr};
 ghost use Rattle.std.specs.List.{position_from};
 ghost use Rattle.lc_model.specs.Events.Log.{FilterSet, FiltersReset, TypesSet};
 ghost use Rattle.lc_model.specs.Services.Events.{IsEventService, first_events, is_sender, registered_at, unregistered_at, commanded, event_asked};
+ghost use Rattle.event_service.specs.declared.error.EventError.TheVariants.{Memory};
 ghost use Rattle.event_service.specs.Error.{answered};
 ghost use Rattle.event_service.specs.Change.{item_of};
 ghost use Rattle.event_service.specs.Types.{bits_of};
@@ -45,7 +46,8 @@ impl Model for Events {
 impl Events {
     /// `HOST` alone, and nothing sent. It takes all the memory there will ever be; out of memory is the only error.
     pub fn new(alloc: Global) -> Result<Events, EventError>
-        ensures { IfOk result (λ events. events ≡ first_events) }
+        ensures first { IfOk result (λ events. events ≡ first_events) }
+        ensures memory { IfErr result (λ e. e ≡ Memory) }
     {
         let mut places = Vec::with_capacity(alloc, Seat::COUNT)?;
         for _ in 0..Seat::COUNT {

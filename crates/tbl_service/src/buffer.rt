@@ -1,6 +1,7 @@
 //! Room for the bytes of one file or of one image.
 
-ghost use Rattle.std.specs.Prelude.{◌≡◌, ◌≤◌, [], length, IfOk};
+ghost use Rattle.std.specs.Prelude.{◌≡◌, ◌≤◌, [], length, IfErr, IfOk};
+ghost use Rattle.tbl_service.specs.declared.error.TableError.TheVariants.{Memory};
 
 use crate::error::TableError;
 use std::alloc::Global;
@@ -28,7 +29,8 @@ impl Model for Buffer {
 impl Buffer {
     /// Empty. Out of memory is the only error.
     pub(crate) fn new(alloc: Global) -> Result<Buffer, TableError>
-        ensures { IfOk result (λ buffer. buffer ≡ []) }
+        ensures empty { IfOk result (λ buffer. buffer ≡ []) }
+        ensures memory { IfErr result (λ e. e ≡ Memory) }
     {
         Ok(Buffer {
             bytes: Vec::with_capacity(alloc, MAX_FILE)?,

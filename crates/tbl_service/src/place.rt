@@ -1,10 +1,11 @@
 //! The tables of one seat, and the images that are free for another.
 
-ghost use Rattle.std.specs.Prelude.{◌≡◌, ◌<◌, ◌≤◌, [], ◌∷◌, ◌++◌, length, slice_index_or, slice_set, option_map, IfOk, IfSome, IsTrue, is_some, Some, None, OnErr, nat_le, if◌then◌else◌};
+ghost use Rattle.std.specs.Prelude.{◌≡◌, ◌<◌, ◌≤◌, [], ◌∷◌, ◌++◌, length, slice_index_or, slice_set, option_map, IfErr, IfOk, IfSome, IsTrue, is_some, Some, None, OnErr, nat_le, if◌then◌else◌};
 ghost use Rattle.std.specs.List.{position_from};
 ghost use Rattle.lc_model.specs.Tables.Slot.{Activated, Asked, installed, judged, loaded, moved, taken, waiting_at};
 ghost use Rattle.lc_model.specs.Name.{is_named};
 ghost use Rattle.lc_model.specs.Services.Tables.{Table as Kept, fits_table, new_table, number_named};
+ghost use Rattle.tbl_service.specs.declared.error.TableError.TheVariants.{Memory};
 ghost use Rattle.tbl_service.specs.Error.{answered};
 ghost use Rattle.tbl_service.specs.Images.{move_of, waiting_seen};
 ghost use Rattle.tbl_service.specs.Places.{changed_by, loaded_at, with_images, with_images_at};
@@ -145,7 +146,8 @@ impl Model for Place {
 impl Place {
     /// None. Out of memory is the only error.
     pub(crate) fn new(alloc: Global) -> Result<Place, TableError>
-        ensures { IfOk result (λ place. place ≡ []) }
+        ensures empty { IfOk result (λ place. place ≡ []) }
+        ensures memory { IfErr result (λ e. e ≡ Memory) }
     {
         let tables = Vec::with_capacity(alloc, MAX_TABLES)?;
         let mut spare = Vec::with_capacity(alloc, MAX_TABLES)?;

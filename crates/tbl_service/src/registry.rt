@@ -1,11 +1,12 @@
 //! Where files and tables lie, and what each call of the table services does there.
 
-ghost use Rattle.std.specs.Prelude.{◌≡◌, ◌<◌, ◌≤◌, length, option_map, IfOk, IfSome, IsSomeAnd, IsTrue, is_some, Some, None, OnErr};
+ghost use Rattle.std.specs.Prelude.{◌≡◌, ◌<◌, ◌≤◌, length, option_map, IfErr, IfOk, IfSome, IsSomeAnd, IsTrue, is_some, Some, None, OnErr};
 ghost use Rattle.lc_model.specs.Name.{held};
 ghost use Rattle.lc_model.specs.Command.{Load, Manage};
 ghost use Rattle.lc_model.specs.Tables.File.{opened};
 ghost use Rattle.lc_model.specs.Tables.Slot.{Activated, Asked, Validate, Activate, Abort, installed, waiting_at};
 ghost use Rattle.lc_model.specs.Services.Tables.{changed_among, file_put, first_tables, fits_at, handle_named, image_in, image_installed, image_loaded_among, image_taken, loaded_among, moved_among, new_handle, slot_at, stored_image, table_at, table_commanded, table_registered, tables_unregistered, verdict_set};
+ghost use Rattle.tbl_service.specs.declared.error.TableError.TheVariants.{Memory};
 ghost use Rattle.tbl_service.specs.Error.{answered};
 ghost use Rattle.tbl_service.specs.Images.{move_of, waiting_seen};
 
@@ -65,7 +66,8 @@ impl Model for Registry {
 impl Registry {
     /// No file and no table. It takes all the memory there will ever be; out of memory is the only error.
     pub fn new(alloc: Global) -> Result<Registry, TableError>
-        ensures { IfOk result (λ registry. registry ≡ first_tables) }
+        ensures first { IfOk result (λ registry. registry ≡ first_tables) }
+        ensures memory { IfErr result (λ e. e ≡ Memory) }
     {
         let files = Files::new(alloc)?;
         let mut places = Vec::with_capacity(alloc, Seat::COUNT)?;

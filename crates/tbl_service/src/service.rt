@@ -1,11 +1,12 @@
 //! The table services: stored files and registered tables (cFE user's guide, table services; that tables belong to seats, and
 //! the limits, are this project's own).
 
-ghost use Rattle.std.specs.Prelude.{◌≡◌, ◌≤◌, length, option_map, IfOk, IfSome, IsSomeAnd, IsTrue, is_some, OnErr};
+ghost use Rattle.std.specs.Prelude.{◌≡◌, ◌≤◌, length, option_map, IfErr, IfOk, IfSome, IsSomeAnd, IsTrue, is_some, OnErr};
 ghost use Rattle.lc_model.specs.Name.{held};
 ghost use Rattle.lc_model.specs.Command.{Load, Manage};
 ghost use Rattle.lc_model.specs.Tables.Slot.{Activated, Asked, Validate, Activate, Abort, waiting_at};
 ghost use Rattle.lc_model.specs.Services.Tables.{IsTableService, file_put, first_tables, fits_at, image_installed, image_taken, new_handle, slot_at, stored_image, table_at, table_commanded, table_registered, tables_unregistered, verdict_set};
+ghost use Rattle.tbl_service.specs.declared.error.TableError.TheVariants.{Memory};
 ghost use Rattle.tbl_service.specs.Error.{answered};
 ghost use Rattle.tbl_service.specs.Images.{waiting_seen};
 
@@ -37,7 +38,8 @@ impl Model for Tables {
 impl Tables {
     /// No file and no table. It takes all the memory there will ever be; out of memory is the only error.
     pub fn new(alloc: Global) -> Result<Tables, TableError>
-        ensures { IfOk result (λ tables. tables ≡ first_tables) }
+        ensures first { IfOk result (λ tables. tables ≡ first_tables) }
+        ensures memory { IfErr result (λ e. e ≡ Memory) }
     {
         table_services_stay_sound();
         Ok(Tables {

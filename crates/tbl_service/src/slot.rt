@@ -1,7 +1,8 @@
 //! The two images of a table, and how commands and their owner move them (cFE user's guide, table services).
 
-ghost use Rattle.std.specs.Prelude.{◌≡◌, ◌≤◌, length, Some, IsTrue, is_some, option_map, IfOk, OnErr};
+ghost use Rattle.std.specs.Prelude.{◌≡◌, ◌≤◌, length, Some, IsTrue, is_some, option_map, IfErr, IfOk, OnErr};
 ghost use Rattle.lc_model.specs.Tables.Slot.{Activated, Asked, installed, judged, loaded, moved, no_images, taken, waiting_at};
+ghost use Rattle.tbl_service.specs.declared.error.TableError.TheVariants.{Memory};
 ghost use Rattle.tbl_service.specs.Error.{answered};
 ghost use Rattle.tbl_service.specs.Images.{move_of, stage_of, waiting_seen};
 
@@ -54,7 +55,8 @@ impl Model for Images {
 impl Images {
     /// None. Out of memory is the only error.
     pub(crate) fn new(alloc: Global) -> Result<Images, TableError>
-        ensures { IfOk result (λ images. images ≡ no_images) }
+        ensures empty { IfOk result (λ images. images ≡ no_images) }
+        ensures memory { IfErr result (λ e. e ≡ Memory) }
     {
         Ok(Images {
             active: Buffer::new(alloc)?,

@@ -1,9 +1,10 @@
 //! The stored files, each under a name of its own.
 
-ghost use Rattle.std.specs.Prelude.{◌≡◌, ◌<◌, ◌≤◌, [], length, option_map, IfOk, IfSome, OnErr};
+ghost use Rattle.std.specs.Prelude.{◌≡◌, ◌<◌, ◌≤◌, [], length, option_map, IfErr, IfOk, IfSome, OnErr};
 ghost use Rattle.std.specs.List.{position_from};
 ghost use Rattle.lc_model.specs.Name.{held, is_named};
 ghost use Rattle.lc_model.specs.Services.Tables.{files_with};
+ghost use Rattle.tbl_service.specs.declared.error.TableError.TheVariants.{Memory};
 ghost use Rattle.tbl_service.specs.Error.{answered};
 ghost use Rattle.tbl_service.specs.Store.{NamedFile};
 
@@ -89,7 +90,8 @@ impl Model for Files {
 impl Files {
     /// None. Out of memory is the only error.
     pub(crate) fn new(alloc: Global) -> Result<Files, TableError>
-        ensures { IfOk result (λ files. files ≡ []) }
+        ensures empty { IfOk result (λ files. files ≡ []) }
+        ensures memory { IfErr result (λ e. e ≡ Memory) }
     {
         let list = Vec::with_capacity(alloc, MAX_FILES)?;
         let mut spare = Vec::with_capacity(alloc, MAX_FILES)?;

@@ -1,0 +1,80 @@
+//! The second program: what a flight team looks at. Tables, streams, packets and runs as text, and streams from scripts.
+#![tactic(auto)]
+
+mod fault;
+mod files;
+mod listing;
+#[cfg(test)]
+mod tests;
+mod words;
+
+use crate::fault::Fault;
+use crate::words::{Plan, read_words};
+use std::alloc::{AllocError, Global};
+use std::env::{self, Env};
+use std::fs::Files;
+use std::io::{Eprint, ErrorKind, Print};
+use std::process::ExitCode;
+
+/// What is said where words can't be had from the system.
+const COMMAND_LINE: &str = "command line";
+
+/// Does what the words say, the program's name first, and answers the exit status. What ends the program with another status
+/// than 0 is said on standard error, and what a listing says of its file on standard output.
+pub fn main_on<R: Files + Print + Eprint + AllocGlobal>(rt: &R, words: &[&str]) -> u8 {
+    match obey(rt, words) {
+        Ok(()) => 0,
+        Err(fault) => fail(rt, &fault),
+    }
+}
+
+/// Does what the words say.
+fn obey<'a, R: Files + Print + AllocGlobal>(rt: &R, words: &'a [&'a str]) -> Result<(), Fault<'a>> {
+    match read_words(rt.alloc(), words)? {
+        Plan::Packets { file } => listing::packets(rt, file),
+        _ => Err(Fault::Memory),
+    }
+}
+
+/// Says what the fault is, and answers the status. Help goes to standard output.
+fn fail<R: Print + Eprint>(rt: &R, fault: &Fault<'_>) -> u8 {
+    let _said = match fault {
+        Fault::Words(error) => error.print(rt),
+        fault => eprint!(rt; "{fault}"),
+    };
+    fault.status()
+}
+
+/// The words of the command line. What isn't text is no word.
+fn words_of<R: Env + AllocGlobal>(rt: &R) -> Result<Vec<String>, Fault<'static>> {
+    let args = match env::args(rt) {
+        Ok(args) => args,
+        Err(error) if error.kind() == ErrorKind::OutOfMemory => return Err(Fault::Memory),
+        Err(_) => return Err(Fault::File(COMMAND_LINE)),
+    };
+    let mut words = Vec::new(rt.alloc());
+    for word in args {
+        words.push(word)?;
+    }
+    Ok(words)
+}
+
+/// The same, lent.
+fn lent<'a>(alloc: Global, words: &'a [String]) -> Result<Vec<&'a str>, AllocError> {
+    let mut lent = Vec::new(alloc);
+    for word in words {
+        lent.push(word.as_str())?;
+    }
+    Ok(lent)
+}
+
+fn main(rt: HostRuntime) -> ExitCode {
+    let status = match words_of(&rt) {
+        Ok(own) => match lent(rt.alloc(), own.as_slice()) {
+            Ok(words) => main_on(&rt, words.as_slice()),
+            Err(_) => fail(&rt, &Fault::Memory),
+        },
+        Err(fault) => fail(&rt, &fault),
+    };
+    ExitCode::from(status)
+}

@@ -1,0 +1,3 @@
+//! Tests of the program, and of what its listings say.
+
+mod packet_lines;

@@ -1,0 +1,61 @@
+//! Housekeeping packets of the Limit Checker, 192 bytes.
+
+ghost use Rattle.std.specs.Prelude.{◌≡◌, length};
+
+use crate::text::time_of;
+use lc_model::u16_at;
+use std::fmt::{self, Display, Formatter, Write};
+
+/// The bytes of a housekeeping packet.
+pub const HOUSEKEEPING_SIZE: usize = 192;
+
+/// Writes the time, the mode, how many rules there are, and of each its number, its state and its last result.
+pub fn say_housekeeping<W: Write>(packet: &[u8], f: &mut Formatter<W>) -> fmt::Result
+    requires { length packet.now ≡ HOUSEKEEPING_SIZE }
+{
+    let time = time_of(packet);
+    let mode = State(u16_at(packet, 12));
+    let count = u16_at(packet, 14);
+    write!(f, "{time} LC housekeeping: {mode}, {count} rules")?;
+    let mut sign = ':';
+    for (rule, standing) in (0..count).zip(&packet[16..]) {
+        let state = State(u16::from(*standing / 16));
+        let result = Outcome(*standing % 16);
+        write!(f, "{sign} {rule} {state} {result}")?;
+        sign = ',';
+    }
+    Ok(())
+}
+
+/// A mode or a state by its number.
+#[derive(Clone, Copy)]
+struct State(u16);
+
+impl Display for State {
+    fn fmt<W: Write>(&self, f: &mut Formatter<W>) -> fmt::Result {
+        match self.0 {
+            1 => write!(f, "active"),
+            2 => write!(f, "passive"),
+            3 => write!(f, "disabled"),
+            4 => write!(f, "off"),
+            number => write!(f, "state {number}"),
+        }
+    }
+}
+
+/// A result by its number.
+#[derive(Clone, Copy)]
+struct Outcome(u8);
+
+impl Display for Outcome {
+    fn fmt<W: Write>(&self, f: &mut Formatter<W>) -> fmt::Result {
+        match self.0 {
+            0 => write!(f, "none"),
+            1 => write!(f, "pass"),
+            2 => write!(f, "fail"),
+            3 => write!(f, "stale"),
+            4 => write!(f, "error"),
+            number => write!(f, "result {number}"),
+        }
+    }
+}

@@ -1,0 +1,11 @@
+//! The packets that a run writes, as text: a line each.
+#![tactic(auto)]
+
+mod event;
+mod housekeeping;
+mod line;
+mod listing;
+mod text;
+
+pub use line::Line;
+pub use listing::list_packets;

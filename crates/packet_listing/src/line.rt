@@ -1,0 +1,54 @@
+//! A line for a packet.
+
+ghost use Rattle.std.specs.Prelude.{◌≡◌, length};
+
+use crate::event::{EVENT_SIZE, say_event};
+use crate::housekeeping::{HOUSEKEEPING_SIZE, say_housekeeping};
+use lc_model::packet::{REQUEST_SIZE, message_id};
+use lc_model::{mids, u16_at};
+use std::fmt::{self, Display, Formatter, Write};
+
+/// The counts of packets are below this number; the two bits above it say that a packet is whole.
+const COUNT_END: u16 = 16_384;
+
+/// A packet with its number, as the line that lists it, without the line's end.
+#[derive(Clone, Copy)]
+pub struct Line<'a> {
+    pub number: u64,
+    pub packet: &'a [u8],
+}
+
+/// Writes the number of the sequence that is requested, and of the request. It has no time of its own.
+fn say_request<W: Write>(packet: &[u8], f: &mut Formatter<W>) -> fmt::Result
+    requires { length packet.now ≡ REQUEST_SIZE }
+{
+    let count = u16_at(packet, 2) % COUNT_END;
+    let sequence = u16_at(packet, 8);
+    write!(f, "- sequence request {sequence}, count {count}")
+}
+
+/// Writes what a packet is that the host doesn't write, or not with this length.
+fn say_other<W: Write>(packet: &[u8], f: &mut Formatter<W>) -> fmt::Result {
+    let size = packet.len();
+    if size < 2 {
+        return write!(f, "- packet of {size} bytes");
+    }
+    let mid = message_id(packet);
+    write!(f, "- packet 0x{mid:04X} of {size} bytes")
+}
+
+impl Display for Line<'_> {
+    fn fmt<W: Write>(&self, f: &mut Formatter<W>) -> fmt::Result {
+        write!(f, "{} ", self.number)?;
+        let size = self.packet.len();
+        if size < 2 {
+            return say_other(self.packet, f);
+        }
+        match message_id(self.packet) {
+            mids::EVENT if size == EVENT_SIZE => say_event(self.packet, f),
+            mids::LC_HOUSEKEEPING if size == HOUSEKEEPING_SIZE => say_housekeeping(self.packet, f),
+            mids::SEQUENCE if size == REQUEST_SIZE => say_request(self.packet, f),
+            _ => say_other(self.packet, f),
+        }
+    }
+}

@@ -1,0 +1,59 @@
+//! Times and names of packets, as text.
+
+ghost use Rattle.std.specs.Prelude.{◌≤◌, length};
+
+use lc_model::{u16_at, u32_at};
+use std::fmt::{self, Display, Formatter, Write};
+
+/// What stands for a byte that is no printable ASCII character.
+const UNPRINTABLE: char = '.';
+
+/// The bytes of telemetry's headers, whose last six are its time.
+const TELEMETRY_HEADERS: usize = 12;
+
+/// The parts of a second that a time counts, in its last two bytes.
+const SUBSECONDS: u32 = 65_536;
+
+/// The parts of a second that are said. Times that differ are said differently.
+const SAID: u32 = 100_000;
+
+/// The time of telemetry: seconds, and the second's part in five digits, rounded down.
+#[derive(Clone, Copy)]
+pub struct Time {
+    seconds: u32,
+    subseconds: u16,
+}
+
+/// The time of telemetry that has its headers.
+pub fn time_of(packet: &[u8]) -> Time
+    requires { TELEMETRY_HEADERS ≤ length packet.now }
+{
+    Time {
+        seconds: u32_at(packet, 6),
+        subseconds: u16_at(packet, 10),
+    }
+}
+
+impl Display for Time {
+    fn fmt<W: Write>(&self, f: &mut Formatter<W>) -> fmt::Result {
+        let part = u64::from(self.subseconds) * u64::from(SAID) / u64::from(SUBSECONDS);
+        write!(f, "{}.{part:05}", self.seconds)
+    }
+}
+
+/// The characters of a field before its first zero byte.
+#[derive(Clone, Copy)]
+pub struct Field<'a>(pub &'a [u8]);
+
+impl Display for Field<'_> {
+    fn fmt<W: Write>(&self, f: &mut Formatter<W>) -> fmt::Result {
+        for byte in self.0 {
+            match *byte {
+                0 => break,
+                0x20..=0x7E => f.write_char(char::from(*byte))?,
+                _ => f.write_char(UNPRINTABLE)?,
+            }
+        }
+        Ok(())
+    }
+}
