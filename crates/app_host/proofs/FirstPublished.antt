@@ -35,7 +35,7 @@ no_packets : (ps : List Publication) → has_some (map (λ (p : Publication). p.
 no_packets [] e = refl
 no_packets (p ∷ ps) e = cc
 
-first_not_ready : (place : Option Pipe) (places : List (Option Pipe)) (i : ℕ) → position_from is_ready i (place ∷ places) ≡ None → (is_ready place ≡ false) × (position_from is_ready (i + 1) places ≡ None)
+pub first_not_ready : (place : Option Pipe) (places : List (Option Pipe)) (i : ℕ) → position_from is_ready i (place ∷ places) ≡ None → (is_ready place ≡ false) × (position_from is_ready (i + 1) places ≡ None)
 first_not_ready place places i none = by_test (is_ready place) refl none
   where
     by_test : (b : Bool) → is_ready place ≡ b → cond b (Some i) (position_from is_ready (i + 1) places) ≡ None → (is_ready place ≡ false) × (position_from is_ready (i + 1) places ≡ None)

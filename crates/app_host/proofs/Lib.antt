@@ -18,6 +18,7 @@ pub mod Rosters
 pub mod Responding
 pub mod FirstPublished
 pub mod PassedOn
+pub mod HandedOver
 pub mod Departed
 pub mod Filed
 pub mod EventsObeyed

@@ -1,5 +1,5 @@
 -- All deliveries behind a publication.
-use Rattle.std.proofs.Common.{◌≡◌, ap, sym, ◌∙◌, subst, ℕ, ◌≤◌, List, length, map, Option, Some, None, Result, Ok, Err}
+use Rattle.std.proofs.Common.{◌≡◌, true, ap, sym, ◌∙◌, subst, ℕ, ◌≤◌, List, length, map, Option, Some, None, Result, Ok, Err}
 use Rattle.std.specs.List.{concat}
 use Rattle.std.specs.Prelude.{IsOk, OnOk, option_map, slice_index_or}
 use Rattle.std.proofs.lemmas.List.{length-map}
@@ -21,9 +21,14 @@ use Rattle.app_host.specs.Whole.{AreKnown, IsWhole, IsQuiet}
 use Rattle.app_host.specs.Load.{IsLight, load}
 use Rattle.app_host.specs.Delivered.{executive_in}
 use Rattle.app_host.specs.Writing.{IsDone, IsCut, Drains, PassesOn}
+use Rattle.app_host.specs.Roster as roster
+use Rattle.app_host.specs.Roster.{roster_of}
+use Rattle.app_host.specs.Response.{Response, handing_on, Responds}
 use Rattle.app_host.proofs.Delivery.{shared_still}
 use Rattle.app_host.proofs.Frames.{StaysAt, seated_still}
 use Rattle.app_host.proofs.FirstPublished.{offered_at, offered_keeps, light_first, load_first}
+use Rattle.app_host.proofs.Rosters.{same_roster}
+use Rattle.app_host.proofs.Responding.{responds_from}
 
 module _ (packet : List ℕ) (old new : Bus) (published : IsPublished packet old new) (eight : length old ≡ 8) (quiet : ready_seat (seen old) ≡ None) where
   pipes_after : seen new ≡ published_to (seen old) packet
@@ -106,3 +111,44 @@ published_so packet old new (Err e) is published = cc
 pub ok_holds : {P : Type 0} (result : Result (Unit {0}) BusError) → IsOk result → OnOk result P → P
 ok_holds (Ok done) is holds = holds
 ok_holds (Err e) is holds = cc
+
+-- ---- a host with the packet on its bus
+
+-- the packet is published, and else all is as before
+pub record IsOffered (packet : List ℕ) (old first : Hosted) : Type 0 where
+  pub stock : first.stock ≡ old.stock
+  pub seats : first.seats ≡ old.seats
+  pub is_closed : first.is_closed ≡ old.is_closed
+  pub events : first.services.events ≡ old.services.events
+  pub tables : first.services.tables ≡ old.services.tables
+  pub counts : first.services.counts ≡ old.services.counts
+  pub moment : first.services.moment ≡ old.services.moment
+  pub outgoing : first.services.outgoing ≡ old.services.outgoing
+  pub published : IsPublished packet old.services.bus first.services.bus
+
+module _ (old first : Hosted) (packet : List ℕ) (offered : IsOffered packet old first) where
+  pub offered_passes : TablesAreFound → IsWhole old → IsQuiet old → IsTableService old.services.tables → (new : Hosted) (before now : Sink) (result : Result ℕ WriteFault) →
+      Drains first new before now result → PassesOn packet old new before now result
+  offered_passes law whole quiet sound =
+      passes_on law old first packet whole quiet sound offered.stock offered.seats offered.is_closed offered.events offered.tables offered.counts offered.moment offered.outgoing offered.published
+
+  roster_same : roster_of first ≡ roster_of old
+  roster_same = same_roster old first offered.stock (ap (map (option_map roster.name_of)) offered.seats)
+
+  handing_same : handing_on first ≡ handing_on old
+  handing_same = λ i. record {
+    request = None;
+    delivers = true;
+    leaves = None;
+    changes = 0;
+    left = roster_same i;
+    come = roster_same i;
+    events = offered.events i;
+    tables = offered.tables i;
+  }
+
+  pub offered_responds : (new : Hosted) (before now : Option (List ℕ)) (result : Result ℕ WriteFault) → Responds first.services.moment (handing_on first) first new before now result →
+      Responds old.services.moment (handing_on old) old new before now result
+  offered_responds new before now result responds =
+      responds_from old.services.moment (handing_on old) old first new offered.seats (λ none. none) before now result
+      (subst (λ (p : Moment × Response). Responds p.0 p.1 first new before now result) (λ i. (offered.moment i, handing_same i)) responds)

@@ -9,6 +9,7 @@ pub mod Objects
 pub mod Whole
 pub mod Load
 pub mod Delivered
+pub mod HandedOver
 pub mod Writing
 pub mod Told
 pub mod Left

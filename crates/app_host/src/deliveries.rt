@@ -7,8 +7,7 @@ ghost use Rattle.app_host.specs.Hosted.{shown};
 ghost use Rattle.app_host.specs.Whole.{IsWhole, AreSeated};
 ghost use Rattle.app_host.specs.Load.{IsLight, load};
 ghost use Rattle.app_host.specs.Delivered.{HasDelivered};
-ghost use Rattle.app_host.specs.Writing.{IsFlushed, IsSent, Drains};
-ghost use Rattle.app_host.specs.Response.{handing_on, Responds};
+ghost use Rattle.app_host.specs.Writing.{IsFlushed, IsSent};
 
 use crate::error::WriteFault;
 use crate::host::Host;
@@ -19,7 +18,7 @@ use lc_model::{ByteSink, Seat, write_all};
 impl Host {
     /// The object of a seat answers the first packet of its pipe. Condition: that is the least seat with a packet. Answers the
     /// next such seat.
-    fn deliver(&mut self, seat: Seat) -> Option<Seat>
+    pub(crate) fn deliver(&mut self, seat: Seat) -> Option<Seat>
         requires whole { IsWhole (shown state called held self.old) }
         requires light { IsLight (seen self.old.services.bus) }
         requires few { self.old.calls + load (seen self.old.services.bus) ≤ 520 }
@@ -69,23 +68,5 @@ impl Host {
                 })
             }
         }
-    }
-
-    /// Delivers until no packet waits. What each call asks for is written behind it. Answers how many bytes these were.
-    pub(crate) fn drain<W: ByteSink>(&mut self, out: &mut W) -> Result<u64, WriteFault>
-        requires whole { IsWhole (shown state called held self.old) }
-        requires light { IsLight (seen self.old.services.bus) }
-        requires few { load (seen self.old.services.bus) ≤ 520 }
-        requires none_yet { self.old.calls ≡ 0 }
-        ensures handled { Drains (shown state called held self.old) (shown state called held self.new) (W.sink out.old) (W.sink out.new) result }
-        ensures own { Responds self.old.services.moment (handing_on (shown state called held self.old)) (shown state called held self.old) (shown state called held self.new) (W.sink out.old).gained (W.sink out.new).gained result }
-    {
-        let mut next = self.services.bus.least_ready();
-        let mut sent = 0;
-        while let Some(seat) = next {
-            next = self.deliver(seat);
-            sent = self.flush(out, sent)?;
-        }
-        Ok(sent)
     }
 }

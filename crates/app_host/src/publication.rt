@@ -1,23 +1,50 @@
 //! Packets and ticks for applications.
 
-ghost use Rattle.std.specs.Prelude.{◌≡◌, None};
+ghost use Rattle.std.specs.Prelude.{◌≡◌, length, Some, None};
 ghost use Rattle.lc_model.specs.Packet.{header_fault};
-ghost use Rattle.lc_model.specs.Kept.Executive.{tick_packet};
+ghost use Rattle.lc_model.specs.Kept.Executive.{ready_seat, tick_packet};
+ghost use Rattle.lc_model.specs.Services.Bus.{seen};
+ghost use Rattle.packet_bus.specs.Hearers.{only_hearer};
 ghost use Rattle.app_host.specs.Hosted.{shown};
 ghost use Rattle.app_host.specs.Whole.{IsWhole, IsQuiet};
+ghost use Rattle.app_host.specs.Delivered.{HasDelivered};
+ghost use Rattle.app_host.specs.HandedOver.{with_packet};
 ghost use Rattle.app_host.specs.Writing.{PassesOn};
 ghost use Rattle.app_host.specs.Response.{handing_on, Responds};
 
 use crate::error::WriteFault;
 use crate::host::Host;
-use lc_model::ByteSink;
+use crate::places::give_at;
 use lc_model::laws::table_services::table_services_go_by_names;
+use lc_model::{ByteSink, Seat};
 
 /// A tick: a command to 0x18C0 without payload, of code 0.
 const TICK: [u8; 8] = [0x18, 0xC0, 0xC0, 0, 0, 1, 0, 0xE6];
 
 impl Host {
-    /// A packet is published, and all packets are delivered. Condition: it has no fault.
+    /// The object of a seat answers this packet, without the bus. Conditions: no packet waits, and that seat alone hears this one.
+    /// Answers the next seat with a packet.
+    fn hand_over(&mut self, seat: Seat, packet: &[u8]) -> Option<Seat>
+        requires whole { IsWhole (shown state called held self.old) }
+        requires quiet { IsQuiet (shown state called held self.old) }
+        requires none_yet { self.old.calls ≡ 0 }
+        requires good { header_fault packet.now ≡ None }
+        requires only { only_hearer packet.now self.old.services.bus ≡ Some seat }
+        requires eight { length self.old.services.bus ≡ 8 }
+        ensures delivered { HasDelivered seat (with_packet packet.now (shown state called held self.old)) (shown state called held self.new) }
+        ensures next { result ≡ ready_seat (seen self.new.services.bus) }
+    {
+        table_services_go_by_names();
+        self.services.tables.is_service();
+        give_at(&mut self.seats, seat, &mut self.services, packet);
+        self.services.tables.is_service();
+        self.calls += 1;
+        self.services.bus.least_ready()
+    }
+
+    /// A packet is published, and all packets are delivered. One that a single application hears is handed to it where it lies:
+    /// to publish it and to take it out of the pipe again would leave the bus as it is. What each call asks for is written
+    /// behind it. Answers how many bytes these were. Condition: it has no fault.
     pub(crate) fn pass_on<W: ByteSink>(
         &mut self,
         packet: &[u8],
@@ -32,8 +59,23 @@ impl Host {
     {
         table_services_go_by_names();
         self.services.tables.is_service();
-        self.services.bus.publish_judged(packet).unwrap();
-        self.drain(out)
+        let mut sent = 0;
+        let mut next = match self.services.bus.only_hearer(packet) {
+            Some(seat) => {
+                let next = self.hand_over(seat, packet);
+                sent = self.flush(out, 0)?;
+                next
+            }
+            None => {
+                self.services.bus.publish_judged(packet).unwrap();
+                self.services.bus.least_ready()
+            }
+        };
+        while let Some(seat) = next {
+            next = self.deliver(seat);
+            sent = self.flush(out, sent)?;
+        }
+        Ok(sent)
     }
 
     /// A tick is published, and all packets are delivered.

@@ -10,3 +10,4 @@ pub mod Ready
 pub mod Emptied
 pub mod Published
 pub mod Publishing
+pub mod Hearers

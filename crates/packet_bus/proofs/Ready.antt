@@ -42,7 +42,7 @@ full_place : (pool : List PooledPacket) (place : Option Line) → length (slots_
 full_place pool None short = refl
 full_place pool (Some line) short = grind (arith, short, length_map (publication_in pool) line.slots)
 
-heard_place : (pool : List PooledPacket) (packet : List ℕ) (place : Option Line) →
+pub heard_place : (pool : List PooledPacket) (packet : List ℕ) (place : Option Line) →
     hears_mid (message_id packet) place ≡ hears_packet packet (option_map (queue_over pool) place)
 heard_place pool packet None = refl
 heard_place pool packet (Some line) = refl

@@ -5,3 +5,4 @@ pub mod Slots
 pub mod Line
 pub mod Inside
 pub mod Filled
+pub mod Hearers

@@ -8,6 +8,7 @@ ghost use Rattle.lc_model.specs.Services.Bus.{after, refusal_of, seen, pipe_at, 
 ghost use Rattle.packet_bus.specs.Error.{refusal_in};
 ghost use Rattle.packet_bus.specs.declared.error.BusError.TheVariants.{Memory};
 ghost use Rattle.packet_bus.specs.Line.{behind_first, first_slot, has_slots, is_long, slots_in, with_slot};
+ghost use Rattle.packet_bus.specs.Hearers.{only_hearer};
 ghost use Rattle.packet_bus.specs.Inside.{changed, delivered, nobody, no_lines, place_at, without_packets, without_subscriptions, HaveRoom};
 ghost use Rattle.packet_bus.specs.Filled.{filled};
 ghost use Rattle.packet_bus.specs.Seats.{is_in};
@@ -312,6 +313,16 @@ impl Bus {
             );
         }
         Ok(())
+    }
+
+    /// The seat whose pipe hears this packet, where one alone does. Condition: its header has no fault.
+    #[inline]
+    pub fn only_hearer(&self, packet: &[u8]) -> Option<Seat>
+        requires good { header_fault packet.now ≡ None }
+        ensures only { result ≡ only_hearer packet.now self.now }
+        ensures eight { length self.now ≡ 8 }
+    {
+        self.audience[judged_message_id(packet) as usize].only()
     }
 
     /// Takes the oldest packet of the seat's pipe into the front of a buffer, whose further bytes stay, and answers how many
