@@ -63,7 +63,7 @@ fn half_brings(body: &[u8]) -> Brings<'_> {
 }
 
 /// What a record brings.
-pub fn brings(record: &[u8]) -> Brings<'_> {
+pub fn read_record(record: &[u8]) -> Brings<'_> {
     let Some((header, body)) = record.split_at_checked(HEADER) else {
         return Brings::Packet;
     };
@@ -144,7 +144,7 @@ pub fn put_place<W: Write>(out: &mut W, account: &Account<'_>, record: usize) ->
 pub fn put_record<W: Write>(out: &mut W, account: &Account<'_>, record: usize) -> io::Result<()> {
     put_place(out, account, record)?;
     put(out, ": ")?;
-    put_brings(out, brings(account.record(record)))
+    put_brings(out, read_record(account.record(record)))
 }
 
 /// The word for a type of events.

@@ -2,7 +2,7 @@
 
 use crate::account::Account;
 use crate::course::Ending;
-use crate::description::{Brings, brings};
+use crate::description::{Brings, read_record};
 use crate::escape::put;
 use crate::sent::Sent;
 use std::io::{self, Write};
@@ -79,7 +79,7 @@ impl Counts {
 fn counts_of(account: &Account<'_>) -> Counts {
     let mut counts = NONE;
     for record in 0..account.columns.records {
-        counts.take_record(brings(account.record(record)));
+        counts.take_record(read_record(account.record(record)));
     }
     for entry in account.entries {
         counts.take_sent(entry.sent);
@@ -125,7 +125,7 @@ fn end_figure<W: Write>(out: &mut W) -> io::Result<()> {
 /// A part of a figure.
 fn put_part<W: Write>(out: &mut W, number: u64, name: &str) -> io::Result<()> {
     put_number(out, number)?;
-    write!(out, " {name} ")
+    write!(out, " {name}")
 }
 
 /// Records by what they bring.

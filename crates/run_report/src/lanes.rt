@@ -2,7 +2,7 @@
 
 use crate::account::Account;
 use crate::course::Entry;
-use crate::description::{Brings, brings, put_entry, put_record};
+use crate::description::{Brings, put_entry, put_record, read_record};
 use crate::escape::put;
 use crate::geometry::{ROOM, Tenths, edge, middle, slot};
 use crate::sent::Sent;
@@ -64,7 +64,7 @@ fn no_marks(alloc: Global, count: usize) -> Result<Vec<Mark>, AllocError> {
 /// The marks for records.
 fn record_marks(account: &Account<'_>, marks: &mut [Mark]) {
     for record in 0..account.columns.records {
-        let rank = rank_of(brings(account.record(record)));
+        let rank = rank_of(read_record(account.record(record)));
         if rank > 0 {
             add(marks, account.columns.holding(record), record, rank);
         }
@@ -153,7 +153,7 @@ fn letter_of(brings: Brings<'_>) -> &'static str {
 /// The letter in a mark.
 fn mark_letter(account: &Account<'_>, lane: Lane, mark: Mark) -> &'static str {
     match lane {
-        Lane::Records => letter_of(brings(account.record(mark.shown))),
+        Lane::Records => letter_of(read_record(account.record(mark.shown))),
         Lane::Requests => "R",
         Lane::Events(1) => "d",
         Lane::Events(2) => "i",
@@ -162,17 +162,23 @@ fn mark_letter(account: &Account<'_>, lane: Lane, mark: Mark) -> &'static str {
     }
 }
 
-/// Draws a mark with a letter, about its middle.
-fn put_letter<W: Write>(out: &mut W, x: u64, y: u64, letter: &str) -> io::Result<()> {
+/// Draws a mark about its middle: a box with a letter, or, of more than one, with how many there are.
+fn put_box<W: Write>(out: &mut W, at: (u64, u64), letter: &str, count: u32) -> io::Result<()> {
+    let (x, y) = at;
     let left = Tenths(x.saturating_sub(65));
     let middle = Tenths(x);
-    let base = y.saturating_add(12);
     let top = y.saturating_add(2);
+    let base = y.saturating_add(12);
     write!(
         out,
         "<rect x=\"{left}\" y=\"{top}\" width=\"13\" height=\"13\" rx=\"3\"/>"
     )?;
-    write!(out, "<text x=\"{middle}\" y=\"{base}\">{letter}</text>")
+    write!(out, "<text x=\"{middle}\" y=\"{base}\">")?;
+    if count > 1 {
+        write!(out, "{count}</text>")
+    } else {
+        write!(out, "{letter}</text>")
+    }
 }
 
 /// Draws a bar that is the higher the more there are, of at most so many.
@@ -220,7 +226,7 @@ fn put_mark<W: Write>(
         put_bar(out, account, column, y, (mark.count, most))?;
     } else {
         let x = middle(account.columns, column);
-        put_letter(out, x, y, mark_letter(account, lane, mark))?;
+        put_box(out, (x, y), mark_letter(account, lane, mark), mark.count)?;
     }
     put(out, "</g>\n")
 }
