@@ -107,7 +107,14 @@ pub fn read_text<'a>(alloc: Global, source: Source<'a>) -> Result<RuleText<'a>, 
 
 impl<'a> RuleText<'a> {
     /// The tokens of a rule's condition.
-    pub fn condition(&self, rule: RuleLine<'a>) -> &[Token<'a>] {
-        self.tokens.get(rule.from..rule.to).unwrap_or(&[])
+    pub fn condition<'b>(&'b self, rule: RuleLine<'a>) -> &'b [Token<'a>]
+    where
+        'a: 'b,
+    {
+        let tokens = self.tokens.as_slice();
+        match tokens.get(rule.from..rule.to) {
+            Some(condition) => condition,
+            None => tokens.split_at(0).0,
+        }
     }
 }

@@ -1,6 +1,6 @@
 //! A stream that is given record by record, and what had been written before each.
 
-ghost use Rattle.std.specs.Prelude.{None, false};
+ghost use Rattle.std.specs.Prelude.{◌≡◌, None, false};
 
 use crate::framing::record_size;
 use lc_model::{ByteSink, ByteSource, DeviceFault};
