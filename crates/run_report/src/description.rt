@@ -6,7 +6,7 @@ use crate::escape::{put, put_text};
 use crate::framing::HEADER;
 use crate::sent::Sent;
 use lc_model::packet::message_id;
-use lc_model::{mids, u16_at};
+use lc_model::{EventKind, mids, u16_at};
 use std::io::{self, Write};
 
 /// What a record brings.
@@ -148,13 +148,20 @@ pub fn put_record<W: Write>(out: &mut W, account: &Account<'_>, record: usize) -
 }
 
 /// The word for a type of events.
-pub fn kind_word(kind: u16) -> &'static str {
+pub fn kind_word(kind: EventKind) -> &'static str {
     match kind {
-        1 => "debug",
-        2 => "information",
-        3 => "error",
-        4 => "critical",
-        _ => "unknown",
+        EventKind::Debug => "debug",
+        EventKind::Information => "information",
+        EventKind::Error => "error",
+        EventKind::Critical => "critical",
+    }
+}
+
+/// The class of a type of events in the page's style, where `error` is a rule's result.
+pub fn kind_class(kind: EventKind) -> &'static str {
+    match kind {
+        EventKind::Error => "problem",
+        _ => kind_word(kind),
     }
 }
 

@@ -40,6 +40,18 @@ pub fn put_text<W: Write>(out: &mut W, text: &[u8]) -> io::Result<()> {
     Ok(())
 }
 
+/// Writes a name in UTF-8, so that it can't be taken for markup.
+pub fn put_name<W: Write>(out: &mut W, name: &str) -> io::Result<()> {
+    for byte in name.as_bytes() {
+        if *byte < 0x80 {
+            put_byte(out, *byte)?;
+        } else {
+            out.write_all(&[*byte])?;
+        }
+    }
+    Ok(())
+}
+
 /// The first bytes of a text, so many at most, with three dots where some are left out.
 pub fn put_short<W: Write>(out: &mut W, text: &[u8], most: usize) -> io::Result<()> {
     match text.get(..most) {

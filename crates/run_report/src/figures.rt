@@ -5,6 +5,7 @@ use crate::course::Ending;
 use crate::description::{Brings, read_record};
 use crate::escape::put;
 use crate::sent::Sent;
+use lc_model::EventKind;
 use std::io::{self, Write};
 
 /// How many there are of what.
@@ -55,13 +56,13 @@ impl Counts {
     }
 
     /// Counts an event of this type.
-    fn take_event(&mut self, kind: u16) {
+    fn take_event(&mut self, kind: EventKind) {
         count(&mut self.events);
         match kind {
-            1 => count(&mut self.debug),
-            2 => count(&mut self.information),
-            3 => count(&mut self.problems),
-            _ => count(&mut self.critical),
+            EventKind::Debug => count(&mut self.debug),
+            EventKind::Information => count(&mut self.information),
+            EventKind::Error => count(&mut self.problems),
+            EventKind::Critical => count(&mut self.critical),
         }
     }
 

@@ -2,10 +2,11 @@
 
 use crate::account::Account;
 use crate::course::Entry;
-use crate::description::{Brings, put_entry, put_record, read_record};
+use crate::description::{Brings, kind_class, put_entry, put_record, read_record};
 use crate::escape::put;
 use crate::geometry::{ROOM, Tenths, edge, middle, slot};
 use crate::sent::Sent;
+use lc_model::EventKind;
 use std::alloc::{AllocError, Global};
 use std::io::{self, Write};
 
@@ -15,7 +16,7 @@ pub enum Lane {
     Records,
     Requests,
     /// Events of one type.
-    Events(u16),
+    Events(EventKind),
 }
 
 /// What is marked in a column: how many there are, and one of them, a record or an entry by its number.
@@ -109,10 +110,7 @@ fn class_of(lane: Lane) -> &'static str {
     match lane {
         Lane::Records => "record",
         Lane::Requests => "request",
-        Lane::Events(1) => "debug",
-        Lane::Events(2) => "information",
-        Lane::Events(3) => "problem",
-        Lane::Events(_) => "critical",
+        Lane::Events(kind) => kind_class(kind),
     }
 }
 
@@ -150,15 +148,22 @@ fn letter_of(brings: Brings<'_>) -> &'static str {
     }
 }
 
+/// The letter in the mark for an event.
+fn kind_letter(kind: EventKind) -> &'static str {
+    match kind {
+        EventKind::Debug => "d",
+        EventKind::Information => "i",
+        EventKind::Error => "e",
+        EventKind::Critical => "!",
+    }
+}
+
 /// The letter in a mark.
 fn mark_letter(account: &Account<'_>, lane: Lane, mark: Mark) -> &'static str {
     match lane {
         Lane::Records => letter_of(read_record(account.record(mark.shown))),
         Lane::Requests => "R",
-        Lane::Events(1) => "d",
-        Lane::Events(2) => "i",
-        Lane::Events(3) => "e",
-        Lane::Events(_) => "!",
+        Lane::Events(kind) => kind_letter(kind),
     }
 }
 

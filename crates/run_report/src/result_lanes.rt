@@ -1,9 +1,12 @@
 //! Lanes that go on from column to column: the mode of the Limit Checker, and each rule's results and state.
 
 use crate::account::Account;
-use crate::escape::{put, put_short, put_text};
+use crate::escape::{put, put_name, put_short, put_text};
 use crate::geometry::{Tenths, edge, width};
-use crate::standing::{Outcome, Standing, State, mode_word, outcome_in, state_in};
+use crate::standing::{
+    Standing, mode_word, result_class, result_in, result_letter, result_word, state_in, state_word,
+};
+use lc_model::{ApMode, ApResult, LcMode};
 use std::io::{self, Write};
 
 /// What a lane shows.
@@ -11,7 +14,7 @@ use std::io::{self, Write};
 enum Part {
     Mode,
     /// The last result of a rule.
-    Outcome(usize),
+    Result(usize),
     /// The state of a rule.
     State(usize),
 }
@@ -21,17 +24,17 @@ enum Part {
 enum Value {
     /// The Limit Checker doesn't run, or has no such rule.
     Nothing,
-    Mode(u16),
-    Outcome(Outcome),
-    State(State),
+    Mode(LcMode),
+    Result(Option<ApResult>),
+    State(ApMode),
 }
 
 /// What a part is in a standing.
 fn value_in(standing: &Standing, part: Part) -> Value {
     match part {
         Part::Mode => Value::Mode(standing.mode),
-        Part::Outcome(rule) => match standing.rules.get(rule) {
-            Some(byte) => Value::Outcome(outcome_in(*byte)),
+        Part::Result(rule) => match standing.rules.get(rule) {
+            Some(byte) => Value::Result(result_in(*byte)),
             None => Value::Nothing,
         },
         Part::State(rule) => match standing.rules.get(rule) {
@@ -153,7 +156,7 @@ fn put_mode<W: Write>(
     out: &mut W,
     account: &Account<'_>,
     at: Stretch,
-    mode: u16,
+    mode: LcMode,
 ) -> io::Result<()> {
     let word = mode_word(mode);
     put(out, "<g class=\"mode\">")?;
@@ -166,21 +169,21 @@ fn put_mode<W: Write>(
 }
 
 /// Draws a stretch of one result of a rule.
-fn put_outcome<W: Write>(
+fn put_result<W: Write>(
     out: &mut W,
     account: &Account<'_>,
     at: Stretch,
     rule: usize,
-    outcome: Outcome,
+    last: Option<ApResult>,
 ) -> io::Result<()> {
-    let word = outcome.word();
+    let word = result_word(last);
     put(out, "<g class=\"result\"><title>")?;
     put_rule(out, account, rule)?;
     write!(out, ": {word}, ")?;
     put_span(out, account, at.from, at.to)?;
     put(out, "</title>")?;
-    put_box(out, account, at, outcome.class())?;
-    put_label(out, account, at, 90, outcome.letter())?;
+    put_box(out, account, at, result_class(last))?;
+    put_label(out, account, at, 90, result_letter(last))?;
     put(out, "</g>\n")
 }
 
@@ -190,9 +193,9 @@ fn put_state<W: Write>(
     account: &Account<'_>,
     at: Stretch,
     rule: usize,
-    state: State,
+    state: ApMode,
 ) -> io::Result<()> {
-    let word = state.word();
+    let word = state_word(state);
     put(out, "<g class=\"state\"><title>")?;
     put_rule(out, account, rule)?;
     write!(out, ": {word}, ")?;
@@ -211,9 +214,7 @@ fn put_stretch<W: Write>(
 ) -> io::Result<()> {
     match (part, value_at(account, part, at.from)) {
         (_, Value::Mode(mode)) => put_mode(out, account, at, mode),
-        (Part::Outcome(rule), Value::Outcome(outcome)) => {
-            put_outcome(out, account, at, rule, outcome)
-        }
+        (Part::Result(rule), Value::Result(last)) => { put_result(out, account, at, rule, last) }
         (Part::State(rule), Value::State(state)) => put_state(out, account, at, rule, state),
         _ => Ok(()),
     }
@@ -243,7 +244,7 @@ fn put_rule_texts<W: Write>(out: &mut W, account: &Account<'_>, rule: usize) -> 
     put(out, "<title>")?;
     for text in account.texts {
         if let Some(line) = text.rules.get(rule) {
-            put_text(out, text.name.as_bytes())?;
+            put_name(out, text.name)?;
             write!(out, ": rule {rule} ")?;
             put_text(out, line.name)?;
             let sequence = line.sequence;
@@ -287,6 +288,6 @@ pub fn put_rule_lane<W: Write>(
     y: u64,
 ) -> io::Result<()> {
     put_rule_label(out, account, rule, y)?;
-    put_part(out, account, Part::Outcome(rule), y)?;
+    put_part(out, account, Part::Result(rule), y)?;
     put_part(out, account, Part::State(rule), y)
 }

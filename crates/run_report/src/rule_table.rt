@@ -1,7 +1,7 @@
 //! The rules of a text, as a table.
 
 use crate::account::Account;
-use crate::escape::{put, put_text};
+use crate::escape::{put, put_name, put_text};
 use crate::rule_text::{RuleLine, RuleText};
 use rule_lexer::{Token, TokenKind};
 use std::io::{self, Write};
@@ -57,7 +57,7 @@ fn put_rule<W: Write>(
 /// Writes the rules of a text.
 fn put_rules<W: Write>(out: &mut W, text: &RuleText<'_>) -> io::Result<()> {
     put(out, "<h3>")?;
-    put_text(out, text.name.as_bytes())?;
+    put_name(out, text.name)?;
     put(
         out,
         "</h3>\n<div class=\"scroll\"><table>\n<tr><th class=\"n\">no.</th><th>rule</th>",

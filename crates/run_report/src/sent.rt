@@ -1,7 +1,7 @@
 //! The packets that a host writes.
 
 use lc_model::packet::{REQUEST_SIZE, message_id};
-use lc_model::{Moment, mids, u16_at, u32_at};
+use lc_model::{EventKind, LcMode, Moment, mids, u16_at, u32_at};
 
 /// The bytes of a primary header, which ends with a length.
 const PRIMARY_HEADER: usize = 6;
@@ -18,8 +18,7 @@ pub struct Event<'a> {
     pub moment: Moment,
     pub sender: &'a [u8],
     pub id: u16,
-    /// 1 debug, 2 information, 3 error, 4 critical.
-    pub kind: u16,
+    pub kind: EventKind,
     pub text: &'a [u8],
 }
 
@@ -31,7 +30,7 @@ pub enum Sent<'a> {
     Event(Event<'a>),
     /// How the Limit Checker stands: its mode, how many rules there are, and a byte for each rule and behind them.
     Housekeeping {
-        mode: u16,
+        mode: LcMode,
         count: u16,
         rules: &'a [u8],
     },
@@ -41,6 +40,27 @@ pub enum Sent<'a> {
 fn before_zero(field: &[u8]) -> &[u8] {
     let count = field.iter().take_while(|byte| **byte != 0).count();
     field.get(..count).unwrap_or(field)
+}
+
+/// The type of an event, by its number.
+fn kind_of(number: u16) -> Option<EventKind> {
+    match number {
+        1 => Some(EventKind::Debug),
+        2 => Some(EventKind::Information),
+        3 => Some(EventKind::Error),
+        4 => Some(EventKind::Critical),
+        _ => None,
+    }
+}
+
+/// A mode of the Limit Checker, by its number.
+fn mode_of(number: u16) -> Option<LcMode> {
+    match number {
+        1 => Some(LcMode::Active),
+        2 => Some(LcMode::Passive),
+        3 => Some(LcMode::Disabled),
+        _ => None,
+    }
 }
 
 /// The event in an event packet.
@@ -55,7 +75,7 @@ fn event_in(packet: &[u8]) -> Option<Event<'_>> {
         },
         sender: before_zero(&packet[12..32]),
         id: u16_at(packet, 32),
-        kind: u16_at(packet, 34),
+        kind: kind_of(u16_at(packet, 34))?,
         text: before_zero(&packet[44..166]),
     })
 }
@@ -74,7 +94,7 @@ pub fn read_packet(packet: &[u8]) -> Option<Sent<'_>> {
     }
     if mid == mids::LC_HOUSEKEEPING && packet.len() >= BEFORE_RULES {
         return Some(Sent::Housekeeping {
-            mode: u16_at(packet, 12),
+            mode: mode_of(u16_at(packet, 12))?,
             count: u16_at(packet, 14),
             rules: packet.split_at(BEFORE_RULES).1,
         });

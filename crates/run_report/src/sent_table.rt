@@ -2,7 +2,7 @@
 
 use crate::account::Account;
 use crate::course::Entry;
-use crate::description::kind_word;
+use crate::description::{kind_class, kind_word};
 use crate::escape::{put, put_text};
 use crate::figures::put_number;
 use crate::sent::{Event, Sent};
@@ -10,16 +10,6 @@ use std::io::{self, Write};
 
 /// The most rows.
 const MOST: u64 = 500;
-
-/// The class of a type of events in the page's style.
-fn kind_class(kind: u16) -> &'static str {
-    match kind {
-        1 => "debug",
-        2 => "information",
-        3 => "problem",
-        _ => "critical",
-    }
-}
 
 /// Begins a row: the record and its moment.
 fn begin_row<W: Write>(out: &mut W, account: &Account<'_>, record: usize) -> io::Result<()> {

@@ -18,7 +18,7 @@ dt{color:var(--soft);font-size:12px}
 dd{margin:0;font-size:18px;font-variant-numeric:tabular-nums}
 dd small{display:block;font-size:12px;color:var(--soft)}
 .scroll{overflow-x:auto}
-svg{display:block;width:100%;min-width:900px;height:auto;font:11px system-ui,-apple-system,\"Segoe UI\",Roboto,sans-serif}
+svg{display:block;width:100%;min-width:1120px;height:auto;font:11px system-ui,-apple-system,\"Segoe UI\",Roboto,sans-serif}
 svg text{fill:var(--ink)}
 .lane,.number,.asks{text-anchor:end}
 .lane,.asks,.number{fill:var(--soft)!important}
@@ -32,7 +32,7 @@ svg text{fill:var(--ink)}
 .mark text{text-anchor:middle;fill:#fff;font-size:10px;font-weight:700}
 .record{fill:#46566b}
 .request{fill:#0b6e4f}
-.sequence text{text-anchor:middle;fill:#0b6e4f;font-weight:700}
+.sequence text{text-anchor:middle;fill:#0b6e4f;font-weight:700;paint-order:stroke;stroke:#fff;stroke-width:3px}
 .information{fill:#2a6fbb}
 .debug{fill:#77808c}
 .problem{fill:#c2410c}
@@ -55,10 +55,10 @@ svg text{fill:var(--ink)}
 .state line{stroke:#46566b;stroke-width:2}
 .state line.passive{stroke-dasharray:6 3}
 .state line.disabled{stroke-dasharray:1.5 3}
-.state line.off{stroke:#c3ccd6;stroke-width:1}
+.state line.off{stroke:#b3261e;stroke-width:1.5;stroke-dasharray:1.5 6}
 .legend{display:flex;flex-wrap:wrap;gap:6px 18px;margin:8px 0 0;font-size:12px;color:var(--soft)}
 .legend svg{display:inline-block;width:auto;min-width:0;height:16px;vertical-align:-3px;margin-right:5px}
-table{border-collapse:collapse;width:100%;font-size:13px}
+table{border-collapse:collapse;width:100%;min-width:640px;font-size:13px}
 th,td{text-align:left;padding:4px 10px 4px 0;border-bottom:1px solid var(--line);vertical-align:top}
 th{color:var(--soft);font-weight:600;font-size:12px}
 td.n,th.n{text-align:right;white-space:nowrap;width:1%;padding-right:22px;font-variant-numeric:tabular-nums}
@@ -67,5 +67,5 @@ td code{overflow-wrap:anywhere}
 .kind{font-weight:600}
 .kind.request{color:#0b6e4f}.kind.information{color:#2a6fbb}.kind.debug{color:#5b6675}
 .kind.problem{color:#c2410c}.kind.critical{color:#8f1030}
-@media print{body{padding:0;max-width:none}svg{min-width:0}tr{break-inside:avoid}}
+@media print{body{padding:0;max-width:none}svg,table{min-width:0}tr{break-inside:avoid}}
 ";

@@ -9,6 +9,7 @@ use crate::geometry::{Tenths, WIDTH, edge, middle, slot};
 use crate::lanes::{Lane, Mark, has_marks, marks_of, put_marks, put_numbers};
 use crate::result_lanes::{put_mode_lane, put_rule_lane};
 use crate::sent::Sent;
+use lc_model::EventKind;
 use std::alloc::Global;
 use std::io::{self, Write};
 
@@ -38,13 +39,21 @@ struct MarkLanes {
     records: Vec<Mark>,
     requests: Vec<Mark>,
     /// Critical first.
-    events: Vec<(u16, Vec<Mark>)>,
+    events: Vec<(EventKind, Vec<Mark>)>,
 }
+
+/// The types of events, as their lanes stand.
+const KINDS: [EventKind; 4] = [
+    EventKind::Critical,
+    EventKind::Error,
+    EventKind::Information,
+    EventKind::Debug,
+];
 
 /// The marks of all lanes. A type of events has a lane where there is one.
 fn mark_lanes(alloc: Global, account: &Account<'_>) -> Result<MarkLanes, ReportError> {
     let mut events = Vec::new(alloc);
-    for kind in [4, 3, 2, 1] {
+    for kind in KINDS {
         let marks = marks_of(alloc, account, Lane::Events(kind))?;
         if has_marks(marks.as_slice()) {
             events.push((kind, marks))?;
@@ -110,7 +119,7 @@ fn put_mark_lanes<W: Write>(
 }
 
 /// The label of a lane of events.
-fn put_event_label<W: Write>(out: &mut W, kind: u16, y: u64) -> io::Result<()> {
+fn put_event_label<W: Write>(out: &mut W, kind: EventKind, y: u64) -> io::Result<()> {
     let base = y.saturating_add(12);
     let word = kind_word(kind);
     writeln!(
@@ -143,11 +152,11 @@ fn put_axis<W: Write>(out: &mut W, account: &Account<'_>, y: u64) -> io::Result<
     let second = y.saturating_add(12);
     writeln!(
         out,
-        "<g class=\"axis\"><text class=\"lane\" x=\"208\" y=\"{y}\">record</text>"
+        "<g class=\"axis\"><text class=\"lane\" x=\"176\" y=\"{y}\">record</text>"
     )?;
     writeln!(
         out,
-        "<text class=\"lane\" x=\"208\" y=\"{second}\">second</text>"
+        "<text class=\"lane\" x=\"176\" y=\"{second}\">second</text>"
     )?;
     let step = tick_step(account);
     for column in 0..account.columns.count {

@@ -105,3 +105,51 @@ fn each_result_stands_behind_its_records(rt: HostRuntime) {
     says(&rt, page.as_slice(), FIGURES);
     says(&rt, page.as_slice(), RULE);
 }
+
+/// The rule is disabled, turned off for good, the Limit Checker made passive, and stopped; then a tick.
+fn turned_off(alloc: Global) -> Result<Stream, AllocError> {
+    let mut stream = Stream::new(alloc);
+    stream.begin()?;
+    stream.command(0x18A4, 3, &[0, 0, 0, 3], 4)?;
+    stream.command(0x18A4, 4, &[0, 0, 0, 0], 4)?;
+    stream.command(0x18A4, 2, &[0, 2, 0, 0], 4)?;
+    stream.command(0x1806, 2, b"LC", 20)?;
+    stream.record(2, &[])?;
+    Ok(stream)
+}
+
+const STATES: &[(&str, usize)] = &[
+    ("<title>rule 0 LOW: active, record 3, second 102</title>", 1),
+    (
+        "<title>rule 0 LOW: disabled, record 4, second 103</title>",
+        1,
+    ),
+    (
+        "<title>rule 0 LOW: off, records 5 to 6, seconds 104 to 105</title>",
+        1,
+    ),
+    (
+        "<title>rule 0 LOW: no result, records 3 to 6, seconds 102 to 105</title>",
+        1,
+    ),
+    (
+        "<title>Limit Checker active, records 3 to 5, seconds 102 to 104</title>",
+        1,
+    ),
+    (
+        "<title>Limit Checker passive, record 6, second 105</title>",
+        1,
+    ),
+    (
+        "<title>record 4, second 103: command 3 to 0x18A4, the Limit Checker</title>",
+        1,
+    ),
+    ("<title>record 7, second 106: stop of LC</title>", 1),
+];
+
+#[test]
+fn each_state_stands_behind_its_records(rt: HostRuntime) {
+    let stream = turned_off(rt.alloc()).expect(&rt, "memory for a stream");
+    let page = page_of(&rt, &[text("low.rules", LOW)], stream.as_slice());
+    says(&rt, page.as_slice(), STATES);
+}
