@@ -3,15 +3,13 @@
 use crate::done::Done;
 use crate::fault::Fault;
 use crate::files::read;
-use crate::stock::add;
-use app_host::App;
-use flight_core::{Counter, Report, RunError, run};
+use flight_core::{Report, RunError};
+use flight_stock::launch;
 use lc_model::{Reading, Writing};
-use limit_checker::LimitChecker;
 use std::alloc::Global;
 use std::fs::{File, Files};
 use std::io::{BufWriter, Read, Write};
-use tick_scheduler::{Schedule, Scheduler, parse_schedule};
+use tick_scheduler::{Schedule, parse_schedule};
 
 /// The longest text of a schedule, in bytes.
 const LONGEST_SCHEDULE: usize = 65_536;
@@ -38,32 +36,17 @@ fn texts_in<'a, R: Files + AllocGlobal>(
     Ok(texts)
 }
 
-/// A host with four Limit Checkers, two schedulers and two counters in stock runs over a stream.
-fn launch<I: Read + Drop, O: Write + Drop>(
+/// A host with this profile's stock runs from a reader to a writer.
+fn launch_between<I: Read + Drop, O: Write + Drop>(
     alloc: Global,
     texts: &[&[u8]],
     schedule: &Schedule,
     stream: I,
     out: O,
-) -> Result<Report, Fault<'static>> {
-    let mut stock: Vec<Box<dyn App>> = Vec::new(alloc);
-    add(&mut stock, Box::new(alloc, LimitChecker::new(alloc)?)?)?;
-    add(&mut stock, Box::new(alloc, LimitChecker::new(alloc)?)?)?;
-    add(&mut stock, Box::new(alloc, LimitChecker::new(alloc)?)?)?;
-    add(&mut stock, Box::new(alloc, LimitChecker::new(alloc)?)?)?;
-    add(
-        &mut stock,
-        Box::new(alloc, Scheduler::new(alloc, schedule)?)?,
-    )?;
-    add(
-        &mut stock,
-        Box::new(alloc, Scheduler::new(alloc, schedule)?)?,
-    )?;
-    add(&mut stock, Box::new(alloc, Counter::new())?)?;
-    add(&mut stock, Box::new(alloc, Counter::new())?)?;
+) -> Result<Report, RunError> {
     let mut reader = Reading::new(stream);
     let mut writer = Writing::new(out);
-    Ok(run(alloc, texts, schedule, stock, &mut reader, &mut writer)?)
+    launch(alloc, texts, schedule, &mut reader, &mut writer)
 }
 
 /// The files of rule texts, a schedule and a stream are opened in this order: the schedule, the texts, the stream, and what is
@@ -90,7 +73,7 @@ pub fn fly<'a, R: Files + AllocGlobal>(
     let Ok(mut output) = BufWriter::new(rt.alloc(), output) else {
         return Err(Fault::Memory);
     };
-    let result = launch(rt.alloc(), slices.as_slice(), &schedule, input, &mut output);
+    let result = launch_between(rt.alloc(), slices.as_slice(), &schedule, input, &mut output);
     let flushed = output.flush().is_ok();
     let report = result?;
     if !flushed {

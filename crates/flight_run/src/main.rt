@@ -9,7 +9,6 @@ mod files;
 mod flying;
 mod lines;
 mod place;
-mod stock;
 mod stored;
 #[cfg(test)]
 mod tests;

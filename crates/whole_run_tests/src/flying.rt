@@ -1,11 +1,10 @@
 //! A run with the applications of these tests.
 
-ghost use Rattle.std.specs.Prelude.{◌≡◌, false, map, OnOk, None};
-ghost use Rattle.app_host.specs.Hosted.{object};
-ghost use Rattle.app_host.specs.Whole.{AreSpares};
+ghost use Rattle.std.specs.Prelude.{◌≡◌, false};
 
 use app_host::App;
 use flight_core::{Counter, Report, RunError, run, run_within};
+use flight_stock::add;
 use lc_model::{Limited, Pieces};
 use limit_checker::LimitChecker;
 use std::alloc::{AllocError, Global};
@@ -37,16 +36,6 @@ pub fn ending_of(outcome: &Result<Report, RunError>) -> (u8, u128) {
     }
 }
 
-/// One spare more. Condition: it holds no seat.
-fn add(stock: &mut Vec<Box<dyn App>>, app: Box<dyn App>) -> Result<(), AllocError>
-    requires spares { AreSpares (map (object state called held) stock.old.items) }
-    requires spare { held app ≡ None }
-    ensures { OnOk result (AreSpares (map (object state called held) stock.new.items)) }
-{
-    stock.push(app)?;
-    Ok(())
-}
-
 /// Runs these texts with two Limit Checkers, a scheduler and a counter in stock. Out of memory for
 /// these is the outer error. At most so many reads are made, or as many as `run` makes. Conditions: nothing was read or failed yet.
 pub fn fly(
@@ -62,13 +51,14 @@ pub fn fly(
     requires writable { sink.old.failed ≡ false }
 {
     let mut stock: Vec<Box<dyn App>> = Vec::new(alloc);
-    add(&mut stock, Box::new(alloc, LimitChecker::new(alloc)?)?)?;
-    add(&mut stock, Box::new(alloc, LimitChecker::new(alloc)?)?)?;
-    add(
-        &mut stock,
-        Box::new(alloc, Scheduler::new(alloc, schedule)?)?,
-    )?;
-    add(&mut stock, Box::new(alloc, Counter::new())?)?;
+    let checker = Box::new(alloc, LimitChecker::new(alloc)?)?;
+    add(&mut stock, schedule, b"LC", checker)?;
+    let spare = Box::new(alloc, LimitChecker::new(alloc)?)?;
+    add(&mut stock, schedule, b"LC", spare)?;
+    let scheduler = Box::new(alloc, Scheduler::new(alloc, schedule)?)?;
+    add(&mut stock, schedule, b"SCH", scheduler)?;
+    let counter = Box::new(alloc, Counter::new())?;
+    add(&mut stock, schedule, b"COUNTER", counter)?;
     Ok(match reads {
         Some(most) => { run_within(alloc, texts, schedule, stock, source, sink, u64::from(most)) }
         None => run(alloc, texts, schedule, stock, source, sink),

@@ -1,18 +1,13 @@
 //! The low-volts text, with every premise of what `run` promises met by proof.
 
-ghost use Rattle.std.specs.Prelude.{◌≡◌, ◌++◌, ◌∷◌, [], false, map, None, OnOk, IfOk};
+ghost use Rattle.std.specs.Prelude.{◌≡◌, false, IfOk};
 ghost use Rattle.lc_model.specs.Host.Outcome.{devices};
-ghost use Rattle.lc_model.specs.Tables.HalvesAndBytes.{as_bytes};
-ghost use Rattle.lc_model.specs.Tables.InForce.{layouts};
-ghost use Rattle.host_laws.specs.Keeping.{IsSpare};
-ghost use Rattle.app_host.specs.Hosted.{object, member_of};
-ghost use Rattle.app_host.specs.Whole.{AreSpares};
 ghost use Rattle.flight_core.specs.Ending.{ending_of};
-ghost use Rattle.flight_core.specs.Run.{IsOfProfile};
-ghost use Rattle.whole_run_tests.specs.LowVolts.{names_of, WritesByItsText, WritesTwoFailures};
+ghost use Rattle.whole_run_tests.specs.LowVolts.{WritesByItsText, WritesTwoFailures};
 
 use app_host::App;
 use flight_core::{Counter, Report, RunError, run};
+use flight_stock::add;
 use lc_model::{ByteSink, ByteSource};
 use limit_checker::LimitChecker;
 use std::alloc::{AllocError, Global};
@@ -21,26 +16,6 @@ use tick_scheduler::{Schedule, Scheduler};
 /// One rule, which fails twice below 2,400 before it requests sequence 7.
 pub const LOW_VOLTS: &[u8] =
     b"packet P = mid 0x0883 length 16; field V = P u16be at 12 stale 2; rule LOW active fails 2 sequence 7 event error 1001 \"low volts\" when V < 2400;";
-
-/// One spare more, under this name. Conditions: that is its name, it holds no seat, and it is of this profile with this schedule.
-fn add(
-    stock: &mut Vec<Box<dyn App>>,
-    schedule: &Schedule,
-    name: &[u8],
-    app: Box<dyn App>,
-) -> Result<(), AllocError>
-    requires spares { AreSpares (map (object state called held) stock.old.items) }
-    requires profile { IsOfProfile schedule.now (map (object state called held) stock.old.items) }
-    requires free { held app ≡ None }
-    requires named { called app ≡ name.now }
-    requires kind { IsSpare (as_bytes layouts) schedule.now (member_of (object state called held app)) }
-    ensures spares { OnOk result (AreSpares (map (object state called held) stock.new.items)) }
-    ensures profile { OnOk result (IsOfProfile schedule.now (map (object state called held) stock.new.items)) }
-    ensures names { OnOk result (names_of (map (object state called held) stock.new.items) ≡ names_of (map (object state called held) stock.old.items) ++ name.now ∷ []) }
-{
-    stock.push(app)?;
-    Ok(())
-}
 
 /// Runs the low-volts text, with two Limit Checkers, a scheduler and a counter in stock. Out of memory for these is the outer
 /// error. It writes what the rules of the text call for, unless a device fails, so many reads are made, or memory is wanted.

@@ -1,0 +1,42 @@
+-- A stock that was filled spare by spare has these names, and what is promised of it is promised of them.
+use Rattle.std.proofs.Common.{◌≡◌, refl, ◌∙◌, ap, subst, List, [], ◌∷◌, ◌++◌, map}
+use Rattle.std.specs.Borrow.{Bor}
+use Rattle.std.specs.Prelude.{ℕ}
+use Rattle.lc_model.specs.Name.{Name}
+use Rattle.lc_model.specs.Host.Outcome.{Devices, Ending}
+use Rattle.lc_model.specs.Host.Promise.{Mission, IsRun, WritesWhatIsCalledFor}
+use Rattle.lc_model.specs.Host.Schedule.{Schedule}
+use Rattle.lc_model.specs.Kept.Executive.{Member}
+use Rattle.app_host.specs.Hosted.{Object}
+use Rattle.flight_core.specs.Compiled.{edition, sources_of}
+use Rattle.flight_core.specs.Run.{members_of}
+use Rattle.flight_stock.specs.Stock.{names_of, own_names, own_mission, most_reads}
+
+called_so : (stock : List Object) → map (λ (member : Member). member.called) (members_of stock) ≡ names_of stock
+called_so [] = refl
+called_so (o ∷ stock) = ap (λ others. o.called ∷ others) (called_so stock)
+
+-- eight spares, one behind the other
+pub eight : {B : Type 0} (f : B → Object) (l₀ l₁ l₂ l₃ l₄ l₅ l₆ l₇ l₈ : List B) (a b c d e f' g h : Name) → l₀ ≡ [] →
+    names_of (map f l₁) ≡ names_of (map f l₀) ++ a ∷ [] → names_of (map f l₂) ≡ names_of (map f l₁) ++ b ∷ [] →
+    names_of (map f l₃) ≡ names_of (map f l₂) ++ c ∷ [] → names_of (map f l₄) ≡ names_of (map f l₃) ++ d ∷ [] →
+    names_of (map f l₅) ≡ names_of (map f l₄) ++ e ∷ [] → names_of (map f l₆) ≡ names_of (map f l₅) ++ f' ∷ [] →
+    names_of (map f l₇) ≡ names_of (map f l₆) ++ g ∷ [] → names_of (map f l₈) ≡ names_of (map f l₇) ++ h ∷ [] →
+    map (λ (member : Member). member.called) (members_of (map f l₈)) ≡ a ∷ b ∷ c ∷ d ∷ e ∷ f' ∷ g ∷ h ∷ []
+eight f l₀ l₁ l₂ l₃ l₄ l₅ l₆ l₇ l₈ a b c d e f' g h e₀ e₁ e₂ e₃ e₄ e₅ e₆ e₇ e₈ =
+    let four = e₄ ∙ ap (λ xs. xs ++ d ∷ []) (e₃ ∙ ap (λ xs. xs ++ c ∷ []) (e₂ ∙ ap (λ xs. xs ++ b ∷ []) (e₁ ∙ ap (λ items. names_of (map f items) ++ a ∷ []) e₀))) in
+    called_so (map f l₈)
+    ∙ e₈ ∙ ap (λ xs. xs ++ h ∷ []) (e₇ ∙ ap (λ xs. xs ++ g ∷ []) (e₆ ∙ ap (λ xs. xs ++ f' ∷ []) (e₅ ∙ ap (λ xs. xs ++ e ∷ []) four)))
+
+-- a mission with a stock of these names
+abbrev mission_with : List (Bor (List ℕ)) → Schedule → List Name → Mission
+mission_with texts schedule stock = record { edition = edition; sources = sources_of texts; schedule = schedule; stock = stock; most_reads = most_reads }
+
+pub is_own_run : (texts : List (Bor (List ℕ))) (schedule : Schedule) (stock : List Name) (d : Devices) (ending : Ending) → stock ≡ own_names →
+    IsRun (record { edition = edition; sources = sources_of texts; schedule = schedule; stock = stock; most_reads = most_reads }) d ending → IsRun (own_mission texts schedule) d ending
+is_own_run texts schedule stock d ending same run = subst (λ names. IsRun (mission_with texts schedule names) d ending) same run
+
+pub writes_own : (texts : List (Bor (List ℕ))) (schedule : Schedule) (stock : List Name) (d : Devices) (ending : Ending) → stock ≡ own_names →
+    WritesWhatIsCalledFor (record { edition = edition; sources = sources_of texts; schedule = schedule; stock = stock; most_reads = most_reads }) d ending →
+    WritesWhatIsCalledFor (own_mission texts schedule) d ending
+writes_own texts schedule stock d ending same writes = subst (λ names. WritesWhatIsCalledFor (mission_with texts schedule names) d ending) same writes

@@ -1,0 +1,2 @@
+-- What the contracts of the stock cite.
+pub mod Stock

@@ -1,0 +1,30 @@
+-- The stock of a run: its names, and what is run with it.
+use Rattle.std.specs.Prelude.{ℕ, List, [], ◌∷◌, map}
+use Rattle.std.specs.Borrow.{Bor}
+use Rattle.lc_model.specs.Name.{Name, lc_name, sch_name, counter_name}
+use Rattle.lc_model.specs.Host.Schedule.{Schedule}
+use Rattle.lc_model.specs.Host.Promise.{Mission}
+use Rattle.app_host.specs.Hosted.{Object}
+use Rattle.flight_core.specs.Compiled.{edition, sources_of}
+
+-- the names of some objects
+abbrev pub names_of : List Object → List Name
+names_of stock = map (λ (o : Object). o.called) stock
+
+-- four Limit Checkers, two schedulers and two counters
+abbrev pub own_names : List Name
+own_names = lc_name ∷ lc_name ∷ lc_name ∷ lc_name ∷ sch_name ∷ sch_name ∷ counter_name ∷ counter_name ∷ []
+
+-- the most reads of a run: 2 ^ 32
+abbrev pub most_reads : ℕ
+most_reads = 4_294_967_296
+
+-- what is run with this stock: these texts, with this schedule
+abbrev pub own_mission : List (Bor (List ℕ)) → Schedule → Mission
+own_mission texts schedule = record {
+  edition = edition;
+  sources = sources_of texts;
+  schedule = schedule;
+  stock = own_names;
+  most_reads = most_reads;
+}

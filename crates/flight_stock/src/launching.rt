@@ -1,0 +1,84 @@
+//! A run with this profile's applications in stock.
+
+ghost use Rattle.std.specs.Prelude.{◌≡◌, ◌≤◌, false, IfOk, OnErr};
+ghost use Rattle.lc_model.specs.Host.Outcome.{devices};
+ghost use Rattle.lc_model.specs.Host.Promise.{IsRun, WritesWhatIsCalledFor};
+ghost use Rattle.flight_core.specs.Ending.{ending_of};
+ghost use Rattle.flight_stock.specs.Stock.{most_reads, own_mission};
+
+use crate::stock::add;
+use app_host::App;
+use flight_core::{Counter, Report, RunError, run};
+use lc_model::{ByteSink, ByteSource};
+use limit_checker::LimitChecker;
+use std::alloc::{AllocError, Global};
+use tick_scheduler::{Schedule, Scheduler};
+
+/// Puts eight spares into stock, and runs. Out of memory for these is the outer error, before anything is read.
+fn fly<R: ByteSource, W: ByteSink>(
+    alloc: Global,
+    texts: &[&[u8]],
+    schedule: &Schedule,
+    reader: &mut R,
+    writer: &mut W,
+) -> Result<Result<Report, RunError>, AllocError>
+    requires unread { (R.source reader.old).reads ≡ 0 }
+    requires readable { (R.source reader.old).failed ≡ false }
+    requires writable { (W.sink writer.old).failed ≡ false }
+    ensures run { IfOk result (λ answer. IsRun (own_mission texts.now schedule.now) (devices (R.source reader.old) (R.source reader.new) (W.sink writer.old) (W.sink writer.new)) (ending_of answer)) }
+    ensures by_texts { IfOk result (λ answer. WritesWhatIsCalledFor (own_mission texts.now schedule.now) (devices (R.source reader.old) (R.source reader.new) (W.sink writer.old) (W.sink writer.new)) (ending_of answer)) }
+    ensures bounded { IfOk result (λ answer. (R.source reader.new).reads ≤ most_reads) }
+    ensures unread { OnErr result (R.source reader.new ≡ R.source reader.old) }
+    ensures unwritten { OnErr result (W.sink writer.new ≡ W.sink writer.old) }
+{
+    let mut stock: Vec<Box<dyn App>> = Vec::new(alloc);
+    let first = Box::new(alloc, LimitChecker::new(alloc)?)?;
+    add(&mut stock, schedule, b"LC", first)?;
+    let second = Box::new(alloc, LimitChecker::new(alloc)?)?;
+    add(&mut stock, schedule, b"LC", second)?;
+    let third = Box::new(alloc, LimitChecker::new(alloc)?)?;
+    add(&mut stock, schedule, b"LC", third)?;
+    let fourth = Box::new(alloc, LimitChecker::new(alloc)?)?;
+    add(&mut stock, schedule, b"LC", fourth)?;
+    let scheduler = Box::new(alloc, Scheduler::new(alloc, schedule)?)?;
+    add(&mut stock, schedule, b"SCH", scheduler)?;
+    let other_scheduler = Box::new(alloc, Scheduler::new(alloc, schedule)?)?;
+    add(&mut stock, schedule, b"SCH", other_scheduler)?;
+    let counter = Box::new(alloc, Counter::new())?;
+    add(&mut stock, schedule, b"COUNTER", counter)?;
+    let other_counter = Box::new(alloc, Counter::new())?;
+    add(&mut stock, schedule, b"COUNTER", other_counter)?;
+    Ok(run(alloc, texts, schedule, stock, reader, writer))
+}
+
+/// Runs rule texts over a stream of records, as `flight_core::run` does, with four Limit Checkers, two schedulers with this
+/// schedule and two counters in stock. All memory is taken before anything is read.
+///
+/// Conditions: nothing was read or failed yet.
+///
+/// Errors: those of `run`, `Memory` for the stock among them.
+pub fn launch<R: ByteSource, W: ByteSink>(
+    alloc: Global,
+    texts: &[&[u8]],
+    schedule: &Schedule,
+    reader: &mut R,
+    writer: &mut W,
+) -> Result<Report, RunError>
+    requires unread { (R.source reader.old).reads ≡ 0 }
+    requires readable { (R.source reader.old).failed ≡ false }
+    requires writable { (W.sink writer.old).failed ≡ false }
+
+    // How the run ends and what it leaves, for all texts and every stream, whatever fails.
+    ensures run { IsRun (own_mission texts.now schedule.now) (devices (R.source reader.old) (R.source reader.new) (W.sink writer.old) (W.sink writer.new)) (ending_of result) }
+
+    // Where nothing fails: exactly the packets, byte for byte and in order, that the rule texts in force call for.
+    ensures by_texts { WritesWhatIsCalledFor (own_mission texts.now schedule.now) (devices (R.source reader.old) (R.source reader.new) (W.sink writer.old) (W.sink writer.new)) (ending_of result) }
+
+    // However it ends: at most 2^32 reads were made.
+    ensures bounded { (R.source reader.new).reads ≤ most_reads }
+{
+    match fly(alloc, texts, schedule, reader, writer) {
+        Ok(answer) => answer,
+        Err(_) => Err(RunError::Memory),
+    }
+}

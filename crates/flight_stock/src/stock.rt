@@ -1,0 +1,35 @@
+//! Spares of a run.
+
+ghost use Rattle.std.specs.Prelude.{◌≡◌, ◌++◌, ◌∷◌, [], map, None, OnOk};
+ghost use Rattle.lc_model.specs.Tables.HalvesAndBytes.{as_bytes};
+ghost use Rattle.lc_model.specs.Tables.InForce.{layouts};
+ghost use Rattle.host_laws.specs.Keeping.{IsSpare};
+ghost use Rattle.app_host.specs.Hosted.{object, member_of};
+ghost use Rattle.app_host.specs.Whole.{AreSpares};
+ghost use Rattle.flight_core.specs.Run.{IsOfProfile};
+ghost use Rattle.flight_stock.specs.Stock.{names_of};
+
+use app_host::App;
+use std::alloc::AllocError;
+use tick_scheduler::Schedule;
+
+/// One spare more, under this name. Conditions: that is its name, it holds no seat, and it is of this profile with this
+/// schedule; and so are those that are there. Out of memory is the only error.
+pub fn add(
+    stock: &mut Vec<Box<dyn App>>,
+    schedule: &Schedule,
+    name: &[u8],
+    app: Box<dyn App>,
+) -> Result<(), AllocError>
+    requires spares { AreSpares (map (object state called held) stock.old.items) }
+    requires profile { IsOfProfile schedule.now (map (object state called held) stock.old.items) }
+    requires free { held app ≡ None }
+    requires named { called app ≡ name.now }
+    requires kind { IsSpare (as_bytes layouts) schedule.now (member_of (object state called held app)) }
+    ensures spares { OnOk result (AreSpares (map (object state called held) stock.new.items)) }
+    ensures profile { OnOk result (IsOfProfile schedule.now (map (object state called held) stock.new.items)) }
+    ensures names { OnOk result (names_of (map (object state called held) stock.new.items) ≡ names_of (map (object state called held) stock.old.items) ++ name.now ∷ []) }
+{
+    stock.push(app)?;
+    Ok(())
+}

@@ -1,0 +1,42 @@
+//! Why there is no page.
+
+use rpn_compiler::CompileError;
+use std::alloc::{AllocError, AllocFailed};
+use std::io::{self, ErrorKind};
+use thiserror::Error;
+
+/// Why a page is not, or not wholly, written.
+#[derive(Clone, Copy, Debug, PartialEq, Eq, Error)]
+pub enum ReportError {
+    /// A rule text does not compile; nothing was written. Texts count from 0.
+    #[error("text {text}: {error}")]
+    Rules { text: usize, error: CompileError },
+    /// Out of memory.
+    #[error("out of memory")]
+    Memory,
+    /// The page can't be written.
+    #[error("a write failed")]
+    Write,
+}
+
+impl From<AllocError> for ReportError {
+    fn from(_error: AllocError) -> ReportError {
+        ReportError::Memory
+    }
+}
+
+impl<T: Drop> From<AllocFailed<T>> for ReportError {
+    fn from(_error: AllocFailed<T>) -> ReportError {
+        ReportError::Memory
+    }
+}
+
+impl From<io::Error> for ReportError {
+    fn from(error: io::Error) -> ReportError {
+        if error.kind() == ErrorKind::OutOfMemory {
+            ReportError::Memory
+        } else {
+            ReportError::Write
+        }
+    }
+}
