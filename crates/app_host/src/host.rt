@@ -4,6 +4,7 @@ ghost use Rattle.std.specs.Prelude.{◌≡◌, map, is_some, count_by, IfOk, IfE
 ghost use Rattle.lc_model.specs.Kept.Executive as model;
 ghost use Rattle.lc_model.specs.Kept.Executive.{is_called};
 ghost use Rattle.lc_model.specs.Kept.Stations.{first_host};
+ghost use Rattle.app_host.specs.declared.error.HostError.TheVariants.{Memory};
 ghost use Rattle.app_host.specs.Hosted.{Object, object, shown, member_of, in_numbers};
 ghost use Rattle.app_host.specs.Whole.{AreSpares, IsWhole, IsQuiet};
 
@@ -41,6 +42,7 @@ impl Host {
         ensures quiet { IfOk result (λ host. IsQuiet (shown state called held host)) }
         ensures first { IfOk result (λ host. in_numbers (shown state called held host) ≡ first_host (map member_of (map (object state called held) stock.items))) }
         ensures stock_back { IfErr result (λ refused. refused.1 ≡ stock) }
+        ensures memory { IfErr result (λ refused. refused.0 ≡ Memory) }
     {
         match Services::new(alloc) {
             Err(_) => Err((HostError::Memory, stock)),

@@ -2,18 +2,25 @@
 
 use clap::Error;
 use clap::error::ErrorKind;
+use run_report::ReportError;
 use std::alloc::{AllocError, AllocFailed};
 use std::fmt::{self, Display, Formatter, Write};
+use stream_script::ScriptError;
+use tick_scheduler::ScheduleError;
 
 /// Why the program ended.
 #[derive(Debug, Drop)]
 pub enum Fault<'a> {
     /// What `clap` says of the words: that they are no command, or the help that was asked for.
     Words(Error),
+    /// A script that says no stream, by its file's name.
+    Script(&'a str, ScriptError),
+    /// A schedule that is refused, by its file's name.
+    Schedule(&'a str, ScheduleError),
+    /// A rule text that is refused.
+    Report(ReportError),
     /// A file can't be opened, read or written, or standard output can't.
     File(&'a str),
-    /// What was read has a fault, which the listing says.
-    Faulty,
     /// No memory.
     Memory,
 }
@@ -40,11 +47,12 @@ impl From<Error> for Fault<'_> {
 }
 
 impl Fault<'_> {
-    /// The exit status: 0 help was asked for; 1 what was read has a fault; 2 the words are no command; 3 a file; 5 no memory.
+    /// The exit status: 0 help was asked for; 1 a script, a schedule or a rule text is refused; 2 the words are no command; 3 a
+    /// file; 5 no memory.
     pub fn status(&self) -> u8 {
         match self {
             Fault::Words(error) if !error.use_stderr() => 0,
-            Fault::Faulty => 1,
+            Fault::Script(..) | Fault::Schedule(..) | Fault::Report(_) => 1,
             Fault::Words(_) => 2,
             Fault::File(_) => 3,
             Fault::Memory => 5,
@@ -56,8 +64,10 @@ impl Display for Fault<'_> {
     fn fmt<W: Write>(&self, f: &mut Formatter<W>) -> fmt::Result {
         match self {
             Fault::Words(error) => write!(f, "{error}"),
+            Fault::Script(name, error) => writeln!(f, "{name}: {error}"),
+            Fault::Schedule(name, error) => writeln!(f, "{name}: {error}"),
+            Fault::Report(error) => writeln!(f, "{error}"),
             Fault::File(name) => writeln!(f, "cannot use {name}"),
-            Fault::Faulty => Ok(()),
             Fault::Memory => writeln!(f, "no memory"),
         }
     }

@@ -4,6 +4,8 @@
 mod fault;
 mod files;
 mod listing;
+mod report;
+mod scenario;
 #[cfg(test)]
 mod tests;
 mod words;
@@ -13,26 +15,43 @@ use crate::words::{Plan, read_words};
 use std::alloc::{AllocError, Global};
 use std::env::{self, Env};
 use std::fs::Files;
-use std::io::{Eprint, ErrorKind, Print};
+use std::io::{Eprint, ErrorKind, IsTerminal, Print};
 use std::process::ExitCode;
 
 /// What is said where words can't be had from the system.
 const COMMAND_LINE: &str = "command line";
 
-/// Does what the words say, the program's name first, and answers the exit status. What ends the program with another status
-/// than 0 is said on standard error, and what a listing says of its file on standard output.
-pub fn main_on<R: Files + Print + Eprint + AllocGlobal>(rt: &R, words: &[&str]) -> u8 {
-    match obey(rt, words) {
+/// Does what the words say, the program's name first, and answers the exit status. A listing goes to standard output, with what
+/// it finds wrong with its file; what ends the program with another status than 0 to standard error. Where a person watches
+/// standard error, a report tells there how far it is.
+pub fn main_on<R: Files + Print + Eprint + AllocGlobal>(
+    rt: &R,
+    words: &[&str],
+    is_watched: bool,
+) -> u8 {
+    match obey(rt, words, is_watched) {
         Ok(()) => 0,
         Err(fault) => fail(rt, &fault),
     }
 }
 
 /// Does what the words say.
-fn obey<'a, R: Files + Print + AllocGlobal>(rt: &R, words: &'a [&'a str]) -> Result<(), Fault<'a>> {
+fn obey<'a, R: Files + Print + Eprint + AllocGlobal>(
+    rt: &R,
+    words: &'a [&'a str],
+    is_watched: bool,
+) -> Result<(), Fault<'a>> {
     match read_words(rt.alloc(), words)? {
+        Plan::Table { file } => listing::table(rt, file),
+        Plan::Stream { file, whole } => listing::stream(rt, file, whole),
         Plan::Packets { file } => listing::packets(rt, file),
-        _ => Err(Fault::Memory),
+        Plan::Scenario { script, stream } => scenario::make_stream(rt, script, stream),
+        Plan::Report {
+            schedule,
+            stream,
+            page,
+            rules,
+        } => report::make_page(rt, schedule, stream, page, rules.as_slice(), is_watched),
     }
 }
 
@@ -71,7 +90,7 @@ fn lent<'a>(alloc: Global, words: &'a [String]) -> Result<Vec<&'a str>, AllocErr
 fn main(rt: HostRuntime) -> ExitCode {
     let status = match words_of(&rt) {
         Ok(own) => match lent(rt.alloc(), own.as_slice()) {
-            Ok(words) => main_on(&rt, words.as_slice()),
+            Ok(words) => main_on(&rt, words.as_slice(), rt.stderr().is_terminal()),
             Err(_) => fail(&rt, &Fault::Memory),
         },
         Err(fault) => fail(&rt, &fault),

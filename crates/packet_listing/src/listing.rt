@@ -14,9 +14,8 @@ fn first_packet(packets: &[u8]) -> Option<(&[u8], &[u8])> {
     packets.split_at_checked(usize::from(u16::from_be_bytes([high, low])) + 7)
 }
 
-/// Writes a line for each packet, counted from 1, and a last one where bytes are left that are no whole packet. Answers
-/// whether none are left.
-pub fn list_packets<W: Write>(packets: &[u8], out: &mut W) -> io::Result<bool> {
+/// Writes a line for each packet, counted from 1, and a last one where bytes are left that are no whole packet.
+pub fn list_packets<W: Write>(packets: &[u8], out: &mut W) -> io::Result<()> {
     let mut rest = packets;
     let mut number = 0u64;
     for _ in 0..packets.len() {
@@ -28,12 +27,11 @@ pub fn list_packets<W: Write>(packets: &[u8], out: &mut W) -> io::Result<bool> {
         rest = behind;
     }
     if rest.is_empty() {
-        return Ok(true);
+        return Ok(());
     }
     writeln!(
         out,
         "cut behind packet {number}: {} bytes are no whole packet",
         rest.len()
-    )?;
-    Ok(false)
+    )
 }
