@@ -1,0 +1,6 @@
+pub mod Parts
+pub mod Turns
+pub mod Stands
+pub mod Commands
+pub mod Streams
+pub mod Again
