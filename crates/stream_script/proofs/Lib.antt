@@ -4,3 +4,5 @@ pub mod Stands
 pub mod Commands
 pub mod Streams
 pub mod Again
+pub mod Lines
+pub mod WholeStreams

@@ -12,7 +12,7 @@ use Rattle.stream_script.specs.Whole.{record_line, script_by, script_of, script_
 pub shorter : (size a : ℕ) (bytes : List ℕ) → length bytes ≤ suc a → length (drop (11 + size) bytes) ≤ a
 shorter size a bytes few = omega (arith, length-drop (11 + size) bytes, few)
 
-at_most_itself : (n : ℕ) → n ≤ n
+pub at_most_itself : (n : ℕ) → n ≤ n
 at_most_itself n = omega arith
 
 enough : (a b : ℕ) (bytes : List ℕ) → length bytes ≤ a → length bytes ≤ b → script_within a bytes ≡ script_within b bytes

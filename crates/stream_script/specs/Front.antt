@@ -1,10 +1,10 @@
 -- What stands at the front of a stream, by its kind. This project's own.
-use Rattle.std.specs.Prelude.{◌≡◌, ℕ, ◌+◌, ◌≤◌, not, ◌==◌, List, length, take, drop, slice_index, nat_lt, Option, Some, None, if◌then◌else◌, ⊤}
+use Rattle.std.specs.Prelude.{◌≡◌, ℕ, ◌+◌, ◌-◌, ◌≤◌, not, ◌==◌, List, length, take, drop, slice_index, nat_lt, Option, Some, None, if◌then◌else◌, ⊤}
 use Rattle.lc_model.specs.Host.Stream.{all_kinds, body_size, fits_body, header_size}
 use Rattle.stream_script.specs.declared.kind.RecordKind.{RecordKind}
 use Rattle.stream_script.specs.declared.front.Front.{Front}
 use Rattle.stream_script.specs.declared.front.Front.TheVariants.{End, Record, NoRecord, Cut}
-use Rattle.stream_script.specs.Kind.{kind_number, kind_numbered, has_half}
+use Rattle.stream_script.specs.Kind.{fits_kind, kind_number, kind_numbered, has_half}
 
 -- the bytes of the record in front, as its header says
 abbrev pub record_size : List ℕ → ℕ
@@ -30,7 +30,7 @@ front_in bytes =
     else if nat_lt (length bytes) header_size then Cut
     else front_of_kind (kind_numbered (slice_index bytes 0)) bytes
 
--- a record in front is there as a whole
+-- a record in front is there as a whole, and its body fits its kind
 abbrev pub IsInside : List ℕ → Front → Type 0
-IsInside bytes (Record kind size) = (size ≡ record_size bytes) × (header_size ≤ size) × (size ≤ length bytes)
+IsInside bytes (Record kind size) = (size ≡ record_size bytes) × (header_size ≤ size) × (size ≤ length bytes) × fits_kind kind (size - header_size)
 IsInside bytes front = ⊤

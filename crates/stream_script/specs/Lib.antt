@@ -6,3 +6,4 @@ pub mod Error
 pub mod Script
 pub mod Front
 pub mod Whole
+pub mod Listing

@@ -123,6 +123,41 @@ sample_requested said first last ages = do
   a ← ages_in ages
   Ok (commanded sample_mid 0 (u16 f ++ u16 l ++ 0 ∷ a ∷ 0 ∷ 0 ∷ []) said)
 
+-- a message id, as four hexadecimal digits
+abbrev pub mid_of : List ℕ → Result ℕ Reason
+mid_of bytes = if length bytes == 2 then Ok (u16_at bytes 0) else Err BadNumber
+
+abbrev pub mid_in : List ℕ → Result ℕ Reason
+mid_in word = do
+  bytes ← bytes_in word
+  mid_of bytes
+
+-- telemetry at the moment, and a command, where they have at most 2,048 bytes
+abbrev pub told : (mid count : ℕ) → List ℕ → Said → Said
+told mid count payload said = recorded Packet (telemetry mid count said.moment payload) said
+
+abbrev pub telemetry_fits : (mid count : ℕ) → List ℕ → Said → Result Said Reason
+telemetry_fits mid count payload said = if nat_le (length payload) 2036 then Ok (told mid count payload said) else Err BadBody
+
+abbrev pub command_fits : (mid code : ℕ) → List ℕ → Said → Result Said Reason
+command_fits mid code payload said = if nat_le (length payload) 2040 then Ok (commanded mid code payload said) else Err BadBody
+
+-- `telemetry MID COUNT BYTES`: telemetry with this sequence count and this payload, and the time of the moment
+abbrev pub telemetry_brought : Said → List ℕ → List ℕ → List ℕ → Result Said Reason
+telemetry_brought said mid count bytes = do
+  m ← mid_in mid
+  n ← number_in 16383 count
+  payload ← bytes_in bytes
+  telemetry_fits m n payload said
+
+-- `command MID CODE BYTES`: the command of this code with this payload
+abbrev pub command_brought : Said → List ℕ → List ℕ → List ℕ → Result Said Reason
+command_brought said mid code bytes = do
+  m ← mid_in mid
+  c ← number_in 127 code
+  payload ← bytes_in bytes
+  command_fits m c payload said
+
 -- ---- a line, by its words
 
 abbrev pub one_word : Said → List ℕ → Result Said Reason
@@ -156,6 +191,8 @@ three_words said verb a b =
 abbrev pub four_words : Said → List ℕ → List ℕ → List ℕ → List ℕ → Result Said Reason
 four_words said verb a b c =
     if bytes_eq verb (codes "sample") then sample_requested said a b c
+    else if bytes_eq verb (codes "telemetry") then telemetry_brought said a b c
+    else if bytes_eq verb (codes "command") then command_brought said a b c
     else Err UnknownStatement
 
 abbrev pub five_words : Said → List ℕ → List ℕ → List ℕ → List ℕ → List ℕ → Result Said Reason

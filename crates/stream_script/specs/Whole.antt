@@ -3,7 +3,7 @@ use Rattle.std.specs.Prelude.{◌≡◌, ℕ, zero, suc, List, [], ◌∷◌, �
 use denote.Ref.{Bor}
 use Rattle.hex.specs.Hex.{IsBytes}
 use Rattle.lc_model.specs.declared.record.Moment.{Moment}
-use Rattle.lc_model.specs.Host.Stream.{moment_of}
+use Rattle.lc_model.specs.Host.Stream.{Whole, moment_of, records_of}
 use Rattle.stream_script.specs.declared.kind.RecordKind.{RecordKind}
 use Rattle.stream_script.specs.declared.front.Front.{Front}
 use Rattle.stream_script.specs.declared.front.Front.TheVariants.{End, Record, NoRecord, Cut}
@@ -56,3 +56,11 @@ whole_records stream = records_within (length stream) stream
 -- the law: what a stream's script says are its records, byte for byte
 abbrev pub SaysTheRecords : Type 0
 SaysTheRecords = (stream : List ℕ) → IsBytes stream → script_in (script_of stream) ≡ Ok (whole_records stream)
+
+-- a rule text may have any number of two bytes
+abbrev pub any_text : ℕ
+any_text = 65536
+
+-- the law: the script of a stream that ends behind a whole record says the stream
+abbrev pub SaysTheStream : Type 0
+SaysTheStream = (stream : List ℕ) → IsBytes stream → (records_of any_text stream).1 ≡ Whole → script_in (script_of stream) ≡ Ok stream

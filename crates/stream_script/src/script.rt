@@ -3,17 +3,17 @@
 ghost use Rattle.std.specs.Prelude.{◌≡◌, ◌<◌, ◌≤◌, ◌+◌, ◌^◌, length, take, IfOk, IfErr};
 ghost use Rattle.stream_script.specs.Error.{IsRefused};
 ghost use Rattle.stream_script.specs.Script.{brought, commanded, nothing_said, recorded};
+ghost use Rattle.stream_script.specs.declared.kind.RecordKind.TheVariants.{Packet};
+ghost use Rattle.lc_model.specs.Packet.{telemetry};
 ghost use Rattle.stream_script.specs.Kind.{fits_kind};
 
 use crate::error::{Fault, Reason};
 use crate::kind::RecordKind;
 use lc_model::Moment;
-use packet_bus::build_command;
+use lc_model::packet::LONGEST_PACKET;
+use packet_bus::{build_command, build_telemetry};
 use std::alloc::{AllocError, Global};
 use std::marker::Model;
-
-/// The most bytes of a command.
-const LONGEST_COMMAND: usize = 2048;
 
 /// The first bytes.
 fn front(bytes: &[u8], size: usize) -> &[u8]
@@ -106,8 +106,25 @@ impl Script {
         requires { 8 + length payload.now ≤ 2048 }
         ensures { IfOk result (λ after. after ≡ commanded mid code payload.now self) }
     {
-        let mut buffer = [0; LONGEST_COMMAND];
+        let mut buffer = [0; LONGEST_PACKET];
         let size = build_command(mid, 0, code, payload, &mut buffer);
+        self.with_record(RecordKind::Packet, front(&buffer, size))
+    }
+
+    /// Telemetry more, with this sequence count and this time.
+    pub(crate) fn telemetry(
+        self,
+        mid: u16,
+        count: u16,
+        time: Moment,
+        payload: &[u8],
+    ) -> Result<Script, AllocError>
+        requires count { count < 16384 }
+        requires size { 12 + length payload.now ≤ 2048 }
+        ensures { IfOk result (λ after. after ≡ recorded Packet (telemetry mid count time payload.now) self) }
+    {
+        let mut buffer = [0; LONGEST_PACKET];
+        let size = build_telemetry(mid, count, time, payload, &mut buffer);
         self.with_record(RecordKind::Packet, front(&buffer, size))
     }
 }

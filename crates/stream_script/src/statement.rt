@@ -1,17 +1,17 @@
 //! Statements: what a line of so many words says.
 
-ghost use Rattle.std.specs.Prelude.{◌≡◌, ◌≤◌, IfOk, IfErr, Ok};
+ghost use Rattle.std.specs.Prelude.{◌≡◌, ◌<◌, ◌≤◌, ◌+◌, length, IfOk, IfErr, Ok};
 ghost use Rattle.stream_script.specs.Error.{IsRefused};
 ghost use Rattle.stream_script.specs.Part.{texts_of};
-ghost use Rattle.stream_script.specs.Script.{app_ordered, file_brought, five_words, four_words, half_brought, moment_set, moved_on, one_word, packet_brought, record_brought, sample_requested, statement, table_ordered, three_words, two_words, whole_record};
+ghost use Rattle.stream_script.specs.Script.{app_ordered, command_brought, command_fits, file_brought, five_words, four_words, half_brought, moment_set, moved_on, one_word, packet_brought, record_brought, sample_requested, statement, table_ordered, telemetry_brought, telemetry_fits, three_words, told, two_words, whole_record};
 
 use crate::error::{Fault, Reason};
 use crate::kind::{RecordKind, some_kind};
 use crate::number::number_in;
 use crate::script::Script;
-use crate::word::{ages_in, bytes_in, is, long_name, short_name};
+use crate::word::{ages_in, bytes_in, is, long_name, mid_in, short_name};
 use lc_model::{Moment, mids};
-use std::alloc::Global;
+use std::alloc::{AllocError, Global};
 
 /// `at S F`: the moment is second S and F / 65,536.
 fn moment_set(script: Script, seconds: &[u8], subseconds: &[u8]) -> Result<Script, Reason>
@@ -134,6 +134,73 @@ fn sample_requested(script: Script, first: &[u8], last: &[u8], ages: &[u8]) -> R
     Ok(script.command(mids::SAMPLE, 0, &[a, b, c, d, 0, ages, 0, 0])?)
 }
 
+/// `telemetry MID COUNT BYTES`: telemetry with this sequence count and this payload, and the time of the moment.
+fn telemetry_brought(
+    alloc: Global,
+    script: Script,
+    mid: &[u8],
+    count: &[u8],
+    bytes: &[u8],
+) -> Result<Script, Fault>
+    ensures said { IfOk result (λ after. telemetry_brought script mid.now count.now bytes.now ≡ Ok after) }
+    ensures refused { IfErr result (IsRefused (telemetry_brought script mid.now count.now bytes.now)) }
+{
+    let mid = mid_in(alloc, mid)?;
+    let count = number_in(16_383, count)?;
+    let payload = bytes_in(alloc, bytes)?;
+    telemetry_fits(script, mid, count as u16, payload.as_slice())
+}
+
+/// The same, where it has at most 2,048 bytes.
+fn telemetry_fits(script: Script, mid: u16, count: u16, payload: &[u8]) -> Result<Script, Fault>
+    requires { count < 16384 }
+    ensures said { IfOk result (λ after. telemetry_fits mid count payload.now script ≡ Ok after) }
+    ensures refused { IfErr result (IsRefused (telemetry_fits mid count payload.now script)) }
+{
+    if payload.len() > 2_036 {
+        return Err(Fault::Line(Reason::BadBody));
+    }
+    Ok(told(script, mid, count, payload)?)
+}
+
+/// Telemetry more, with the time of the moment.
+fn told(script: Script, mid: u16, count: u16, payload: &[u8]) -> Result<Script, AllocError>
+    requires count { count < 16384 }
+    requires size { 12 + length payload.now ≤ 2048 }
+    ensures { IfOk result (λ after. after ≡ told mid count payload.now script) }
+{
+    let time = script.moment();
+    script.telemetry(mid, count, time, payload)
+}
+
+/// `command MID CODE BYTES`: the command of this code with this payload.
+fn command_brought(
+    alloc: Global,
+    script: Script,
+    mid: &[u8],
+    code: &[u8],
+    bytes: &[u8],
+) -> Result<Script, Fault>
+    ensures said { IfOk result (λ after. command_brought script mid.now code.now bytes.now ≡ Ok after) }
+    ensures refused { IfErr result (IsRefused (command_brought script mid.now code.now bytes.now)) }
+{
+    let mid = mid_in(alloc, mid)?;
+    let code = number_in(127, code)?;
+    let payload = bytes_in(alloc, bytes)?;
+    command_fits(script, mid, code as u8, payload.as_slice())
+}
+
+/// The same, where it has at most 2,048 bytes.
+fn command_fits(script: Script, mid: u16, code: u8, payload: &[u8]) -> Result<Script, Fault>
+    ensures said { IfOk result (λ after. command_fits mid code payload.now script ≡ Ok after) }
+    ensures refused { IfErr result (IsRefused (command_fits mid code payload.now script)) }
+{
+    if payload.len() > 2_040 {
+        return Err(Fault::Line(Reason::BadBody));
+    }
+    Ok(script.command(mid, code, payload)?)
+}
+
 fn one_word(script: Script, verb: &[u8]) -> Result<Script, Fault>
     ensures said { IfOk result (λ after. one_word script verb.now ≡ Ok after) }
     ensures refused { IfErr result (IsRefused (one_word script verb.now)) }
@@ -199,14 +266,26 @@ fn three_words(
     }
 }
 
-fn four_words(script: Script, verb: &[u8], a: &[u8], b: &[u8], c: &[u8]) -> Result<Script, Fault>
+fn four_words(
+    alloc: Global,
+    script: Script,
+    verb: &[u8],
+    a: &[u8],
+    b: &[u8],
+    c: &[u8],
+) -> Result<Script, Fault>
     ensures said { IfOk result (λ after. four_words script verb.now a.now b.now c.now ≡ Ok after) }
     ensures refused { IfErr result (IsRefused (four_words script verb.now a.now b.now c.now)) }
 {
-    if !is(verb, b"sample") {
-        return Err(Fault::Line(Reason::UnknownStatement));
+    if is(verb, b"sample") {
+        sample_requested(script, a, b, c)
+    } else if is(verb, b"telemetry") {
+        telemetry_brought(alloc, script, a, b, c)
+    } else if is(verb, b"command") {
+        command_brought(alloc, script, a, b, c)
+    } else {
+        Err(Fault::Line(Reason::UnknownStatement))
     }
-    sample_requested(script, a, b, c)
 }
 
 fn five_words(
@@ -236,7 +315,7 @@ pub(crate) fn statement(alloc: Global, script: Script, words: &[&[u8]]) -> Resul
         [verb] => one_word(script, verb),
         [verb, a] => two_words(alloc, script, verb, a),
         [verb, a, b] => three_words(alloc, script, verb, a, b),
-        [verb, a, b, c] => four_words(script, verb, a, b, c),
+        [verb, a, b, c] => four_words(alloc, script, verb, a, b, c),
         [verb, a, b, c, d] => five_words(alloc, script, verb, a, b, c, d),
         [] => Err(Fault::Line(Reason::UnknownStatement)),
         [_, _, _, _, _, _, ..] => Err(Fault::Line(Reason::UnknownStatement)),

@@ -2,12 +2,12 @@
 
 ghost use Rattle.std.specs.Prelude.{◌≡◌, ◌≤◌, bytes_eq, length, IfOk, IfErr, Ok};
 ghost use Rattle.stream_script.specs.Error.{IsRefused};
-ghost use Rattle.stream_script.specs.Kind.{kind_in as kind_named};
 ghost use Rattle.stream_script.specs.Number.{bytes_in};
-ghost use Rattle.stream_script.specs.Script.{ages_in, name_field, some_kind};
+ghost use Rattle.stream_script.specs.Script.{ages_in, mid_in, name_field};
 
 use crate::error::{Fault, Reason};
 use hex::FromHexError;
+use lc_model::u16_at;
 use std::alloc::Global;
 
 /// Whether the word is this one.
@@ -67,4 +67,16 @@ pub(crate) fn ages_in(word: &[u8]) -> Result<u8, Reason>
     } else {
         Err(Reason::UnknownStatement)
     }
+}
+
+/// The message id that four hexadecimal digits write.
+pub(crate) fn mid_in(alloc: Global, word: &[u8]) -> Result<u16, Fault>
+    ensures said { IfOk result (λ mid. mid_in word.now ≡ Ok mid) }
+    ensures refused { IfErr result (IsRefused (mid_in word.now)) }
+{
+    let bytes = bytes_in(alloc, word)?;
+    if bytes.len() != 2 {
+        return Err(Fault::Line(Reason::BadNumber));
+    }
+    Ok(u16_at(bytes.as_slice(), 0))
 }

@@ -9,40 +9,9 @@ ghost use Rattle.stream_script.specs.Whole.{record_line, script_of, script_of_re
 
 use crate::front::{Front, HEADER, front_of};
 use crate::kind::RecordKind;
-use itoa::Buffer;
+use crate::text::{with_bytes, with_number, with_text};
 use lc_model::{Moment, u16_at, u32_at};
 use std::alloc::{AllocError, Global};
-
-/// A text with more behind it.
-fn with_text(mut text: Vec<u8>, more: &[u8]) -> Result<Vec<u8>, AllocError>
-    ensures { IfOk result (λ after. after.items ≡ text.items ++ more.now) }
-{
-    text.extend_from_slice(more)?;
-    Ok(text)
-}
-
-/// A text with a number and a space behind it.
-fn with_number(mut text: Vec<u8>, number: u32) -> Result<Vec<u8>, AllocError>
-    ensures { IfOk result (λ after. after.items ≡ text.items ++ decimal number ++ codes " ") }
-{
-    let mut digits = Buffer::new();
-    text.extend_from_slice(digits.format(number).as_bytes())?;
-    text.extend_from_slice(b" ")?;
-    Ok(text)
-}
-
-/// A text with the word that writes these bytes.
-fn with_bytes(alloc: Global, mut text: Vec<u8>, bytes: &[u8]) -> Result<Vec<u8>, AllocError>
-    ensures { IfOk result (λ after. after.items ≡ text.items ++ bytes_word bytes.now) }
-{
-    if bytes.is_empty() {
-        text.extend_from_slice(b"-")?;
-        return Ok(text);
-    }
-    let digits = hex::encode(alloc, bytes)?;
-    text.extend_from_slice(digits.as_str().as_bytes())?;
-    Ok(text)
-}
 
 /// A text with the line that says a record.
 fn with_line(
@@ -55,8 +24,8 @@ fn with_line(
     ensures { IfOk result (λ after. after.items ≡ text.items ++ record_line moment kind body.now ++ codes "\n") }
 {
     text.extend_from_slice(b"record ")?;
-    let text = with_number(text, moment.seconds)?;
-    let mut text = with_number(text, u32::from(moment.subseconds))?;
+    let text = with_number(text, u64::from(moment.seconds))?;
+    let mut text = with_number(text, u64::from(moment.subseconds))?;
     text.extend_from_slice(kind.word())?;
     text.extend_from_slice(b" ")?;
     let mut text = with_bytes(alloc, text, body)?;
