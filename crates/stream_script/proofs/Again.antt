@@ -1,6 +1,6 @@
 -- What a stream's script says are its records.
-use Rattle.std.proofs.Common.{◌≡◌, refl, sym, ◌∙◌, ap, subst, ℕ, zero, suc, ◌+◌, ◌-◌, ◌*◌, ◌/◌, ◌%◌, ◌<◌, ◌≤◌, ◌^◌, lit<, fold, Bool, true, false, not, ◌&&◌, ◌==◌, nat_lt, nat_le, List, [], ◌∷◌, ◌++◌, length, take, drop, slice_index, arith, append_assoc, append-nil, Option, Some, None, Result, Ok, Err, if◌then◌else◌}
-use Rattle.std.specs.Prelude.{codes, decimal, filter, bytes_eq}
+use Rattle.std.proofs.Common.{◌≡◌, refl, sym, ◌∙◌, ap, subst, ℕ, zero, suc, ◌+◌, ◌-◌, ◌*◌, ◌/◌, ◌%◌, ◌<◌, ◌≤◌, ◌^◌, lit<, fold, Bool, true, false, ◌&&◌, ◌==◌, nat_lt, nat_le, List, [], ◌∷◌, ◌++◌, length, take, drop, slice_index, arith, append_assoc, append-nil, Some, None, Result, Ok, Err, if◌then◌else◌}
+use Rattle.std.specs.Prelude.{codes, decimal, bytes_eq}
 use Rattle.std.specs.Prelude.{slice_index_or}
 use Rattle.std.specs.Char.{is_ascii_digit, digit_value}
 use Rattle.std.specs.Int.{IsInRange}
@@ -15,8 +15,7 @@ use Rattle.hex.specs.declared.error.FromHexError.{FromHexError}
 use Rattle.hex.proofs.HexLemmas.{decode_of-encode_lower}
 use Rattle.lc_model.specs.Text.Token.{number_of_digits}
 use Rattle.lc_model.specs.declared.record.Moment.{Moment}
-use Rattle.lc_model.specs.Bytes.{u16_at, u32_at}
-use Rattle.lc_model.specs.Host.Stream.{body_size, moment_of}
+use Rattle.lc_model.specs.Host.Stream.{moment_of}
 use Rattle.lc_model.proofs.Facts.{and_both, and_true, and_false, test_at_most, test_less, test_not_less, test_unequal, tested_at_most, tested_less}
 use Rattle.stream_script.specs.declared.error.Reason.{Reason}
 use Rattle.stream_script.specs.declared.error.Reason.TheVariants.{BadBytes, BadBody, BadNumber}
@@ -27,10 +26,10 @@ use Rattle.stream_script.specs.declared.front.Front.TheVariants.{End, Record, No
 use Rattle.stream_script.specs.Error.{ScriptFault, ◌>>=◌}
 use Rattle.stream_script.specs.Front.{body_in_front, front_in, record_size}
 use Rattle.stream_script.specs.Kind.{kind_in, kind_word, may_bring}
-use Rattle.stream_script.specs.Number.{at_most, bytes_in, bytes_word, decimal_number, number_in}
+use Rattle.stream_script.specs.Number.{at_most, bytes_in, bytes_word, number_in}
 use Rattle.stream_script.specs.Part.{full, is_blank, is_feed, lines_of, words_of}
 use Rattle.stream_script.specs.Script.{Said, brought, line_said, lines_said, moment_set, nothing_said, record_brought, record_bytes, recorded, some_kind, stream_of}
-use Rattle.stream_script.specs.Whole.{SaysTheRecords, record_line, records_by, records_within, script_by, script_of, script_within, whole_records}
+use Rattle.stream_script.specs.Whole.{SaysTheRecords, record_line, records_by, records_within, script_by, script_within}
 use Rattle.stream_script.proofs.Stands.{Stands, stands, record_again, has_moment, bytes_behind, bytes_before}
 
 -- ---- words have bytes, and none that parts words or lines

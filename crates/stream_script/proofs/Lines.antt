@@ -1,5 +1,5 @@
 -- The listing of a stream by what stands in front, and the steps in which it is written.
-use Rattle.std.proofs.Common.{◌≡◌, refl, sym, ◌∙◌, ap, ℕ, zero, suc, ◌+◌, ◌≤◌, List, [], ◌∷◌, ◌++◌, length, drop, arith, append_assoc, append-nil, Bool, nat_lt, if◌then◌else◌}
+use Rattle.std.proofs.Common.{◌≡◌, refl, sym, ◌∙◌, ap, ℕ, zero, suc, ◌+◌, ◌≤◌, List, [], ◌∷◌, ◌++◌, length, drop, arith, append_assoc, append-nil, Bool, if◌then◌else◌}
 use Rattle.std.specs.Prelude.{codes, decimal}
 use Rattle.lc_model.specs.declared.record.Moment.{Moment}
 use Rattle.lc_model.specs.Packet.{message_id}
@@ -9,7 +9,7 @@ use Rattle.stream_script.specs.declared.kind.RecordKind.{RecordKind}
 use Rattle.stream_script.specs.declared.front.Front.{Front}
 use Rattle.stream_script.specs.declared.front.Front.TheVariants.{End, Record, NoRecord, Cut}
 use Rattle.stream_script.specs.Front.{body_in_front, front_in, record_size}
-use Rattle.stream_script.specs.Listing.{any_order_shown, head_shown, header_shown, line_shown, lines_by, lines_from, lines_within, packet_shown, record_shown, size_shown}
+use Rattle.stream_script.specs.Listing.{any_order_shown, head_shown, header_shown, lines_by, lines_from, lines_within, packet_shown, record_shown, size_shown}
 use Rattle.stream_script.specs.Kind.{kind_word}
 use Rattle.stream_script.proofs.Turns.{at_most_itself, shorter}
 

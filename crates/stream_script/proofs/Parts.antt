@@ -1,5 +1,5 @@
 -- A list cut at some of its elements: the first part, and those of what follows.
-use Rattle.std.proofs.Common.{◌≡◌, ◌≢◌, refl, sym, ◌∙◌, ap, subst, ℕ, zero, suc, ◌+◌, ◌<◌, Bool, true, false, ◌==◌, List, [], ◌∷◌, length, take, drop, arith}
+use Rattle.std.proofs.Common.{◌≡◌, refl, sym, ◌∙◌, ap, ℕ, suc, ◌+◌, Bool, true, false, ◌==◌, List, [], ◌∷◌, length, take, drop, arith}
 use Rattle.std.specs.List.{position_or_len, slice_split, onto_first}
 
 one_more : (n : ℕ) → 1 + n ≡ suc n

@@ -1,7 +1,7 @@
 -- The script of a stream by what stands in front, and the steps in which it is written.
-use Rattle.std.proofs.Common.{◌≡◌, refl, sym, ◌∙◌, ap, subst, ℕ, zero, suc, ◌+◌, ◌≤◌, List, [], ◌∷◌, ◌++◌, length, drop, arith, length-drop, append_assoc, append-nil}
+use Rattle.std.proofs.Common.{◌≡◌, refl, sym, ◌∙◌, ap, ℕ, zero, suc, ◌+◌, ◌≤◌, List, [], ◌∷◌, ◌++◌, length, drop, arith, length-drop, append_assoc, append-nil}
 use Rattle.std.specs.Prelude.{codes}
-use Rattle.lc_model.specs.Host.Stream.{moment_of, header_size, body_size}
+use Rattle.lc_model.specs.Host.Stream.{moment_of, body_size}
 use Rattle.stream_script.specs.declared.kind.RecordKind.{RecordKind}
 use Rattle.stream_script.specs.declared.front.Front.{Front}
 use Rattle.stream_script.specs.declared.front.Front.TheVariants.{End, Record, NoRecord, Cut}

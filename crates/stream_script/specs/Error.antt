@@ -1,5 +1,5 @@
 -- What the errors of scripts say. This project's own.
-use Rattle.std.specs.Prelude.{◌≡◌, ℕ, List, Result, Ok, Err, ⊤}
+use Rattle.std.specs.Prelude.{◌≡◌, ℕ, Result, Ok, Err, ⊤}
 use Rattle.stream_script.specs.declared.error.Reason.{Reason}
 use Rattle.stream_script.specs.declared.error.Fault.{Fault}
 use Rattle.stream_script.specs.declared.error.Fault.TheVariants as fault

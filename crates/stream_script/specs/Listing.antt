@@ -1,5 +1,5 @@
 -- The listing of a stream: a line for each record, and one for what is none. This project's own.
-use Rattle.std.specs.Prelude.{ℕ, zero, suc, ◌+◌, ◌-◌, ◌&&◌, ◌==◌, List, [], ◌∷◌, ◌++◌, length, take, drop, map, slice_index, codes, decimal, nat_le, nat_lt, Option, Some, None, if◌then◌else◌}
+use Rattle.std.specs.Prelude.{ℕ, zero, suc, ◌+◌, ◌-◌, ◌&&◌, ◌==◌, List, [], ◌++◌, length, take, drop, map, slice_index, codes, decimal, nat_le, nat_lt, Option, Some, None, if◌then◌else◌}
 use denote.Ref.{Bor}
 use Rattle.lc_model.specs.declared.record.Moment.{Moment}
 use Rattle.lc_model.specs.Bytes.{u16_at}

@@ -1,5 +1,5 @@
 -- The script that says a stream: a line for each record, with its moment, its kind and its body. This project's own.
-use Rattle.std.specs.Prelude.{◌≡◌, ℕ, zero, suc, List, [], ◌∷◌, ◌++◌, length, take, drop, codes, decimal, Option, Some, None, Result, Ok}
+use Rattle.std.specs.Prelude.{◌≡◌, ℕ, zero, suc, List, [], ◌++◌, length, take, drop, codes, decimal, Option, Some, None, Ok}
 use denote.Ref.{Bor}
 use Rattle.hex.specs.Hex.{IsBytes}
 use Rattle.lc_model.specs.declared.record.Moment.{Moment}

@@ -51,8 +51,9 @@ const SCENARIO: &[u8] =
 at 100 0\n\
 wdt 0 /cf/lc_def_wdt.tbl\n\
 adt 0 /cf/lc_def_adt.tbl\n\
-start LC\n\
-start SCH\n\
+# `start LC` and `start SCH`, with checksums of 0, which nobody reads\n\
+packet 1806c000001501004c43000000000000000000000000000000000000\n\
+packet 1806c000001501005343480000000000000000000000000000000000\n\
 after 1\n\
 telemetry 0883 0 0abe0015\n\
 tick\n\

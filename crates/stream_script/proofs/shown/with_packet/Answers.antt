@@ -1,8 +1,6 @@
 -- The message id, what a command says, and the size, one behind the other.
-use Rattle.std.proofs.Common.{◌≡◌, subst, List, ℕ, length}
+use Rattle.std.proofs.Common.{◌≡◌, subst, List, ℕ}
 use Rattle.std.specs.Prelude.{IfOk}
-use Rattle.lc_model.specs.Packet.{message_id}
-use Rattle.stream_script.specs.Listing.{any_order_shown, header_shown, size_shown}
 use Rattle.stream_script.proofs.Lines.{three_parts}
 use Rattle.stream_script.proofs.shown.with_packet.Goals as goal
 

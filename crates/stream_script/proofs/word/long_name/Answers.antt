@@ -1,5 +1,4 @@
 -- The name, and zeros behind it.
-use Rattle.std.proofs.Common.{sym}
 use Rattle.stream_script.proofs.Commands.{name_is}
 use Rattle.stream_script.proofs.word.long_name.Goals as goal
 

@@ -1,5 +1,5 @@
 -- What was written to the front is the command.
-use Rattle.std.proofs.Common.{◌≡◌, ◌∙◌, subst, List, ℕ}
+use Rattle.std.proofs.Common.{◌≡◌, subst, List, ℕ}
 use Rattle.std.specs.Prelude.{IfOk}
 use Rattle.stream_script.specs.declared.kind.RecordKind.TheVariants.{Packet}
 use Rattle.stream_script.specs.Script.{recorded}
