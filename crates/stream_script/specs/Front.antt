@@ -1,0 +1,36 @@
+-- What stands at the front of a stream, by its kind. This project's own.
+use Rattle.std.specs.Prelude.{◌≡◌, ℕ, ◌+◌, ◌-◌, ◌≤◌, not, ◌==◌, List, length, take, drop, slice_index, nat_lt, Option, Some, None, if◌then◌else◌, ⊤}
+use Rattle.lc_model.specs.Host.Stream.{all_kinds, body_size, fits_body, header_size}
+use Rattle.stream_script.specs.declared.kind.RecordKind.{RecordKind}
+use Rattle.stream_script.specs.declared.front.Front.{Front}
+use Rattle.stream_script.specs.declared.front.Front.TheVariants.{End, Record, NoRecord, Cut}
+use Rattle.stream_script.specs.Kind.{fits_kind, kind_number, kind_numbered, has_half}
+
+-- the bytes of the record in front, as its header says
+abbrev pub record_size : List ℕ → ℕ
+record_size bytes = header_size + body_size bytes
+
+-- the body of the record in front
+abbrev pub body_in_front : List ℕ → List ℕ
+body_in_front bytes = drop header_size (take (record_size bytes) bytes)
+
+-- what stands in front, where it has this kind
+abbrev pub front_of_kind : Option RecordKind → List ℕ → Front
+front_of_kind None bytes = NoRecord
+front_of_kind (Some kind) bytes =
+    if not (fits_body all_kinds (kind_number kind) (body_size bytes)) then NoRecord
+    else if nat_lt (length bytes) (record_size bytes) then Cut
+    else if not (has_half kind (body_in_front bytes)) then NoRecord
+    else Record kind (record_size bytes)
+
+-- what stands in front
+abbrev pub front_in : List ℕ → Front
+front_in bytes =
+    if length bytes == 0 then End
+    else if nat_lt (length bytes) header_size then Cut
+    else front_of_kind (kind_numbered (slice_index bytes 0)) bytes
+
+-- a record in front is there as a whole, and its body fits its kind
+abbrev pub IsInside : List ℕ → Front → Type 0
+IsInside bytes (Record kind size) = (size ≡ record_size bytes) × (header_size ≤ size) × (size ≤ length bytes) × fits_kind kind (size - header_size)
+IsInside bytes front = ⊤

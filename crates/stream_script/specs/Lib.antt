@@ -1,0 +1,9 @@
+-- What the contracts of scripts cite.
+pub mod Kind
+pub mod Part
+pub mod Number
+pub mod Error
+pub mod Script
+pub mod Front
+pub mod Whole
+pub mod Listing

@@ -1,0 +1,64 @@
+//! Why a text says no stream.
+
+ghost use Rattle.std.specs.Prelude.{◌≡◌};
+ghost use Rattle.stream_script.specs.declared.error.Fault.TheVariants.{Line, Memory};
+
+use std::alloc::AllocError;
+use thiserror::Error;
+
+/// Why a line of a script says nothing.
+#[derive(Clone, Copy, Debug, PartialEq, Eq, Error)]
+pub enum Reason {
+    /// No statement has this first word and so many words.
+    #[error("no statement")]
+    UnknownStatement,
+    /// A word that has to be a number isn't one, or is out of its range.
+    #[error("a number is missing or out of range")]
+    BadNumber,
+    /// A word that has to be bytes isn't `-` or an even number of hexadecimal digits.
+    #[error("bytes are missing")]
+    BadBytes,
+    /// A word that has to be a kind of record is none of `packet`, `tick`, `file` and `half`.
+    #[error("no kind of record")]
+    UnknownKind,
+    /// A record of this kind can't have this body.
+    #[error("no body of a record of this kind")]
+    BadBody,
+    /// A name is longer than its field.
+    #[error("a name is too long")]
+    LongName,
+}
+
+/// Why a text says no stream, at its first line that is at fault. Lines count from 1.
+#[derive(Clone, Copy, Debug, PartialEq, Eq, Error)]
+pub enum ScriptError {
+    /// The line says nothing, for this reason.
+    #[error("line {n}: {reason}")]
+    Line { n: usize, reason: Reason },
+    /// No memory for the stream.
+    #[error("out of memory")]
+    Memory,
+}
+
+/// Why a line adds nothing to a stream.
+#[derive(Clone, Copy, Debug, PartialEq, Eq)]
+pub(crate) enum Fault {
+    Line(Reason),
+    Memory,
+}
+
+impl From<AllocError> for Fault {
+    ghost from_gives = { λ _ e. e ≡ Memory };
+
+    fn from(_error: AllocError) -> Fault {
+        Fault::Memory
+    }
+}
+
+impl From<Reason> for Fault {
+    ghost from_gives = { λ reason e. e ≡ Line reason };
+
+    fn from(reason: Reason) -> Fault {
+        Fault::Line(reason)
+    }
+}

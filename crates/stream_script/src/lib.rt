@@ -1,0 +1,24 @@
+//! Streams of records as text: a script says a stream, line by line, and each stream has the script that says it (this
+//! project's own).
+#![tactic(auto)]
+
+mod error;
+mod front;
+mod kind;
+pub mod laws;
+mod listing;
+mod number;
+mod part;
+mod reading;
+mod script;
+mod shown;
+mod statement;
+mod text;
+mod word;
+mod writing;
+
+pub use error::{Reason, ScriptError};
+pub use kind::RecordKind;
+pub use listing::write_listing;
+pub use reading::read_script;
+pub use writing::write_script;
