@@ -62,23 +62,43 @@ fn put_head<W: Write>(out: &mut W) -> io::Result<()> {
     )
 }
 
+/// Writes what stands above the drawing.
+fn put_summary<W: Write>(out: &mut W, account: &Account<'_>) -> io::Result<()> {
+    put_head(out)?;
+    put_ending(out, account)?;
+    put_figures(out, account)?;
+    put(out, "<h2>Time line</h2>\n")?;
+    put_columns(out, account)
+}
+
+/// Writes the drawing.
+fn put_drawing<W: Write>(
+    alloc: Global,
+    out: &mut W,
+    account: &Account<'_>,
+) -> Result<(), ReportError> {
+    put(out, "<div class=\"scroll\">\n")?;
+    put_time_line(alloc, out, account)?;
+    put(out, "</div>\n")?;
+    Ok(())
+}
+
+/// Writes what stands below the drawing.
+fn put_tables<W: Write>(out: &mut W, account: &Account<'_>) -> io::Result<()> {
+    put(out, LEGEND)?;
+    put_rule_tables(out, account)?;
+    put_sent_table(out, account)?;
+    put(out, "</body>\n</html>\n")
+}
+
 /// Writes a page.
 pub fn put_page<W: Write>(
     alloc: Global,
     out: &mut W,
     account: &Account<'_>,
 ) -> Result<(), ReportError> {
-    put_head(out)?;
-    put_ending(out, account)?;
-    put_figures(out, account)?;
-    put(out, "<h2>Time line</h2>\n")?;
-    put_columns(out, account)?;
-    put(out, "<div class=\"scroll\">\n")?;
-    put_time_line(alloc, out, account)?;
-    put(out, "</div>\n")?;
-    put(out, LEGEND)?;
-    put_rule_tables(out, account)?;
-    put_sent_table(out, account)?;
-    put(out, "</body>\n</html>\n")?;
+    put_summary(out, account)?;
+    put_drawing(alloc, out, account)?;
+    put_tables(out, account)?;
     Ok(())
 }

@@ -3,6 +3,7 @@
 use crate::account::Account;
 use crate::escape::{put, put_name, put_short, put_text};
 use crate::geometry::{Tenths, edge, width};
+use crate::rule_text::{RuleLine, RuleText};
 use crate::standing::{
     Standing, mode_word, result_class, result_in, result_letter, result_word, state_in, state_word,
 };
@@ -239,19 +240,40 @@ pub fn put_mode_lane<W: Write>(out: &mut W, account: &Account<'_>, y: u64) -> io
     put_part(out, account, Part::Mode, y)
 }
 
+/// Writes what a rule is in a text.
+fn put_rule_in<W: Write>(
+    out: &mut W,
+    text: &RuleText<'_>,
+    rule: usize,
+    line: RuleLine<'_>,
+) -> io::Result<()> {
+    put_name(out, text.name)?;
+    write!(out, ": rule {rule} ")?;
+    put_text(out, line.name)?;
+    let sequence = line.sequence;
+    write!(out, ", requests sequence {sequence}. ")
+}
+
 /// Writes which texts have a rule of this number, and what it is there.
 fn put_rule_texts<W: Write>(out: &mut W, account: &Account<'_>, rule: usize) -> io::Result<()> {
     put(out, "<title>")?;
     for text in account.texts {
         if let Some(line) = text.rules.get(rule) {
-            put_name(out, text.name)?;
-            write!(out, ": rule {rule} ")?;
-            put_text(out, line.name)?;
-            let sequence = line.sequence;
-            write!(out, ", requests sequence {sequence}. ")?;
+            put_rule_in(out, text, rule, *line)?;
         }
     }
     put(out, "</title>")
+}
+
+/// Writes a rule's name and the sequence that it requests, above this base line.
+fn put_rule_name<W: Write>(out: &mut W, line: RuleLine<'_>, base: u64) -> io::Result<()> {
+    write!(out, "<text class=\"name\" x=\"30\" y=\"{base}\">")?;
+    put_short(out, line.name, 16)?;
+    let sequence = line.sequence;
+    write!(
+        out,
+        "</text><text class=\"asks\" x=\"208\" y=\"{base}\">&#8594; {sequence}</text>"
+    )
 }
 
 /// Writes a rule's number, its name and the sequence that it requests, in front of its lane.
@@ -269,13 +291,7 @@ fn put_rule_label<W: Write>(
         "<text class=\"number\" x=\"22\" y=\"{base}\">{rule}</text>"
     )?;
     if let Some(line) = account.rule(rule) {
-        let sequence = line.sequence;
-        write!(out, "<text class=\"name\" x=\"30\" y=\"{base}\">")?;
-        put_short(out, line.name, 16)?;
-        write!(
-            out,
-            "</text><text class=\"asks\" x=\"208\" y=\"{base}\">&#8594; {sequence}</text>"
-        )?;
+        put_rule_name(out, line, base)?;
     }
     put(out, "</g>\n")
 }

@@ -32,6 +32,14 @@ fn put_event<W: Write>(out: &mut W, rule: RuleLine<'_>) -> io::Result<()> {
     put_text(out, rule.text)
 }
 
+/// Writes a rule's number, name and state, as the first cells of its row.
+fn put_name_cells<W: Write>(out: &mut W, number: usize, rule: RuleLine<'_>) -> io::Result<()> {
+    write!(out, "<tr><td class=\"n\">{number}</td><td><b>")?;
+    put_text(out, rule.name)?;
+    put(out, "</b></td><td>")?;
+    put_text(out, rule.state)
+}
+
 /// Writes a rule as a row.
 fn put_rule<W: Write>(
     out: &mut W,
@@ -39,10 +47,7 @@ fn put_rule<W: Write>(
     number: usize,
     rule: RuleLine<'_>,
 ) -> io::Result<()> {
-    write!(out, "<tr><td class=\"n\">{number}</td><td><b>")?;
-    put_text(out, rule.name)?;
-    put(out, "</b></td><td>")?;
-    put_text(out, rule.state)?;
+    put_name_cells(out, number, rule)?;
     put(out, "</td><td><code>")?;
     put_condition(out, text.condition(rule))?;
     let (fails, sequence) = (rule.fails, rule.sequence);
@@ -54,19 +59,22 @@ fn put_rule<W: Write>(
     put(out, "</td></tr>\n")
 }
 
+/// Writes the heads of the columns.
+fn put_heads<W: Write>(out: &mut W) -> io::Result<()> {
+    put(
+        out,
+        "<tr><th class=\"n\">no.</th><th>rule</th><th>begins</th>",
+    )?;
+    put(out, "<th>fails when</th><th class=\"n\">fails</th>")?;
+    put(out, "<th class=\"n\">sequence</th><th>event</th></tr>\n")
+}
+
 /// Writes the rules of a text.
 fn put_rules<W: Write>(out: &mut W, text: &RuleText<'_>) -> io::Result<()> {
     put(out, "<h3>")?;
     put_name(out, text.name)?;
-    put(
-        out,
-        "</h3>\n<div class=\"scroll\"><table>\n<tr><th class=\"n\">no.</th><th>rule</th>",
-    )?;
-    put(
-        out,
-        "<th>begins</th><th>fails when</th><th class=\"n\">fails</th>",
-    )?;
-    put(out, "<th class=\"n\">sequence</th><th>event</th></tr>\n")?;
+    put(out, "</h3>\n<div class=\"scroll\"><table>\n")?;
+    put_heads(out)?;
     for (number, rule) in text.rules.iter().enumerate() {
         put_rule(out, text, number, *rule)?;
     }

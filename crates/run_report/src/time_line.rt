@@ -89,6 +89,35 @@ fn put_label<W: Write>(out: &mut W, y: u64, label: &str) -> io::Result<()> {
     )
 }
 
+/// The lanes of events, from `y` on.
+fn put_event_lanes<W: Write>(
+    out: &mut W,
+    account: &Account<'_>,
+    lanes: &MarkLanes,
+    y: u64,
+) -> io::Result<()> {
+    let mut at = y;
+    for (kind, marks) in &lanes.events {
+        put_event_label(out, *kind, at)?;
+        put_marks(out, account, Lane::Events(*kind), marks.as_slice(), at)?;
+        at = at.saturating_add(MARKS);
+    }
+    Ok(())
+}
+
+/// The lane of requests, with their numbers, from `y` on.
+fn put_request_lane<W: Write>(
+    out: &mut W,
+    account: &Account<'_>,
+    marks: &[Mark],
+    y: u64,
+) -> io::Result<()> {
+    let at = y.saturating_add(NUMBERS);
+    put_numbers(out, account, marks, at.saturating_sub(2))?;
+    put_label(out, at, "sequence requests")?;
+    put_marks(out, account, Lane::Requests, marks, at)
+}
+
 /// The lanes of marks, from `y` on.
 fn put_mark_lanes<W: Write>(
     out: &mut W,
@@ -98,24 +127,10 @@ fn put_mark_lanes<W: Write>(
 ) -> io::Result<()> {
     put_label(out, y, "commands, files, starts")?;
     put_marks(out, account, Lane::Records, lanes.records.as_slice(), y)?;
-    let numbers = y.saturating_add(MARKS + NUMBERS - 2);
-    put_numbers(out, account, lanes.requests.as_slice(), numbers)?;
-    let requests = y.saturating_add(MARKS + NUMBERS);
-    put_label(out, requests, "sequence requests")?;
-    put_marks(
-        out,
-        account,
-        Lane::Requests,
-        lanes.requests.as_slice(),
-        requests,
-    )?;
-    let mut at = requests.saturating_add(MARKS);
-    for (kind, marks) in &lanes.events {
-        put_event_label(out, *kind, at)?;
-        put_marks(out, account, Lane::Events(*kind), marks.as_slice(), at)?;
-        at = at.saturating_add(MARKS);
-    }
-    Ok(())
+    let requests = y.saturating_add(MARKS);
+    put_request_lane(out, account, lanes.requests.as_slice(), requests)?;
+    let events = requests.saturating_add(NUMBERS + MARKS);
+    put_event_lanes(out, account, lanes, events)
 }
 
 /// The label of a lane of events.
@@ -270,6 +285,27 @@ fn put_head<W: Write>(out: &mut W, height: u64) -> io::Result<()> {
     put(out, PATTERNS)
 }
 
+/// Draws the lanes, the rules' from `rules` on, and what stands behind and above them down to `to`.
+fn put_lanes<W: Write>(
+    out: &mut W,
+    account: &Account<'_>,
+    lanes: &MarkLanes,
+    rules: u64,
+    to: u64,
+) -> io::Result<()> {
+    put_grid(out, account, to)?;
+    put_mark_lanes(out, account, lanes, AXIS)?;
+    put_rule_lanes(out, account, rules)?;
+    put_adoptions(out, account, to)
+}
+
+/// Draws both axes, the lower one below `to`.
+fn put_axes<W: Write>(out: &mut W, account: &Account<'_>, to: u64) -> io::Result<()> {
+    put_axis(out, account, AXIS - 20)?;
+    put_axis(out, account, to.saturating_add(12))?;
+    put(out, "</svg>\n")
+}
+
 /// Draws the time line.
 pub fn put_time_line<W: Write>(
     alloc: Global,
@@ -278,14 +314,9 @@ pub fn put_time_line<W: Write>(
 ) -> Result<(), ReportError> {
     let lanes = mark_lanes(alloc, account)?;
     let to = lanes_height(account, &lanes);
-    put_head(out, to.saturating_add(LOWER_AXIS))?;
-    put_grid(out, account, to)?;
-    put_axis(out, account, 28)?;
-    put_mark_lanes(out, account, &lanes, AXIS)?;
     let rules = marks_height(&lanes).saturating_add(AXIS);
-    put_rule_lanes(out, account, rules)?;
-    put_adoptions(out, account, to)?;
-    put_axis(out, account, to.saturating_add(12))?;
-    put(out, "</svg>\n")?;
+    put_head(out, to.saturating_add(LOWER_AXIS))?;
+    put_lanes(out, account, &lanes, rules, to)?;
+    put_axes(out, account, to)?;
     Ok(())
 }
