@@ -62,7 +62,9 @@ impl Tally {
     }
 
     pub fn count_retirement(&self) {
-        self.counts.retirements.set(self.retirements().saturating_add(1));
+        self.counts
+            .retirements
+            .set(self.retirements().saturating_add(1));
     }
 
     pub fn count_packet(&self) {

@@ -12,7 +12,9 @@ use table_listing::list_table;
 const STANDARD_OUTPUT: &str = "standard output";
 
 /// Standard output, with room for what isn't written yet.
-fn output<'a, 'r, R: Print + AllocGlobal>(rt: &'r R) -> Result<BufWriter<Printer<'r, R>>, Fault<'a>> {
+fn output<'a, 'r, R: Print + AllocGlobal>(
+    rt: &'r R,
+) -> Result<BufWriter<Printer<'r, R>>, Fault<'a>> {
     match BufWriter::new(rt.alloc(), io::writer(rt)) {
         Ok(out) => Ok(out),
         Err(_) => Err(Fault::Memory),
@@ -20,7 +22,10 @@ fn output<'a, 'r, R: Print + AllocGlobal>(rt: &'r R) -> Result<BufWriter<Printer
 }
 
 /// All of a listing was written, or that failed.
-fn finish<'a, W: Write + Drop>(mut out: BufWriter<W>, listed: io::Result<()>) -> Result<(), Fault<'a>> {
+fn finish<'a, W: Write + Drop>(
+    mut out: BufWriter<W>,
+    listed: io::Result<()>,
+) -> Result<(), Fault<'a>> {
     match listed {
         Ok(()) if out.flush().is_ok() => Ok(()),
         Err(error) if error.kind() == ErrorKind::OutOfMemory => Err(Fault::Memory),
