@@ -1,5 +1,7 @@
 //! What ends the program with another status than 0, and the line that says so.
 
+ghost use Rattle.flight_tools.specs.Status.{HasStatus};
+
 use clap::Error;
 use clap::error::ErrorKind;
 use run_report::ReportError;
@@ -49,7 +51,9 @@ impl From<Error> for Fault<'_> {
 impl Fault<'_> {
     /// The exit status: 0 help was asked for; 1 a script, a schedule or a rule text is refused; 2 the words are no command; 3 a
     /// file; 5 no memory.
-    pub fn status(&self) -> u8 {
+    pub fn status(&self) -> u8
+        ensures { HasStatus self.now result }
+    {
         match self {
             Fault::Words(error) if !error.use_stderr() => 0,
             Fault::Script(..) | Fault::Schedule(..) | Fault::Report(_) => 1,

@@ -6,7 +6,6 @@ use packet_listing::list_packets;
 use std::fs::Files;
 use std::io::{self, BufWriter, ErrorKind, Print, Printer, Write};
 use stream_script::{write_listing, write_script};
-use table_listing::list_table;
 
 /// What is said of a failed print.
 const STANDARD_OUTPUT: &str = "standard output";
@@ -31,14 +30,6 @@ fn finish<'a, W: Write + Drop>(
         Err(error) if error.kind() == ErrorKind::OutOfMemory => Err(Fault::Memory),
         _ => Err(Fault::File(STANDARD_OUTPUT)),
     }
-}
-
-/// Lists what a table file holds.
-pub fn table<'a, R: Files + Print + AllocGlobal>(rt: &R, file: &'a str) -> Result<(), Fault<'a>> {
-    let bytes = read(rt, file)?;
-    let mut out = output(rt)?;
-    let listed = list_table(rt.alloc(), bytes.as_slice(), &mut out);
-    finish(out, listed)
 }
 
 /// Lists the records of a stream, or writes the script that says them.

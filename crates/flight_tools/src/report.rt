@@ -11,6 +11,7 @@ use tick_scheduler::{Schedule, ScheduleError, parse_schedule};
 const TOLD: usize = 20;
 
 /// Tells on standard error how far a report is, where a person looks at it.
+#[derive(Drop)]
 struct Told<'a, R> {
     rt: &'a R,
     is_watched: bool,
