@@ -1,0 +1,4 @@
+pub mod ConditionText
+pub mod Formula
+pub mod Laws
+pub mod Reading
