@@ -1,0 +1,4 @@
+mod Again
+mod Meaning
+mod Reading
+mod Trees
