@@ -92,7 +92,7 @@ blank_between before after = codes " "
 abbrev pub spaced : List Symbol → List ℕ
 spaced [] = []
 spaced (s ∷ []) = symbol_text s
-spaced (s ∷ r ∷ rest) = symbol_text s ++ blank_between s r ++ spaced (r ∷ rest)
+spaced (s ∷ r ∷ rest) = symbol_text s ++ (blank_between s r ++ spaced (r ∷ rest))
 
 -- the text of a formula is that of its symbols
 abbrev pub TextsAreTheirSymbols : Type 0
