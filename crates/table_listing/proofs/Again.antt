@@ -1,5 +1,5 @@
 -- The tree of a sound equation, compiled again.
-use Rattle.std.proofs.Common.{◌≡◌, refl, sym, ◌∙◌, ap, ap₂, ℕ, zero, suc, ◌+◌, ◌<◌, ◌≤◌, false, max, List, [], ◌∷◌, ◌++◌, length, nat_lt, slice_get, Some, Contains, length-append, arith}
+use Rattle.std.proofs.Common.{◌≡◌, refl, sym, ◌∙◌, ap, ap₂, ℕ, zero, suc, ◌+◌, ◌≤◌, false, max, List, [], ◌∷◌, ◌++◌, length, nat_lt, slice_get, Some, Contains, length-append, arith}
 use Rattle.std.specs.List.{AllByRecursion}
 use Rattle.lc_model.specs.declared.field.Term.{Term}
 use Rattle.lc_model.specs.Condition as condition
@@ -17,7 +17,7 @@ use Rattle.lc_model.proofs.Tables.SaidLaws.{all_append}
 use Rattle.lc_model.proofs.Tables.SoundWords.{sound_words_spell}
 use Rattle.lc_model.proofs.Tables.SpellsOnce.{computed}
 use Rattle.lc_model.proofs.Tables.WordsSpell.{words_spell_in}
-use Rattle.table_listing.specs.Formula.{Formula, Watch, Not, Join, words_of, mentioned, IsOver, mention, negation, binary, need, StandsHeavierFirst, KeepsNumbers}
+use Rattle.table_listing.specs.Formula.{Formula, words_of, mentioned, IsOver, mention, negation, binary, need, StandsHeavierFirst, KeepsNumbers}
 use Rattle.table_listing.specs.Laws.{CompiledAgainMeansTheSame, CompiledAgainIsTheSame}
 use Rattle.table_listing.proofs.Meaning.{same_value}
 

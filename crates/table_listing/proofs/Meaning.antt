@@ -1,5 +1,5 @@
 -- The tree of a sound equation means what its words mean.
-use Rattle.std.proofs.Common.{◌≡◌, refl, sym, ◌∙◌, ap, ap₂, subst, ℕ, zero, suc, ◌<◌, ◌≤◌, Bool, true, false, ◌&&◌, List, [], ◌∷◌, ◌++◌, length, nat_lt, nat_le, slice_get, Some, Option, unwrap_or, option_map, arith}
+use Rattle.std.proofs.Common.{◌≡◌, refl, sym, ◌∙◌, ap, ap₂, subst, ℕ, zero, suc, ◌<◌, Bool, true, false, ◌&&◌, List, [], ◌∷◌, ◌++◌, length, nat_lt, nat_le, slice_get, Some, Option, unwrap_or, option_map, arith}
 use Rattle.std.specs.List.{list_any, AllByRecursion}
 use Rattle.lc_model.specs.declared.field.Term.{Term}
 use Rattle.lc_model.specs.declared.truth.Truth.{Truth}
@@ -16,9 +16,8 @@ use Rattle.lc_model.proofs.Facts.{or_first, or_second, and_other, test_less}
 use Rattle.lc_model.proofs.LimitChecker.ResultLaws.{front, back}
 use Rattle.lc_model.proofs.Tables.SoundWords.{none_stands, list_any-append}
 use Rattle.lc_model.proofs.Tables.SpellsOnce.{computed}
-use Rattle.table_validator.specs.Sound.{IsSoundEquation}
-use Rattle.table_listing.specs.Formula.{Formula, Watch, Not, Join, words_of, mentioned, AreNumbers, IsTreeOf, IsOver, mention, negation, binary, value, found_at}
-use Rattle.table_listing.specs.Laws.{MeansAsItsWords, TreesMeanAsTheirWords}
+use Rattle.table_listing.specs.Formula.{Formula, Watch, Not, Join, words_of, mentioned, AreNumbers, IsOver, mention, negation, binary, value, found_at}
+use Rattle.table_listing.specs.Laws.{TreesMeanAsTheirWords}
 
 list_any-front : (p : ℕ → Bool) (xs ys : List ℕ) → list_any p (xs ++ ys) ≡ false → list_any p xs ≡ false
 list_any-front p xs ys none = or_first (list_any p xs) (list_any p ys) (sym (list_any-append p xs ys) ∙ none)

@@ -1,5 +1,5 @@
 -- The text of a condition is read as its tree.
-use Rattle.std.proofs.Common.{◌≡◌, refl, sym, ◌∙◌, ap, subst, ℕ, Bool, true, false, List, [], ◌∷◌, ◌++◌, flat_map, true≢false, nat_lt, nat_le, append-nil}
+use Rattle.std.proofs.Common.{◌≡◌, refl, sym, ap, subst, Bool, true, false, List, [], ◌∷◌, ◌++◌, flat_map, true≢false, nat_lt, nat_le, append-nil}
 use Rattle.std.proofs.lemmas.Grind.{flat_map-append}
 use Rattle.lc_model.specs.Condition.{Operator, And, Or, Xor}
 use Rattle.lc_model.specs.Text.Token.{Token}
@@ -9,7 +9,7 @@ use Rattle.lc_model.specs.Text.Grammar.{Part, Derives, cond, xors, ands, nots, c
 use Rattle.lc_model.proofs.Texts.OneCondition.{one_condition}
 use Rattle.table_listing.specs.Formula.{Formula, Watch, Not, Join}
 use Rattle.table_listing.specs.ConditionText.{tightness_of, needed_in_not, needed_first, needed_second}
-use Rattle.table_listing.specs.Reading.{Symbol, Joining, Negating, Opening, Closing, enclosed, symbols_of, Tokens, Stand, tokens_of, expression_of, TextsReadAsTheirTrees}
+use Rattle.table_listing.specs.Reading.{Symbol, Joining, Closing, enclosed, symbols_of, Tokens, Stand, tokens_of, expression_of, TextsReadAsTheirTrees}
 
 -- what an operator joins is this part of a condition
 part_of : Operator → Part

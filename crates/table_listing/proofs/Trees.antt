@@ -4,7 +4,7 @@ use Rattle.std.proofs.lemmas.List.Sums.{fold-append}
 use Rattle.lc_model.specs.Condition.{Operator, And, Or, Xor}
 use Rattle.lc_model.specs.Tables.Equation.{operator_word, not_word}
 use Rattle.lc_model.proofs.LimitChecker.ResultLaws.{front, back}
-use Rattle.table_listing.specs.Formula.{Formula, Watch, Not, Join, words_of, mentioned, AreNumbers, IsTreeOf}
+use Rattle.table_listing.specs.Formula.{Formula, Watch, Not, Join, words_of, mentioned, AreNumbers}
 use Rattle.table_listing.specs.Laws.{OneTree}
 
 joined : Operator → List Formula → List Formula

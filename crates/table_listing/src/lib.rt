@@ -5,6 +5,11 @@
 mod decompiler;
 mod equation;
 pub mod laws;
+mod lines;
+mod shown;
+mod words;
 
 pub use decompiler::decompile;
 pub use equation::{Equation, Operator};
+pub use lines::{ActionpointLine, WatchpointLine};
+pub use shown::{InHex, Shown};
