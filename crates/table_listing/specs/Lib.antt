@@ -1,5 +1,7 @@
 pub mod ConditionText
 pub mod Formula
+pub mod Headers
+pub mod Judged
 pub mod Laws
 pub mod Lines
 pub mod Reading

@@ -1,5 +1,5 @@
 -- The words of the rule language for the values in an entry. This project's own.
-use Rattle.std.specs.Prelude.{ℕ, List, codes}
+use Rattle.std.specs.Prelude.{ℕ, List, codes, if◌then◌else◌, ◌==◌}
 use Rattle.lc_model.specs.declared.field.FieldType.{FieldType}
 use Rattle.lc_model.specs.declared.field.FieldType.TheVariants.{U8, I8, U16Be, U16Le, I16Be, I16Le, U32Be, U32Le, I32Be, I32Le}
 use Rattle.lc_model.specs.declared.field.CmpOp.{CmpOp}
@@ -44,3 +44,7 @@ level_word Debug = codes "debug"
 level_word Information = codes "info"
 level_word Error = codes "error"
 level_word Critical = codes "critical"
+
+-- the word of the table that an image is of, by the number of its kind
+abbrev pub kind_word : ℕ → List ℕ
+kind_word kind = if kind == 1 then codes "watchpoints" else if kind == 2 then codes "actionpoints" else codes "unknown"

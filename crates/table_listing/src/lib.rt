@@ -4,12 +4,20 @@
 
 mod decompiler;
 mod equation;
+mod error;
+mod headers;
+mod judged;
 pub mod laws;
 mod lines;
+mod listing;
 mod shown;
 mod words;
 
 pub use decompiler::decompile;
 pub use equation::{Equation, Operator};
+pub use error::ListingError;
+pub use headers::{FileLine, PreambleLines, TableLine};
+pub use judged::{FaultLine, RefusalLine};
 pub use lines::{ActionpointLine, WatchpointLine};
+pub use listing::list_table;
 pub use shown::{InHex, Shown};

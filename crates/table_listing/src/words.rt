@@ -60,3 +60,14 @@ pub fn level_word(kind: EventKind) -> &'static str
         EventKind::Critical => "critical",
     }
 }
+
+/// The word of the table that an image is of, by the number of its kind.
+pub fn kind_word(kind: u16) -> &'static str
+    ensures { result.now ≡ model.kind_word kind }
+{
+    match kind {
+        1 => "watchpoints",
+        2 => "actionpoints",
+        _ => "unknown",
+    }
+}
