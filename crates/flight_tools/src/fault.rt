@@ -15,6 +15,8 @@ use tick_scheduler::ScheduleError;
 pub enum Fault<'a> {
     /// What `clap` says of the words: that they are no command, or the help that was asked for.
     Words(Error),
+    /// A table file with a fault, which its listing says.
+    Table,
     /// A script that says no stream, by its file's name.
     Script(&'a str, ScriptError),
     /// A schedule that is refused, by its file's name.
@@ -49,14 +51,14 @@ impl From<Error> for Fault<'_> {
 }
 
 impl Fault<'_> {
-    /// The exit status: 0 help was asked for; 1 a script, a schedule or a rule text is refused; 2 the words are no command; 3 a
+    /// The exit status: 0 help was asked for; 1 a table file has a fault, or a script, a schedule or a rule text is refused; 2 the words are no command; 3 a
     /// file; 5 no memory.
     pub fn status(&self) -> u8
         ensures { HasStatus self.now result }
     {
         match self {
             Fault::Words(error) if !error.use_stderr() => 0,
-            Fault::Script(..) | Fault::Schedule(..) | Fault::Report(_) => 1,
+            Fault::Table | Fault::Script(..) | Fault::Schedule(..) | Fault::Report(_) => 1,
             Fault::Words(_) => 2,
             Fault::File(_) => 3,
             Fault::Memory => 5,
@@ -68,6 +70,7 @@ impl Display for Fault<'_> {
     fn fmt<W: Write>(&self, f: &mut Formatter<W>) -> fmt::Result {
         match self {
             Fault::Words(error) => write!(f, "{error}"),
+            Fault::Table => Ok(()),
             Fault::Script(name, error) => writeln!(f, "{name}: {error}"),
             Fault::Schedule(name, error) => writeln!(f, "{name}: {error}"),
             Fault::Report(error) => writeln!(f, "{error}"),

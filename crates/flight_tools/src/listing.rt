@@ -6,6 +6,7 @@ use packet_listing::list_packets;
 use std::fs::Files;
 use std::io::{self, BufWriter, ErrorKind, Print, Printer, Write};
 use stream_script::{write_listing, write_script};
+use table_listing::{ListingError, list_table};
 
 /// What is said of a failed print.
 const STANDARD_OUTPUT: &str = "standard output";
@@ -29,6 +30,21 @@ fn finish<'a, W: Write + Drop>(
         Ok(()) if out.flush().is_ok() => Ok(()),
         Err(error) if error.kind() == ErrorKind::OutOfMemory => Err(Fault::Memory),
         _ => Err(Fault::File(STANDARD_OUTPUT)),
+    }
+}
+
+/// Lists what a table file holds. One with a fault ends the program with another status.
+pub fn table<'a, R: Files + Print + AllocGlobal>(rt: &R, file: &'a str) -> Result<(), Fault<'a>> {
+    let bytes = read(rt, file)?;
+    let mut out = output(rt)?;
+    match list_table(rt.alloc(), bytes.as_slice(), &mut out) {
+        Ok(true) => finish(out, Ok(())),
+        Ok(false) => {
+            finish(out, Ok(()))?;
+            Err(Fault::Table)
+        }
+        Err(ListingError::Memory) => Err(Fault::Memory),
+        Err(ListingError::Write) => Err(Fault::File(STANDARD_OUTPUT)),
     }
 }
 

@@ -42,7 +42,7 @@ fn obey<'a, R: Files + Print + Eprint + AllocGlobal>(
     is_watched: bool,
 ) -> Result<(), Fault<'a>> {
     match read_words(rt.alloc(), words)? {
-        Plan::Table { file } => Err(Fault::File(file)),
+        Plan::Table { file } => listing::table(rt, file),
         Plan::Stream { file, whole } => listing::stream(rt, file, whole),
         Plan::Packets { file } => listing::packets(rt, file),
         Plan::Scenario { script, stream } => scenario::make_stream(rt, script, stream),

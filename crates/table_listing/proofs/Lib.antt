@@ -1,0 +1,5 @@
+mod Again
+mod Letters
+mod Meaning
+mod Reading
+mod Trees

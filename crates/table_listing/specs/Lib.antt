@@ -1,0 +1,9 @@
+pub mod ConditionText
+pub mod Formula
+pub mod Headers
+pub mod Judged
+pub mod Laws
+pub mod Lines
+pub mod Reading
+pub mod Shown
+pub mod Words

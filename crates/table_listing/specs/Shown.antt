@@ -1,0 +1,31 @@
+-- Bytes and numbers as they are shown. This project's own.
+use Rattle.std.specs.Prelude.{ℕ, ◌^◌, ◌-◌, ◌&&◌, Bool, true, false, if◌then◌else◌, nat_le, List, [], ◌∷◌, ◌++◌, flat_map, codes}
+use Rattle.std.specs.Fmt.{digits, padded_integral, format_spec}
+
+-- hexadecimal digits: two small ones of a byte
+abbrev pub two_digits : ℕ → List ℕ
+two_digits n = padded_integral (format_spec 32 0 4 2 (2 ^ 64 - 1)) false [] (digits 16 false n)
+
+-- at least four capital ones
+abbrev pub four_digits : ℕ → List ℕ
+four_digits n = padded_integral (format_spec 32 0 4 4 (2 ^ 64 - 1)) false [] (digits 16 true n)
+
+-- as many capital ones as there are
+abbrev pub hex_digits : ℕ → List ℕ
+hex_digits n = digits 16 true n
+
+-- bytes in hexadecimal
+abbrev pub in_hex : List ℕ → List ℕ
+in_hex = flat_map two_digits
+
+-- a byte of ASCII that can be printed
+abbrev pub is_printable : ℕ → Bool
+is_printable b = nat_le 0x20 b && nat_le b 0x7E
+
+-- a byte as it is where it can be printed, else `\x` and its two digits
+abbrev pub shown_byte : ℕ → List ℕ
+shown_byte b = if is_printable b then b ∷ [] else codes "\\x" ++ two_digits b
+
+-- bytes, one behind the other
+abbrev pub shown : List ℕ → List ℕ
+shown = flat_map shown_byte

@@ -1,0 +1,23 @@
+//! Table files as text that a flight team reads: equations are decompiled to conditions, and each entry of a sound image is
+//! listed in the words of the rule language.
+#![tactic(auto)]
+
+mod decompiler;
+mod equation;
+mod error;
+mod headers;
+mod judged;
+pub mod laws;
+mod lines;
+mod listing;
+mod shown;
+mod words;
+
+pub use decompiler::decompile;
+pub use equation::{Equation, Operator};
+pub use error::ListingError;
+pub use headers::{FileLine, PreambleLines, TableLine};
+pub use judged::{FaultLine, RefusalLine};
+pub use lines::{ActionpointLine, WatchpointLine};
+pub use listing::list_table;
+pub use shown::{InHex, Shown};

@@ -1,0 +1,91 @@
+//! The lines of entries.
+
+ghost use Rattle.std.specs.Prelude.{Some, [], ◌≡◌};
+ghost use Rattle.table_listing.specs.Formula.{formula_of};
+ghost use Rattle.table_listing.specs.Lines as line;
+
+use crate::equation::Equation;
+use crate::shown::Shown;
+use crate::words::{comparison_sign, level_word, state_word, type_word};
+use lc_model::{ApMode, EventKind, ReportMaxima, Term};
+use std::fmt::{self, Display, Formatter, Write};
+
+/// The line of a watchpoint, as `w0: u16be at 12 mask 0xFFFF of 0x0883 < 2400 stale 2`.
+#[derive(Clone, Copy)]
+pub struct WatchpointLine {
+    pub number: u16,
+    pub term: Term,
+}
+
+impl Display for WatchpointLine {
+    ghost output = { λ w. Some (line.watchpoint_line w.number w.term) };
+
+    fn fmt<W: Write>(&self, f: &mut Formatter<W>) -> fmt::Result {
+        let number = self.number;
+        let Term {
+            kind,
+            mid,
+            offset,
+            mask,
+            stale,
+            op,
+            value,
+        } = self.term;
+        let (kind, sign) = (type_word(kind), comparison_sign(op));
+        write!(
+            f,
+            "w{number}: {kind} at {offset} mask 0x{mask:X} of 0x{mid:04X} {sign} {value} stale {stale}"
+        )
+    }
+}
+
+/// The line of an actionpoint, as `a0: active fails 2 sequence 7 event error 1001 "low volts" report 0 0 0 when w0`.
+#[derive(Clone, Copy)]
+pub struct ActionpointLine<'a> {
+    pub number: u16,
+    pub mode: ApMode,
+    pub fails: u16,
+    pub sequence: u16,
+    pub event_kind: EventKind,
+    pub event_id: u16,
+    pub text: &'a [u8],
+    pub report: ReportMaxima,
+    pub condition: &'a Equation,
+}
+
+impl Display for ActionpointLine<'_> {
+    ghost output = { λ a. Some (line.actionpoint_line a.number (record {
+      mode = a.mode;
+      report = a.report;
+      sequence = a.sequence;
+      fails = a.fails;
+      event_kind = a.event_kind;
+      event_id = a.event_id;
+      text = a.text.now;
+      words = [];
+    }) (formula_of a.condition.now)) };
+
+    fn fmt<W: Write>(&self, f: &mut Formatter<W>) -> fmt::Result {
+        let ActionpointLine {
+            number,
+            mode,
+            fails,
+            sequence,
+            event_kind,
+            event_id,
+            text,
+            report,
+            condition,
+        } = *self;
+        let (state, level, text) = (state_word(mode), level_word(event_kind), Shown(text));
+        let ReportMaxima {
+            passive,
+            pass_to_fail,
+            fail_to_pass,
+        } = report;
+        write!(
+            f,
+            "a{number}: {state} fails {fails} sequence {sequence} event {level} {event_id} \"{text}\" report {passive} {pass_to_fail} {fail_to_pass} when {condition}"
+        )
+    }
+}

@@ -1,0 +1,155 @@
+//! The listing of a table file.
+
+ghost use Rattle.std.specs.Prelude.{ℕ, ◌≡◌, ◌<◌, ◌≤◌, ◌++◌, IfOk, OnOk, codes};
+ghost use Rattle.std.specs.Io.KnownBytes.{Appends};
+ghost use Rattle.lc_model.specs.Codes.{table_entries};
+ghost use Rattle.lc_model.specs.declared.kind.Kind.TheVariants.{Wdt, Adt};
+ghost use Rattle.lc_model.specs.Tables.Image.{Watchpoints, all_words, entry_at, own_count, words_before_equal};
+ghost use Rattle.lc_model.specs.Tables.Spelled.{spelled_term};
+ghost use Rattle.table_validator.specs.Sound.{HasSoundActionpoints, IsSoundEquation};
+ghost use Rattle.table_listing.specs.Formula.{IsTreeOf, formula_of};
+ghost use Rattle.table_listing.specs.Judged.{is_sound_file, is_sound_image};
+ghost use Rattle.table_listing.specs.Lines as line;
+
+use crate::decompiler::decompile;
+use crate::equation::Equation;
+use crate::error::ListingError;
+use crate::headers::{FileLine, PreambleLines, TableLine};
+use crate::judged::{FaultLine, PREAMBLE, RefusalLine, kind_of_image};
+use crate::lines::{ActionpointLine, WatchpointLine};
+use lc_model::Kind;
+use std::alloc::{AllocError, Global};
+use std::io::Write;
+use table_file::{ActionpointEntry, preamble};
+use table_validator::{ValidImage, validate};
+
+/// The words of an entry's equation before EQUAL.
+fn words_of(alloc: Global, entry: &ActionpointEntry) -> Result<Vec<u16>, AllocError>
+    ensures { IfOk result (λ words. words.items ≡ words_before_equal (all_words entry.now)) }
+{
+    let mut words = Vec::new(alloc);
+    for number in 0..entry.equation_length() {
+        words.push(entry.word(number))?;
+    }
+    Ok(words)
+}
+
+/// The condition of an entry's equation.
+fn condition_of(alloc: Global, entry: &ActionpointEntry) -> Result<Equation, AllocError>
+    requires { (count : ℕ) × (count ≤ table_entries) × IsSoundEquation count (words_before_equal (all_words entry.now)) }
+    ensures { IfOk result (λ condition. IsTreeOf (words_before_equal (all_words entry.now)) (formula_of condition)) }
+{
+    let words = words_of(alloc, entry)?;
+    decompile(alloc, words.as_slice())
+}
+
+/// The line of a watchpoint.
+fn list_watchpoint<W: Write>(
+    valid: &ValidImage,
+    number: u16,
+    out: &mut W,
+) -> Result<(), ListingError>
+    requires kind { valid.now.kind ≡ Wdt }
+    requires used { number < own_count valid.now.bytes }
+    ensures { OnOk result (Appends (W.contents out.old) (W.contents out.new)
+        (line.watchpoint_line number (spelled_term (entry_at Watchpoints valid.now.bytes number)) ++ codes "\n")) }
+{
+    let term = valid.watchpoint(usize::from(number)).term();
+    writeln!(out, "{}", WatchpointLine { number, term })?;
+    Ok(())
+}
+
+/// The line of an actionpoint.
+fn list_actionpoint<W: Write>(
+    alloc: Global,
+    valid: &ValidImage,
+    number: u16,
+    out: &mut W,
+) -> Result<(), ListingError>
+    requires kind { valid.now.kind ≡ Adt }
+    requires used { number < own_count valid.now.bytes }
+    requires sound { HasSoundActionpoints valid.now.bytes }
+{
+    let entry = valid.actionpoint(usize::from(number));
+    let condition = condition_of(alloc, &entry)?;
+    let line = ActionpointLine {
+        number,
+        mode: entry.mode(),
+        fails: entry.fails(),
+        sequence: entry.sequence(),
+        event_kind: entry.event_kind(),
+        event_id: entry.event_id(),
+        text: entry.text(),
+        report: entry.report(),
+        condition: &condition,
+    };
+    writeln!(out, "{line}")?;
+    Ok(())
+}
+
+/// The lines of the used entries of an image.
+fn list_entries<W: Write>(
+    alloc: Global,
+    valid: &ValidImage,
+    out: &mut W,
+) -> Result<(), ListingError> {
+    let used = preamble::own_count(valid.image());
+    match valid.kind() {
+        Kind::Wdt => {
+            for number in 0..used {
+                list_watchpoint(valid, number, out)?;
+            }
+        }
+        Kind::Adt => {
+            for number in 0..used {
+                list_actionpoint(alloc, valid, number, out)?;
+            }
+        }
+    }
+    Ok(())
+}
+
+/// The lines of an image: its preamble, and its entries or its fault.
+fn list_image<W: Write>(alloc: Global, image: &[u8], out: &mut W) -> Result<bool, ListingError>
+    ensures { IfOk result (λ sound. sound ≡ is_sound_image image.now) }
+{
+    if image.len() >= PREAMBLE {
+        writeln!(out, "{}", PreambleLines::of(image))?;
+    }
+    match validate(kind_of_image(image), image) {
+        Ok(valid) => {
+            list_entries(alloc, &valid, out)?;
+            Ok(true)
+        }
+        Err(fault) => {
+            writeln!(out, "{}", FaultLine(fault))?;
+            Ok(false)
+        }
+    }
+}
+
+/// Writes what a table file holds, a line each: the fields of its headers and of its image's preamble, and the watchpoint or
+/// the actionpoint of each used entry, with its equation as a condition. The answer is whether the file is sound; of one that
+/// isn't, the last line says the fault by its number and its meaning, and its entries aren't listed.
+///
+/// A file that can't be opened has that one line. An image is judged as the table whose kind its preamble has, 1 watchpoints
+/// and 2 actionpoints. Where it has another, it is judged as one of actionpoints if it has the length of such an image, and
+/// as one of watchpoints if not; so it has a fault either way. An image of under 40 bytes has no line for its preamble.
+///
+/// Memory is taken for one equation at a time. Errors: want of memory; bytes that the writer refuses. What was written by then
+/// stands.
+pub fn list_table<W: Write>(alloc: Global, file: &[u8], out: &mut W) -> Result<bool, ListingError>
+    ensures { IfOk result (λ sound. sound ≡ is_sound_file file.now) }
+{
+    match table_file::open(file) {
+        Ok(file) => {
+            writeln!(out, "{}", FileLine::of(&file))?;
+            writeln!(out, "{}", TableLine::of(&file))?;
+            list_image(alloc, file.image(), out)
+        }
+        Err(error) => {
+            writeln!(out, "{}", RefusalLine(error))?;
+            Ok(false)
+        }
+    }
+}

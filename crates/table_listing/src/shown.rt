@@ -1,0 +1,56 @@
+//! Bytes as they are shown.
+
+ghost use Rattle.std.specs.Prelude.{Some};
+ghost use Rattle.table_listing.specs.Shown.{in_hex, shown, shown_byte};
+
+use std::fmt::{self, Display, Formatter, Write};
+
+/// A byte: as it is where it is printable ASCII, else `\x` and two digits.
+#[derive(Clone, Copy)]
+struct ShownByte(u8);
+
+impl Display for ShownByte {
+    ghost output = { λ byte. Some (shown_byte byte.0) };
+
+    fn fmt<W: Write>(&self, f: &mut Formatter<W>) -> fmt::Result {
+        let byte = self.0;
+        if (0x20..=0x7E).contains(&byte) {
+            let letter = char::from(byte);
+            write!(f, "{letter}")
+        } else {
+            write!(f, "\\x{byte:02x}")
+        }
+    }
+}
+
+/// Bytes that are mostly text, each byte that can't be printed as `\x` and two digits. A backslash stands for itself, as in the
+/// texts of rules.
+#[derive(Clone, Copy)]
+pub struct Shown<'a>(pub &'a [u8]);
+
+impl Display for Shown<'_> {
+    ghost output = { λ bytes. Some (shown bytes.0.now) };
+
+    fn fmt<W: Write>(&self, f: &mut Formatter<W>) -> fmt::Result {
+        for byte in self.0 {
+            let byte = ShownByte(*byte);
+            write!(f, "{byte}")?;
+        }
+        Ok(())
+    }
+}
+
+/// Bytes in hexadecimal, two digits each.
+#[derive(Clone, Copy)]
+pub struct InHex<'a>(pub &'a [u8]);
+
+impl Display for InHex<'_> {
+    ghost output = { λ bytes. Some (in_hex bytes.0.now) };
+
+    fn fmt<W: Write>(&self, f: &mut Formatter<W>) -> fmt::Result {
+        for byte in self.0 {
+            write!(f, "{byte:02x}")?;
+        }
+        Ok(())
+    }
+}
