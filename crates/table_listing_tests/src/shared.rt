@@ -1,5 +1,7 @@
 //! Claims of tests, and files with their listings.
 
+ghost use Rattle.std.specs.Prelude.{◌≤◌};
+
 use lc_model::Kind;
 use std::fmt::Debug;
 use std::process::Abort;
@@ -19,22 +21,25 @@ pub fn same<R: Abort, W: Debug + Drop, T: Debug + PartialEq + Drop>(
 /// A hash: what it is of plays no part.
 const HASH: [u8; 32] = [0xA7; 32];
 
-/// The file of an image with this preamble before its hash, one entry, filled up with zeros, and 175 entries that aren't used.
+/// The file of an image with this preamble before its hash, one entry, filled up with zeros to its size, and 175 entries that
+/// aren't used.
 fn file_of<R: Abort + AllocGlobal>(
     rt: &R,
     kind: Kind,
     preamble: &[u8],
     entry: &[u8],
-    length: usize,
-) -> Vec<u8> {
+    size: usize,
+) -> Vec<u8>
+    requires { size ≤ 110 }
+{
     let mut image = Vec::from_slice(rt.alloc(), preamble).expect(rt, "no memory");
     image.extend_from_slice(&HASH).expect(rt, "no memory");
     image.extend_from_slice(entry).expect(rt, "no memory");
-    image.resize(40 + length, 0).expect(rt, "no memory");
+    image.resize(40 + size, 0).expect(rt, "no memory");
     for number in 1..176_usize {
         image.push(0xFF).expect(rt, "no memory");
         image
-            .resize(40 + length * (number + 1), 0)
+            .resize(40 + size * (number + 1), 0)
             .expect(rt, "no memory");
     }
     assert!(rt; image.len() <= 32_652, "the image's length");
