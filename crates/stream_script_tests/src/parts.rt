@@ -39,12 +39,12 @@ fn is_cut<R: Abort + AllocGlobal>(rt: &R, size: usize, whole: usize) {
 
 #[test]
 fn cut_at_each_byte(rt: HostRuntime) -> Result<(), Fail> {
-    let mut whole = 0;
-    let mut record = 0;
+    let mut whole = 0usize;
+    let mut record = 0usize;
     for size in 0..STREAM.len() {
-        if size == whole + size_of(record) {
+        if whole.checked_add(size_of(record)) == Some(size) {
             whole = size;
-            record += 1;
+            record = record.saturating_add(1);
         }
         is_cut(&rt, size, whole);
     }
