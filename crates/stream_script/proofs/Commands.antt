@@ -12,7 +12,7 @@ use Rattle.stream_script.specs.Error.{◌>>=◌}
 use Rattle.stream_script.specs.Kind.{kind_in}
 use Rattle.stream_script.specs.Number.{bytes_in}
 use Rattle.stream_script.specs.Part.{texts_of}
-use Rattle.stream_script.specs.Script.{Said, brought, name_field, record_brought, some_kind, statement}
+use Rattle.stream_script.specs.Script.{Said, brought, name_field, record_brought, some_kind, some_words}
 use denote.Ref.{Bor}
 
 in_front : (xs ys : List ℕ) → take (length xs) (xs ++ ys) ≡ xs
@@ -55,7 +55,7 @@ record_is said kind_text body_text kind body bytes known read same =
 
 -- ---- lines of too many words
 
-pub many_said : (said : Said) (words : List (Bor (List ℕ))) → 6 ≤ length words → statement said (texts_of words) ≡ Err UnknownStatement
+pub many_said : (said : Said) (words : List (Bor (List ℕ))) → 6 ≤ length words → some_words said (texts_of words) ≡ Err UnknownStatement
 many_said said [] many = absurd (omega (arith, many))
 many_said said (a ∷ []) many = absurd (omega (arith, many))
 many_said said (a ∷ b ∷ []) many = absurd (omega (arith, many))

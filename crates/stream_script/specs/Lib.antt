@@ -3,6 +3,7 @@ pub mod Kind
 pub mod Part
 pub mod Number
 pub mod Error
+pub mod Fields
 pub mod Script
 pub mod Front
 pub mod Whole

@@ -1,5 +1,5 @@
 -- Scripts: what each line says, and the stream that all lines say. This project's own.
-use Rattle.std.specs.Prelude.{ℕ, ◌+◌, ◌-◌, ◌==◌, List, [], ◌∷◌, ◌++◌, length, codes, bytes_eq, nat_le, Option, Some, None, Result, Ok, Err, if◌then◌else◌}
+use Rattle.std.specs.Prelude.{ℕ, ◌+◌, ◌-◌, Bool, false, ◌==◌, List, [], ◌∷◌, ◌++◌, length, codes, bytes_eq, nat_le, Option, Some, None, Result, Ok, Err, if◌then◌else◌}
 use Rattle.lc_model.specs.Bytes.{u16, u32, u16_at, zero_filled}
 use Rattle.lc_model.specs.Packet.{command, telemetry, executive_services_mid, table_services_mid, lc_housekeeping_request_mid, sample_mid}
 use Rattle.lc_model.specs.Host.ScheduleText.{is_silent}
@@ -9,6 +9,7 @@ use Rattle.stream_script.specs.declared.error.Reason.TheVariants.{UnknownStateme
 use Rattle.stream_script.specs.declared.kind.RecordKind.{RecordKind}
 use Rattle.stream_script.specs.declared.kind.RecordKind.TheVariants.{Packet, Tick, File, Half}
 use Rattle.stream_script.specs.Error.{ScriptFault, ◌>>=◌}
+use Rattle.stream_script.specs.Fields.{payload_of}
 use Rattle.stream_script.specs.Kind.{kind_in, kind_number, may_bring}
 use Rattle.stream_script.specs.Number.{bytes_in, number_in}
 use Rattle.stream_script.specs.Part.{lines_of, words_of}
@@ -150,6 +151,15 @@ telemetry_brought said mid count bytes = do
   payload ← bytes_in bytes
   telemetry_fits m n payload said
 
+-- `fields MID COUNT LENGTH {TYPE OFFSET VALUE}`: telemetry with this sequence count, this length and these fields, and the time of
+-- the moment
+abbrev pub fields_brought : Said → List ℕ → List ℕ → List ℕ → List (List ℕ) → Result Said Reason
+fields_brought said mid count size words = do
+  m ← mid_in mid
+  n ← number_in 16383 count
+  payload ← payload_of size words
+  Ok (told m n payload said)
+
 -- `command MID CODE BYTES`: the command of this code with this payload
 abbrev pub command_brought : Said → List ℕ → List ℕ → List ℕ → Result Said Reason
 command_brought said mid code bytes = do
@@ -200,14 +210,28 @@ five_words said verb a b c d =
     if bytes_eq verb (codes "record") then whole_record said a b c d
     else Err UnknownStatement
 
+-- what a line with these words says, where its statement has a certain number of words
+abbrev pub some_words : Said → List (List ℕ) → Result Said Reason
+some_words said (verb ∷ []) = one_word said verb
+some_words said (verb ∷ a ∷ []) = two_words said verb a
+some_words said (verb ∷ a ∷ b ∷ []) = three_words said verb a b
+some_words said (verb ∷ a ∷ b ∷ c ∷ []) = four_words said verb a b c
+some_words said (verb ∷ a ∷ b ∷ c ∷ d ∷ []) = five_words said verb a b c d
+some_words said words = Err UnknownStatement
+
+-- whether the first of these words is `fields`
+abbrev pub sets_fields : List (List ℕ) → Bool
+sets_fields [] = false
+sets_fields (verb ∷ words) = bytes_eq verb (codes "fields")
+
+-- what a line says whose first word is `fields`
+abbrev pub fields_said : Said → List (List ℕ) → Result Said Reason
+fields_said said (verb ∷ mid ∷ count ∷ size ∷ words) = fields_brought said mid count size words
+fields_said said words = Err UnknownStatement
+
 -- what a line with these words says
 abbrev pub statement : Said → List (List ℕ) → Result Said Reason
-statement said (verb ∷ []) = one_word said verb
-statement said (verb ∷ a ∷ []) = two_words said verb a
-statement said (verb ∷ a ∷ b ∷ []) = three_words said verb a b
-statement said (verb ∷ a ∷ b ∷ c ∷ []) = four_words said verb a b c
-statement said (verb ∷ a ∷ b ∷ c ∷ d ∷ []) = five_words said verb a b c d
-statement said words = Err UnknownStatement
+statement said words = if sets_fields words then fields_said said words else some_words said words
 
 -- the same, where a line without words or with `#` in front says nothing
 abbrev pub line_said : Said → List (List ℕ) → Result Said Reason

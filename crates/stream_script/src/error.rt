@@ -21,6 +21,12 @@ pub enum Reason {
     /// A word that has to be a kind of record is none of `packet`, `tick`, `file` and `half`.
     #[error("no kind of record")]
     UnknownKind,
+    /// A word that has to be a field's type is none of rule texts' ten.
+    #[error("no type of a field")]
+    UnknownType,
+    /// A field doesn't stand between the headers of its packet and the end.
+    #[error("a field is outside its packet")]
+    OutsidePacket,
     /// A record of this kind can't have this body.
     #[error("no body of a record of this kind")]
     BadBody,

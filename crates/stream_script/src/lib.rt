@@ -3,6 +3,7 @@
 #![tactic(auto)]
 
 mod error;
+mod fields;
 mod front;
 mod kind;
 pub mod laws;

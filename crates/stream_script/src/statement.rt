@@ -3,9 +3,10 @@
 ghost use Rattle.std.specs.Prelude.{◌≡◌, ◌<◌, ◌≤◌, ◌+◌, length, IfOk, IfErr, Ok};
 ghost use Rattle.stream_script.specs.Error.{IsRefused};
 ghost use Rattle.stream_script.specs.Part.{texts_of};
-ghost use Rattle.stream_script.specs.Script.{app_ordered, command_brought, command_fits, file_brought, five_words, four_words, half_brought, moment_set, moved_on, one_word, packet_brought, record_brought, sample_requested, statement, table_ordered, telemetry_brought, telemetry_fits, three_words, told, two_words, whole_record};
+ghost use Rattle.stream_script.specs.Script.{app_ordered, command_brought, command_fits, fields_brought, fields_said, file_brought, five_words, four_words, half_brought, moment_set, moved_on, one_word, packet_brought, record_brought, sample_requested, sets_fields, some_words, statement, table_ordered, telemetry_brought, telemetry_fits, three_words, told, two_words, whole_record};
 
 use crate::error::{Fault, Reason};
+use crate::fields::payload_of;
 use crate::kind::{RecordKind, some_kind};
 use crate::number::number_in;
 use crate::script::Script;
@@ -173,6 +174,25 @@ fn told(script: Script, mid: u16, count: u16, payload: &[u8]) -> Result<Script, 
     script.telemetry(mid, count, time, payload)
 }
 
+/// `fields MID COUNT LENGTH {TYPE OFFSET VALUE}`: telemetry with this sequence count, this length and these fields, and the time
+/// of the moment.
+fn fields_brought(
+    alloc: Global,
+    script: Script,
+    mid: &[u8],
+    count: &[u8],
+    size: &[u8],
+    words: &[&[u8]],
+) -> Result<Script, Fault>
+    ensures said { IfOk result (λ after. fields_brought script mid.now count.now size.now (texts_of words.now) ≡ Ok after) }
+    ensures refused { IfErr result (IsRefused (fields_brought script mid.now count.now size.now (texts_of words.now))) }
+{
+    let mid = mid_in(alloc, mid)?;
+    let count = number_in(16_383, count)?;
+    let payload = payload_of(alloc, size, words)?;
+    Ok(told(script, mid, count as u16, payload.as_slice())?)
+}
+
 /// `command MID CODE BYTES`: the command of this code with this payload.
 fn command_brought(
     alloc: Global,
@@ -306,10 +326,10 @@ fn five_words(
     whole_record(alloc, script, a, b, c, d)
 }
 
-/// What a line with these words says.
-pub(crate) fn statement(alloc: Global, script: Script, words: &[&[u8]]) -> Result<Script, Fault>
-    ensures said { IfOk result (λ after. statement script (texts_of words.now) ≡ Ok after) }
-    ensures refused { IfErr result (IsRefused (statement script (texts_of words.now))) }
+/// What a line with these words says, where its statement has a certain number of words.
+fn some_words(alloc: Global, script: Script, words: &[&[u8]]) -> Result<Script, Fault>
+    ensures said { IfOk result (λ after. some_words script (texts_of words.now) ≡ Ok after) }
+    ensures refused { IfErr result (IsRefused (some_words script (texts_of words.now))) }
 {
     match words {
         [verb] => one_word(script, verb),
@@ -320,4 +340,38 @@ pub(crate) fn statement(alloc: Global, script: Script, words: &[&[u8]]) -> Resul
         [] => Err(Fault::Line(Reason::UnknownStatement)),
         [_, _, _, _, _, _, ..] => Err(Fault::Line(Reason::UnknownStatement)),
     }
+}
+
+/// Whether the first of these words is `fields`.
+fn sets_fields(words: &[&[u8]]) -> bool
+    ensures { result ≡ sets_fields (texts_of words.now) }
+{
+    match words {
+        [] => false,
+        [verb, ..] => is(verb, b"fields"),
+    }
+}
+
+/// What a line says whose first word is `fields`.
+fn fields_said(alloc: Global, script: Script, words: &[&[u8]]) -> Result<Script, Fault>
+    ensures said { IfOk result (λ after. fields_said script (texts_of words.now) ≡ Ok after) }
+    ensures refused { IfErr result (IsRefused (fields_said script (texts_of words.now))) }
+{
+    match words {
+        [_, mid, count, size, fields @ ..] => fields_brought(
+            alloc, script, mid, count, size, fields,
+        ),
+        [] | [_] | [_, _] | [_, _, _] => Err(Fault::Line(Reason::UnknownStatement)),
+    }
+}
+
+/// What a line with these words says.
+pub(crate) fn statement(alloc: Global, script: Script, words: &[&[u8]]) -> Result<Script, Fault>
+    ensures said { IfOk result (λ after. statement script (texts_of words.now) ≡ Ok after) }
+    ensures refused { IfErr result (IsRefused (statement script (texts_of words.now))) }
+{
+    if sets_fields(words) {
+        return fields_said(alloc, script, words);
+    }
+    some_words(alloc, script, words)
 }

@@ -55,34 +55,34 @@ adt 0 /cf/lc_def_adt.tbl\n\
 packet 1806c000001501004c43000000000000000000000000000000000000\n\
 packet 1806c000001501005343480000000000000000000000000000000000\n\
 after 1\n\
-telemetry 0883 0 0abe0015\n\
+fields 0883 0 16 u16be 12 2750 i16be 14 21\n\
 tick\n\
 after 1\n\
-telemetry 0883 1 0a320018\n\
+fields 0883 1 16 u16be 12 2610 i16be 14 24\n\
 tick\n\
 after 1\n\
-telemetry 0883 2 0956001e\n\
+fields 0883 2 16 u16be 12 2390 i16be 14 30\n\
 tick\n\
 after 1\n\
-telemetry 0883 3 09510026\n\
+fields 0883 3 16 u16be 12 2385 i16be 14 38\n\
 tick\n\
 after 1\n\
-telemetry 0883 4 094c002d\n\
+fields 0883 4 16 u16be 12 2380 i16be 14 45\n\
 tick\n\
 after 1\n\
-telemetry 0883 5 09b00037\n\
+fields 0883 5 16 u16be 12 2480 i16be 14 55\n\
 tick\n\
 after 1\n\
-telemetry 0883 6 09d8003f\n\
+fields 0883 6 16 u16be 12 2520 i16be 14 63\n\
 tick\n\
 after 1\n\
-telemetry 0883 7 0a28003d\n\
+fields 0883 7 16 u16be 12 2600 i16be 14 61\n\
 tick\n\
 after 1\n\
-telemetry 0883 8 0a1e0042\n\
+fields 0883 8 16 u16be 12 2590 i16be 14 66\n\
 tick\n\
 after 1\n\
-telemetry 0883 9 0a140040\n\
+fields 0883 9 16 u16be 12 2580 i16be 14 64\n\
 tick\n\n";
 
 /// Its listing, as far as the third tick.

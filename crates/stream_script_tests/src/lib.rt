@@ -6,6 +6,8 @@
 mod bus;
 pub mod cuts;
 #[cfg(test)]
+mod fields;
+#[cfg(test)]
 mod parts;
 #[cfg(test)]
 mod shared;

@@ -1,9 +1,8 @@
 //! What each statement says, in bytes made by hand from the formats; and why a line says nothing.
 
-use crate::shared::same;
-use std::process::Abort;
+use crate::shared::{is_refused, says};
 use std::test::Fail;
-use stream_script::{Reason, ScriptError, read_script, write_script};
+use stream_script::Reason;
 
 /// Scripts, and their streams.
 const SAID: &[(&[u8], &[u8])] = &[
@@ -236,21 +235,6 @@ const REFUSED: &[(&[u8], usize, Reason)] = &[
         Reason::LongName,
     ),
 ];
-
-/// The script says this stream, and the stream's own script says it again.
-fn says<R: Abort + AllocGlobal>(rt: &R, script: &[u8], stream: &[u8]) {
-    let found = read_script(rt.alloc(), script).expect(rt, "a stream");
-    same(rt, script, found.as_slice(), stream);
-    let whole = write_script(rt.alloc(), stream).expect(rt, "its script");
-    let again = read_script(rt.alloc(), whole.as_slice()).expect(rt, "the stream again");
-    same(rt, script, again.as_slice(), stream);
-}
-
-/// The script is refused so.
-fn is_refused<R: Abort + AllocGlobal>(rt: &R, script: &[u8], n: usize, reason: Reason) {
-    let found = read_script(rt.alloc(), script).err();
-    same(rt, script, found, Some(ScriptError::Line { n, reason }));
-}
 
 #[test]
 fn each_statement_says_its_records(rt: HostRuntime) -> Result<(), Fail> {

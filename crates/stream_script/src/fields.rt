@@ -1,0 +1,188 @@
+//! Payloads whose fields are set by type and offset.
+
+ghost use Rattle.std.specs.Prelude.{◌≡◌, ◌≤◌, ◌+◌, IsTrue, true, length, take, codes, bytes_eq, IfOk, IfErr, Ok, Err};
+ghost use Rattle.lc_model.specs.Field.{is_in_type, width};
+ghost use Rattle.lc_model.specs.Tables.Image.{bits_32, fits_32_bits};
+ghost use Rattle.lc_model.specs.Text.Class.{field_type};
+ghost use Rattle.lc_model.specs.Text.Token.{magnitude_text};
+ghost use Rattle.stream_script.specs.Error.{IsRefused};
+ghost use Rattle.stream_script.specs.Fields.{field_bytes, field_set, fields_set, payload_of, payload_size, place_in, signed_number, some_type, value_in, written_at};
+ghost use Rattle.stream_script.specs.Part.{texts_of};
+
+use crate::error::{Fault, Reason};
+use crate::number::number_in;
+use lc_model::FieldType;
+use std::alloc::Global;
+
+/// The bytes of telemetry's headers.
+const HEADERS: usize = 12;
+
+/// The type that the word names.
+fn field_type(word: &[u8]) -> Option<FieldType>
+    ensures { result ≡ field_type word.now }
+{
+    match word {
+        b"u8" => Some(FieldType::U8),
+        b"i8" => Some(FieldType::I8),
+        b"u16be" => Some(FieldType::U16Be),
+        b"u16le" => Some(FieldType::U16Le),
+        b"i16be" => Some(FieldType::I16Be),
+        b"i16le" => Some(FieldType::I16Le),
+        b"u32be" => Some(FieldType::U32Be),
+        b"u32le" => Some(FieldType::U32Le),
+        b"i32be" => Some(FieldType::I32Be),
+        b"i32le" => Some(FieldType::I32Le),
+        _ => None,
+    }
+}
+
+/// The same, which has to be there.
+fn some_type(word: &[u8]) -> Result<FieldType, Reason>
+    ensures { result ≡ some_type (field_type word.now) }
+{
+    match field_type(word) {
+        Some(kind) => Ok(kind),
+        None => Err(Reason::UnknownType),
+    }
+}
+
+/// Whether `-` stands in front.
+fn is_negative(word: &[u8]) -> bool
+    ensures { result ≡ bytes_eq (take 1 word.now) (codes "-") }
+{
+    matches!(word, [b'-', ..])
+}
+
+/// The word without the `-` in front.
+fn unsigned(word: &[u8]) -> &[u8]
+    ensures { result.now ≡ magnitude_text word.now }
+{
+    if is_negative(word) { &word[1..] } else { word }
+}
+
+/// The number that digits write, negative where `-` stands in front.
+fn signed_number(word: &[u8]) -> Result<i64, Reason>
+    ensures { result ≡ signed_number word.now }
+{
+    let number = i64::from(number_in(u32::MAX, unsigned(word))?);
+    Ok(if is_negative(word) { -number } else { number })
+}
+
+/// The number of this type that a word writes.
+fn value_in(kind: FieldType, word: &[u8]) -> Result<i64, Reason>
+    ensures exact { result ≡ value_in kind word.now }
+    ensures fits { IfOk result (λ z. is_in_type kind z ≡ true) }
+{
+    let value = signed_number(word)?;
+    if !kind.has(value) {
+        return Err(Reason::BadNumber);
+    }
+    Ok(value)
+}
+
+/// How long the payload of a packet is whose length the word writes.
+fn payload_size(word: &[u8]) -> Result<usize, Reason>
+    ensures exact { result ≡ payload_size word.now }
+    ensures most { IfOk result (λ size. size ≤ 2036) }
+{
+    let size = number_in(2_048, word)? as usize;
+    if size < HEADERS {
+        return Err(Reason::BadNumber);
+    }
+    Ok(size - HEADERS)
+}
+
+/// Where in a payload of this size the field of this type stands whose offset in the packet the word writes.
+fn place_in(kind: FieldType, size: usize, word: &[u8]) -> Result<usize, Reason>
+    requires { size ≤ 2036 }
+    ensures exact { result ≡ place_in kind size word.now }
+    ensures inside { IfOk result (λ place. place + width kind ≤ size) }
+{
+    let offset = number_in(u32::MAX, word)? as usize;
+    if offset < HEADERS || offset + kind.width() > HEADERS + size {
+        return Err(Reason::OutsidePacket);
+    }
+    Ok(offset - HEADERS)
+}
+
+/// A number in 32 bits, in two's complement.
+fn bits_of(kind: FieldType, value: i64) -> u32
+    requires { IsTrue (fits_32_bits kind value) }
+    ensures { result ≡ bits_32 value }
+{
+    if value < 0 {
+        (value + 0x1_0000_0000) as u32
+    } else {
+        value as u32
+    }
+}
+
+/// A payload with bytes written over those at a place.
+fn written_at(mut payload: Vec<u8>, place: usize, bytes: &[u8]) -> Vec<u8>
+    requires { place + length bytes.now ≤ length payload.items }
+    ensures written { result.items ≡ written_at place bytes.now payload.items }
+    ensures same_size { length result.items ≡ length payload.items }
+{
+    payload[place..place + bytes.len()].copy_from_slice(bytes);
+    payload
+}
+
+/// A payload with the last of these bits in the field of this type at a place.
+fn with_bits(payload: Vec<u8>, kind: FieldType, place: usize, bits: u32) -> Vec<u8>
+    requires { place + width kind ≤ length payload.items }
+    ensures written { result.items ≡ written_at place (field_bytes kind bits) payload.items }
+    ensures same_size { length result.items ≡ length payload.items }
+{
+    let low_byte = (bits % 0x100) as u8;
+    let low_half = (bits % 0x1_0000) as u16;
+    match kind {
+        FieldType::U8 | FieldType::I8 => written_at(payload, place, &[low_byte]),
+        FieldType::U16Be | FieldType::I16Be => written_at(payload, place, &low_half.to_be_bytes()),
+        FieldType::U16Le | FieldType::I16Le => written_at(payload, place, &low_half.to_le_bytes()),
+        FieldType::U32Be | FieldType::I32Be => written_at(payload, place, &bits.to_be_bytes()),
+        FieldType::U32Le | FieldType::I32Le => written_at(payload, place, &bits.to_le_bytes()),
+    }
+}
+
+/// TYPE OFFSET VALUE: a payload with this field set.
+fn field_set(payload: Vec<u8>, kind: &[u8], offset: &[u8], value: &[u8]) -> Result<Vec<u8>, Reason>
+    requires { length payload.items ≤ 2036 }
+    ensures set { IfOk result (λ after. field_set payload.items kind.now offset.now value.now ≡ Ok after.items) }
+    ensures same_size { IfOk result (λ after. length after.items ≡ length payload.items) }
+    ensures refused { IfErr result (λ reason. field_set payload.items kind.now offset.now value.now ≡ Err reason) }
+{
+    let kind = some_type(kind)?;
+    let place = place_in(kind, payload.len(), offset)?;
+    let value = value_in(kind, value)?;
+    Ok(with_bits(payload, kind, place, bits_of(kind, value)))
+}
+
+/// A payload with the fields of these words set, one after the other.
+fn fields_set(payload: Vec<u8>, words: &[&[u8]]) -> Result<Vec<u8>, Reason>
+    requires { length payload.items ≤ 2036 }
+    ensures set { IfOk result (λ after. fields_set payload.items (texts_of words.now) ≡ Ok after.items) }
+    ensures same_size { IfOk result (λ after. length after.items ≡ length payload.items) }
+    ensures refused { IfErr result (λ reason. fields_set payload.items (texts_of words.now) ≡ Err reason) }
+{
+    let mut after = payload;
+    let mut left = words;
+    while let [kind, offset, value, others @ ..] = left {
+        after = field_set(after, kind, offset, value)?;
+        left = others;
+    }
+    if !left.is_empty() {
+        return Err(Reason::UnknownStatement);
+    }
+    Ok(after)
+}
+
+/// LENGTH {TYPE OFFSET VALUE}: the payload of a packet of this length, zeros but for the fields.
+pub(crate) fn payload_of(alloc: Global, size: &[u8], words: &[&[u8]]) -> Result<Vec<u8>, Fault>
+    ensures said { IfOk result (λ payload. payload_of size.now (texts_of words.now) ≡ Ok payload.items) }
+    ensures refused { IfErr result (IsRefused (payload_of size.now (texts_of words.now))) }
+    ensures most { IfOk result (λ payload. length payload.items ≤ 2036) }
+{
+    let size = payload_size(size)?;
+    let zeros = vec![in alloc; 0; size]?;
+    Ok(fields_set(zeros, words)?)
+}
