@@ -9,5 +9,6 @@ mod conditions;
 mod faults;
 #[cfg(test)]
 mod files;
+pub mod forms;
 #[cfg(test)]
 mod shared;

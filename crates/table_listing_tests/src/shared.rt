@@ -2,6 +2,7 @@
 
 ghost use Rattle.std.specs.Prelude.{◌≤◌};
 
+use crate::forms::entry_size;
 use lc_model::Kind;
 use std::fmt::Debug;
 use std::process::Abort;
@@ -70,7 +71,7 @@ pub fn actionpoints<R: Abort + AllocGlobal>(rt: &R, version: u8, words: &[u16]) 
     entry
         .extend_from_slice(&[0xFF, 0x05])
         .expect(rt, "no memory");
-    let length = if version == 1 { 86 } else { 110 };
+    let length = entry_size(version);
     let preamble = [0, version, 0, 2, 0, 1, 0, 5];
     file_of(rt, Kind::Adt, &preamble, entry.as_slice(), length)
 }
