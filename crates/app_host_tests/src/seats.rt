@@ -1,8 +1,8 @@
 //! Which seats applications have: the least ready seat is served first, so that the letters stand in the order of seats.
 
-use crate::script::Given::{Order, Tick};
-use crate::script::Line::{Calls, Spares, Step};
-use crate::script::Said::{Done, Letters, Refused};
+use crate::script::Given::{Command, Order, Tick};
+use crate::script::Line::{Calls, Drops, Packets, Spares, Step};
+use crate::script::Said::{Count, Done, Letters, Refused};
 use crate::script::{Said, Spare};
 use crate::shared::all_holds;
 
@@ -103,6 +103,35 @@ fn a_ninth_application_finds_no_seat(rt: HostRuntime) {
         Step(Order(STOP, b"E"), STOPPED),
         Step(Order(START, b"I"), STARTED),
         Step(Tick, &[Letters(b"ABCDIFGH")]),
+    ];
+    all_holds(&rt, spares, script);
+}
+
+/// The script ends with a counter on the last seat. As the host is closed it retires and is dropped, which `plays` asks for.
+#[test]
+fn the_last_seat_is_vacated_with_the_others(rt: HostRuntime) {
+    let spares = &[
+        Spare::Writing(0),
+        Spare::Writing(1),
+        Spare::Writing(2),
+        Spare::Writing(3),
+        Spare::Writing(4),
+        Spare::Writing(5),
+        Spare::Writing(6),
+        Spare::Counting,
+    ];
+    let script = &[
+        Step(Order(START, b"A"), STARTED),
+        Step(Order(START, b"B"), STARTED),
+        Step(Order(START, b"C"), STARTED),
+        Step(Order(START, b"D"), STARTED),
+        Step(Order(START, b"E"), STARTED),
+        Step(Order(START, b"F"), STARTED),
+        Step(Order(START, b"G"), STARTED),
+        Step(Order(START, b"COUNTER"), STARTED),
+        Step(Command(0x18C1, 1, b""), &[Count(b"count 1")]),
+        Packets(1),
+        Drops(0),
     ];
     all_holds(&rt, spares, script);
 }

@@ -1,5 +1,5 @@
 -- What is known of items of which nothing is refused.
-use Rattle.std.proofs.Common.{◌≡◌, sym, ◌∙◌, ap, subst, ◌^◌, ℕ, zero, suc, ◌+◌, ◌<◌, ◌≤◌, Bool, true, false, cond, ◌||◌, List, [], ◌∷◌, Option, Some, ℤ, pos, negsuc, bytes_eq, length, get_or, arith}
+use Rattle.std.proofs.Common.{◌≡◌, sym, ◌∙◌, ap, subst, ◌^◌, ℕ, zero, suc, ◌+◌, ◌*◌, ◌<◌, ◌≤◌, Bool, true, false, cond, ◌||◌, List, [], ◌∷◌, ◌++◌, Option, Some, ℤ, pos, negsuc, bytes_eq, length, get_or, arith}
 use Rattle.std.specs.Prelude.{nat_abs, int_lt, is_none, flat_map}
 use Rattle.std.proofs.lemmas.Bool.Decides.{nat_tests}
 use Rattle.lc_model.specs.Condition.{Operator}
@@ -79,29 +79,20 @@ size (model.Compare name op n) = 1
 size (model.Not e) = size e + 1
 size (model.Join o a b) = size a + size b + 1
 
--- an operand is smaller, and nothing of it is refused
-pub record IsCleanOperand (items : List model.Item) (whole operand : model.Expression) : Type 0 where
-  pub smaller : size operand < size whole
-  pub clean : condition_faults items operand ≡ []
+-- operands are smaller, and nothing of them is refused
+pub record AreCleanOperands (items : List model.Item) (whole first second : model.Expression) : Type 0 where
+  pub smaller : 2 * (size first + size second) + 1 < 2 * size whole
+  pub first_clean : condition_faults items first ≡ []
+  pub second_clean : condition_faults items second ≡ []
 
-pub left_clean : (items : List model.Item) (o : Operator) (a b whole operand : model.Expression) → whole ≡ model.Join o a b → operand ≡ a →
-    condition_faults items whole ≡ [] → IsCleanOperand items whole operand
-left_clean items o a b whole operand is same clean =
+pub operands_clean : (items : List model.Item) (o : Operator) (a b whole first second : model.Expression) → whole ≡ model.Join o a b → first ≡ a → second ≡ b →
+    condition_faults items whole ≡ [] → AreCleanOperands items whole first second
+operands_clean items o a b whole first second is one two clean =
     let sizes : size whole ≡ size a + size b + 1 = ap size is in
-    let one : size operand ≡ size a = ap size same in record {
+    let size_one : size first ≡ size a = ap size one in
+    let size_two : size second ≡ size b = ap size two in
+    let none : condition_faults items a ++ condition_faults items b ≡ [] = sym (ap (condition_faults items) is) ∙ clean in record {
       smaller = omega arith;
-      clean =
-          ap (condition_faults items) same
-          ∙ append_none_first (condition_faults items a) (condition_faults items b) (sym (ap (condition_faults items) is) ∙ clean);
-    }
-
-pub right_clean : (items : List model.Item) (o : Operator) (a b whole operand : model.Expression) → whole ≡ model.Join o a b → operand ≡ b →
-    condition_faults items whole ≡ [] → IsCleanOperand items whole operand
-right_clean items o a b whole operand is same clean =
-    let sizes : size whole ≡ size a + size b + 1 = ap size is in
-    let one : size operand ≡ size b = ap size same in record {
-      smaller = omega arith;
-      clean =
-          ap (condition_faults items) same
-          ∙ append_none_second (condition_faults items a) (condition_faults items b) (sym (ap (condition_faults items) is) ∙ clean);
+      first_clean = ap (condition_faults items) one ∙ append_none_first (condition_faults items a) (condition_faults items b) none;
+      second_clean = ap (condition_faults items) two ∙ append_none_second (condition_faults items a) (condition_faults items b) none;
     }

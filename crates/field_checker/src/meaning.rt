@@ -66,7 +66,28 @@ fn term<'a>(names: &Names<'_, 'a>, comparison: &Comparison<'a>) -> Term
     watchpoint(field, packet, comparison)
 }
 
+/// The two conditions, in one box, with the names replaced by what they name. What waits for the second stands here, so that a
+/// comparison costs none of it.
+#[cycle(conditions)]
+fn operands<'a>(
+    alloc: Global,
+    names: &Names<'_, 'a>,
+    first: &Expression<'a>,
+    second: &Expression<'a>,
+) -> Result<Box<(Cond, Cond)>, AllocError>
+    requires accepted { faults (items_of names.now.items.now) ≡ [] }
+    requires first { condition_faults (items_of names.now.items.now) (expression_of first.now) ≡ [] }
+    requires second { condition_faults (items_of names.now.items.now) (expression_of second.now) ≡ [] }
+    ensures first { IfOk result (λ found. condition_in (items_of names.now.items.now) (expression_of first.now) ≡ Some (condition_of found.value.0)) }
+    ensures second { IfOk result (λ found. condition_in (items_of names.now.items.now) (expression_of second.now) ≡ Some (condition_of found.value.1)) }
+{
+    let first = condition(alloc, names, first)?;
+    let second = condition(alloc, names, second)?;
+    Ok(Box::new(alloc, (first, second))?)
+}
+
 /// The condition, with the names replaced by what they name. The recursion is as deep as the condition.
+#[cycle(conditions)]
 fn condition<'a>(
     alloc: Global,
     names: &Names<'_, 'a>,
@@ -76,28 +97,16 @@ fn condition<'a>(
     requires clean { condition_faults (items_of names.now.items.now) (expression_of expression.now) ≡ [] }
     ensures { IfOk result (λ cond. condition_in (items_of names.now.items.now) (expression_of expression.now) ≡ Some (condition_of cond)) }
 {
-    Ok(match expression {
-        Expression::Compare(comparison) => Cond::Watch(term(names, comparison)),
+    match expression {
+        Expression::Compare(comparison) => Ok(Cond::Watch(term(names, comparison))),
         Expression::Not(operand) => {
             let operand = condition(alloc, names, operand)?;
-            Cond::Not(Box::new(alloc, operand)?)
+            Ok(Cond::Not(Box::new(alloc, operand)?))
         }
-        Expression::And(operands) => {
-            let left = condition(alloc, names, &operands.0)?;
-            let right = condition(alloc, names, &operands.1)?;
-            Cond::And(Box::new(alloc, (left, right))?)
-        }
-        Expression::Or(operands) => {
-            let left = condition(alloc, names, &operands.0)?;
-            let right = condition(alloc, names, &operands.1)?;
-            Cond::Or(Box::new(alloc, (left, right))?)
-        }
-        Expression::Xor(operands) => {
-            let left = condition(alloc, names, &operands.0)?;
-            let right = condition(alloc, names, &operands.1)?;
-            Cond::Xor(Box::new(alloc, (left, right))?)
-        }
-    })
+        Expression::And(both) => Ok(Cond::And(operands(alloc, names, &both.0, &both.1)?)),
+        Expression::Or(both) => Ok(Cond::Or(operands(alloc, names, &both.0, &both.1)?)),
+        Expression::Xor(both) => Ok(Cond::Xor(operands(alloc, names, &both.0, &both.1)?)),
+    }
 }
 
 /// The most reports of each kind, none where they aren't written.

@@ -1,6 +1,7 @@
 mod Ascending
 mod Halves
 mod Ranges
+mod LowBytes
 mod Grouping
 mod Reacting
 mod OperandsWaiting

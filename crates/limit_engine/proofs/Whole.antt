@@ -1,21 +1,21 @@
 -- What a step makes of the whole object.
-use Rattle.std.proofs.Common.{◌≡◌, refl, ◌∙◌, ap, ℕ, ◌+◌, Bool, true, false, ◌<◌, List, [], ◌∷◌, length, map, replicate, if◌then◌else◌, All, arith}
+use Rattle.std.proofs.Common.{◌≡◌, refl, ◌∙◌, ap, ℕ, Bool, true, false, ◌<◌, List, [], ◌∷◌, length, map, replicate, if◌then◌else◌, All, arith}
 use Rattle.lc_model.specs.declared.field.Term.{Term}
 use Rattle.lc_model.specs.declared.mode.LcMode.{LcMode}
 use Rattle.lc_model.specs.declared.command.SampleRequest.{SampleRequest}
-use Rattle.lc_model.specs.Field.{width}
 use Rattle.lc_model.specs.Packet.{message_id}
 use Rattle.lc_model.specs.LimitChecker.Steps.{Point, is_disabled, is_short, sampled_points}
 use Rattle.lc_model.specs.Kept.Summary.{WatchResult, Tally, LcOwn}
 use Rattle.lc_model.specs.Kept.Next.{by_counts, unseen_result, seen_result, results_by, aged_result}
 use Rattle.lc_model.specs.Kept.Effort.{probes_for, watched_ids, sampled_words}
+use Rattle.std.specs.List.{AllByRecursion}
 use Rattle.limit_engine.specs.declared.actionpoint.Entry.{Entry}
 use Rattle.limit_engine.specs.declared.watchpoint.Watch.{Watch}
 use Rattle.limit_engine.specs.Entry.{rule_in}
 use Rattle.limit_engine.specs.Engine.{after_telemetry, tells_short, after_sample, aged, with_steps, words_sampled, points_sampled}
-use Rattle.limit_engine.specs.Grouped.{watches_for}
+use Rattle.limit_engine.specs.Grouped.{watches_for, IsFit, IsInType}
 use Rattle.limit_engine.specs.Tables.{own_of, AreTables}
-use Rattle.limit_engine.proofs.Grouping.{group_numbers, group_fields}
+use Rattle.limit_engine.proofs.Grouping.{group_numbers, group_fits}
 use Rattle.limit_engine.proofs.Setting.{each}
 
 -- the numbers of a group are those of results
@@ -23,9 +23,9 @@ pub group_within : (terms : List Term) (watch : List WatchResult) (mid : ℕ) �
 group_within terms watch mid long =
     each (λ (w : Watch). w.number < length watch) (watches_for mid 0 terms) (group_numbers mid 0 (length watch) terms (omega (arith, long)))
 
--- their fields end where they do
-pub fields_within : (terms : List Term) (mid : ℕ) → All (λ (w : Watch). w.need ≡ w.start + width w.kind) (watches_for mid 0 terms)
-fields_within terms mid = each (λ (w : Watch). w.need ≡ w.start + width w.kind) (watches_for mid 0 terms) (group_fields mid 0 terms)
+-- what is worked out of them fits together
+pub group_fit : (terms : List Term) (mid : ℕ) → AllByRecursion IsInType terms → All IsFit (watches_for mid 0 terms)
+group_fit terms mid fit = each IsFit (watches_for mid 0 terms) (group_fits mid 0 terms fit)
 
 module _ (mode : LcMode) (terms : List Term) (watch : List WatchResult) (entries : List Entry) (points : List (Point Tally)) (words : List ℕ) (steps probes : ℕ)
     (enabled : is_disabled mode ≡ false) where

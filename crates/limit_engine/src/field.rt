@@ -4,7 +4,7 @@
 ghost use Rattle.std.specs.Prelude.{◌≡◌, length, IsTrue};
 ghost use Rattle.lc_model.specs.Packet.{message_id as id_of};
 ghost use Rattle.lc_model.specs.Field.{is_in_type, width, raw};
-ghost use Rattle.limit_engine.specs.Bytes.{is_little, two_bytes, four_bytes};
+ghost use Rattle.limit_engine.specs.Bytes.{is_little, is_by_four, two_bytes, four_bytes};
 ghost use Rattle.limit_engine.specs.Ranges.{sign_of, ordered, range_of, holds_in};
 
 use lc_model::{CmpOp, FieldType};
@@ -49,7 +49,7 @@ fn two_bytes(bytes: &[u8], little: bool) -> u32
 }
 
 /// Four bytes as a number.
-fn four_bytes(bytes: &[u8], little: bool) -> u32
+pub(crate) fn four_bytes(bytes: &[u8], little: bool) -> u32
     requires { length bytes.now ≡ 4 }
     ensures { result ≡ four_bytes little bytes.now }
 {
@@ -59,6 +59,13 @@ fn four_bytes(bytes: &[u8], little: bool) -> u32
     } else {
         u32::from_be_bytes(four)
     }
+}
+
+/// Whether the field is the low end of four bytes, the high one first, that end where it does and lie in a packet that has it.
+pub(crate) fn is_by_four(kind: FieldType, need: usize) -> bool
+    ensures { result ≡ is_by_four kind need }
+{
+    !is_little(kind) && 4 <= need
 }
 
 /// The bytes of a field as a number, in the order of its type. It goes by their number and order, and not by the ten types,

@@ -1,10 +1,10 @@
 //! Watchpoints: what each was found to be, and how that ages (cFS Limit Checker user's guide, watchpoint results).
 
-ghost use Rattle.std.specs.Prelude.{◌≡◌, ◌+◌, ◌<◌, length, map, fold, All, IsTrue};
+ghost use Rattle.std.specs.Prelude.{◌≡◌, ◌<◌, ◌≤◌, length, map, fold, All, IsTrue};
 ghost use Rattle.std.specs.List.{list_any};
-ghost use Rattle.lc_model.specs.Field.{is_in_type, width};
+ghost use Rattle.lc_model.specs.Field.{is_in_type};
 ghost use Rattle.lc_model.specs.Kept.Next.{unseen_result, aged_result};
-ghost use Rattle.limit_engine.specs.Grouped.{watch_for, watch_seen, lacks_field, judged_by};
+ghost use Rattle.limit_engine.specs.Grouped.{IsFit, watch_for, watch_seen, lacks_field, counted_bits, judged_by};
 
 use crate::field::{self, Range};
 use lc_model::{FieldType, Term, Truth};
@@ -64,6 +64,8 @@ pub(crate) struct Watch {
     /// Where its field begins, and the bytes that a packet with the whole field has.
     pub(crate) start: usize,
     pub(crate) need: usize,
+    /// Its field is read as the low end of the four bytes that end where it does.
+    pub(crate) by_four: bool,
     pub(crate) mask: u32,
     pub(crate) sign: u32,
     pub(crate) range: Range,
@@ -76,11 +78,13 @@ impl Watch {
         ensures { result ≡ watch_for number term.now }
     {
         let start = term.offset as usize;
+        let need = start + term.kind.width();
         Watch {
             number,
             kind: term.kind,
             start,
-            need: start + term.kind.width(),
+            need,
+            by_four: field::is_by_four(term.kind, need),
             mask: term.mask,
             sign: field::sign(term.kind),
             range: Range::of(term.kind, term.op, term.value),
@@ -88,16 +92,27 @@ impl Watch {
         }
     }
 
+    /// The bits of its field that count, in a packet that has the field.
+    fn counted_bits(&self, packet: &[u8]) -> u32
+        requires fit { IsFit self.now }
+        requires there { self.now.need ≤ length packet.now }
+        ensures { result ≡ counted_bits packet.now self.now }
+    {
+        if self.by_four {
+            return field::four_bytes(&packet[self.need - 4..self.need], false) & self.mask;
+        }
+        field::bits_in(self.kind, &packet[self.start..self.need]) & self.mask
+    }
+
     /// What a packet of its message id says of it: an error where the field is not in it.
     fn judged(&self, packet: &[u8]) -> Truth
-        requires { self.now.need ≡ self.now.start + width self.now.kind }
+        requires { IsFit self.now }
         ensures truth { result ≡ judged_by packet.now self.now }
     {
         if packet.len() < self.need {
             return Truth::Error;
         }
-        let bits = field::bits_in(self.kind, &packet[self.start..self.need]);
-        if self.range.holds((bits & self.mask) ^ self.sign) {
+        if self.range.holds(self.counted_bits(packet) ^ self.sign) {
             Truth::True
         } else {
             Truth::False
@@ -109,7 +124,7 @@ impl Watch {
 /// Answers whether some field was not in the packet.
 pub(crate) fn see_group(group: &[Watch], results: &mut [WatchResult], packet: &[u8]) -> bool
     requires numbers { All (λ w. w.number < length results.old) group.now }
-    requires fields { All (λ w. w.need ≡ w.start + width w.kind) group.now }
+    requires fit { All IsFit group.now }
     ensures results { results.new ≡ fold (watch_seen packet.now) results.old group.now }
     ensures short { result ≡ list_any (lacks_field packet.now) group.now }
 {

@@ -4,7 +4,7 @@ ghost use Rattle.std.specs.Prelude.{◌≡◌};
 ghost use Rattle.rule_lexer.specs.Fault.{error_code};
 ghost use Rattle.rule_lexer.specs.declared.error.LexError.TheVariants.{Memory};
 
-use std::alloc::AllocFailed;
+use std::alloc::{AllocError, AllocFailed};
 use thiserror::Error;
 
 /// The first fault of a text, with the number of bytes before it.
@@ -34,6 +34,14 @@ impl<T: Drop> From<AllocFailed<T>> for LexError {
     ghost from_gives = { λ _ e. e ≡ Memory };
 
     fn from(_failed: AllocFailed<T>) -> LexError {
+        LexError::Memory
+    }
+}
+
+impl From<AllocError> for LexError {
+    ghost from_gives = { λ _ e. e ≡ Memory };
+
+    fn from(_error: AllocError) -> LexError {
         LexError::Memory
     }
 }

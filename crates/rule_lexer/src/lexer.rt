@@ -18,6 +18,10 @@ use std::alloc::Global;
 /// The most bytes of a text.
 const LONGEST_TEXT: usize = 65_536;
 
+/// For each two bytes of a text there is room for a token at once; rules and declarations have fewer tokens. A text that has more
+/// lets the list grow.
+const BYTES_PER_TOKEN: usize = 2;
+
 /// The tokens up to the end of the text or its first fault.
 fn scan<'a>(alloc: Global, text: &'a [u8]) -> Result<Vec<Token<'a>>, LexError>
     ensures splits { IfOk result (λ found. Splits text.now (tokens_of found.items)) }
@@ -27,7 +31,7 @@ fn scan<'a>(alloc: Global, text: &'a [u8]) -> Result<Vec<Token<'a>>, LexError>
     if text.len() > LONGEST_TEXT {
         return Err(LexError::TextTooLong);
     }
-    let mut tokens = Vec::new(alloc);
+    let mut tokens = Vec::with_capacity(alloc, text.len() / BYTES_PER_TOKEN)?;
     let mut scanner = Scanner::new(text);
     while let Some(token) = scanner.next_token()? {
         tokens.push(token)?;

@@ -19,7 +19,7 @@ use Rattle.rule_lexer.specs.Token.{token_of, tokens_of, HasItsKind, IsKind}
 use Rattle.rule_lexer.specs.declared.token.Token.{Token}
 use Rattle.rule_lexer.specs.declared.token.TokenKind.{TokenKind}
 use Rattle.rule_lexer.specs.declared.token.TokenKind.TheVariants.{FieldKind, State, Level, Number, Compare}
-use Rattle.rule_parser.specs.Front.{IsNext, is_empty, begins, number_at, token_at, value_at}
+use Rattle.rule_parser.specs.Front.{Gives, IsNext, is_empty, begins, number_at, token_at, value_at}
 
 -- ---- places in the list
 
@@ -68,6 +68,19 @@ pub taken_at : (wanted : Class) (before after : List model.Token) (t : Token) �
 unfolding token_at
 taken_at wanted before after t grammar next b e =
     ap (token_at wanted) next.0 ∙ ap (λ b. cond b (Some (token_of t, after)) None) (next.1.classes wanted grammar ∙ e)
+
+-- a token is taken exactly where one of the class stands next
+pub nothing_there : (wanted : Class) (before : List model.Token) → begins wanted before ≡ false → token_at wanted before ≡ None
+unfolding begins token_at
+nothing_there wanted [] e = refl
+nothing_there wanted (t ∷ ts) e = ap (λ b. cond b (Some (t, ts)) None) e
+
+pub taken_there : (wanted : Class) (before after : List model.Token) (found : Option Token) → IsNext before after found → begins wanted before ≡ true →
+    Gives token_of after found (token_at wanted before)
+unfolding begins token_at
+taken_there wanted before after None next e = ap (token_at wanted) next
+taken_there wanted before after (Some t) next e =
+    ap (token_at wanted) next.0 ∙ ap (λ b. cond b (Some (token_of t, after)) None) (sym (ap (begins wanted) next.0) ∙ e)
 
 -- a token that is taken is of the class
 pub token_takes : (wanted : Class) (before after : List model.Token) (t : model.Token) → token_at wanted before ≡ Some (t, after) →

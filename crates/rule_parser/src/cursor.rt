@@ -96,12 +96,10 @@ impl<'t, 'a> Cursor<'t, 'a> {
         requires { IsTrue (is_plain kind) }
         ensures { Gives token_of self.new result (token_at (class_of kind) self.old) }
     {
-        let token = self.next()?;
-        if token.kind == kind {
-            Some(token)
-        } else {
-            None
+        if !self.begins(kind) {
+            return None;
         }
+        self.next()
     }
 
     pub fn name(&mut self) -> Option<Name<'a>>

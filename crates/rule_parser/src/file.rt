@@ -57,6 +57,9 @@ fn item<'a>(alloc: Global, tokens: &mut Reader<'_, 'a>) -> Result<Item<'a>, Pars
     Err(tokens.expected(What::Item))
 }
 
+/// The tokens of the shortest items, as a packet. So a text of no fault has no more items than there is room for at once.
+const SHORTEST_ITEM: usize = 8;
+
 /// All items, up to the last token of a text of this length.
 pub fn items<'a>(
     alloc: Global,
@@ -67,7 +70,7 @@ pub fn items<'a>(
     ensures { MatchResult result (λ found. TookAll end (tokens_of tokens.now) (items_of found.items)) (Refuses (StopsAll end (tokens_of tokens.now))) }
 {
     let mut reader = Reader::new(tokens, end);
-    let mut items = Vec::new(alloc);
+    let mut items = Vec::with_capacity(alloc, tokens.len() / SHORTEST_ITEM)?;
     while !reader.is_at_end() {
         items.push(item(alloc, &mut reader)?)?;
     }

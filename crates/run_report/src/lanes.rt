@@ -268,6 +268,23 @@ fn sequence_of(account: &Account<'_>, entry: usize) -> Option<u16> {
     }
 }
 
+/// The room of a number above a mark, in tenths of a point.
+const NUMBER_ROOM: u64 = 360;
+
+/// The same with how many requests more there are.
+const NUMBERS_ROOM: u64 = 540;
+
+/// Writes the number of a sequence that is requested, and how many requests more stand in its column.
+fn put_number<W: Write>(out: &mut W, at: (u64, u64), number: u16, more: u32) -> io::Result<()> {
+    let (x, y) = at;
+    let place = Tenths(x);
+    write!(out, "<text x=\"{place}\" y=\"{y}\">{number}")?;
+    if more > 0 {
+        write!(out, " +{more}")?;
+    }
+    put(out, "</text>\n")
+}
+
 /// Writes the numbers of the sequences that are requested, above their marks, those that have room.
 pub fn put_numbers<W: Write>(
     out: &mut W,
@@ -283,9 +300,13 @@ pub fn put_numbers<W: Write>(
             continue;
         }
         if let Some(number) = sequence_of(account, mark.shown) {
-            let place = Tenths(x);
-            writeln!(out, "<text x=\"{place}\" y=\"{y}\">{number}</text>")?;
-            free = x.saturating_add(360);
+            put_number(out, (x, y), number, mark.count.saturating_sub(1))?;
+            let room = if mark.count > 1 {
+                NUMBERS_ROOM
+            } else {
+                NUMBER_ROOM
+            };
+            free = x.saturating_add(room);
         }
     }
     put(out, "</g>\n")

@@ -153,3 +153,23 @@ fn each_state_stands_behind_its_records(rt: HostRuntime) {
     let page = page_of(&rt, &[text("low.rules", LOW)], stream.as_slice());
     says(&rt, page.as_slice(), STATES);
 }
+
+/// A second rule, which requests with the first.
+const BOTH: &[u8] =
+    b"packet P = mid 0x0883 length 16; field V = P u16be at 12 stale 2; rule LOW active fails 2 sequence 7 event error 1001 \"low volts\" when V < 2400; rule TOO active fails 2 sequence 8 event error 1002 \"too\" when V < 2400;";
+
+/// What is above the mark of two requests, and what it says.
+const TWO_REQUESTS: &[(&str, usize)] = &[
+    (">7 +1</text>", 1),
+    (
+        "<title>record 7, second 106: request for sequence 7; and 1 more here</title>",
+        1,
+    ),
+];
+
+#[test]
+fn requests_of_one_record_share_a_mark(rt: HostRuntime) {
+    let stream = ten_records(rt.alloc()).expect(&rt, "memory for a stream");
+    let page = page_of(&rt, &[text("both.rules", BOTH)], stream.as_slice());
+    says(&rt, page.as_slice(), TWO_REQUESTS);
+}

@@ -1,10 +1,10 @@
-//! The example of the repository, `examples/bus.stream`, and the scenario that says it, `examples/bus.scenario`.
+//! The example of the repository, `crates/examples/data/bus.stream`, and the scenario that says it, `crates/examples/data/bus.scenario`.
 
 use crate::shared::same;
 use std::test::Fail;
 use stream_script::{read_script, write_listing, write_script};
 
-/// `examples/bus.stream`.
+/// `crates/examples/data/bus.stream`.
 pub(crate) const STREAM: &[u8] = &[
     0x04, 0x00, 0x00, 0x00, 0x64, 0x00, 0x00, 0x00, 0x00, 0x00, 0x2B, 0x2F, 0x63, 0x66, 0x2F, 0x6C,
     0x63, 0x5F, 0x64, 0x65, 0x66, 0x5F, 0x77, 0x64, 0x74, 0x2E, 0x74, 0x62, 0x6C, 0x00, 0x00, 0x00,
@@ -44,7 +44,7 @@ pub(crate) const STREAM: &[u8] = &[
     0x00, 0x00, 0x00, 0x00, 0x00, 0x00,
 ];
 
-/// `examples/bus.scenario`.
+/// `crates/examples/data/bus.scenario`.
 const SCENARIO: &[u8] =
     b"# Ten seconds of the bus of the first rule text: both halves become the Limit Checker's files, it and the scheduler start, and\n\
 # each second brings a packet (volts in hundredths, degrees) and a tick.\n\

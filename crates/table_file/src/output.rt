@@ -29,10 +29,8 @@ pub fn push_u32(out: &mut Vec<u8>, number: u32) -> Result<(), AllocError>
 pub fn push_zeros(out: &mut Vec<u8>, count: usize) -> Result<(), AllocError>
     ensures { OnOk result (out.new.items ≡ out.old.items ++ replicate count 0) }
 {
-    for _ in 0..count {
-        out.push(0)?;
-    }
-    Ok(())
+    let length = out.len().checked_add(count).ok_or(AllocError)?;
+    out.resize(length, 0)
 }
 
 /// Words of two bytes each.

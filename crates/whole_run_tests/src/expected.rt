@@ -72,6 +72,11 @@ impl Expected {
         self.fill(text.len(), 124, 0)
     }
 
+    /// A packet, byte for byte. No count goes on with it.
+    pub fn bytes(&mut self, packet: &[u8]) -> Result<(), AllocError> {
+        self.bytes.extend_from_slice(packet)
+    }
+
     /// An event of `HOST`.
     pub fn host(&mut self, id: u16, kind: u8, text: &[u8]) -> Result<(), AllocError> {
         self.event(b"HOST", id, kind, text)

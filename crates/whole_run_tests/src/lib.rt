@@ -2,6 +2,9 @@
 //! packet by packet, from the formats; nothing is taken from what the host answers.
 #![tactic(auto)]
 
+pub mod by_hand;
+#[cfg(test)]
+mod closing;
 #[cfg(test)]
 mod commands;
 #[cfg(test)]
@@ -18,9 +21,12 @@ mod full_tables;
 #[cfg(test)]
 mod hostile;
 pub mod images;
+pub mod leaving;
 pub mod low_volts;
 #[cfg(test)]
 mod memory;
+#[cfg(test)]
+mod requests;
 #[cfg(test)]
 mod rows;
 #[cfg(test)]
@@ -34,6 +40,8 @@ mod slots;
 mod speed;
 #[cfg(test)]
 mod starting;
+#[cfg(test)]
+mod steps;
 pub mod stream;
 #[cfg(test)]
 mod tables;

@@ -73,6 +73,8 @@ pub enum Sent {
     Request(u16),
     /// The Limit Checker's mode, and each rule's state and last result.
     Standing(u8, &'static [u8]),
+    /// These bytes. No count goes on with them.
+    Bytes(&'static [u8]),
 }
 
 /// A record, and what it leads to.
@@ -191,6 +193,7 @@ impl Expected {
             }
             Sent::Request(number) => self.request(number),
             Sent::Standing(mode, standings) => self.standing(mode, standings),
+            Sent::Bytes(packet) => self.bytes(packet),
         }
     }
 }

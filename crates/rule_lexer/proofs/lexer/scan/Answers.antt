@@ -9,7 +9,7 @@ use Rattle.rule_lexer.proofs.lexer.scan.Goals as goal
 pub loop-tokens-init : goal.loop-tokens-init
 loop-tokens-init c =
     let text = c.args.text.now in
-    subst (λ (ts : List Token). SoFar text ts c.new-scanner.result.at c.new-scanner.result.rest.now) (sym c.new-tokens.ensures.items)
+    subst (λ (ts : List Token). SoFar text ts c.new-scanner.result.at c.new-scanner.result.rest.now) (sym c.in_ok-tokens.ensures.items)
     (subst (λ n. SoFar text [] n c.new-scanner.result.rest.now) (sym c.new-scanner.ensures.at)
     (subst (λ xs. SoFar text [] 0 xs) (sym c.new-scanner.ensures.rest) (none_yet text c.if-text-gt-LONGEST_TEXT.false)))
 
@@ -19,7 +19,7 @@ next_token-requires c =
 
 pub returns-in_err-token-clause-refused : goal.returns-in_err-token-clause-refused
 returns-in_err-token-clause-refused c =
-    passed_on (IsFaultUnlessMemory c.args.text.now) c.from_residual.result c.in_err-token.field-0.0 c.from_residual.ensures.1
+    passed_on (IsFaultUnlessMemory c.args.text.now) c.from_residual-in_err-token.result c.in_err-token.field-0.0 c.from_residual-in_err-token.ensures.1
     (inr (fault_of_text c.args.text.now c.loop-tokens.tokens.items c.loop-tokens.scanner.at c.loop-tokens.scanner.rest.now
     c.in_err-token.field-0.0 c.loop-tokens.invariant c.in_err-token.ensures))
 

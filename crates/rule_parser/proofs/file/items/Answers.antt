@@ -8,9 +8,9 @@ use Rattle.rule_parser.proofs.file.items.Goals as goal
 
 pub loop-reader-init : goal.loop-reader-init
 loop-reader-init c =
-    subst (λ (left : Left). SoFar c.args.end (tokens_of c.args.tokens.now) left (items_of c.new-items.result.items)) (sym c.new-reader.ensures)
+    subst (λ (left : Left). SoFar c.args.end (tokens_of c.args.tokens.now) left (items_of c.in_ok-items.items.items)) (sym c.new-reader.ensures)
     (subst (λ items. SoFar c.args.end (tokens_of c.args.tokens.now) (record { tokens = tokens_of c.args.tokens.now; end = c.args.end }) (items_of items))
-    (sym c.new-items.ensures.items) (none_yet c.args.end (tokens_of c.args.tokens.now)))
+    (sym c.in_ok-items.ensures.items) (none_yet c.args.end (tokens_of c.args.tokens.now)))
 
 pub loop-reader-preserved : goal.loop-reader-preserved
 loop-reader-preserved c =

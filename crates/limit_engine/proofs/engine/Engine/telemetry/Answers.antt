@@ -10,11 +10,11 @@ use Rattle.limit_engine.specs.Grouped.{watch_seen, watches_for, lacks_field}
 use Rattle.limit_engine.specs.Tables.{AreTables}
 use Rattle.limit_engine.proofs.Grouping.{seen_by_group, short_by_group}
 use Rattle.limit_engine.proofs.Tables.{results_kept, written_back, length-results_by}
-use Rattle.limit_engine.proofs.Whole.{group_within, fields_within, seen_whole, told_short}
+use Rattle.limit_engine.proofs.Whole.{group_within, group_fit, seen_whole, told_short}
 use Rattle.limit_engine.proofs.engine.Engine.telemetry.Goals as goal
 
-pub see_group-requires-clause-fields : goal.see_group-requires-clause-fields
-see_group-requires-clause-fields c = rw c.find-found.ensures.group (fields_within c.self.inside.watchpoints c.message_id.result)
+pub see_group-requires-clause-fit : goal.see_group-requires-clause-fit
+see_group-requires-clause-fit c = rw c.find-found.ensures.group (group_fit c.self.inside.watchpoints c.message_id.result c.find-found.ensures.fit)
 
 pub see_group-requires-clause-numbers : goal.see_group-requires-clause-numbers
 see_group-requires-clause-numbers c =

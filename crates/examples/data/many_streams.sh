@@ -2,7 +2,7 @@
 # Runs the host over every stream of a folder, side by side: STREAM.packets is written beside each STREAM.stream.
 # The number of runs at once is JOBS, or one for each core. The exit status is the number of streams that failed, 101 at most.
 #
-#   examples/many_streams.sh FOLDER SCHEDULE RULES..
+#   crates/examples/data/many_streams.sh FOLDER SCHEDULE RULES..
 set -eu
 folder=$1
 schedule=$2

@@ -1,0 +1,78 @@
+//! A run whose counter tells how often it retired.
+
+ghost use Rattle.std.specs.Prelude.{◌≡◌, false, None};
+
+use app_host::{App, Services};
+use flight_core::{Counter, Report, RunError, run};
+use flight_stock::add;
+use lc_model::{Limited, Pieces, Seat};
+use std::alloc::{AllocError, Global};
+use std::cell::Cell;
+use std::rc::Rc;
+use tick_scheduler::Schedule;
+
+/// The counter, with its retirements counted.
+#[derive(Drop)]
+struct Watched {
+    counter: Counter,
+    retirements: Rc<Cell<u32>>,
+}
+
+impl Watched {
+    /// It holds no seat.
+    fn new(retirements: Rc<Cell<u32>>) -> Watched
+        ensures seat { result.counter.seat ≡ None }
+        ensures count { result.counter.count ≡ 0 }
+    {
+        Watched {
+            counter: Counter::new(),
+            retirements,
+        }
+    }
+}
+
+impl App for Watched {
+    ghost state = { λ w. ⟦<Counter as App>⟧.state w.counter };
+
+    ghost called = { λ w. ⟦<Counter as App>⟧.called w.counter };
+
+    ghost held = { λ w. ⟦<Counter as App>⟧.held w.counter };
+
+    fn name(&self) -> &[u8] {
+        self.counter.name()
+    }
+
+    fn start(&mut self, seat: Seat, services: &mut Services) {
+        self.counter.start(seat, services);
+    }
+
+    fn on_packet(&mut self, services: &mut Services, packet: &[u8]) {
+        self.counter.on_packet(services, packet);
+    }
+
+    fn retire(&mut self, services: &mut Services) {
+        self.retirements
+            .set(self.retirements.get().saturating_add(1));
+        self.counter.retire(services);
+    }
+}
+
+/// A run without texts, with a counter in stock: how it ends, and how often the counter retired. Out of memory for the stock is
+/// the outer error. Conditions: nothing was read or failed yet.
+pub fn retirements_of(
+    alloc: Global,
+    schedule: &Schedule,
+    source: &mut Pieces<'_>,
+    sink: &mut Limited<'_>,
+) -> Result<(Result<Report, RunError>, u32), AllocError>
+    requires unread { source.old.reads ≡ 0 }
+    requires readable { source.old.failed ≡ false }
+    requires writable { sink.old.failed ≡ false }
+{
+    let retirements = Rc::new(alloc, Cell::new(0))?;
+    let mut stock: Vec<Box<dyn App>> = Vec::new(alloc);
+    let counter = Box::new(alloc, Watched::new(retirements.clone()?))?;
+    add(&mut stock, schedule, b"COUNTER", counter)?;
+    let answer = run(alloc, &[], schedule, stock, source, sink);
+    Ok((answer, retirements.get()))
+}
