@@ -1,15 +1,13 @@
-//! A host that is made by hand, with one Limit Checker and one scheduler in stock, and handles one record after the other.
+//! A host that is made by hand, and handles one record after the other.
 
-ghost use Rattle.std.specs.Prelude.{IfOk};
-ghost use Rattle.app_host.specs.Hosted.{shown};
+ghost use Rattle.std.specs.Prelude.{map, IfOk};
+ghost use Rattle.app_host.specs.Hosted.{object, shown};
 ghost use Rattle.app_host.specs.Step.{IsBetween};
+ghost use Rattle.app_host.specs.Whole.{AreSpares};
 
-use app_host::{App, Host, WriteFault};
-use flight_stock::add;
-use lc_model::{Body, ByteSink, Moment, Record};
-use limit_checker::LimitChecker;
+use app_host::{App, Host};
+use lc_model::{Body, Limited, Moment, Record};
 use std::alloc::{AllocError, Global};
-use tick_scheduler::{Schedule, Scheduler};
 
 /// The moment of all records.
 const NOW: Moment = Moment {
@@ -17,23 +15,20 @@ const NOW: Moment = Moment {
     subseconds: 0,
 };
 
-/// The host, with this schedule. Out of memory is the only error.
-pub fn begin(alloc: Global, schedule: &Schedule) -> Result<Host, AllocError>
+/// The host, with this stock. Out of memory is the only error.
+pub fn begin(alloc: Global, stock: Vec<Box<dyn App>>) -> Result<Host, AllocError>
+    requires { AreSpares (map (object state called held) stock.items) }
     ensures { IfOk result (λ host. IsBetween (shown (λ b. (⟦<dyn App as App>⟧ b.vtable).state b.value) (λ b. (⟦<dyn App as App>⟧ b.vtable).called b.value) (λ b. (⟦<dyn App as App>⟧ b.vtable).held b.value) host)) }
 {
-    let mut stock: Vec<Box<dyn App>> = Vec::new(alloc);
-    let checker = Box::new(alloc, LimitChecker::new(alloc)?)?;
-    add(&mut stock, schedule, b"LC", checker)?;
-    let scheduler = Box::new(alloc, Scheduler::new(alloc, schedule)?)?;
-    add(&mut stock, schedule, b"SCH", scheduler)?;
     match Host::new(alloc, stock) {
         Ok(host) => Ok(host),
         Err(_) => Err(AllocError),
     }
 }
 
-/// The host handles a record. Of a file's name the first 40 bytes count.
-pub fn handle<W: ByteSink>(host: &mut Host, body: Body<'_>, out: &mut W) -> Result<(), WriteFault>
+/// The host handles a record: how many calls of `on_packet` that took, and how many bytes are written by then, or `None` where a
+/// write failed. Of a file's name the first 40 bytes count.
+pub fn handle(host: &mut Host, body: Body<'_>, out: &mut Limited<'_>) -> Option<(u32, usize)>
     requires { IsBetween (shown (λ b. (⟦<dyn App as App>⟧ b.vtable).state b.value) (λ b. (⟦<dyn App as App>⟧ b.vtable).called b.value) (λ b. (⟦<dyn App as App>⟧ b.vtable).held b.value) host.old) }
     ensures { IsBetween (shown (λ b. (⟦<dyn App as App>⟧ b.vtable).state b.value) (λ b. (⟦<dyn App as App>⟧ b.vtable).called b.value) (λ b. (⟦<dyn App as App>⟧ b.vtable).held b.value) host.new) }
 {
@@ -45,5 +40,6 @@ pub fn handle<W: ByteSink>(host: &mut Host, body: Body<'_>, out: &mut W) -> Resu
             bytes,
         },
     };
-    host.step(&Record { moment: NOW, body }, out)
+    let handled = host.step(&Record { moment: NOW, body }, out);
+    handled.ok().map(|_| (host.calls(), out.bytes().len()))
 }

@@ -1,18 +1,16 @@
 //! A host made by hand: what each record leads to, and how many calls of applications it takes.
 
-ghost use Rattle.app_host.specs.Hosted.{shown};
-ghost use Rattle.app_host.specs.Step.{IsBetween};
-
 use crate::by_hand::{begin, handle};
 use crate::expected::{ERROR, Expected, INFORMATION};
 use crate::rows::{DEFAULT_ADT, DEFAULT_WDT};
 use crate::texts::LOW;
-use app_host::{App, Host, Services};
+use app_host::{App, Services};
+use flight_stock::add;
 use lc_model::{Body, Limited};
-use rpn_compiler::compile;
+use limit_checker::LimitChecker;
+use rpn_compiler::{TablePair, compile};
 use std::alloc::{AllocError, Global};
-use std::process::Abort;
-use tick_scheduler::parse_schedule;
+use tick_scheduler::{Schedule, Scheduler, parse_schedule};
 
 /// A sample of all rules, with aging, and a housekeeping request, by turns.
 const SCHEDULE: &[u8] = b"slots 2\n0 sample 0 175 age\n1 housekeeping";
@@ -40,44 +38,51 @@ fn expected(alloc: Global) -> Result<Expected, AllocError> {
     Ok(bytes)
 }
 
-/// The host handles a record by so many calls of `on_packet`, and so many bytes are written by then.
-fn leads_to<R: Abort>(
-    rt: &R,
-    host: &mut Host,
+/// What these records lead to, with one Limit Checker and one scheduler in stock: both files, both orders to start, a packet, and
+/// three ticks. For each, how many calls of `on_packet` it took, and how many bytes were written by then.
+fn play(
+    alloc: Global,
+    schedule: &Schedule,
+    pair: &TablePair,
     out: &mut Limited<'_>,
-    body: Body<'_>,
-    numbers: (u32, usize),
-)
-    requires { IsBetween (shown (λ b. (⟦<dyn App as App>⟧ b.vtable).state b.value) (λ b. (⟦<dyn App as App>⟧ b.vtable).called b.value) (λ b. (⟦<dyn App as App>⟧ b.vtable).held b.value) host.old) }
-    ensures { IsBetween (shown (λ b. (⟦<dyn App as App>⟧ b.vtable).state b.value) (λ b. (⟦<dyn App as App>⟧ b.vtable).called b.value) (λ b. (⟦<dyn App as App>⟧ b.vtable).held b.value) host.new) }
-{
-    let handled = handle(host, body, out).is_ok();
-    let found = (host.calls(), out.bytes().len());
-    assert_eq!(rt;
-        (handled, found),
-        (true, numbers),
-        "handled, by these calls, with these bytes"
-    );
+) -> Result<[Option<(u32, usize)>; 8], AllocError> {
+    let mut stock: Vec<Box<dyn App>> = Vec::new(alloc);
+    let checker = Box::new(alloc, LimitChecker::new(alloc)?)?;
+    add(&mut stock, schedule, b"LC", checker)?;
+    let scheduler = Box::new(alloc, Scheduler::new(alloc, schedule)?)?;
+    add(&mut stock, schedule, b"SCH", scheduler)?;
+    let mut host = begin(alloc, stock)?;
+    let file = |name, bytes| Body::File { name, bytes };
+    Ok([
+        handle(&mut host, file(DEFAULT_WDT, pair.wdt.as_slice()), out),
+        handle(&mut host, file(DEFAULT_ADT, pair.adt.as_slice()), out),
+        handle(&mut host, Body::Packet(START_LC), out),
+        handle(&mut host, Body::Packet(START_SCH), out),
+        handle(&mut host, Body::Packet(VOLTS), out),
+        handle(&mut host, Body::Tick, out),
+        handle(&mut host, Body::Tick, out),
+        handle(&mut host, Body::Tick, out),
+    ])
 }
 
 #[test]
 fn each_tick_calls_the_scheduler_and_the_limit_checker(rt: HostRuntime) {
     let schedule = parse_schedule(rt.alloc(), SCHEDULE).expect(&rt, "a schedule");
     let pair = compile(rt.alloc(), LOW).expect(&rt, "a text that compiles");
-    let (wdt, adt) = (pair.wdt.as_slice(), pair.adt.as_slice());
-    let mut host = begin(rt.alloc(), &schedule).expect(&rt, "memory for a host");
     let mut room = [0; 1_300];
     let mut sink = Limited::new(&mut room, 1_300);
-    let out = &mut sink;
-    let file = |name, bytes| Body::File { name, bytes };
-    leads_to(&rt, &mut host, out, file(DEFAULT_WDT, wdt), (0, 168));
-    leads_to(&rt, &mut host, out, file(DEFAULT_ADT, adt), (0, 336));
-    leads_to(&rt, &mut host, out, Body::Packet(START_LC), (0, 672));
-    leads_to(&rt, &mut host, out, Body::Packet(START_SCH), (0, 840));
-    leads_to(&rt, &mut host, out, Body::Packet(VOLTS), (1, 840));
-    leads_to(&rt, &mut host, out, Body::Tick, (2, 840));
-    leads_to(&rt, &mut host, out, Body::Tick, (2, 1_032));
-    leads_to(&rt, &mut host, out, Body::Tick, (2, 1_212));
+    let found = play(rt.alloc(), &schedule, &pair, &mut sink).expect(&rt, "memory for a host");
+    let wanted = [
+        Some((0, 168)),
+        Some((0, 336)),
+        Some((0, 672)),
+        Some((0, 840)),
+        Some((1, 840)),
+        Some((2, 840)),
+        Some((2, 1_032)),
+        Some((2, 1_212)),
+    ];
+    assert_eq!(rt; found, wanted, "calls, and bytes by then");
     let expected = expected(rt.alloc()).expect(&rt, "memory for what is expected");
     assert_eq!(rt; sink.bytes(), expected.as_slice(), "all that is written");
 }
