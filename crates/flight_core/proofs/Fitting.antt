@@ -1,5 +1,5 @@
 -- A run refuses the texts that do not fit, and no others.
-use Rattle.std.proofs.Common.{◌≡◌, refl, ◌∙◌, ap, subst, ℕ, suc, ◌+◌, ◌<◌, ◌≤◌, Bool, true, false, nat_lt, List, [], ◌∷◌, length, take, slice_get, filter_map, Option, Some, None, option_map, arith}
+use Rattle.std.proofs.Common.{◌≡◌, refl, ◌∙◌, ap, subst, ℕ, suc, ◌+◌, ◌<◌, ◌≤◌, Bool, true, false, nat_lt, List, [], ◌∷◌, length, take, slice_get, filter_map, Option, Some, None, option_map, Result, Ok, Err, arith}
 use Rattle.std.specs.List.{enumerate_from, AllByRecursion}
 use Rattle.lc_model.specs.Rule.{NamedRule}
 use Rattle.lc_model.specs.Text.Reading.{Reads, TextRefusal, ForText, ForRule}
@@ -7,15 +7,22 @@ use Rattle.lc_model.specs.Tables.Equation.{terms_of, equation_length, need}
 use Rattle.lc_model.specs.Tables.Compiling.{equation_fault, limit_refusal, Compiles, IsRefused}
 use Rattle.lc_model.specs.Tables.HalvesAndBytes.{Text}
 use Rattle.lc_model.specs.Tables.InForce.{limits, arranged}
-use Rattle.lc_model.specs.Host.Schedule.{Schedule}
-use Rattle.lc_model.specs.Host.Outcome.{Devices, Ending, Complete, Uncompiled, MetNoRecord, MetTheEnd, FailedToRead, FailedToWrite, ReachedTheBound, NoMemory}
-use Rattle.lc_model.specs.Host.Promise.{AreCompiled, Mission, IsRun}
-use Rattle.lc_model.specs.Name.{Name}
+use Rattle.lc_model.specs.Host.Outcome.{Devices, IsUntouched}
+use Rattle.lc_model.specs.Host.Promise.{AreCompiled}
 use Rattle.lc_model.proofs.Tables.Light.{light}
 use Rattle.lc_model.proofs.Texts.OneRefusal.{at_most_one_verdict}
 use Rattle.lc_model.proofs.Facts.{tested_not_less, test_not_less, tested_less, none_of_if}
-use Rattle.flight_core.specs.Compiled.{edition}
-use Rattle.flight_core.specs.Fitting.{Fits, FitsWithFewWaiting, IsUnfit, RefusesUnfitAlone}
+use Rattle.rpn_compiler.specs.declared.error.CompileError.{CompileError}
+use Rattle.rpn_compiler.specs.declared.files.TablePair.{TablePair}
+use Rattle.rpn_compiler.specs.Fault.{refusal_of}
+use Rattle.flight_core.specs.declared.error.Report.{Report}
+use Rattle.flight_core.specs.declared.error.RunError.{RunError}
+use Rattle.flight_core.specs.declared.error.RunError.TheVariants.{Compile, BadRecord, Truncated, Read, Write, ReadBound, Memory}
+use Rattle.flight_core.specs.Compiled.{AreAllCompiled, IsFirstRefused, IsNotCompiled}
+use Rattle.flight_core.specs.Ending.{ending_of}
+use Rattle.flight_core.specs.Fitting.{Fits, FitsWithFewWaiting, IsFirstUnfit, IsUnfit, RefusesUnfitAlone}
+use Rattle.flight_core.specs.Flight.{HasBegun}
+use Rattle.flight_core.specs.Run.{RefusesNone}
 
 -- ---- tests
 
@@ -120,24 +127,51 @@ unfit source why (IsRefused.beyond_limits {rules = rules} reads beyond) = unfit_
 
 -- ---- runs
 
-module _ (sources : List (List ℕ)) (schedule : Schedule) (stock : List Name) (most : ℕ) (d : Devices) where
-  abbrev m : Mission
-  m = record { edition = edition; sources = sources; schedule = schedule; stock = stock; most_reads = most }
+compiled_fit : (sources : List (List ℕ)) (pairs : List TablePair) → AreAllCompiled sources pairs → AllByRecursion FitsWithFewWaiting sources
+compiled_fit [] pairs are = tt
+compiled_fit (source ∷ sources) [] are = absurd are
+compiled_fit (source ∷ sources) (pair ∷ pairs) are = (fits source are.0.rules are.0.compiles, compiled_fit sources pairs are.1)
 
-  pub refuses : (ending : Ending) → IsRun m d ending → RefusesUnfitAlone sources ending
-  refuses (Complete entries count) run = all_fit sources run.ends.texts run.ends.compile
-  refuses (MetNoRecord number) run = all_fit sources run.ends.texts run.ends.compile
-  refuses (MetTheEnd number) run = all_fit sources run.ends.texts run.ends.compile
-  refuses FailedToRead run = all_fit sources run.ends.texts run.ends.compile
-  refuses (FailedToWrite sent) run = all_fit sources run.ends.texts run.ends.compile
-  refuses ReachedTheBound run = all_fit sources run.ends.texts run.ends.compile
-  refuses NoMemory run = tt
-  refuses (Uncompiled number refusal) run = record {
-    before = all_fit (take number sources) run.ends.texts run.ends.before;
-    source = run.ends.source;
-    there = run.ends.there;
-    not = λ f. (at_most_one_verdict limits run.ends.source).not_both f.rules run.ends.why (compiles run.ends.source f) run.ends.refused;
-    why = run.ends.why;
-    is = run.ends.is;
-    unfit = unfit run.ends.source run.ends.why run.ends.refused;
+-- a run that has begun refuses none
+pub begun : (d : Devices) (result : Result Report RunError) → HasBegun result → RefusesNone d result
+begun d (Ok report) is = tt
+begun d (Err (Compile number error)) is = absurd is
+begun d (Err Memory) is = absurd is
+begun d (Err (BadRecord n)) is = tt
+begun d (Err (Truncated n)) is = tt
+begun d (Err Read) is = tt
+begun d (Err (Write sent)) is = tt
+begun d (Err ReadBound) is = tt
+
+module _ (sources : List (List ℕ)) (d : Devices) where
+  first_unfit : (number : ℕ) (error : CompileError) → IsFirstRefused sources number error → IsFirstUnfit sources number (refusal_of error)
+  first_unfit number error first = record {
+    before = all_fit (take number sources) first.texts first.before;
+    source = first.source;
+    there = first.there;
+    not = λ f. (at_most_one_verdict limits first.source).not_both f.rules first.why (compiles first.source f) first.refused;
+    why = first.why;
+    is = first.is;
+    unfit = unfit first.source first.why first.refused;
   }
+
+  -- where a text does not compile, or memory is lacking before the run begins
+  pub refused : IsUntouched d → (error : RunError) → IsNotCompiled sources error → RefusesUnfitAlone sources d (ending_of (Err error))
+  refused untouched (Compile number error) first = (first_unfit number error first, untouched)
+  refused untouched Memory not = untouched
+  refused untouched (BadRecord n) not = absurd not
+  refused untouched (Truncated n) not = absurd not
+  refused untouched Read not = absurd not
+  refused untouched (Write sent) not = absurd not
+  refused untouched ReadBound not = absurd not
+
+  -- where all compile
+  pub taken : (pairs : List TablePair) → AreAllCompiled sources pairs → (result : Result Report RunError) → RefusesNone d result → RefusesUnfitAlone sources d (ending_of result)
+  taken pairs are (Ok report) none = compiled_fit sources pairs are
+  taken pairs are (Err (Compile number error)) none = absurd none
+  taken pairs are (Err Memory) none = none
+  taken pairs are (Err (BadRecord n)) none = compiled_fit sources pairs are
+  taken pairs are (Err (Truncated n)) none = compiled_fit sources pairs are
+  taken pairs are (Err Read) none = compiled_fit sources pairs are
+  taken pairs are (Err (Write sent)) none = compiled_fit sources pairs are
+  taken pairs are (Err ReadBound) none = compiled_fit sources pairs are

@@ -1,12 +1,12 @@
 -- Which texts a run refuses. What they may take are the cFS Limit Checker's table sizes, and this project's words of an
 -- equation; how many operands of a condition wait, which is how deep it goes, refuses none.
-use Rattle.std.specs.Prelude.{◌≡◌, ℕ, ◌<◌, ◌≤◌, ⊤, List, length, take, slice_get, Option, Some}
+use Rattle.std.specs.Prelude.{◌≡◌, ℕ, ◌<◌, ◌≤◌, List, length, take, slice_get, Option, Some}
 use Rattle.std.specs.List.{AllByRecursion}
 use Rattle.lc_model.specs.Rule.{NamedRule}
 use Rattle.lc_model.specs.Text.Reading.{Reads, TextRefusal, ForText, ForRule, IsUnreadable}
 use Rattle.lc_model.specs.Tables.Equation.{terms_of, equation_length, need}
 use Rattle.lc_model.specs.Tables.InForce.{arranged}
-use Rattle.lc_model.specs.Host.Outcome.{Ending, Uncompiled, NoMemory}
+use Rattle.lc_model.specs.Host.Outcome.{Devices, IsUntouched, Ending, Uncompiled, NoMemory}
 
 -- the text says rules with at most 176 distinct watchpoints, at most 176 of them, each of at most 32 words, EQUAL included
 pub record Fits (source : List ℕ) : Type 0 where
@@ -40,8 +40,9 @@ module _ (sources : List (List ℕ)) where
     pub is : refusal ≡ Some why
     pub unfit : IsUnfit source why
 
-  -- memory aside: a text is refused exactly where it is the first that does not fit, and for no other reason
-  abbrev pub RefusesUnfitAlone : Ending → Type 0
-  RefusesUnfitAlone (Uncompiled number refusal) = IsFirstUnfit number refusal
-  RefusesUnfitAlone NoMemory = ⊤
-  RefusesUnfitAlone ending = AllByRecursion FitsWithFewWaiting sources
+  -- memory aside: a text is refused exactly where it is the first that does not fit, and for no other reason; then, and for
+  -- want of memory, nothing was read and nothing written
+  abbrev pub RefusesUnfitAlone : Devices → Ending → Type 0
+  RefusesUnfitAlone d (Uncompiled number refusal) = IsFirstUnfit number refusal × IsUntouched d
+  RefusesUnfitAlone d NoMemory = IsUntouched d
+  RefusesUnfitAlone d ending = AllByRecursion FitsWithFewWaiting sources

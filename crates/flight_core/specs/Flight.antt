@@ -1,5 +1,5 @@
 -- What a run of the host writes over records, and how it ends.
-use Rattle.std.specs.Prelude.{◌≡◌, ℕ, ◌+◌, List, [], ◌∷◌, length, Result, Ok, Err}
+use Rattle.std.specs.Prelude.{◌≡◌, ℕ, ◌+◌, List, [], ◌∷◌, length, Result, Ok, Err, ⊤}
 use Rattle.std.specs.List.{concat}
 use Rattle.lc_model.specs.Host.Outcome.{Devices, IsOutcome}
 use Rattle.lc_model.specs.Host.Stream.{StreamEntry, records_of}
@@ -30,6 +30,12 @@ stopped_by (halt.Unsent sent) records bytes = error.Write (bytes + sent)
 abbrev pub ended_by : List ℕ → Report → Result Report RunError
 ended_by [] report = Ok report
 ended_by (byte ∷ bytes) report = Err (error.Truncated (report.records + 1))
+
+-- a run that has begun refuses no text, and lacks no memory
+abbrev pub HasBegun : Result Report RunError → Type 0
+HasBegun (Err (error.Compile text refusal)) = ⊥
+HasBegun (Err error.Memory) = ⊥
+HasBegun other = ⊤
 
 -- what the host writes over these records
 abbrev pub written_by : FileMeanings (List ℕ) → Hosted → List StreamEntry → List ℕ

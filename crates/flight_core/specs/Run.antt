@@ -1,5 +1,5 @@
 -- What a run answers and leaves.
-use Rattle.std.specs.Prelude.{◌≡◌, ◌≢◌, ℕ, List, map, Result, Err}
+use Rattle.std.specs.Prelude.{◌≡◌, ◌≢◌, ℕ, List, map, Result, Err, ⊤}
 use Rattle.std.specs.List.{AllByRecursion, concat}
 use Rattle.std.specs.Borrow.{Bor}
 use Rattle.lc_model.specs.Tables.HalvesAndBytes.{as_bytes}
@@ -17,7 +17,7 @@ use Rattle.app_host.specs.Shared.{on_board}
 use Rattle.app_host.specs.Hosted.{Object, member_of}
 use Rattle.flight_core.specs.declared.error.Report.{Report}
 use Rattle.flight_core.specs.declared.error.RunError.{RunError}
-use Rattle.flight_core.specs.declared.error.RunError.TheVariants.{Memory}
+use Rattle.flight_core.specs.declared.error.RunError.TheVariants.{Compile, Memory}
 use Rattle.flight_core.specs.Brought.{meanings_of}
 use Rattle.flight_core.specs.Compiled.{edition, sources_of}
 use Rattle.flight_core.specs.Ending.{ending_of}
@@ -53,6 +53,12 @@ IsOutputFrom pairs members texts output = (entries : List StreamEntry) → AreBr
 abbrev pub EndsSo : List TablePair → List Member → ℕ → ℕ → Devices → Result Report RunError → Type 0
 EndsSo pairs members texts most d result = (output : List StreamEntry → List ℕ) → IsOutputFrom pairs members texts output →
     IsOutcome (records_of texts) output most d (ending_of result)
+
+-- whatever is in stock, a run whose texts are compiled refuses none, and for want of memory nothing was read
+abbrev pub RefusesNone : Devices → Result Report RunError → Type 0
+RefusesNone d (Err (Compile text refusal)) = ⊥
+RefusesNone d (Err Memory) = IsUntouched d
+RefusesNone d other = ⊤
 
 -- how a run ends whose texts are compiled: for want of memory nothing was read
 abbrev pub RunsSo : List TablePair → List Member → ℕ → ℕ → Devices → Result Report RunError → Type 0

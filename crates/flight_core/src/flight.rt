@@ -1,10 +1,10 @@
 //! All records of a stream, one after the other.
 
-ghost use Rattle.std.specs.Prelude.{◌≡◌, ◌+◌, ◌*◌, ◌^◌, ◌<◌, ◌≤◌, false, length};
+ghost use Rattle.std.specs.Prelude.{◌≡◌, ◌+◌, ◌*◌, ◌^◌, ◌<◌, ◌≤◌, false, length, Err};
 ghost use Rattle.lc_model.specs.Host.Outcome.{devices};
 ghost use Rattle.app_host.specs.Hosted.{shown};
 ghost use Rattle.flight_core.specs.Brought.{AreWhole};
-ghost use Rattle.flight_core.specs.Flight.{FliesSo, ended_by, stopped_by};
+ghost use Rattle.flight_core.specs.Flight.{FliesSo, HasBegun, ended_by, stopped_by};
 ghost use Rattle.flight_core.specs.Records.{nothing_held};
 ghost use Rattle.app_host.specs.Step.{IsBetween};
 
@@ -23,7 +23,8 @@ use rpn_compiler::TablePair;
 fn stopped(halt: Halt, report: Report) -> RunError
     requires records { report.records + 1 < 2 ^ 64 }
     requires bytes { report.bytes + 2 ^ 64 < 2 ^ 128 }
-    ensures { result ≡ stopped_by halt report.records report.bytes }
+    ensures so { result ≡ stopped_by halt report.records report.bytes }
+    ensures begun { HasBegun (Err result) }
 {
     let Report { records, bytes } = report;
     match halt {
@@ -57,6 +58,7 @@ pub(crate) fn fly<R: ByteSource, W: ByteSink>(
     requires most { most ≤ MOST_READS }
     ensures outcome { FliesSo pairs.now most (shown (λ b. (⟦<dyn App as App>⟧ b.vtable).state b.value) (λ b. (⟦<dyn App as App>⟧ b.vtable).called b.value) (λ b. (⟦<dyn App as App>⟧ b.vtable).held b.value) host.old) (devices (R.source reader.old) (R.source reader.new) (W.sink writer.old) (W.sink writer.new)) result }
     ensures between { IsBetween (shown (λ b. (⟦<dyn App as App>⟧ b.vtable).state b.value) (λ b. (⟦<dyn App as App>⟧ b.vtable).called b.value) (λ b. (⟦<dyn App as App>⟧ b.vtable).held b.value) host.new) }
+    ensures begun { HasBegun result }
     ensures bounded { (R.source reader.new).reads ≤ most }
 {
     records_are_handed_out();
@@ -87,7 +89,8 @@ pub(crate) fn fly<R: ByteSource, W: ByteSink>(
 /// How a run ends with its stream, behind the records of the report.
 fn ended(records: &Records, report: Report) -> Result<Report, RunError>
     requires records { report.records + 1 < 2 ^ 64 }
-    ensures { result ≡ ended_by records.now.bytes report }
+    ensures so { result ≡ ended_by records.now.bytes report }
+    ensures begun { HasBegun result }
 {
     if records.held() == 0 {
         return Ok(report);

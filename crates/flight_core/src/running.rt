@@ -11,7 +11,7 @@ ghost use Rattle.flight_core.specs.Compiled.{sources_of};
 ghost use Rattle.flight_core.specs.Ending.{ending_of};
 ghost use Rattle.flight_core.specs.Failures.{TellsFailures};
 ghost use Rattle.flight_core.specs.Fitting.{RefusesUnfitAlone};
-ghost use Rattle.flight_core.specs.Run.{AreOfProfile, IsOfProfile, RunsSo, members_of, mission_of};
+ghost use Rattle.flight_core.specs.Run.{AreOfProfile, IsOfProfile, RefusesNone, RunsSo, members_of, mission_of};
 
 use crate::compiling::compile_all;
 use crate::error::{Report, RunError};
@@ -44,6 +44,7 @@ fn run_compiled<R: ByteSource, W: ByteSink>(
     requires most { reads ≤ MOST_READS }
     ensures run { AreOfProfile (map (object state called held) stock.items) →
         RunsSo pairs.now (members_of (map (object state called held) stock.items)) (length pairs.now) reads (devices (R.source reader.old) (R.source reader.new) (W.sink writer.old) (W.sink writer.new)) result }
+    ensures judged { RefusesNone (devices (R.source reader.old) (R.source reader.new) (W.sink writer.old) (W.sink writer.new)) result }
     ensures bounded { (R.source reader.new).reads ≤ reads }
 {
     let mut records = Records::new(alloc, pairs.len())?;
@@ -106,10 +107,9 @@ pub fn run_within<R: ByteSource, W: ByteSink>(
     ensures failures { IsOfProfile schedule.now (map (object state called held) stock.items) →
         TellsFailures reads (devices (R.source reader.old) (R.source reader.new) (W.sink writer.old) (W.sink writer.new)) (ending_of result) }
 
-    // Memory aside, the texts that are refused are those that say no rules, or too many or too long ones: none for how many
-    // operands of a condition wait.
-    ensures refuses { IsOfProfile schedule.now (map (object state called held) stock.items) →
-        RefusesUnfitAlone (sources_of texts.now) (ending_of result) }
+    // Whatever is in stock: memory aside, the first text is refused that says no rules, or too many or too long ones, and none
+    // for how many operands of a condition wait. Then, and for want of memory, nothing was read and nothing written.
+    ensures refuses { RefusesUnfitAlone (sources_of texts.now) (devices (R.source reader.old) (R.source reader.new) (W.sink writer.old) (W.sink writer.new)) (ending_of result) }
 
     // Commands to event services, to the counter and to other applications can't touch the sequence requests: with others,
     // or with none, these are the same.
@@ -145,6 +145,7 @@ fn begin<R: ByteSource, W: ByteSink>(
     requires most { reads ≤ MOST_READS }
     ensures run { IsOfProfile schedule.now (map (object state called held) stock.items) →
         IsRun (mission_of texts.now schedule.now (map (object state called held) stock.items) reads) (devices (R.source reader.old) (R.source reader.new) (W.sink writer.old) (W.sink writer.new)) (ending_of result) }
+    ensures refuses { RefusesUnfitAlone (sources_of texts.now) (devices (R.source reader.old) (R.source reader.new) (W.sink writer.old) (W.sink writer.new)) (ending_of result) }
     ensures bounded { (R.source reader.new).reads ≤ reads }
 {
     writes_a_mission();
@@ -204,10 +205,9 @@ pub fn run<R: ByteSource, W: ByteSink>(
     ensures failures { IsOfProfile schedule.now (map (object state called held) stock.items) →
         TellsFailures MOST_READS (devices (R.source reader.old) (R.source reader.new) (W.sink writer.old) (W.sink writer.new)) (ending_of result) }
 
-    // Memory aside, the texts that are refused are those that say no rules, or too many or too long ones: none for how many
-    // operands of a condition wait.
-    ensures refuses { IsOfProfile schedule.now (map (object state called held) stock.items) →
-        RefusesUnfitAlone (sources_of texts.now) (ending_of result) }
+    // Whatever is in stock: memory aside, the first text is refused that says no rules, or too many or too long ones, and none
+    // for how many operands of a condition wait. Then, and for want of memory, nothing was read and nothing written.
+    ensures refuses { RefusesUnfitAlone (sources_of texts.now) (devices (R.source reader.old) (R.source reader.new) (W.sink writer.old) (W.sink writer.new)) (ending_of result) }
 
     // Commands to event services, to the counter and to other applications can't touch the sequence requests: with others,
     // or with none, these are the same.

@@ -93,7 +93,7 @@ module _ (schedule : Schedule) (most : ℕ) (d : Devices) where
           ∙ ap (λ output. answer (records_of 1 two_failing_samples) (length output)) (called schedule) ∙ ap (answer (records_of 1 two_failing_samples)) so_many ∙ answered
 
   -- over any stream without raw files
-  ends_by_its_text : (ending : Ending) → WritesWhatIsCalledFor m d ending → TellsFailures most d ending → RefusesUnfitAlone sources ending → WritesByItsText schedule d ending
+  ends_by_its_text : (ending : Ending) → WritesWhatIsCalledFor m d ending → TellsFailures most d ending → RefusesUnfitAlone sources d ending → WritesByItsText schedule d ending
   ends_by_its_text (Complete records bytes) writes told refuses stream before none known gained =
       follows (Complete records bytes) told (λ e. cc e) (λ sent e. cc e) (λ e. cc e) (λ e. cc e) writes stream before (no_file_no_half (records_of 1 stream).0 none) known gained
   ends_by_its_text (MetNoRecord number) writes told refuses stream before none known gained =
@@ -104,11 +104,11 @@ module _ (schedule : Schedule) (most : ℕ) (d : Devices) where
   ends_by_its_text (FailedToWrite sent) writes told refuses stream before none known gained = tt
   ends_by_its_text ReachedTheBound writes told refuses stream before none known gained = tt
   ends_by_its_text NoMemory writes told refuses stream before none known gained = tt
-  ends_by_its_text (Uncompiled number refusal) writes told refuses stream before none known gained = refuses.not (first_fits number refuses.source refuses.there)
+  ends_by_its_text (Uncompiled number refusal) writes told refuses stream before none known gained = refuses.0.not (first_fits number refuses.0.source refuses.0.there)
 
   -- over two failing samples
   module _ (before : List ℕ) (known : d.source.rest ≡ Some two_failing_samples) (gained : d.sink.gained ≡ Some before) (most_is : 255 < most) where
-    ends_well : (ending : Ending) → WritesWhatIsCalledFor m d ending → TellsFailures most d ending → RefusesUnfitAlone sources ending → EndsWell d before ending
+    ends_well : (ending : Ending) → WritesWhatIsCalledFor m d ending → TellsFailures most d ending → RefusesUnfitAlone sources d ending → EndsWell d before ending
     ends_well (Complete records bytes) writes told refuses =
         let same : Complete records bytes ≡ Complete 7 852 = is (Complete records bytes) told (λ e. cc e) (λ sent e. cc e) (λ e. cc e) (λ e. cc e) writes before known gained in
         record {
@@ -123,7 +123,7 @@ module _ (schedule : Schedule) (most : ℕ) (d : Devices) where
     ends_well (FailedToWrite sent) writes told refuses = tt
     ends_well NoMemory writes told refuses = tt
     ends_well ReachedTheBound writes told refuses = omega (arith, told.not_ended two_failing_samples refl known, long, most_is)
-    ends_well (Uncompiled number refusal) writes told refuses = refuses.not (first_fits number refuses.source refuses.there)
+    ends_well (Uncompiled number refusal) writes told refuses = refuses.0.not (first_fits number refuses.0.source refuses.0.there)
 
 -- ---- the stock, spare by spare
 
@@ -145,12 +145,12 @@ pub record KeepsItsPromises (schedule : Schedule) (d : Devices) (ending : Ending
 
 pub keeps : (schedule : Schedule) (texts : List (List ℕ)) (stock : List Name) (d : Devices) (ending : Ending) → texts ≡ sources → stock ≡ names →
     WritesWhatIsCalledFor (record { edition = edition; sources = texts; schedule = schedule; stock = stock; most_reads = 4_294_967_296 }) d ending →
-    TellsFailures 4_294_967_296 d ending → RefusesUnfitAlone texts ending → KeepsItsPromises schedule d ending
+    TellsFailures 4_294_967_296 d ending → RefusesUnfitAlone texts d ending → KeepsItsPromises schedule d ending
 keeps schedule texts stock d ending of_texts of_names wrote told refuses =
     let writes : WritesWhatIsCalledFor (record { edition = edition; sources = sources; schedule = schedule; stock = names; most_reads = 4_294_967_296 }) d ending =
     subst (λ ss. WritesWhatIsCalledFor (record { edition = edition; sources = ss; schedule = schedule; stock = names; most_reads = 4_294_967_296 }) d ending) of_texts
     (subst (λ ns. WritesWhatIsCalledFor (record { edition = edition; sources = texts; schedule = schedule; stock = ns; most_reads = 4_294_967_296 }) d ending) of_names wrote) in
-    let unfit : RefusesUnfitAlone sources ending = subst (λ ss. RefusesUnfitAlone ss ending) of_texts refuses in
+    let unfit : RefusesUnfitAlone sources d ending = subst (λ ss. RefusesUnfitAlone ss d ending) of_texts refuses in
     record {
       any_stream = ends_by_its_text schedule 4_294_967_296 d ending writes told unfit;
       two_failures = λ before known gained. ends_well schedule 4_294_967_296 d before known gained (lit< tt) ending writes told unfit;

@@ -44,7 +44,7 @@ returns-in-Ok-false-clause-outcome g c = λ known output same.
       bad = c.the_rest_says_the_end.ensures.bad;
       whole = c.the_rest_says_the_end.ensures.whole;
       cut = c.the_rest_says_the_end.ensures.cut;
-    }) _ _ _ _ _ _ known output same _ _ _ _ _ _ c.loop-total.invariant.far _ _ _ none _ _ over c.loop-total.report refl refl c.ended.result c.ended.ensures
+    }) _ _ _ _ _ _ known output same _ _ _ _ _ _ c.loop-total.invariant.far _ _ _ none _ _ over c.loop-total.report refl refl c.ended.result c.ended.ensures.so
 
 pub returns-in-Err-take_piece-clause-outcome : goal.returns-in-Err-take_piece-clause-outcome
 returns-in-Err-take_piece-clause-outcome g c = λ known output same.
@@ -58,7 +58,7 @@ returns-in-Err-take_piece-clause-outcome g c = λ known output same.
       whole = c.the_rest_says_the_end.ensures.whole;
       cut = c.the_rest_says_the_end.ensures.cut;
     }) _ _ _ _ _ _ known output same _ _ _ _ _ _ c.loop-total.invariant.far _ _ _ none _ _ c.in-Err-take_piece.halt c.in-Err-take_piece.ensures.piece
-    (c.stopped.result) c.stopped.ensures
+    (c.stopped.result) c.stopped.ensures.so
 
 pub returns-in-Err-clause-outcome : goal.returns-in-Err-clause-outcome
 returns-in-Err-clause-outcome g c = λ known output same.
@@ -70,4 +70,4 @@ returns-in-Err-clause-outcome g c = λ known output same.
       bad = c.the_rest_says_the_end.ensures.bad;
       whole = c.the_rest_says_the_end.ensures.whole;
       cut = c.the_rest_says_the_end.ensures.cut;
-    }) _ _ _ _ _ _ known output same _ _ _ _ _ _ c.loop-total.invariant.far _ _ _ c.in-Err.halt c.in-Err.ensures.next c.stopped-in-Err.result c.stopped-in-Err.ensures
+    }) _ _ _ _ _ _ known output same _ _ _ _ _ _ c.loop-total.invariant.far _ _ _ c.in-Err.halt c.in-Err.ensures.next c.stopped-in-Err.result c.stopped-in-Err.ensures.so

@@ -1,6 +1,7 @@
-use Rattle.std.proofs.Common.{sym, subst}
+use Rattle.std.proofs.Common.{refl, sym, subst}
 use Rattle.flight_core.specs.Brought.{AreWhole}
 use Rattle.flight_core.specs.Compiled.{sources_of, AreAllCompiled}
+use Rattle.flight_core.proofs.Fitting.{refused, taken}
 use Rattle.flight_core.proofs.Outset.{all_not_other, whole_files, is_run}
 use Rattle.flight_core.proofs.running.begin.Goals as goal
 
@@ -13,3 +14,15 @@ returns-in-Ok-clause-run g c = λ profile.
     is_run c.args.texts.now c.args.schedule.now _ c.args.reads _ (c.writes_a_mission.ensures.bytes _) c.len-slots.ensures.fits profile c.as_slice.result.now
     (subst (AreAllCompiled (sources_of c.args.texts.now)) (sym c.as_slice.ensures.value) c.in-Ok.ensures.compiled) _
     (c.run_compiled.ensures.run (all_not_other c.args.schedule.now _ profile)) c.run_compiled.ensures.bounded
+
+pub returns-in-Ok-clause-refuses : goal.returns-in-Ok-clause-refuses
+returns-in-Ok-clause-refuses g c = taken (sources_of c.args.texts.now) _ _ c.in-Ok.ensures.compiled _ c.run_compiled.ensures.judged
+
+pub returns-in-Err-clause-refuses : goal.returns-in-Err-clause-refuses
+returns-in-Err-clause-refuses g c = refused (sources_of c.args.texts.now) _ (record {
+  left = refl;
+  reads = c.requires.unread;
+  no_read_failed = c.requires.readable;
+  gained = refl;
+  no_write_failed = c.requires.writable;
+}) _ c.in-Err.ensures.refused

@@ -1,5 +1,9 @@
+use Rattle.flight_core.proofs.Fitting.{begun}
 use Rattle.flight_core.proofs.Outset.{runs_so}
 use Rattle.flight_core.proofs.running.run_compiled.Goals as goal
 
 pub returns-in-Ok-clause-run : goal.returns-in-Ok-clause-run
 returns-in-Ok-clause-run g c = λ profile. runs_so _ _ _ _ _ c.in-Ok.ensures.first profile _ c.fly-result.ensures.outcome
+
+pub returns-in-Ok-clause-judged : goal.returns-in-Ok-clause-judged
+returns-in-Ok-clause-judged g c = begun _ _ c.fly-result.ensures.begun

@@ -1,6 +1,5 @@
 use Rattle.lc_model.specs.Tables.InForce.{layouts}
 use Rattle.flight_core.proofs.Failures.{tells}
-use Rattle.flight_core.proofs.Fitting.{refuses}
 use Rattle.flight_core.proofs.Asides.{by_texts, by_bytes}
 use Rattle.flight_core.proofs.running.run_within.Goals as goal
 
@@ -19,9 +18,6 @@ returns-clause-whatever_fails g c = λ profile. c.runs_write_what_is_called_for.
 pub returns-clause-failures : goal.returns-clause-failures
 returns-clause-failures g c = λ profile.
     tells _ _ _ (c.begin.ensures.run profile) (c.runs_write_what_is_called_for.ensures.failures _ _ _ (c.begin.ensures.run profile))
-
-pub returns-clause-refuses : goal.returns-clause-refuses
-returns-clause-refuses g c = λ profile. refuses _ _ _ _ _ _ (c.begin.ensures.run profile)
 
 pub returns-clause-asides : goal.returns-clause-asides
 returns-clause-asides g c = λ profile.
