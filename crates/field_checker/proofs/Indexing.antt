@@ -14,7 +14,7 @@ use Rattle.lc_model.specs.Text.Meaning.{name_of, packet_of, field_of, is_earlier
 use Rattle.rule_parser.specs.Syntax as syntax
 use Rattle.field_checker.specs.declared.index.Declared.{Declared}
 use Rattle.field_checker.specs.declared.index.Index.{Index}
-use Rattle.field_checker.specs.Index.{at_name, both, is_before, joined, IsIndexOf}
+use Rattle.field_checker.specs.Index.{at_name, both, is_before, is_named_before, is_rule_before, joined, Declares, IsIndexOf}
 
 -- ---- one name
 
@@ -49,6 +49,38 @@ both_put old middle new name text d before after was is put back =
     by_test : (b : Bool) → bytes_eq name text ≡ b → cond b (Some after) (cond b (Some d) (old text)) ≡ joined (old text) (cond b (Some d) None)
     by_test true e = stood (old text) (ap old (sym ((bytes_eq-Decides name text).0 e)) ∙ was)
     by_test false e = joined_none (old text)
+
+-- a place at a name where none stood
+pub least_put : (old : List ℕ → Option ℕ) (name text : List ℕ) (place at : ℕ) → old name ≡ None →
+    is_before (cond (bytes_eq name text) (Some place) (old text)) at ≡ (is_before (old text) at || (bytes_eq name text && nat_lt place at))
+least_put old name text place at none = by_test (bytes_eq name text) refl
+  where
+    empty : (o : Option ℕ) → o ≡ None → nat_lt place at ≡ (is_before o at || nat_lt place at)
+    empty None e = refl
+    empty (Some least) e = absurd (cc e)
+
+    by_test : (b : Bool) → bytes_eq name text ≡ b → is_before (cond b (Some place) (old text)) at ≡ (is_before (old text) at || (b && nat_lt place at))
+    by_test true e = empty (old text) (ap old (sym ((bytes_eq-Decides name text).0 e)) ∙ none)
+    by_test false e = sym (or_false (is_before (old text) at))
+
+-- the lesser of the place and the one that stood at its name
+pub least_kept : (old middle new : List ℕ → Option ℕ) (name text : List ℕ) (place least lesser at : ℕ) → old name ≡ Some least → lesser ≡ min least place →
+    middle text ≡ cond (bytes_eq name text) (Some place) (old text) → new text ≡ cond (bytes_eq name text) (Some lesser) (middle text) →
+    is_before (new text) at ≡ (is_before (old text) at || (bytes_eq name text && nat_lt place at))
+least_kept old middle new name text place least lesser at was is put back =
+    ap (λ o. is_before o at) (back ∙ ap (cond (bytes_eq name text) (Some lesser)) put) ∙ by_test (bytes_eq name text) refl
+  where
+    below : nat_lt lesser at ≡ (nat_lt least at || nat_lt place at)
+    below = grind (arith, nat_tests, is)
+
+    stood : (o : Option ℕ) → o ≡ Some least → nat_lt lesser at ≡ (is_before o at || nat_lt place at)
+    stood None e = absurd (cc e)
+    stood (Some x) e = below ∙ ap (λ o. is_before o at || nat_lt place at) (sym e)
+
+    by_test : (b : Bool) → bytes_eq name text ≡ b →
+        is_before (cond b (Some lesser) (cond b (Some place) (old text))) at ≡ (is_before (old text) at || (b && nat_lt place at))
+    by_test true e = stood (old text) (ap old (sym ((bytes_eq-Decides name text).0 e)) ∙ was)
+    by_test false e = sym (or_false (is_before (old text) at))
 
 -- ---- the parts of what is declared
 
@@ -117,36 +149,66 @@ earlier_more items item name =
     list_any-append (λ other. is_earlier (name_of other) name) items (item ∷ [])
     ∙ ap (λ b. list_any (λ other. is_earlier (name_of other) name) items || b) (or_false (is_earlier (name_of item) name))
 
--- what an item alone declares
-pub record Declares (item : model.Item) (d : Declared) : Type 0 where
-  pub least : d.least ≡ (name_of item).at
-  pub packet : option_map (λ p. syntax.packet_of p.now) d.packet ≡ packet_of item
-  pub field : option_map (λ f. syntax.field_of f.now) d.field ≡ field_of item
-
--- an index with one item more
-pub declared : (old new : Index) (items : List model.Item) (item : model.Item) (d : Declared) → IsIndexOf old items → Declares item d →
-    ((text : List ℕ) → at_name new.names text ≡ joined (at_name old.names text) (cond (bytes_eq (name_of item).text text) (Some d) None)) →
+-- an index with one packet or field more
+pub declared : (old new : Index) (items : List model.Item) (item : model.Item) (d : Declared) → IsIndexOf old items → Declares item d → new.rules ≡ old.rules →
+    ((text : List ℕ) → at_name new.named text ≡ joined (at_name old.named text) (cond (bytes_eq (name_of item).text text) (Some d) None)) →
     IsIndexOf new (items ++ item ∷ [])
-declared old new items item d index is put = record {
+declared old new items item d index is same put = record {
   places = λ text at.
       let test = bytes_eq (name_of item).text text in
-      ap (λ o. is_before (option_map (λ d. d.least) o) at) (put text)
-      ∙ (places_joined (at_name old.names text) test d at
-      ∙ (ap (λ least. is_before (option_map (λ d. d.least) (at_name old.names text)) at || (test && nat_lt least at)) is.least
+      ap (λ o. is_before (option_map (λ d. d.least) o) at || is_before (at_name new.rules text) at) (put text)
+      ∙ (ap (λ b. b || is_before (at_name new.rules text) at) (places_joined (at_name old.named text) test d at)
+      ∙ (ap (λ rules. (is_named_before old text at || (test && nat_lt d.least at)) || is_before (at_name rules text) at) same
+      ∙ (ap (λ least. (is_named_before old text at || (test && nat_lt least at)) || is_rule_before old text at) is.least
+      ∙ (last_of_three (is_named_before old text at) (test && nat_lt (name_of item).at at) (is_rule_before old text at)
       ∙ (ap (λ b. b || (test && nat_lt (name_of item).at at)) (index.places text at)
-      ∙ sym (earlier_more items item (record { at = at; text = text })))));
+      ∙ sym (earlier_more items item (record { at = at; text = text })))))));
   packets = λ text at.
       let test = bytes_eq (name_of item).text text in
       ap (λ o. option_map (λ p. syntax.packet_of p.now) (option_and_then (λ d. d.packet) o)) (put text)
-      ∙ (part_joined (λ p. syntax.packet_of p.now) (λ d. d.packet) (λ x y. refl) (at_name old.names text) test d
-      ∙ (ap (λ o. option_or (option_map (λ p. syntax.packet_of p.now) (option_and_then (λ d. d.packet) (at_name old.names text))) (cond test o None)) is.packet
+      ∙ (part_joined (λ p. syntax.packet_of p.now) (λ d. d.packet) (λ x y. refl) (at_name old.named text) test d
+      ∙ (ap (λ o. option_or (option_map (λ p. syntax.packet_of p.now) (option_and_then (λ d. d.packet) (at_name old.named text))) (cond test o None)) is.packet
       ∙ (ap (λ o. option_or o (cond test (packet_of item) None)) (index.packets text at)
       ∙ sym (packet_more items item (record { at = at; text = text })))));
   fields = λ text at.
       let test = bytes_eq (name_of item).text text in
       ap (λ o. option_map (λ f. syntax.field_of f.now) (option_and_then (λ d. d.field) o)) (put text)
-      ∙ (part_joined (λ f. syntax.field_of f.now) (λ d. d.field) (λ x y. refl) (at_name old.names text) test d
-      ∙ (ap (λ o. option_or (option_map (λ f. syntax.field_of f.now) (option_and_then (λ d. d.field) (at_name old.names text))) (cond test o None)) is.field
+      ∙ (part_joined (λ f. syntax.field_of f.now) (λ d. d.field) (λ x y. refl) (at_name old.named text) test d
+      ∙ (ap (λ o. option_or (option_map (λ f. syntax.field_of f.now) (option_and_then (λ d. d.field) (at_name old.named text))) (cond test o None)) is.field
       ∙ (ap (λ o. option_or o (cond test (field_of item) None)) (index.fields text at)
       ∙ sym (field_more items item (record { at = at; text = text })))));
 }
+  where
+    last_of_three : (a b c : Bool) → ((a || b) || c) ≡ ((a || c) || b)
+    last_of_three true b c = refl
+    last_of_three false true true = refl
+    last_of_three false true false = refl
+    last_of_three false false true = refl
+    last_of_three false false false = refl
+
+-- an index with one rule more
+pub rule_declared : (old new : Index) (items : List model.Item) (r : model.RuleItem) → IsIndexOf old items → new.named ≡ old.named →
+    ((text : List ℕ) (at : ℕ) → is_rule_before new text at ≡ (is_rule_before old text at || (bytes_eq r.name.text text && nat_lt r.name.at at))) →
+    IsIndexOf new (items ++ model.Rule r ∷ [])
+rule_declared old new items r index same put = record {
+  places = λ text at.
+      let test = bytes_eq r.name.text text && nat_lt r.name.at at in
+      ap (λ b. is_named_before new text at || b) (put text at)
+      ∙ (ap (λ named. is_before (option_map (λ d. d.least) (at_name named text)) at || (is_rule_before old text at || test)) same
+      ∙ (or_assoc (is_named_before old text at) (is_rule_before old text at) test
+      ∙ (ap (λ b. b || test) (index.places text at) ∙ sym (earlier_more items (model.Rule r) (record { at = at; text = text })))));
+  packets = λ text at.
+      ap (λ named. option_map (λ p. syntax.packet_of p.now) (option_and_then (λ d. d.packet) (at_name named text))) same
+      ∙ (index.packets text at ∙ (or_none (packet_named items (record { at = at; text = text }))
+      ∙ (ap (option_or (packet_named items (record { at = at; text = text }))) (cond_same (bytes_eq r.name.text text) None)
+      ∙ sym (packet_more items (model.Rule r) (record { at = at; text = text })))));
+  fields = λ text at.
+      ap (λ named. option_map (λ f. syntax.field_of f.now) (option_and_then (λ d. d.field) (at_name named text))) same
+      ∙ (index.fields text at ∙ (or_none (field_named items (record { at = at; text = text }))
+      ∙ (ap (option_or (field_named items (record { at = at; text = text }))) (cond_same (bytes_eq r.name.text text) None)
+      ∙ sym (field_more items (model.Rule r) (record { at = at; text = text })))));
+}
+  where
+    or_assoc : (a b c : Bool) → (a || (b || c)) ≡ ((a || b) || c)
+    or_assoc true b c = refl
+    or_assoc false b c = refl

@@ -1,17 +1,17 @@
 //! What names are declared as.
 
-ghost use Rattle.std.specs.Prelude.{◌≡◌, ℕ, List, [], ◌∷◌, ◌++◌, Some, None, OnOk, bytes_eq, cond, option_map};
+ghost use Rattle.std.specs.Prelude.{◌≡◌, ℕ, List, [], ◌∷◌, ◌++◌, Some, None, OnOk, bytes_eq, cond, nat_lt, ◌&&◌, ◌||◌};
 ghost use Rattle.lc_model.specs.Text.Syntax as model;
 ghost use Rattle.lc_model.specs.Text.Meaning as meaning;
 ghost use Rattle.rule_parser.specs.Syntax.{field_of, item_of, name_of, packet_of};
-ghost use Rattle.field_checker.specs.Index.{at_name, both, joined, spread, IsIndexOf};
+ghost use Rattle.field_checker.specs.Index.{at_name, both, is_before, joined, spread, Declares, IsIndexOf};
 
 use crate::key::key;
 use rule_parser::{FieldItem, Item, Name, PacketItem};
 use std::alloc::{AllocError, Global};
 use std::collections::BTreeMap;
 
-/// What the items of one name declare, of those that are taken in.
+/// What the packets and fields of one name declare, of those that are taken in.
 #[derive(Clone, Copy)]
 pub(crate) struct Declared<'f, 'a> {
     /// The least place at which one of them declares the name.
@@ -22,10 +22,14 @@ pub(crate) struct Declared<'f, 'a> {
     pub field: Option<&'f FieldItem<'a>>,
 }
 
-/// What some items declare, by the keys of names.
+/// What some items declare, by the keys of names. Rules stand apart: conditions name none of them, so that a look-up of what
+/// conditions name passes by none.
 #[derive(Drop)]
 pub(crate) struct Index<'f, 'a> {
-    pub names: BTreeMap<(u64, &'a [u8]), Declared<'f, 'a>>,
+    /// What packets and fields declare.
+    pub named: BTreeMap<(u64, &'a [u8]), Declared<'f, 'a>>,
+    /// The least place at which a rule declares the name.
+    pub rules: BTreeMap<(u64, &'a [u8]), usize>,
 }
 
 /// The name that an item declares.
@@ -40,22 +44,25 @@ pub(crate) fn declared_name<'a>(item: &Item<'a>) -> Name<'a>
 }
 
 impl<'f, 'a> Declared<'f, 'a> {
-    /// What an item alone declares.
-    fn by(item: &'f Item<'a>) -> Declared<'f, 'a>
-        ensures least { result.least ≡ (meaning.name_of (item_of item.now)).at }
-        ensures packet { option_map (λ p. packet_of p.now) result.packet ≡ meaning.packet_of (item_of item.now) }
-        ensures field { option_map (λ f. field_of f.now) result.field ≡ meaning.field_of (item_of item.now) }
+    /// What a packet alone declares.
+    fn by_packet(packet: &'f PacketItem<'a>) -> Declared<'f, 'a>
+        ensures { Declares (model.Packet (packet_of packet.now)) result }
     {
-        let least = declared_name(item).at;
-        let (packet, field) = match item {
-            Item::Packet(packet) => (Some(packet), None),
-            Item::Field(field) => (None, Some(field)),
-            Item::Rule(_) => (None, None),
-        };
         Declared {
-            least,
-            packet,
-            field,
+            least: packet.name.at,
+            packet: Some(packet),
+            field: None,
+        }
+    }
+
+    /// What a field alone declares.
+    fn by_field(field: &'f FieldItem<'a>) -> Declared<'f, 'a>
+        ensures { Declares (model.Field (field_of field.now)) result }
+    {
+        Declared {
+            least: field.name.at,
+            packet: None,
+            field: Some(field),
         }
     }
 
@@ -71,17 +78,32 @@ impl<'f, 'a> Declared<'f, 'a> {
     }
 }
 
-/// Adds what an item behind all others declares under the name with this key. A name that is new costs one search.
+/// Adds what a packet or a field behind all others declares under the name with this key. A name that is new costs one search.
 fn insert<'f, 'a>(
-    names: &mut BTreeMap<(u64, &'a [u8]), Declared<'f, 'a>>,
+    named: &mut BTreeMap<(u64, &'a [u8]), Declared<'f, 'a>>,
     key: (u64, &'a [u8]),
     declared: Declared<'f, 'a>,
 ) -> Result<(), AllocError>
     requires { key.0 ≡ spread key.1.now }
-    ensures { OnOk result ((text : List ℕ) → at_name names.new text ≡ joined (at_name names.old text) (cond (bytes_eq key.entry.1.now text) (Some declared.entry) None)) }
+    ensures { OnOk result ((text : List ℕ) → at_name named.new text ≡ joined (at_name named.old text) (cond (bytes_eq key.entry.1.now text) (Some declared.entry) None)) }
 {
-    if let Some(before) = names.insert(key, declared)? {
-        names.insert(key, before.with(declared))?;
+    if let Some(before) = named.insert(key, declared)? {
+        named.insert(key, before.with(declared))?;
+    }
+    Ok(())
+}
+
+/// Puts the place at the name with this key, where no lesser place stands there yet. A name that is new costs one search.
+fn insert_least<'a>(
+    map: &mut BTreeMap<(u64, &'a [u8]), usize>,
+    key: (u64, &'a [u8]),
+    place: usize,
+) -> Result<(), AllocError>
+    requires { key.0 ≡ spread key.1.now }
+    ensures { OnOk result ((text : List ℕ) (at : ℕ) → is_before (at_name map.new text) at ≡ (is_before (at_name map.old text) at || (bytes_eq key.entry.1.now text && nat_lt place at))) }
+{
+    if let Some(least) = map.insert(key, place)? {
+        map.insert(key, least.min(place))?;
     }
     Ok(())
 }
@@ -92,7 +114,8 @@ impl<'f, 'a> Index<'f, 'a> {
         ensures { IsIndexOf result [] }
     {
         Index {
-            names: BTreeMap::new(alloc),
+            named: BTreeMap::new(alloc),
+            rules: BTreeMap::new(alloc),
         }
     }
 
@@ -100,8 +123,17 @@ impl<'f, 'a> Index<'f, 'a> {
     pub fn declare(&mut self, item: &'f Item<'a>) -> Result<(), AllocError>
         ensures { (items : List model.Item) → IsIndexOf self.old items → OnOk result (IsIndexOf self.new (items ++ item_of item.now ∷ [])) }
     {
-        let key = key(declared_name(item).text);
-        insert(&mut self.names, key, Declared::by(item))?;
+        match item {
+            Item::Packet(packet) => {
+                let declared = Declared::by_packet(packet);
+                insert(&mut self.named, key(packet.name.text), declared)?;
+            }
+            Item::Field(field) => {
+                let declared = Declared::by_field(field);
+                insert(&mut self.named, key(field.name.text), declared)?;
+            }
+            Item::Rule(rule) => insert_least(&mut self.rules, key(rule.name.text), rule.name.at)?,
+        }
         Ok(())
     }
 }

@@ -7,4 +7,4 @@ pub returns : goal.returns
 returns c =
     c.copied.ensures
     ∙ (c.get.ensures.value
-    ∙ ap (λ compare. get_by compare c.args.self.now.index.names) (compares_as c.args.name.text.now c.key.result c.key.ensures.number c.key.ensures.bytes))
+    ∙ ap (λ compare. get_by compare c.args.self.now.index.named) (compares_as c.args.name.text.now c.key.result c.key.ensures.number c.key.ensures.bytes))
