@@ -34,10 +34,10 @@ impl<'f, 'a> Names<'f, 'a> {
     }
 
     /// What packets and fields declare under the name, where one does.
-    fn declared(&self, name: Name<'a>) -> Option<Declared<'f, 'a>>
-        ensures { result ≡ at_name self.now.index.named name.entry.text.now }
+    fn declared(&self, name: Name<'a>) -> Option<&Declared<'f, 'a>>
+        ensures { option_map (λ d. d.now) result ≡ at_name self.now.index.named name.entry.text.now }
     {
-        self.index.named.get(&key(name.text)).copied()
+        self.index.named.get(&key(name.text))
     }
 
     /// Whether a packet or a field declares the name at a lesser place.

@@ -5,6 +5,5 @@ use Rattle.field_checker.proofs.names.Names.declared.Goals as goal
 
 pub returns : goal.returns
 returns c =
-    c.copied.ensures
-    ∙ (c.get.ensures.value
-    ∙ ap (λ compare. get_by compare c.args.self.now.index.named) (compares_as c.args.name.text.now c.key.result c.key.ensures.number c.key.ensures.bytes))
+    c.get.ensures.value
+    ∙ ap (λ compare. get_by compare c.args.self.now.index.named) (compares_as c.args.name.text.now c.key.result c.key.ensures.number c.key.ensures.bytes)
