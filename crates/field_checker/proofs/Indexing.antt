@@ -1,10 +1,8 @@
 -- How an index takes in one more item.
-use Rattle.std.proofs.Common.{◌≡◌, refl, sym, ◌∙◌, ap, subst, ℕ, Bool, true, false, cond, ◌&&◌, ◌||◌, List, [], ◌∷◌, ◌++◌, Option, Some, None, bytes_eq, nat_lt, arith}
-use Rattle.std.specs.Prelude.{min, option_map, find, filter_map}
+use Rattle.std.proofs.Common.{◌≡◌, refl, sym, ◌∙◌, ap, ℕ, Bool, true, false, cond, ◌&&◌, ◌||◌, List, [], ◌∷◌, ◌++◌, Option, Some, None, bytes_eq, nat_lt, arith}
+use Rattle.std.specs.Prelude.{min, option_map, option_and_then, find, filter_map}
 use Rattle.std.specs.Option.{option_or}
 use Rattle.std.specs.List.{list_any}
-use Rattle.std.specs.BTreeMap.{BTreeMap}
-use denote.Ref.{Bor}
 use Rattle.std.proofs.lemmas.Bool.Decides.{nat_tests}
 use Rattle.std.proofs.lemmas.List.Folds.{find-append, list_any-append}
 use Rattle.std.proofs.lemmas.List.Elements.{filter_map-append}
@@ -13,44 +11,44 @@ use Rattle.lc_model.proofs.Facts.{or_false}
 use Rattle.lc_model.specs.Text.Token.{Token}
 use Rattle.lc_model.specs.Text.Syntax as model
 use Rattle.lc_model.specs.Text.Meaning.{name_of, packet_of, field_of, is_earlier, packet_named, field_named}
-use Rattle.rule_parser.specs.declared.syntax.FieldItem.{FieldItem}
-use Rattle.rule_parser.specs.declared.syntax.PacketItem.{PacketItem}
 use Rattle.rule_parser.specs.Syntax as syntax
+use Rattle.field_checker.specs.declared.index.Declared.{Declared}
 use Rattle.field_checker.specs.declared.index.Index.{Index}
-use Rattle.field_checker.specs.Index.{at_name, is_before, IsIndexOf}
-
-or_none : {A : Type 0} (a : Option A) → a ≡ option_or a None
-or_none None = refl
-or_none (Some x) = refl
+use Rattle.field_checker.specs.Index.{at_name, both, is_before, is_named_before, is_rule_before, joined, Declares, IsIndexOf}
 
 -- ---- one name
 
--- a name where nothing stood
-pub first_put : {X : Type 0} (old : List ℕ → Option X) (name text : List ℕ) (value : X) → old name ≡ None →
-    cond (bytes_eq name text) (Some value) (old text) ≡ option_or (old text) (cond (bytes_eq name text) (Some value) None)
-first_put {X} old name text value none = by_test (bytes_eq name text) refl
+joined_none : (o : Option Declared) → o ≡ joined o None
+joined_none None = refl
+joined_none (Some d) = refl
+
+-- what is declared at a name where nothing stood
+pub new_put : (old : List ℕ → Option Declared) (name text : List ℕ) (d : Declared) → old name ≡ None →
+    cond (bytes_eq name text) (Some d) (old text) ≡ joined (old text) (cond (bytes_eq name text) (Some d) None)
+new_put old name text d none = by_test (bytes_eq name text) refl
   where
-    empty : (o : Option X) → o ≡ None → Some value ≡ option_or o (Some value)
+    empty : (o : Option Declared) → o ≡ None → Some d ≡ joined o (Some d)
     empty None e = refl
     empty (Some x) e = absurd (cc e)
 
-    by_test : (b : Bool) → bytes_eq name text ≡ b → cond b (Some value) (old text) ≡ option_or (old text) (cond b (Some value) None)
+    by_test : (b : Bool) → bytes_eq name text ≡ b → cond b (Some d) (old text) ≡ joined (old text) (cond b (Some d) None)
     by_test true e = empty (old text) (ap old (sym ((bytes_eq-Decides name text).0 e)) ∙ none)
-    by_test false e = or_none (old text)
+    by_test false e = joined_none (old text)
 
--- a value in the place of the one that stood at its name, which is put back
-pub first_kept : {X : Type 0} (old middle new : List ℕ → Option X) (name text : List ℕ) (value first : X) → old name ≡ Some first →
-    middle text ≡ cond (bytes_eq name text) (Some value) (old text) → new text ≡ cond (bytes_eq name text) (Some first) (middle text) →
-    new text ≡ option_or (old text) (cond (bytes_eq name text) (Some value) None)
-first_kept {X} old middle new name text value first was put back = back ∙ (ap (cond (bytes_eq name text) (Some first)) put ∙ by_test (bytes_eq name text) refl)
+-- what is declared in the place of what stood at its name, and then both
+pub both_put : (old middle new : List ℕ → Option Declared) (name text : List ℕ) (d before after : Declared) → old name ≡ Some before → after ≡ both before d →
+    middle text ≡ cond (bytes_eq name text) (Some d) (old text) → new text ≡ cond (bytes_eq name text) (Some after) (middle text) →
+    new text ≡ joined (old text) (cond (bytes_eq name text) (Some d) None)
+both_put old middle new name text d before after was is put back =
+    back ∙ (ap (cond (bytes_eq name text) (Some after)) put ∙ by_test (bytes_eq name text) refl)
   where
-    stood : (o : Option X) → o ≡ Some first → Some first ≡ option_or o (Some value)
+    stood : (o : Option Declared) → o ≡ Some before → Some after ≡ joined o (Some d)
     stood None e = absurd (cc e)
-    stood (Some x) e = sym e
+    stood (Some x) e = ap Some is ∙ ap (λ o. joined o (Some d)) (sym e)
 
-    by_test : (b : Bool) → bytes_eq name text ≡ b → cond b (Some first) (cond b (Some value) (old text)) ≡ option_or (old text) (cond b (Some value) None)
+    by_test : (b : Bool) → bytes_eq name text ≡ b → cond b (Some after) (cond b (Some d) (old text)) ≡ joined (old text) (cond b (Some d) None)
     by_test true e = stood (old text) (ap old (sym ((bytes_eq-Decides name text).0 e)) ∙ was)
-    by_test false e = or_none (old text)
+    by_test false e = joined_none (old text)
 
 -- a place at a name where none stood
 pub least_put : (old : List ℕ → Option ℕ) (name text : List ℕ) (place at : ℕ) → old name ≡ None →
@@ -84,20 +82,65 @@ least_kept old middle new name text place least lesser at was is put back =
     by_test true e = stood (old text) (ap old (sym ((bytes_eq-Decides name text).0 e)) ∙ was)
     by_test false e = sym (or_false (is_before (old text) at))
 
+-- ---- the parts of what is declared
+
+or_none : {A : Type 0} (a : Option A) → a ≡ option_or a None
+or_none None = refl
+or_none (Some x) = refl
+
+cond_same : {A : Type 0} (b : Bool) (a : A) → a ≡ cond b a a
+cond_same true a = refl
+cond_same false a = refl
+
+map_or : {A B : Type 0} (f : A → B) (a b : Option A) → option_map f (option_or a b) ≡ option_or (option_map f a) (option_map f b)
+map_or f None b = refl
+map_or f (Some x) b = refl
+
+places_joined : (o : Option Declared) (b : Bool) (d : Declared) (at : ℕ) →
+    is_before (option_map (λ d. d.least) (joined o (cond b (Some d) None))) at ≡ (is_before (option_map (λ d. d.least) o) at || (b && nat_lt d.least at))
+places_joined None true d at = refl
+places_joined None false d at = refl
+places_joined (Some x) true d at = lesser x.least d.least
+  where
+    lesser : (m n : ℕ) → nat_lt (min m n) at ≡ (nat_lt m at || nat_lt n at)
+    lesser m n = grind (arith, nat_tests)
+places_joined (Some x) false d at = sym (or_false (nat_lt x.least at))
+
+-- what stands first, seen by a function
+part_joined : {A B : Type 0} (f : A → B) (part : Declared → Option A) → ((x y : Declared) → part (both x y) ≡ option_or (part x) (part y)) →
+    (o : Option Declared) (b : Bool) (d : Declared) →
+    option_map f (option_and_then part (joined o (cond b (Some d) None))) ≡ option_or (option_map f (option_and_then part o)) (cond b (option_map f (part d)) None)
+part_joined f part first None true d = refl
+part_joined f part first None false d = refl
+part_joined f part first (Some x) true d = ap (option_map f) (first x d) ∙ map_or f (part x) (part d)
+part_joined f part first (Some x) false d = or_none (option_map f (part x))
+
 -- ---- one item
 
 -- what is found among some items and one more
+packet_alone : (item : model.Item) (name : Token) → packet_named (item ∷ []) name ≡ cond (bytes_eq (name_of item).text name.text) (packet_of item) None
+packet_alone (model.Packet p) name = refl
+packet_alone (model.Field f) name = cond_same (bytes_eq f.name.text name.text) None
+packet_alone (model.Rule r) name = cond_same (bytes_eq r.name.text name.text) None
+
 packet_more : (items : List model.Item) (item : model.Item) (name : Token) →
-    packet_named (items ++ item ∷ []) name ≡ option_or (packet_named items name) (packet_named (item ∷ []) name)
+    packet_named (items ++ item ∷ []) name ≡ option_or (packet_named items name) (cond (bytes_eq (name_of item).text name.text) (packet_of item) None)
 packet_more items item name =
     ap (find (λ p. bytes_eq p.name.text name.text)) (filter_map-append packet_of items (item ∷ []))
-    ∙ find-append (λ p. bytes_eq p.name.text name.text) (filter_map packet_of items) (filter_map packet_of (item ∷ []))
+    ∙ (find-append (λ p. bytes_eq p.name.text name.text) (filter_map packet_of items) (filter_map packet_of (item ∷ []))
+    ∙ ap (option_or (packet_named items name)) (packet_alone item name))
+
+field_alone : (item : model.Item) (name : Token) → field_named (item ∷ []) name ≡ cond (bytes_eq (name_of item).text name.text) (field_of item) None
+field_alone (model.Packet p) name = cond_same (bytes_eq p.name.text name.text) None
+field_alone (model.Field f) name = refl
+field_alone (model.Rule r) name = cond_same (bytes_eq r.name.text name.text) None
 
 field_more : (items : List model.Item) (item : model.Item) (name : Token) →
-    field_named (items ++ item ∷ []) name ≡ option_or (field_named items name) (field_named (item ∷ []) name)
+    field_named (items ++ item ∷ []) name ≡ option_or (field_named items name) (cond (bytes_eq (name_of item).text name.text) (field_of item) None)
 field_more items item name =
     ap (find (λ f. bytes_eq f.name.text name.text)) (filter_map-append field_of items (item ∷ []))
-    ∙ find-append (λ f. bytes_eq f.name.text name.text) (filter_map field_of items) (filter_map field_of (item ∷ []))
+    ∙ (find-append (λ f. bytes_eq f.name.text name.text) (filter_map field_of items) (filter_map field_of (item ∷ []))
+    ∙ ap (option_or (field_named items name)) (field_alone item name))
 
 earlier_more : (items : List model.Item) (item : model.Item) (name : Token) →
     list_any (λ other. is_earlier (name_of other) name) (items ++ item ∷ [])
@@ -106,62 +149,66 @@ earlier_more items item name =
     list_any-append (λ other. is_earlier (name_of other) name) items (item ∷ [])
     ∙ ap (λ b. list_any (λ other. is_earlier (name_of other) name) items || b) (or_false (is_earlier (name_of item) name))
 
--- what stands first, seen by a function
-pub first_seen : {A B : Type 0} (f : A → B) (old : Option A) (b : Bool) (x : A) →
-    option_map f (option_or old (cond b (Some x) None)) ≡ option_or (option_map f old) (cond b (Some (f x)) None)
-first_seen f None true x = refl
-first_seen f None false x = refl
-first_seen f (Some y) b x = refl
-
--- the places with this name's
-abbrev pub PlaceTaken : (old new : BTreeMap (ℕ × Bor (List ℕ)) ℕ) → Token → Type 0
-PlaceTaken old new name = (text : List ℕ) (at : ℕ) →
-    is_before (at_name new text) at ≡ (is_before (at_name old text) at || (bytes_eq name.text text && nat_lt name.at at))
-
--- the packets, and the fields, with this item's
-abbrev pub PacketTaken : (old new : BTreeMap (ℕ × Bor (List ℕ)) (Bor PacketItem)) → model.Item → Type 0
-PacketTaken old new item = (text : List ℕ) (at : ℕ) →
-    option_map (λ p. syntax.packet_of p.now) (at_name new text)
-    ≡ option_or (option_map (λ p. syntax.packet_of p.now) (at_name old text)) (packet_named (item ∷ []) (record { at = at; text = text }))
-
-abbrev pub FieldTaken : (old new : BTreeMap (ℕ × Bor (List ℕ)) (Bor FieldItem)) → model.Item → Type 0
-FieldTaken old new item = (text : List ℕ) (at : ℕ) →
-    option_map (λ f. syntax.field_of f.now) (at_name new text)
-    ≡ option_or (option_map (λ f. syntax.field_of f.now) (at_name old text)) (field_named (item ∷ []) (record { at = at; text = text }))
-
-pub declared : (old new : Index) (items : List model.Item) (item : model.Item) → IsIndexOf old items → PlaceTaken old.places new.places (name_of item) →
-    PacketTaken old.packets new.packets item → FieldTaken old.fields new.fields item → IsIndexOf new (items ++ item ∷ [])
-declared old new items item index place packet field = record {
+-- an index with one packet or field more
+pub declared : (old new : Index) (items : List model.Item) (item : model.Item) (d : Declared) → IsIndexOf old items → Declares item d → new.rules ≡ old.rules →
+    ((text : List ℕ) → at_name new.named text ≡ joined (at_name old.named text) (cond (bytes_eq (name_of item).text text) (Some d) None)) →
+    IsIndexOf new (items ++ item ∷ [])
+declared old new items item d index is same put = record {
   places = λ text at.
-      place text at ∙ (ap (λ b. b || (bytes_eq (name_of item).text text && nat_lt (name_of item).at at)) (index.places text at)
-      ∙ sym (earlier_more items item (record { at = at; text = text })));
+      let test = bytes_eq (name_of item).text text in
+      ap (λ o. is_before (option_map (λ d. d.least) o) at || is_before (at_name new.rules text) at) (put text)
+      ∙ (ap (λ b. b || is_before (at_name new.rules text) at) (places_joined (at_name old.named text) test d at)
+      ∙ (ap (λ rules. (is_named_before old text at || (test && nat_lt d.least at)) || is_before (at_name rules text) at) same
+      ∙ (ap (λ least. (is_named_before old text at || (test && nat_lt least at)) || is_rule_before old text at) is.least
+      ∙ (last_of_three (is_named_before old text at) (test && nat_lt (name_of item).at at) (is_rule_before old text at)
+      ∙ (ap (λ b. b || (test && nat_lt (name_of item).at at)) (index.places text at)
+      ∙ sym (earlier_more items item (record { at = at; text = text })))))));
   packets = λ text at.
-      packet text at ∙ (ap (λ o. option_or o (packet_named (item ∷ []) (record { at = at; text = text }))) (index.packets text at)
-      ∙ sym (packet_more items item (record { at = at; text = text })));
+      let test = bytes_eq (name_of item).text text in
+      ap (λ o. option_map (λ p. syntax.packet_of p.now) (option_and_then (λ d. d.packet) o)) (put text)
+      ∙ (part_joined (λ p. syntax.packet_of p.now) (λ d. d.packet) (λ x y. refl) (at_name old.named text) test d
+      ∙ (ap (λ o. option_or (option_map (λ p. syntax.packet_of p.now) (option_and_then (λ d. d.packet) (at_name old.named text))) (cond test o None)) is.packet
+      ∙ (ap (λ o. option_or o (cond test (packet_of item) None)) (index.packets text at)
+      ∙ sym (packet_more items item (record { at = at; text = text })))));
   fields = λ text at.
-      field text at ∙ (ap (λ o. option_or o (field_named (item ∷ []) (record { at = at; text = text }))) (index.fields text at)
-      ∙ sym (field_more items item (record { at = at; text = text })));
+      let test = bytes_eq (name_of item).text text in
+      ap (λ o. option_map (λ f. syntax.field_of f.now) (option_and_then (λ d. d.field) o)) (put text)
+      ∙ (part_joined (λ f. syntax.field_of f.now) (λ d. d.field) (λ x y. refl) (at_name old.named text) test d
+      ∙ (ap (λ o. option_or (option_map (λ f. syntax.field_of f.now) (option_and_then (λ d. d.field) (at_name old.named text))) (cond test o None)) is.field
+      ∙ (ap (λ o. option_or o (cond test (field_of item) None)) (index.fields text at)
+      ∙ sym (field_more items item (record { at = at; text = text })))));
 }
+  where
+    last_of_three : (a b c : Bool) → ((a || b) || c) ≡ ((a || c) || b)
+    last_of_three true b c = refl
+    last_of_three false true true = refl
+    last_of_three false true false = refl
+    last_of_three false false true = refl
+    last_of_three false false false = refl
 
--- a packet, a field and a rule more
-pub packet_declared : (old : Index) {places : BTreeMap (ℕ × Bor (List ℕ)) ℕ} {packets : BTreeMap (ℕ × Bor (List ℕ)) (Bor PacketItem)} (items : List model.Item)
-    (item : model.Item) (p : model.PacketItem) → item ≡ model.Packet p → IsIndexOf old items → PlaceTaken old.places places (name_of item) →
-    PacketTaken old.packets packets (model.Packet p) → IsIndexOf (record { places = places; packets = packets; fields = old.fields }) (items ++ item ∷ [])
-packet_declared old {places} {packets} items item p e index place packet =
-    declared old (record { places = places; packets = packets; fields = old.fields }) items item index place
-    (subst (PacketTaken old.packets packets) (sym e) packet) (subst (FieldTaken old.fields old.fields) (sym e) (λ text at. or_none _))
-
-pub field_declared : (old : Index) {places : BTreeMap (ℕ × Bor (List ℕ)) ℕ} {fields : BTreeMap (ℕ × Bor (List ℕ)) (Bor FieldItem)} (items : List model.Item)
-    (item : model.Item) (f : model.FieldItem) → item ≡ model.Field f → IsIndexOf old items → PlaceTaken old.places places (name_of item) →
-    FieldTaken old.fields fields (model.Field f) → IsIndexOf (record { places = places; packets = old.packets; fields = fields }) (items ++ item ∷ [])
-field_declared old {places} {fields} items item f e index place field =
-    declared old (record { places = places; packets = old.packets; fields = fields }) items item index place
-    (subst (PacketTaken old.packets old.packets) (sym e) (λ text at. or_none _)) (subst (FieldTaken old.fields fields) (sym e) field)
-
-pub rule_declared : (old : Index) {places : BTreeMap (ℕ × Bor (List ℕ)) ℕ} (items : List model.Item) (item : model.Item) (r : model.RuleItem) → item ≡ model.Rule r →
-    IsIndexOf old items → PlaceTaken old.places places (name_of item) →
-    IsIndexOf (record { places = places; packets = old.packets; fields = old.fields }) (items ++ item ∷ [])
-rule_declared old {places} items item r e index place =
-    declared old (record { places = places; packets = old.packets; fields = old.fields }) items item index place
-    (subst (PacketTaken old.packets old.packets) (sym e) (λ text at. or_none _))
-    (subst (FieldTaken old.fields old.fields) (sym e) (λ text at. or_none _))
+-- an index with one rule more
+pub rule_declared : (old new : Index) (items : List model.Item) (r : model.RuleItem) → IsIndexOf old items → new.named ≡ old.named →
+    ((text : List ℕ) (at : ℕ) → is_rule_before new text at ≡ (is_rule_before old text at || (bytes_eq r.name.text text && nat_lt r.name.at at))) →
+    IsIndexOf new (items ++ model.Rule r ∷ [])
+rule_declared old new items r index same put = record {
+  places = λ text at.
+      let test = bytes_eq r.name.text text && nat_lt r.name.at at in
+      ap (λ b. is_named_before new text at || b) (put text at)
+      ∙ (ap (λ named. is_before (option_map (λ d. d.least) (at_name named text)) at || (is_rule_before old text at || test)) same
+      ∙ (or_assoc (is_named_before old text at) (is_rule_before old text at) test
+      ∙ (ap (λ b. b || test) (index.places text at) ∙ sym (earlier_more items (model.Rule r) (record { at = at; text = text })))));
+  packets = λ text at.
+      ap (λ named. option_map (λ p. syntax.packet_of p.now) (option_and_then (λ d. d.packet) (at_name named text))) same
+      ∙ (index.packets text at ∙ (or_none (packet_named items (record { at = at; text = text }))
+      ∙ (ap (option_or (packet_named items (record { at = at; text = text }))) (cond_same (bytes_eq r.name.text text) None)
+      ∙ sym (packet_more items (model.Rule r) (record { at = at; text = text })))));
+  fields = λ text at.
+      ap (λ named. option_map (λ f. syntax.field_of f.now) (option_and_then (λ d. d.field) (at_name named text))) same
+      ∙ (index.fields text at ∙ (or_none (field_named items (record { at = at; text = text }))
+      ∙ (ap (option_or (field_named items (record { at = at; text = text }))) (cond_same (bytes_eq r.name.text text) None)
+      ∙ sym (field_more items (model.Rule r) (record { at = at; text = text })))));
+}
+  where
+    or_assoc : (a b c : Bool) → (a || (b || c)) ≡ ((a || b) || c)
+    or_assoc true b c = refl
+    or_assoc false b c = refl

@@ -1,6 +1,6 @@
 -- What an index of names is. This project's own.
-use Rattle.std.specs.Prelude.{◌≡◌, ℕ, ◌*◌, ◌%◌, ◌^◌, Bool, false, List, fold, Option, option_map, nat_lt, bit_xor}
-use Rattle.std.specs.Option.{option_map_or}
+use Rattle.std.specs.Prelude.{◌≡◌, ℕ, ◌*◌, ◌%◌, ◌^◌, Bool, false, ◌||◌, List, fold, Option, None, Some, min, option_map, option_and_then, nat_lt, bit_xor}
+use Rattle.std.specs.Option.{option_map_or, option_or}
 use Rattle.std.specs.List.{list_any}
 use Rattle.std.specs.declared.cmp.Ordering.{Ordering}
 use Rattle.std.specs.Ordering.{nat_cmp, ordering_then}
@@ -10,6 +10,7 @@ use Rattle.lc_model.specs.Text.Syntax as model
 use Rattle.lc_model.specs.Text.Meaning as meaning
 use Rattle.lc_model.specs.Text.Meaning.{is_earlier, packet_named, field_named}
 use Rattle.rule_parser.specs.Syntax.{field_of, packet_of}
+use Rattle.field_checker.specs.declared.index.Declared.{Declared}
 use Rattle.field_checker.specs.declared.index.Index.{Index}
 use denote.Ref.{Bor}
 
@@ -36,11 +37,39 @@ at_name map text = get_by (compared text) map
 abbrev pub is_before : Option ℕ → ℕ → Bool
 is_before place at = option_map_or (λ least. nat_lt least at) place false
 
+-- what an item alone declares
+pub record Declares (item : model.Item) (d : Declared) : Type 0 where
+  pub least : d.least ≡ (meaning.name_of item).at
+  pub packet : option_map (λ p. packet_of p.now) d.packet ≡ meaning.packet_of item
+  pub field : option_map (λ f. field_of f.now) d.field ≡ meaning.field_of item
+
+-- what items of one name declare, and others of that name behind them
+abbrev pub both : Declared → Declared → Declared
+both first behind = record {
+  least = min first.least behind.least;
+  packet = option_or first.packet behind.packet;
+  field = option_or first.field behind.field;
+}
+
+-- the same where there may be none
+abbrev pub joined : Option Declared → Option Declared → Option Declared
+joined None behind = behind
+joined (Some first) None = Some first
+joined (Some first) (Some behind) = Some (both first behind)
+
+-- whether a packet or a field, or a rule, declares the name at a lesser place
+abbrev pub is_named_before : Index → List ℕ → ℕ → Bool
+is_named_before index text at = is_before (option_map (λ d. d.least) (at_name index.named text)) at
+
+abbrev pub is_rule_before : Index → List ℕ → ℕ → Bool
+is_rule_before index text at = is_before (at_name index.rules text) at
+
 -- the index has the least place of each name, and the first packet and field that it names
 pub record IsIndexOf (index : Index) (items : List model.Item) : Type 0 where
   pub places : (text : List ℕ) (at : ℕ) →
-      is_before (at_name index.places text) at ≡ list_any (λ other. is_earlier (meaning.name_of other) (record { at = at; text = text })) items
+      (is_named_before index text at || is_rule_before index text at)
+      ≡ list_any (λ other. is_earlier (meaning.name_of other) (record { at = at; text = text })) items
   pub packets : (text : List ℕ) (at : ℕ) →
-      option_map (λ p. packet_of p.now) (at_name index.packets text) ≡ packet_named items (record { at = at; text = text })
+      option_map (λ p. packet_of p.now) (option_and_then (λ d. d.packet) (at_name index.named text)) ≡ packet_named items (record { at = at; text = text })
   pub fields : (text : List ℕ) (at : ℕ) →
-      option_map (λ f. field_of f.now) (at_name index.fields text) ≡ field_named items (record { at = at; text = text })
+      option_map (λ f. field_of f.now) (option_and_then (λ d. d.field) (at_name index.named text)) ≡ field_named items (record { at = at; text = text })

@@ -19,10 +19,10 @@ use std::alloc::Global;
 /// The rules that the items of a rule text mean, in the text's order, with each name replaced by what it names. A name
 /// may be used before its declaration; where one is declared twice, the first packet or field of that name counts.
 ///
-/// Work: at most three look-ups for each name of the text, declared or used, and five for one declared again, in ordered
-/// maps: for `n` names in the order of `n log n` comparisons, whatever the names are. A comparison is mostly one of two
-/// numbers, which are spread from the names' bytes. Memory: the maps, which go at the end, and the rules. The stack grows
-/// with the depth of the conditions.
+/// Work: at most three look-ups for each name of the text, declared or used, and four for one declared again, in ordered maps:
+/// for `n` names in the order of `n log n` comparisons, whatever the names are. A comparison is mostly one of two numbers, which
+/// are spread from the names' bytes. Memory: the maps, which go at the end, and the rules. The stack grows with the depth of the
+/// conditions.
 ///
 /// Errors: of all faults of all items the one at the least place, at one place the one with the least number, and where
 /// that is a number out of its range, which number is meant; `Memory` where the names or the rules find no room.

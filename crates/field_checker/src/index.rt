@@ -1,39 +1,94 @@
 //! What names are declared as.
 
-ghost use Rattle.std.specs.Prelude.{◌≡◌, ℕ, List, [], ◌∷◌, ◌++◌, Some, OnOk, IfOk, bytes_eq, cond, nat_lt, None, ◌&&◌, ◌||◌};
-ghost use Rattle.std.specs.Option.{option_or};
+ghost use Rattle.std.specs.Prelude.{◌≡◌, ℕ, List, [], ◌∷◌, ◌++◌, Some, None, OnOk, bytes_eq, cond, nat_lt, ◌&&◌, ◌||◌};
 ghost use Rattle.lc_model.specs.Text.Syntax as model;
 ghost use Rattle.lc_model.specs.Text.Meaning as meaning;
-ghost use Rattle.rule_parser.specs.Syntax.{item_of, name_of};
-ghost use Rattle.field_checker.specs.Index.{at_name, is_before, spread, IsIndexOf};
+ghost use Rattle.rule_parser.specs.Syntax.{field_of, item_of, name_of, packet_of};
+ghost use Rattle.field_checker.specs.Index.{at_name, both, is_before, joined, spread, Declares, IsIndexOf};
 
 use crate::key::key;
 use rule_parser::{FieldItem, Item, Name, PacketItem};
 use std::alloc::{AllocError, Global};
 use std::collections::BTreeMap;
 
-/// What some items declare, by the keys of names.
-#[derive(Drop)]
-pub(crate) struct Index<'f, 'a> {
-    /// The least place at which an item declares the name.
-    pub places: BTreeMap<(u64, &'a [u8]), usize>,
-    /// The first packet of the name.
-    pub packets: BTreeMap<(u64, &'a [u8]), &'f PacketItem<'a>>,
-    /// The first field of the name.
-    pub fields: BTreeMap<(u64, &'a [u8]), &'f FieldItem<'a>>,
+/// What the packets and fields of one name declare, of those that are taken in.
+#[derive(Clone, Copy)]
+pub(crate) struct Declared<'f, 'a> {
+    /// The least place at which one of them declares the name.
+    pub least: usize,
+    /// The first packet among them.
+    pub packet: Option<&'f PacketItem<'a>>,
+    /// The first field among them.
+    pub field: Option<&'f FieldItem<'a>>,
 }
 
-/// Puts the value at the name with this key, where none stands there yet. A name that is new costs one search.
-fn insert_first<'f, 'a, T>(
-    map: &mut BTreeMap<(u64, &'a [u8]), &'f T>,
+/// What some items declare, by the keys of names. Rules stand apart: conditions name none of them, so that a look-up of what
+/// conditions name passes by none.
+#[derive(Drop)]
+pub(crate) struct Index<'f, 'a> {
+    /// What packets and fields declare.
+    pub named: BTreeMap<(u64, &'a [u8]), Declared<'f, 'a>>,
+    /// The least place at which a rule declares the name.
+    pub rules: BTreeMap<(u64, &'a [u8]), usize>,
+}
+
+/// The name that an item declares.
+pub(crate) fn declared_name<'a>(item: &Item<'a>) -> Name<'a>
+    ensures { name_of result ≡ meaning.name_of (item_of item.entry.now) }
+{
+    match item {
+        Item::Packet(packet) => packet.name,
+        Item::Field(field) => field.name,
+        Item::Rule(rule) => rule.name,
+    }
+}
+
+impl<'f, 'a> Declared<'f, 'a> {
+    /// What a packet alone declares.
+    fn by_packet(packet: &'f PacketItem<'a>) -> Declared<'f, 'a>
+        ensures { Declares (model.Packet (packet_of packet.now)) result }
+    {
+        Declared {
+            least: packet.name.at,
+            packet: Some(packet),
+            field: None,
+        }
+    }
+
+    /// What a field alone declares.
+    fn by_field(field: &'f FieldItem<'a>) -> Declared<'f, 'a>
+        ensures { Declares (model.Field (field_of field.now)) result }
+    {
+        Declared {
+            least: field.name.at,
+            packet: None,
+            field: Some(field),
+        }
+    }
+
+    /// The same with what items behind them declare.
+    fn with(self, behind: Declared<'f, 'a>) -> Declared<'f, 'a>
+        ensures { result ≡ both self.entry behind.entry }
+    {
+        Declared {
+            least: self.least.min(behind.least),
+            packet: self.packet.or(behind.packet),
+            field: self.field.or(behind.field),
+        }
+    }
+}
+
+/// Adds what a packet or a field behind all others declares under the name with this key. A name that is new costs one search.
+fn insert<'f, 'a>(
+    named: &mut BTreeMap<(u64, &'a [u8]), Declared<'f, 'a>>,
     key: (u64, &'a [u8]),
-    value: &'f T,
+    declared: Declared<'f, 'a>,
 ) -> Result<(), AllocError>
     requires { key.0 ≡ spread key.1.now }
-    ensures { OnOk result ((text : List ℕ) → at_name map.new text ≡ option_or (at_name map.old text) (cond (bytes_eq key.entry.1.now text) (Some value.entry) None)) }
+    ensures { OnOk result ((text : List ℕ) → at_name named.new text ≡ joined (at_name named.old text) (cond (bytes_eq key.entry.1.now text) (Some declared.entry) None)) }
 {
-    if let Some(first) = map.insert(key, value)? {
-        map.insert(key, first)?;
+    if let Some(before) = named.insert(key, declared)? {
+        named.insert(key, before.with(declared))?;
     }
     Ok(())
 }
@@ -53,26 +108,14 @@ fn insert_least<'a>(
     Ok(())
 }
 
-/// The name that an item declares.
-pub(crate) fn declared_name<'a>(item: &Item<'a>) -> Name<'a>
-    ensures { name_of result ≡ meaning.name_of (item_of item.entry.now) }
-{
-    match item {
-        Item::Packet(packet) => packet.name,
-        Item::Field(field) => field.name,
-        Item::Rule(rule) => rule.name,
-    }
-}
-
 impl<'f, 'a> Index<'f, 'a> {
     /// The index of no items.
     pub fn empty(alloc: Global) -> Index<'f, 'a>
         ensures { IsIndexOf result [] }
     {
         Index {
-            places: BTreeMap::new(alloc),
-            packets: BTreeMap::new(alloc),
-            fields: BTreeMap::new(alloc),
+            named: BTreeMap::new(alloc),
+            rules: BTreeMap::new(alloc),
         }
     }
 
@@ -80,13 +123,16 @@ impl<'f, 'a> Index<'f, 'a> {
     pub fn declare(&mut self, item: &'f Item<'a>) -> Result<(), AllocError>
         ensures { (items : List model.Item) → IsIndexOf self.old items → OnOk result (IsIndexOf self.new (items ++ item_of item.now ∷ [])) }
     {
-        let name = declared_name(item);
-        let key = key(name.text);
-        insert_least(&mut self.places, key, name.at)?;
         match item {
-            Item::Packet(packet) => insert_first(&mut self.packets, key, packet)?,
-            Item::Field(field) => insert_first(&mut self.fields, key, field)?,
-            Item::Rule(_) => {}
+            Item::Packet(packet) => {
+                let declared = Declared::by_packet(packet);
+                insert(&mut self.named, key(packet.name.text), declared)?;
+            }
+            Item::Field(field) => {
+                let declared = Declared::by_field(field);
+                insert(&mut self.named, key(field.name.text), declared)?;
+            }
+            Item::Rule(rule) => insert_least(&mut self.rules, key(rule.name.text), rule.name.at)?,
         }
         Ok(())
     }

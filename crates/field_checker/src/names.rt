@@ -5,9 +5,9 @@ ghost use Rattle.std.specs.List.{list_any};
 ghost use Rattle.lc_model.specs.Text.Meaning as meaning;
 ghost use Rattle.lc_model.specs.Text.Meaning.{is_earlier, packet_named, field_named};
 ghost use Rattle.rule_parser.specs.Syntax.{field_of, items_of, name_of, packet_of};
-ghost use Rattle.field_checker.specs.Index.{IsIndexOf};
+ghost use Rattle.field_checker.specs.Index.{at_name, is_named_before, is_rule_before, IsIndexOf};
 
-use crate::index::Index;
+use crate::index::{Declared, Index};
 use crate::key::key;
 use rule_parser::{FieldItem, Item, Name, PacketItem};
 use std::alloc::{AllocError, Global};
@@ -33,27 +33,51 @@ impl<'f, 'a> Names<'f, 'a> {
         Ok(Names { items, index })
     }
 
+    /// What packets and fields declare under the name, where one does.
+    fn declared(&self, name: Name<'a>) -> Option<&Declared<'f, 'a>>
+        ensures { option_map (λ d. d.now) result ≡ at_name self.now.index.named name.entry.text.now }
+    {
+        self.index.named.get(&key(name.text))
+    }
+
+    /// Whether a packet or a field declares the name at a lesser place.
+    fn is_named_before(&self, name: Name<'a>) -> bool
+        ensures { result ≡ is_named_before self.now.index name.entry.text.now name.entry.at }
+    {
+        match self.declared(name) {
+            Some(declared) => declared.least < name.at,
+            None => false,
+        }
+    }
+
+    /// Whether a rule declares the name at a lesser place.
+    fn is_rule_before(&self, name: Name<'a>) -> bool
+        ensures { result ≡ is_rule_before self.now.index name.entry.text.now name.entry.at }
+    {
+        match self.index.rules.get(&key(name.text)) {
+            Some(least) => *least < name.at,
+            None => false,
+        }
+    }
+
     /// Whether an item declares the name at a lesser place.
     pub fn is_declared_before(&self, name: Name<'a>) -> bool
         ensures { result ≡ list_any (λ other. is_earlier (meaning.name_of other) (name_of name.entry)) (items_of self.now.items.now) }
     {
-        match self.index.places.get(&key(name.text)) {
-            Some(least) => *least < name.at,
-            None => false,
-        }
+        self.is_named_before(name) || self.is_rule_before(name)
     }
 
     /// The first packet of the name.
     pub fn packet(&self, name: Name<'a>) -> Option<&'f PacketItem<'a>>
         ensures { option_map (λ p. packet_of p.now) result ≡ packet_named (items_of self.now.items.now) (name_of name.entry) }
     {
-        self.index.packets.get(&key(name.text)).copied()
+        self.declared(name)?.packet
     }
 
     /// The first field of the name.
     pub fn field(&self, name: Name<'a>) -> Option<&'f FieldItem<'a>>
         ensures { option_map (λ f. field_of f.now) result ≡ field_named (items_of self.now.items.now) (name_of name.entry) }
     {
-        self.index.fields.get(&key(name.text)).copied()
+        self.declared(name)?.field
     }
 }

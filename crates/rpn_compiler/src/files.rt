@@ -72,12 +72,17 @@ fn files(alloc: Global, text: &[u8], lowered: Lowered) -> Result<TablePair, Comp
 {
     compiled_tables_are_halves();
     let hash = Sha256::digest(text);
-    let actionpoints = entries(alloc, &lowered)?;
-    let watchpoint_count = lowered.terms.len() as u16;
-    let rules = actionpoints.len() as u16;
+    let Lowered {
+        rules,
+        terms,
+        words,
+    } = lowered;
+    let actionpoints = entries(alloc, rules.rules.as_slice(), words)?;
+    let watchpoint_count = terms.len() as u16;
+    let rule_count = actionpoints.len() as u16;
     let wdt = WdtImage {
         hash,
-        watchpoints: lowered.terms,
+        watchpoints: terms,
     };
     let adt = AdtImage {
         version: AdtVersion::Two,
@@ -89,7 +94,7 @@ fn files(alloc: Global, text: &[u8], lowered: Lowered) -> Result<TablePair, Comp
         wdt: wdt_file(alloc, &wdt)?,
         adt: adt_file(alloc, &adt)?,
         watchpoints: watchpoint_count,
-        rules,
+        rules: rule_count,
     })
 }
 

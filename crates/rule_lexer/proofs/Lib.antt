@@ -3,6 +3,7 @@ mod Runs
 mod TextFronts
 mod Lexemes
 mod Words
+mod WordBytes
 mod Numerals
 mod Strings
 mod Cutting

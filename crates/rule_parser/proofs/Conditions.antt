@@ -1,5 +1,5 @@
 -- Parts of a condition, put together: what is taken derives, and the first fault stays where it is.
-use Rattle.std.proofs.Common.{◌≡◌, refl, sym, ◌∙◌, ap, subst, ℕ, ◌+◌, Bool, true, false, ◌||◌, List, [], ◌∷◌, ◌++◌, Option, Some, None, Result, Ok, Err, arith, append_assoc, codes}
+use Rattle.std.proofs.Common.{◌≡◌, refl, sym, ◌∙◌, ap, subst, ℕ, ◌+◌, Bool, true, false, List, [], ◌∷◌, ◌++◌, Option, Some, None, Ok, Err, arith, append_assoc, codes}
 use Rattle.lc_model.specs.declared.field.CmpOp.{CmpOp}
 use Rattle.lc_model.specs.Text.Token.{Token}
 use Rattle.lc_model.specs.Text.Syntax as syntax
@@ -19,7 +19,7 @@ use Rattle.rule_parser.specs.Fault.{Refuses}
 use Rattle.rule_parser.specs.Front.{begins, class_of, place_in}
 use Rattle.rule_parser.specs.Left.{Left, wanting, token_in, operand_name_in, value_in, number_in, comparison_in}
 use Rattle.rule_parser.specs.Stack.{Symbol, one, operand, after, inside, joins, step, fault_at}
-use Rattle.rule_parser.specs.Condition.{Took, Stops, Nests, NoRoom, is_continued, kind_of_operator, operator_of, part_of, operands_of}
+use Rattle.rule_parser.specs.Condition.{Took, Stops, Nested, NoRoom, is_continued, kind_of_operator, operator_of, part_of, operands_of}
 use Rattle.rule_parser.proofs.Runs.{on_one, on_name, on_not, on_open, on_join, and_joins, xor_joins, or_joins}
 use Rattle.rule_parser.proofs.OneToken.{One, one_token, one_number, one_value}
 use Rattle.rule_parser.proofs.Agrees.{Agrees, agrees_one, agrees_end}
@@ -31,14 +31,6 @@ pub refuses_too : (P Q : ParseFault → Type 0) → ((fault : ParseFault) → P 
 refuses_too P Q to (error.Expected at what) r = to _ r
 refuses_too P Q to (error.TooNested at) r = to _ r
 refuses_too P Q to error.Memory r = tt
-
-pub nests_true : (wanted : Class) (before left : Left) (room rest : ℕ) (b : Bool) → b ≡ true → Nests wanted before left room rest (Ok b) →
-    Nests wanted before left room rest (Ok true)
-nests_true wanted before left room rest b e n = subst (λ b. Nests wanted before left room rest (Ok b)) e n
-
-pub nests_false : (wanted : Class) (before left : Left) (room rest : ℕ) (b : Bool) → b ≡ false → Nests wanted before left room rest (Ok b) →
-    Nests wanted before left room rest (Ok false)
-nests_false wanted before left room rest b e n = subst (λ b. Nests wanted before left room rest (Ok b)) e n
 
 -- ---- one token that nests
 
@@ -105,7 +97,7 @@ begin_parts o before left room rest e k = record {
 
 -- an operator and one part more
 pub join_parts : (o : Operator) (before l1 l2 l3 : Left) (room r1 r2 r3 : ℕ) (a b : Expression) →
-    Took (part_of o) (operands_of o) before l1 room r1 a → Nests (class_of (kind_of_operator o)) l1 l2 r1 r2 (Ok true) →
+    Took (part_of o) (operands_of o) before l1 room r1 a → Nested (class_of (kind_of_operator o)) l1 l2 r1 r2 →
     Took (operands_of o) (operands_of o) l2 l3 r2 r3 b → Took (part_of o) (operands_of o) before l3 room r3 (syntax.Join (operator_of o) a b)
 join_parts o before l1 l2 l3 room r1 r2 r3 a b k (t, first, fit, same, room_is) n = record {
   front = k.front ++ t ∷ n.front;
@@ -121,25 +113,22 @@ join_parts o before l1 l2 l3 room r1 r2 r3 a b k (t, first, fit, same, room_is) 
 }
 
 -- the last part
-pub end_parts : (o : Operator) (before l1 l2 : Left) (room r1 r2 : ℕ) (e : Expression) →
-    Took (part_of o) (operands_of o) before l1 room r1 e → Nests (class_of (kind_of_operator o)) l1 l2 r1 r2 (Ok false) →
-    Took (part_of o) (part_of o) before l2 room r2 e
-end_parts o before l1 l2 room r1 r2 e k (same, rest, none) =
-    subst (λ l. Took (part_of o) (part_of o) before l room r2 e) (sym same)
-    (subst (λ r. Took (part_of o) (part_of o) before l1 room r e) (sym rest) (record {
-      front = k.front;
-      tokens = k.tokens;
-      derives = k.derives;
-      ends = not_continued o l1.tokens k.ends none;
-      place = k.place;
-      less = k.less;
-      goes_on = k.goes_on;
-    }))
+pub end_parts : (o : Operator) (before left : Left) (room rest : ℕ) (e : Expression) → Took (part_of o) (operands_of o) before left room rest e →
+    begins (class_of (kind_of_operator o)) left.tokens ≡ false → Took (part_of o) (part_of o) before left room rest e
+end_parts o before left room rest e k none = record {
+  front = k.front;
+  tokens = k.tokens;
+  derives = k.derives;
+  ends = not_continued o left.tokens k.ends none;
+  place = k.place;
+  less = k.less;
+  goes_on = k.goes_on;
+}
 
 -- no room for the operator
-pub join_too_deep : (o : Operator) (before l1 l2 : Left) (room r1 r2 : ℕ) (a : Expression) (e : ParseError) →
-    Took (part_of o) (operands_of o) before l1 room r1 a → Nests (class_of (kind_of_operator o)) l1 l2 r1 r2 (Err e) → Refuses (Stops before room) e
-join_too_deep o before l1 l2 room r1 r2 a e k n =
+pub join_too_deep : (o : Operator) (before l1 : Left) (room r1 : ℕ) (a : Expression) (e : ParseError) →
+    Took (part_of o) (operands_of o) before l1 room r1 a → Refuses (NoRoom (class_of (kind_of_operator o)) l1 r1) e → Refuses (Stops before room) e
+join_too_deep o before l1 room r1 a e k n =
     refuses_too (NoRoom (class_of (kind_of_operator o)) l1 r1) (Stops before room) (λ fault f. λ close s.
     k.goes_on close s
     ∙ no_room l1 r1 (after close ∷ s) (operand close ∷ s) f.0 f.1 f.2 f.4 (operator_nests o f.0 f.3) (on_join f.0 close s (joining o f.0 f.3))
@@ -147,7 +136,7 @@ join_too_deep o before l1 l2 room r1 r2 a e k n =
 
 -- a fault behind the operator
 pub join_stops : (o : Operator) (before l1 l2 : Left) (room r1 r2 : ℕ) (a : Expression) (e : ParseError) →
-    Took (part_of o) (operands_of o) before l1 room r1 a → Nests (class_of (kind_of_operator o)) l1 l2 r1 r2 (Ok true) →
+    Took (part_of o) (operands_of o) before l1 room r1 a → Nested (class_of (kind_of_operator o)) l1 l2 r1 r2 →
     Refuses (Stops l2 r2) e → Refuses (Stops before room) e
 join_stops o before l1 l2 room r1 r2 a e k (t, first, fit, same, room_is) r =
     refuses_too (Stops l2 r2) (Stops before room) (λ fault f. λ close s.
@@ -158,7 +147,7 @@ join_stops o before l1 l2 room r1 r2 a e k (t, first, fit, same, room_is) r =
 -- ---- operands
 
 -- `not` and an operand
-pub negate : (before l1 l2 : Left) (room r1 r2 : ℕ) (e : Expression) → Nests (word "not") before l1 room r1 (Ok true) →
+pub negate : (before l1 l2 : Left) (room r1 r2 : ℕ) (e : Expression) → Nested (word "not") before l1 room r1 →
     Took grammar.nots grammar.nots l1 l2 r1 r2 e → Took grammar.nots grammar.nots before l2 room r2 (syntax.Not e)
 negate before l1 l2 room r1 r2 e (t, first, fit, same, room_is) k = record {
   front = t ∷ k.front;
@@ -171,25 +160,25 @@ negate before l1 l2 room r1 r2 e (t, first, fit, same, room_is) k = record {
       behind_nest before l1 room r1 (operand close ∷ s) (operand close ∷ s) t first same room_is (not_nests t fit) (on_not t close s fit) ∙ k.goes_on close s;
 }
 
-pub negate_stops : (before l1 : Left) (room r1 : ℕ) (e : ParseError) → Nests (word "not") before l1 room r1 (Ok true) →
+pub negate_stops : (before l1 : Left) (room r1 : ℕ) (e : ParseError) → Nested (word "not") before l1 room r1 →
     Refuses (Stops l1 r1) e → Refuses (Stops before room) e
 negate_stops before l1 room r1 e (t, first, fit, same, room_is) r =
     refuses_too (Stops l1 r1) (Stops before room) (λ fault f. λ close s.
     behind_nest before l1 room r1 (operand close ∷ s) (operand close ∷ s) t first same room_is (not_nests t fit) (on_not t close s fit) ∙ f close s) e r
 
-pub not_too_deep : (before l1 : Left) (room r1 : ℕ) (e : ParseError) → Nests (word "not") before l1 room r1 (Err e) → Refuses (Stops before room) e
-not_too_deep before l1 room r1 e n =
+pub not_too_deep : (before : Left) (room : ℕ) (e : ParseError) → Refuses (NoRoom (word "not") before room) e → Refuses (Stops before room) e
+not_too_deep before room e n =
     refuses_too (NoRoom (word "not") before room) (Stops before room) (λ fault f. λ close s.
     no_room before room (operand close ∷ s) (operand close ∷ s) f.0 f.1 f.2 f.4 (not_nests f.0 f.3) (on_not f.0 close s f.3)
     ∙ ap Some (sym f.5)) e n
 
-pub open_too_deep : (before l1 : Left) (room r1 : ℕ) (e : ParseError) → Nests (sign "(") before l1 room r1 (Err e) → Refuses (Stops before room) e
-open_too_deep before l1 room r1 e n =
+pub open_too_deep : (before : Left) (room : ℕ) (e : ParseError) → Refuses (NoRoom (sign "(") before room) e → Refuses (Stops before room) e
+open_too_deep before room e n =
     refuses_too (NoRoom (sign "(") before room) (Stops before room) (λ fault f. λ close s.
     no_room before room (operand close ∷ s) (operand (sign ")") ∷ after close ∷ s) f.0 f.1 f.2 f.4 (open_nests f.0 f.3) (on_open f.0 close s f.3)
     ∙ ap Some (sym f.5)) e n
 
-pub open_stops : (before l1 : Left) (room r1 : ℕ) (e : ParseError) → Nests (sign "(") before l1 room r1 (Ok true) →
+pub open_stops : (before l1 : Left) (room r1 : ℕ) (e : ParseError) → Nested (sign "(") before l1 room r1 →
     Refuses (Stops l1 r1) e → Refuses (Stops before room) e
 open_stops before l1 room r1 e (t, first, fit, same, room_is) r =
     refuses_too (Stops l1 r1) (Stops before room) (λ fault f. λ close s.
@@ -219,7 +208,7 @@ wanting_err wanted what R left None is fault e = (is, cc e)
 wanting_err wanted what R left (Some y) is fault e = absurd (cc e)
 
 -- `(`, a condition and `)`
-pub parenthesize : (before l1 l2 : Left) (room r1 r2 : ℕ) (e : Expression) → Nests (sign "(") before l1 room r1 (Ok true) →
+pub parenthesize : (before l1 l2 : Left) (room r1 r2 : ℕ) (e : Expression) → Nested (sign "(") before l1 room r1 →
     Took grammar.cond grammar.cond l1 l2 r1 r2 e → (x : Token × Left) → token_in (sign ")") l2 ≡ Ok x → Took grammar.nots grammar.nots before x.1 room r2 e
 unfolding token_in
 parenthesize before l1 l2 room r1 r2 e (t, first, fit, same, room_is) k x read =
@@ -240,7 +229,7 @@ parenthesize before l1 l2 room r1 r2 e (t, first, fit, same, room_is) k x read =
           ∙ ap (λ end. fault_at end (inside r2) (after c ∷ s) x.1.tokens) (sym close.3);
     }
 
-pub close_stops : (before l1 l2 : Left) (room r1 r2 : ℕ) (e : Expression) (error : ParseError) → Nests (sign "(") before l1 room r1 (Ok true) →
+pub close_stops : (before l1 l2 : Left) (room r1 r2 : ℕ) (e : Expression) (error : ParseError) → Nested (sign "(") before l1 room r1 →
     Took grammar.cond grammar.cond l1 l2 r1 r2 e → Refuses (λ fault. token_in (sign ")") l2 ≡ Err fault) error → Refuses (Stops before room) error
 unfolding token_in
 close_stops before l1 l2 room r1 r2 e error (t, first, fit, same, room_is) k r =
@@ -249,12 +238,6 @@ close_stops before l1 l2 room r1 r2 e error (t, first, fit, same, room_is) k r =
     behind_nest before l1 room r1 (operand c ∷ s) (operand (sign ")") ∷ after c ∷ s) t first same room_is (open_nests t fit) (on_open t c s fit)
     ∙ at_close l1 l2 r1 r2 e k (sign ")") (after c ∷ s)
     ∙ fault_of_one l2.end (inside r2) (sign ")") (after c ∷ s) l2.tokens missing.0 ∙ ap Some missing.1) error r
-
--- what comes behind the first test, said of what came before it
-pub past : (wanted other : Class) (before l1 l2 : Left) (room r1 r2 : ℕ) (r : Result Bool ParseError) → Nests wanted before l1 room r1 (Ok false) →
-    Nests other l1 l2 r1 r2 r → Nests other before l2 room r2 r
-past wanted other before l1 l2 room r1 r2 r (same, rest, none) n =
-    subst (λ l. Nests other l l2 room r2 r) same (subst (λ k. Nests other l1 l2 k r2 r) rest n)
 
 -- ---- comparisons
 
@@ -290,14 +273,12 @@ agrees_comparison room before no_not no_open =
     (grammar.nots_compare (next fit (next fit' (next fit'' done))) is))))))
 
 -- where no `not` and no `(` stands next
-pub compare : (before l1 l2 left : Left) (room r1 r2 : ℕ) (e : Expression) → Nests (word "not") before l1 room r1 (Ok false) →
-    Nests (sign "(") l1 l2 r1 r2 (Ok false) → comparison_in l2 ≡ Ok (e, left) → Took grammar.nots grammar.nots before left room r2 e
-compare before l1 l2 left room r1 r2 e n m read =
-    let o = past (word "not") (sign "(") before l1 l2 room r1 r2 (Ok false) n m in
-    let here : comparison_in before ≡ Ok (e, left) = ap comparison_in (sym o.0) ∙ read in
-    let a = subst (Agrees {X = Rest} {B = Expression} (inside room) (inside room) (λ x. operand x.0 ∷ x.1) (λ x. after x.0 ∷ x.1) (Derives grammar.nots) before) here
-    (agrees_comparison room before n.2 o.2) in
-    subst (λ rest. Took grammar.nots grammar.nots before left room rest e) (sym o.1) (record {
+pub compare : (before left : Left) (room : ℕ) (e : Expression) → begins (word "not") before.tokens ≡ false → begins (sign "(") before.tokens ≡ false →
+    comparison_in before ≡ Ok (e, left) → Took grammar.nots grammar.nots before left room room e
+compare before left room e no_not no_open read =
+    let a = subst (Agrees {X = Rest} {B = Expression} (inside room) (inside room) (λ x. operand x.0 ∷ x.1) (λ x. after x.0 ∷ x.1) (Derives grammar.nots) before) read
+    (agrees_comparison room before no_not no_open) in
+    record {
       front = a.0;
       tokens = a.1;
       derives = a.3;
@@ -305,21 +286,19 @@ compare before l1 l2 left room r1 r2 e n m read =
       place = a.2;
       less = omega arith;
       goes_on = λ close s. a.4 (close, s);
-    })
+    }
 
-pub compare_stops : (before l1 l2 : Left) (room r1 r2 : ℕ) (error : ParseError) → Nests (word "not") before l1 room r1 (Ok false) →
-    Nests (sign "(") l1 l2 r1 r2 (Ok false) → Refuses (λ fault. comparison_in l2 ≡ Err fault) error → Refuses (Stops before room) error
-compare_stops before l1 l2 room r1 r2 error n m r =
-    let o = past (word "not") (sign "(") before l1 l2 room r1 r2 (Ok false) n m in
-    refuses_too (λ fault. comparison_in l2 ≡ Err fault) (Stops before room) (λ fault f. λ close s.
-    let here : comparison_in before ≡ Err fault = ap comparison_in (sym o.0) ∙ f in
-    let a = subst (Agrees {X = Rest} {B = Expression} (inside room) (inside room) (λ x. operand x.0 ∷ x.1) (λ x. after x.0 ∷ x.1) (Derives grammar.nots) before) here
-    (agrees_comparison room before n.2 o.2) in
+pub compare_stops : (before : Left) (room : ℕ) (error : ParseError) → begins (word "not") before.tokens ≡ false → begins (sign "(") before.tokens ≡ false →
+    Refuses (λ fault. comparison_in before ≡ Err fault) error → Refuses (Stops before room) error
+compare_stops before room error no_not no_open r =
+    refuses_too (λ fault. comparison_in before ≡ Err fault) (Stops before room) (λ fault f. λ close s.
+    let a = subst (Agrees {X = Rest} {B = Expression} (inside room) (inside room) (λ x. operand x.0 ∷ x.1) (λ x. after x.0 ∷ x.1) (Derives grammar.nots) before) f
+    (agrees_comparison room before no_not no_open) in
     a (close, s)) error r
 
 -- ---- as the program has them
 
 -- the operator's tokens are of its kind
-pub of_kind : (kind other : TokenKind) (before left : Left) (room rest : ℕ) (r : Result Bool ParseError) → kind ≡ other →
-    Nests (class_of kind) before left room rest r → Nests (class_of other) before left room rest r
-of_kind kind other before left room rest r e n = subst (λ k. Nests (class_of k) before left room rest r) e n
+pub of_kind : (kind other : TokenKind) (tokens : List Token) (b c : Bool) → kind ≡ other → b ≡ begins (class_of kind) tokens → b ≡ c →
+    begins (class_of other) tokens ≡ c
+of_kind kind other tokens b c e begins_is is = ap (λ k. begins (class_of k) tokens) (sym e) ∙ sym begins_is ∙ is

@@ -1,12 +1,12 @@
 -- One token more or less before the and_first fault.
-use Rattle.std.proofs.Common.{◌≡◌, refl, sym, ◌∙◌, ap, ℕ, ◌+◌, Bool, true, false, cond, ◌&&◌, ◌||◌, List, [], ◌∷◌, Some, None, add-one, codes, bytes_eq}
+use Rattle.std.proofs.Common.{◌≡◌, refl, sym, ◌∙◌, ap, ℕ, ◌+◌, Bool, true, false, cond, List, [], ◌∷◌, Some, None, add-one, codes, bytes_eq}
 use Rattle.std.specs.List.{list_any}
 use Rattle.lc_model.specs.Text.Token.{Token}
 use Rattle.lc_model.specs.Text.Class as class
 use Rattle.lc_model.specs.Text.Class.{Class, Name, Number, word, sign, fits, Fits}
 use Rattle.lc_model.specs.Text.Reading.{Expected, TooNested, nests, ends_item}
 use Rattle.lc_model.proofs.Texts.OneClass.{none_of}
-use Rattle.lc_model.proofs.Facts.{or_neither, and_first}
+use Rattle.lc_model.proofs.Facts.{or_neither}
 use Rattle.lc_model.proofs.Texts.OneFile.{word_text}
 use Rattle.rule_parser.specs.Stack.{Symbol, Room, one, option, operand, after, outside, inside, joins, less, narrowed, step, wanted, is_finished, fault_at}
 use Rattle.rule_parser.specs.Front.{place_in, begins}

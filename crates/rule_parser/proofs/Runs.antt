@@ -1,5 +1,5 @@
 -- Tokens that derive run over the stack: each fits, and at the end nothing is left.
-use Rattle.std.proofs.Common.{◌≡◌, refl, sym, ◌∙◌, ap, subst, Bool, true, false, cond, ◌&&◌, List, [], ◌∷◌, ◌++◌, Option, Some, None, ℕ, codes, bytes_eq, append_assoc}
+use Rattle.std.proofs.Common.{◌≡◌, refl, sym, ◌∙◌, ap, subst, true, false, cond, ◌&&◌, List, [], ◌∷◌, ◌++◌, Option, Some, None, ℕ, codes, bytes_eq, append_assoc}
 use Rattle.std.proofs.lemmas.Slice.Eq.{bytes_eq-Decides}
 use Rattle.lc_model.specs.Text.Token.{Token, is_word, is_sign}
 use Rattle.lc_model.specs.Text.Syntax as syntax

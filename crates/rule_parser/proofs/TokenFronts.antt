@@ -18,7 +18,7 @@ use Rattle.rule_lexer.specs.Fitting.{IsOfGrammar, kind_fits}
 use Rattle.rule_lexer.specs.Token.{token_of, tokens_of, HasItsKind, IsKind}
 use Rattle.rule_lexer.specs.declared.token.Token.{Token}
 use Rattle.rule_lexer.specs.declared.token.TokenKind.{TokenKind}
-use Rattle.rule_lexer.specs.declared.token.TokenKind.TheVariants.{FieldKind, State, Level, Number, Compare}
+use Rattle.rule_lexer.specs.declared.token.TokenKind.TheVariants.{FieldKind, State, Level, Name, Number, Compare}
 use Rattle.rule_parser.specs.Front.{Gives, IsNext, is_empty, begins, number_at, token_at, value_at}
 
 -- ---- places in the list
@@ -159,6 +159,10 @@ number_below text v e = below (bytes_eq (take 1 text) (codes "-")) (magnitude (m
 pub is_no_number : (kind : TokenKind) → ((x : ℤ) → kind ≡ Number x → ⊥) → kind_fits class.Number kind ≡ false
 is_no_number (Number x) other = absurd (other x refl)
 is_no_number kind other = refl
+
+pub is_no_name : (kind : TokenKind) → (kind ≡ Name → ⊥) → kind_fits class.Name kind ≡ false
+is_no_name Name other = absurd (other refl)
+is_no_name kind other = refl
 
 pub is_no_type : (kind : TokenKind) → ((x : FieldType) → kind ≡ FieldKind x → ⊥) → kind_fits class.FieldKind kind ≡ false
 is_no_type (FieldKind x) other = absurd (other x refl)

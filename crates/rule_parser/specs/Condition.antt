@@ -1,5 +1,5 @@
 -- Reading a condition: what is taken and what is left, or the fault that stops it. This project's own.
-use Rattle.std.specs.Prelude.{◌≡◌, ℕ, ◌+◌, ◌≤◌, Bool, true, false, ◌||◌, List, ◌∷◌, ◌++◌, Some, Result, Ok, Err}
+use Rattle.std.specs.Prelude.{◌≡◌, ℕ, ◌+◌, ◌≤◌, Bool, false, ◌||◌, List, ◌∷◌, ◌++◌, Some}
 use Rattle.lc_model.specs.Condition as condition
 use Rattle.lc_model.specs.Text.Token.{Token}
 use Rattle.lc_model.specs.Text.Syntax.{Expression}
@@ -9,10 +9,8 @@ use Rattle.lc_model.specs.Text.Grammar.{Part, Derives}
 use Rattle.lc_model.specs.Text.Reading.{ParseFault, TooNested}
 use Rattle.rule_lexer.specs.declared.token.TokenKind.{TokenKind}
 use Rattle.rule_lexer.specs.declared.token.TokenKind.TheVariants as kind
-use Rattle.rule_parser.specs.declared.error.ParseError.{ParseError}
 use Rattle.rule_parser.specs.declared.operator.Operator.{Operator}
 use Rattle.rule_parser.specs.declared.operator.Operator.TheVariants.{Or, Xor, And}
-use Rattle.rule_parser.specs.Fault.{Refuses}
 use Rattle.rule_parser.specs.Front.{begins}
 use Rattle.rule_parser.specs.Left.{Left}
 use Rattle.rule_parser.specs.Stack.{Symbol, operand, after, inside, fault_at}
@@ -50,12 +48,10 @@ abbrev pub NoRoom : Class → Left → (room : ℕ) → ParseFault → Type 0
 NoRoom wanted before room fault =
     (t : Token) × (ts : List Token) × (before.tokens ≡ t ∷ ts) × Fits wanted t × (room ≡ 0) × (fault ≡ TooNested t.at)
 
--- a token of the class was taken, with one less left of the room; or none stands next; or there is no room for it
-abbrev pub Nests : Class → (before left : Left) → (room rest : ℕ) → Result Bool ParseError → Type 0
-Nests wanted before left room rest (Ok true) =
+-- a token of the class was taken, with one less left of the room
+abbrev pub Nested : Class → (before left : Left) → (room rest : ℕ) → Type 0
+Nested wanted before left room rest =
     (t : Token) × (before.tokens ≡ t ∷ left.tokens) × Fits wanted t × (left.end ≡ before.end) × (room ≡ rest + 1)
-Nests wanted before left room rest (Ok false) = (left ≡ before) × (rest ≡ room) × (begins wanted before.tokens ≡ false)
-Nests wanted before left room rest (Err error) = Refuses (NoRoom wanted before room) error
 
 -- ---- parts of a condition
 

@@ -1,10 +1,12 @@
 //! The condition of a rule, from its tokens. Parentheses and `not` lead deeper, and each takes one of the room for tokens
 //! that nest, so no text can exhaust the stack.
 
-ghost use Rattle.std.specs.Prelude.{◌≡◌, MatchResult};
+ghost use Rattle.std.specs.Prelude.{◌≡◌, MatchResult, true};
+ghost use Rattle.lc_model.specs.Text.Class.{sign, word};
 ghost use Rattle.lc_model.specs.Text.Grammar as grammar;
 ghost use Rattle.rule_parser.specs.Condition.{Stops, Took, TookCondition, operands_of, part_of};
 ghost use Rattle.rule_parser.specs.Fault.{Refuses};
+ghost use Rattle.rule_parser.specs.Front.{begins};
 ghost use Rattle.rule_parser.specs.Left.{Reads, comparison_in};
 ghost use Rattle.rule_parser.specs.Syntax.{comparison_of, expression_of};
 
@@ -30,7 +32,39 @@ fn comparison<'a>(tokens: &mut Reader<'_, 'a>) -> Result<Comparison<'a>, ParseEr
     Ok(Comparison { field, op, value })
 }
 
-/// `not` and an operand, a condition in parentheses, or a comparison.
+/// `not` and an operand.
+#[cycle(condition)]
+fn negated<'a>(
+    alloc: Global,
+    tokens: &mut Reader<'_, 'a>,
+    room: &mut usize,
+) -> Result<Expression<'a>, ParseError>
+    requires { begins (word "not") tokens.old.tokens ≡ true }
+    ensures { MatchResult result (λ found. Took grammar.nots grammar.nots tokens.old tokens.new room.old room.new (expression_of found)) (Refuses (Stops tokens.old room.old)) }
+{
+    tokens.nest(room)?;
+    let negated = operand(alloc, tokens, room)?;
+    Ok(Expression::Not(Box::new(alloc, negated)?))
+}
+
+/// A condition in parentheses.
+#[cycle(condition)]
+fn parenthesized<'a>(
+    alloc: Global,
+    tokens: &mut Reader<'_, 'a>,
+    room: &mut usize,
+) -> Result<Expression<'a>, ParseError>
+    requires { begins (sign "(") tokens.old.tokens ≡ true }
+    ensures { MatchResult result (λ found. Took grammar.nots grammar.nots tokens.old tokens.new room.old room.new (expression_of found)) (Refuses (Stops tokens.old room.old)) }
+{
+    tokens.nest(room)?;
+    let inner = joined(Operator::Or, alloc, tokens, room)?;
+    tokens.sign(Sign::Close)?;
+    Ok(inner)
+}
+
+/// `not` and an operand, a condition in parentheses, or a comparison. What the first two wait with stands in functions of their
+/// own, so that a comparison costs none of it.
 #[cycle(condition)]
 fn operand<'a>(
     alloc: Global,
@@ -39,14 +73,11 @@ fn operand<'a>(
 ) -> Result<Expression<'a>, ParseError>
     ensures { MatchResult result (λ found. Took grammar.nots grammar.nots tokens.old tokens.new room.old room.new (expression_of found)) (Refuses (Stops tokens.old room.old)) }
 {
-    if tokens.nests(TokenKind::Not, room)? {
-        let negated = operand(alloc, tokens, room)?;
-        return Ok(Expression::Not(Box::new(alloc, negated)?));
+    if tokens.begins(TokenKind::Not) {
+        return negated(alloc, tokens, room);
     }
-    if tokens.nests(TokenKind::Open, room)? {
-        let inner = joined(Operator::Or, alloc, tokens, room)?;
-        tokens.sign(Sign::Close)?;
-        return Ok(inner);
+    if tokens.begins(TokenKind::Open) {
+        return parenthesized(alloc, tokens, room);
     }
     Ok(Expression::Compare(comparison(tokens)?))
 }
@@ -79,7 +110,8 @@ fn joined<'a>(
     ensures { MatchResult result (λ found. Took (part_of operator) (part_of operator) tokens.old tokens.new room.old room.new (expression_of found)) (Refuses (Stops tokens.old room.old)) }
 {
     let mut left = part(operator, alloc, tokens, room)?;
-    while tokens.nests(operator.kind(), room)? {
+    while tokens.begins(operator.kind()) {
+        tokens.nest(room)?;
         let right = part(operator, alloc, tokens, room)?;
         left = operator.join(alloc, left, right)?;
     }

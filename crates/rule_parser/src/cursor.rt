@@ -105,11 +105,14 @@ impl<'t, 'a> Cursor<'t, 'a> {
     pub fn name(&mut self) -> Option<Name<'a>>
         ensures { Gives name_of self.new result (token_at class.Name self.old) }
     {
-        let token = self.take(TokenKind::Name)?;
-        Some(Name {
-            at: token.at,
-            text: token.text,
-        })
+        let token = self.next()?;
+        match token.kind {
+            TokenKind::Name => Some(Name {
+                at: token.at,
+                text: token.text,
+            }),
+            _ => None,
+        }
     }
 
     pub fn number(&mut self) -> Option<Number>

@@ -1,14 +1,15 @@
 //! Reading the tokens of a text from left to right: what stands next, or the fault that it doesn't.
 
-ghost use Rattle.std.specs.Prelude.{◌≡◌, All, IsTrue, option_map};
+ghost use Rattle.std.specs.Prelude.{◌≡◌, All, IsTrue, MatchResult, option_map, true};
 ghost use Rattle.lc_model.specs.Text.Class as class;
-ghost use Rattle.lc_model.specs.Text.Class.{comparison, event_kind, field_type, state};
+ghost use Rattle.lc_model.specs.Text.Class.{Class, comparison, event_kind, field_type, state};
 ghost use Rattle.rule_lexer.specs.Token.{tokens_of, token_of, HasItsKind};
 ghost use Rattle.rule_parser.specs.declared.error.ParseError.TheVariants.{Expected};
 ghost use Rattle.rule_parser.specs.What.{kind_of_sign, kind_of_word};
 ghost use Rattle.rule_parser.specs.Syntax.{name_of, number_of, report_of};
+ghost use Rattle.rule_parser.specs.Fault.{Refuses};
 ghost use Rattle.rule_parser.specs.Front.{begins, class_of, is_empty, is_plain};
-ghost use Rattle.rule_parser.specs.Condition.{Nests};
+ghost use Rattle.rule_parser.specs.Condition.{NoRoom, Nested};
 ghost use Rattle.rule_parser.specs.Left.{Reads, Takes, labelled_in, name_in, number_in, operand_name_in, option_in, place, report_in, reports_in, string_in, token_in, value_in};
 
 use crate::cursor::Cursor;
@@ -29,7 +30,6 @@ pub struct Reader<'t, 'a> {
 }
 
 impl<'t, 'a> Model for Reader<'t, 'a> {
-    ghost use Rattle.rule_parser.specs.Condition.{Nests};
     ghost use Rattle.rule_parser.specs.Left.{Left};
 
     ghost Value = { Left };
@@ -76,21 +76,18 @@ impl<'t, 'a> Reader<'t, 'a> {
         true
     }
 
-    /// Takes the next token, where it is of this kind, as one of those that nest in a condition: an error where `room`, how
-    /// many more of them may stand in it, is none.
-    pub fn nests(&mut self, kind: TokenKind, room: &mut usize) -> Result<bool, ParseError>
-        requires { IsTrue (is_plain kind) }
-        ensures { Nests (class_of kind) self.old self.new room.old room.new result }
+    /// Takes the next token as one of those that nest in a condition: an error where `room`, how many more of them may stand in
+    /// it, is none.
+    pub fn nest(&mut self, room: &mut usize) -> Result<(), ParseError>
+        ensures { (wanted : Class) → begins wanted self.old.tokens ≡ true
+            → MatchResult result (λ _. Nested wanted self.old self.new room.old room.new) (Refuses (NoRoom wanted self.old room.old)) }
     {
-        if !self.begins(kind) {
-            return Ok(false);
-        }
         if *room == 0 {
             return Err(ParseError::TooNested { at: self.place() });
         }
         *room -= 1;
         self.cursor.next();
-        Ok(true)
+        Ok(())
     }
 
     /// The place of the next token, or of the text's end.

@@ -1,4 +1,4 @@
-use Rattle.std.proofs.Common.{◌≡◌, sym, ◌∙◌, ap, subst, ℕ, List, length}
+use Rattle.std.proofs.Common.{◌≡◌, sym, ◌∙◌, ap, subst, ℕ, List, length, map}
 use Rattle.std.specs.List.{AllByRecursion}
 use Rattle.std.proofs.lemmas.List.{length-map}
 use Rattle.lc_model.specs.declared.field.Term.{Term}
@@ -9,8 +9,15 @@ use Rattle.lc_model.specs.Tables.Image.{TableEntry, FitsEntry, adt_image, wdt_im
 use Rattle.lc_model.specs.Tables.InForce.{compiled_actionpoints}
 use Rattle.lc_model.specs.Tables.Half.{entry_over}
 use Rattle.lc_model.specs.Tables.InForce.{arranged}
+use Rattle.lc_model.specs.Tables.Lowering.{words_in}
+use Rattle.rpn_compiler.proofs.EntryWords.{as_many}
 use Rattle.rpn_compiler.proofs.Compiled.{fit_terms, fit_entries, tables}
 use Rattle.rpn_compiler.proofs.files.files.Goals as goal
+
+pub entries-requires : goal.entries-requires
+entries-requires c =
+    let terms : List Term = c.args.lowered.terms.items in
+    as_many terms c.as_slice.result.now c.args.lowered.words.items (c.requires.lowered.words ∙ ap (map (words_in arranged terms)) (sym c.as_slice.ensures))
 
 pub wdt_file-requires-clause-fit : goal.wdt_file-requires-clause-fit
 wdt_file-requires-clause-fit c =
@@ -21,7 +28,10 @@ wdt_file-requires-clause-fit c =
 pub adt_file-requires-clause-fit : goal.adt_file-requires-clause-fit
 adt_file-requires-clause-fit c =
     let rules : List NamedRule = c.args.lowered.rules.rules in
-    subst (AllByRecursion (FitsEntry compiled_actionpoints)) (sym c.in_ok-actionpoints.ensures)
+    let terms : List Term = c.args.lowered.terms.items in
+    let known = c.requires.lowered.words ∙ ap (map (words_in arranged terms)) (sym c.as_slice.ensures) in
+    let entries = c.in_ok-actionpoints.ensures terms known ∙ ap (map (entry_over arranged terms)) c.as_slice.ensures in
+    subst (AllByRecursion (FitsEntry compiled_actionpoints)) (sym entries)
     (fit_entries c.args.text.now rules c.args.lowered.terms.items c.requires.lowered.watchpoints
     (c.compiled_tables_are_halves.ensures c.args.text.now rules c.requires.compiles))
 
@@ -29,10 +39,12 @@ pub returns-clause-tables : goal.returns-clause-tables
 returns-clause-tables c =
     let rules : List NamedRule = c.args.lowered.rules.rules in
     let terms : List Term = c.args.lowered.terms.items in
+    let known = c.requires.lowered.words ∙ ap (map (words_in arranged terms)) (sym c.as_slice.ensures) in
+    let entries = c.in_ok-actionpoints.ensures terms known ∙ ap (map (entry_over arranged terms)) c.as_slice.ensures in
     let watchpoints : c.len-watchpoint_count.result ≡ length terms = c.len-watchpoint_count.ensures ∙ c.args.lowered.terms.ok.0 in
     tables c.args.text.now rules terms c.requires.lowered.watchpoints (c.compiled_tables_are_halves.ensures c.args.text.now rules c.requires.compiles) _
     (c.in_ok-wdt_file.ensures.file ∙ ap (λ (h : List ℕ). file_bytes (wrapped Wdt (wdt_image h terms))) c.digest-hash.ensures)
     (c.in_ok-adt_file.ensures.file
-    ∙ (λ i. file_bytes (wrapped Adt (adt_image compiled_actionpoints (c.digest-hash.ensures i) (watchpoints i) (c.in_ok-actionpoints.ensures i)))))
+    ∙ (λ i. file_bytes (wrapped Adt (adt_image compiled_actionpoints (c.digest-hash.ensures i) (watchpoints i) (entries i)))))
     watchpoints
-    (c.len-rules.ensures ∙ c.in_ok-actionpoints.actionpoints.ok.0 ∙ ap (λ (es : List TableEntry). length es) c.in_ok-actionpoints.ensures ∙ length-map rules (entry_over arranged terms))
+    (c.len-rule_count.ensures ∙ c.in_ok-actionpoints.actionpoints.ok.0 ∙ ap (λ (es : List TableEntry). length es) entries ∙ length-map rules (entry_over arranged terms))

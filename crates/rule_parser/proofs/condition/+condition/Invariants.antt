@@ -7,12 +7,18 @@ use Rattle.rule_parser.proofs.condition.+condition.Given as goal
 
 -- how far the operator is from the operands
 abbrev rank : Operator → ℕ
-rank And = 1
-rank Xor = 3
-rank Or = 5
+rank And = 2
+rank Xor = 4
+rank Or = 6
+
+abbrev pub decreases-negated : goal.decreases-negated
+decreases-negated l = 8 * l.room.now
+
+abbrev pub decreases-parenthesized : goal.decreases-parenthesized
+decreases-parenthesized l = 8 * l.room.now
 
 abbrev pub decreases-operand : goal.decreases-operand
-decreases-operand l = 8 * l.room.now
+decreases-operand l = 8 * l.room.now + 1
 
 abbrev pub decreases-part : goal.decreases-part
 decreases-part l = 8 * l.room.now + rank l.operator
@@ -20,8 +26,8 @@ decreases-part l = 8 * l.room.now + rank l.operator
 abbrev pub decreases-joined : goal.decreases-joined
 decreases-joined l = 8 * l.room.now + rank l.operator + 1
 
-abbrev pub invariant-joined-loop-left : goal.invariant-joined-loop-left
-invariant-joined-loop-left l = Took (part_of l.operator) (operands_of l.operator) l.fn.tokens l.tokens l.fn.room l.room (expression_of l.left)
+abbrev pub invariant-joined-loop-operator : goal.invariant-joined-loop-operator
+invariant-joined-loop-operator l = Took (part_of l.operator) (operands_of l.operator) l.fn.tokens l.tokens l.fn.room l.room (expression_of l.left)
 
-abbrev pub decreases-joined-loop-left : goal.decreases-joined-loop-left
-decreases-joined-loop-left l = l.room
+abbrev pub decreases-joined-loop-operator : goal.decreases-joined-loop-operator
+decreases-joined-loop-operator l = l.room
