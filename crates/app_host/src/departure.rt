@@ -5,30 +5,35 @@ ghost use Rattle.app_host.specs.Hosted.{shown};
 ghost use Rattle.app_host.specs.Whole.{AreSeated, IsWhole};
 ghost use Rattle.app_host.specs.Left.{HasVacated};
 
+use crate::app::App;
 use crate::host::Host;
 use crate::places::retire_at;
 use lc_model::Seat;
 use lc_model::laws::table_services::table_services_go_by_names;
 
 impl Host {
-    /// The object of a seat, if there is one, retires and is dropped.
-    pub(crate) fn vacate(&mut self, seat: Seat)
+    /// The object of a seat retires, if there is one, and is handed on.
+    pub(crate) fn vacate(&mut self, seat: Seat) -> Option<Box<dyn App>>
         requires seated { AreSeated (shown state called held self.old).seats (shown state called held self.old).services }
         requires idle { self.old.services.outgoing ≡ [] }
         ensures { HasVacated seat (shown state called held self.old) (shown state called held self.new) }
     {
         table_services_go_by_names();
         self.services.tables.is_service();
-        retire_at(&mut self.seats, seat, &mut self.services);
+        let retired = retire_at(&mut self.seats, seat, &mut self.services);
         self.services.tables.is_service();
+        retired
     }
 
-    /// All that run retire, seat by seat, and all objects are dropped.
+    /// All that run retire, seat by seat, and then all objects are dropped.
     pub fn close(mut self)
         requires whole { IsWhole (shown state called held self) }
     {
+        let mut retired: [Option<Box<dyn App>>; Seat::COUNT] =
+            [None, None, None, None, None, None, None, None];
         for index in 0..8u8 {
-            self.vacate(Seat::new(index));
+            let seat = Seat::new(index);
+            retired[seat.index()] = self.vacate(seat);
             self.let_go();
         }
     }

@@ -34,27 +34,31 @@ pub(crate) fn give_at(
     give_in(&mut seats[seat.index()], seat, services, packet);
 }
 
-/// The object of a place gives its seat back, and is dropped.
-fn retire_in(place: &mut Option<Box<dyn App>>, seat: Seat, services: &mut Services)
+/// The object of a place gives its seat back, if there is one, and is handed on.
+fn retire_in(
+    place: &mut Option<Box<dyn App>>,
+    seat: Seat,
+    services: &mut Services,
+) -> Option<Box<dyn App>>
     requires { IfSome (option_map (object state called held) place.old) (MayRetire seat services.old) }
     ensures gone { place.new ≡ None }
     ensures left { LeftBy seat services.old services.new (option_map (object state called held) place.old) }
 {
-    if let Some(mut app) = place.take() {
-        retire(&mut app, seat, services);
-    }
+    let mut app = place.take()?;
+    retire(&mut app, seat, services);
+    Some(app)
 }
 
-/// The object of a seat gives it back, and is dropped.
+/// The object of a seat gives it back, if there is one, and is handed on.
 pub(crate) fn retire_at(
     seats: &mut [Option<Box<dyn App>>; Seat::COUNT],
     seat: Seat,
     services: &mut Services,
-)
+) -> Option<Box<dyn App>>
     requires { IfSome (object_at seat (map (option_map (object state called held)) seats.old)) (MayRetire seat services.old) }
     ensures gone { map (option_map (object state called held)) seats.new ≡ slice_set (map (option_map (object state called held)) seats.old) seat None }
     ensures below { seat < 8 }
     ensures left { LeftBy seat services.old services.new (object_at seat (map (option_map (object state called held)) seats.old)) }
 {
-    retire_in(&mut seats[seat.index()], seat, services);
+    retire_in(&mut seats[seat.index()], seat, services)
 }

@@ -3,7 +3,7 @@
 use crate::playing::plays;
 use crate::script::Given::{Command, Order};
 use crate::script::Line::{Calls, Drops, Packets, Runs, Spares, Step};
-use crate::script::Said::{Count, Done, Letters, Refused};
+use crate::script::Said::{Count, Done, Here, Letters, Refused};
 use crate::script::{Given, Said, Spare};
 use crate::shared::{all_holds, same};
 
@@ -139,6 +139,28 @@ fn a_close_retires_who_runs_and_drops_all_that_is_left_once(rt: HostRuntime) {
     all_holds(
         &rt,
         &[Spare::Counting, Spare::Counting, Spare::Counting],
+        script,
+    );
+}
+
+/// Three run on three seats. That the close drops none of them before the last has retired is what `plays` asks for.
+#[test]
+fn a_close_retires_all_before_it_drops_one(rt: HostRuntime) {
+    let script = &[
+        Step(
+            Order(START, b"A"),
+            &[Here(b"A"), Done(8, b"app command 1 done")],
+        ),
+        Step(Order(START, b"COUNTER"), &[Done(8, b"app command 1 done")]),
+        Step(
+            Order(START, b"B"),
+            &[Here(b"B"), Done(8, b"app command 1 done")],
+        ),
+        Drops(0),
+    ];
+    all_holds(
+        &rt,
+        &[Spare::Speaking(0), Spare::Counting, Spare::Speaking(1)],
         script,
     );
 }

@@ -15,6 +15,7 @@ use crate::speaking::Speaking;
 use crate::tally::Tally;
 use crate::tracked::Tracked;
 use app_host::{App, Host, WriteFault};
+use flight_core::Counter;
 use lc_model::{Body, ByteSink};
 use std::alloc::{AllocError, Global};
 
@@ -123,8 +124,8 @@ fn add(stock: &mut Vec<Box<dyn App>>, app: Box<dyn App>) -> Result<(), AllocErro
 }
 
 /// A host with these spares plays the script, and is closed. The number of the first line that does not hold; the number of
-/// lines, where a counter was not dropped once, or one that started was not retired as often; else none. Out of memory is the
-/// only error.
+/// lines, where one that is watched was not dropped once, one that started was not retired as often, or the close dropped one
+/// before another had retired; else none. Out of memory is the only error.
 pub fn plays(
     alloc: Global,
     spares: &[Spare],
@@ -132,12 +133,13 @@ pub fn plays(
 ) -> Result<Option<usize>, AllocError> {
     let tally = Tally::new(alloc)?;
     let mut stock: Vec<Box<dyn App>> = Vec::new(alloc);
-    let mut counters = 0u32;
+    let mut watched = 0u32;
     for spare in spares {
         match *spare {
             Spare::Counting => {
-                counters = counters.saturating_add(1);
-                add(&mut stock, Box::new(alloc, Tracked::new(tally.share()?))?)?;
+                watched = watched.saturating_add(1);
+                let counter = Tracked::new(Counter::new(), tally.share()?);
+                add(&mut stock, Box::new(alloc, counter)?)?;
             }
             Spare::Writing(number) => {
                 add(&mut stock, Box::new(alloc, Named::new(number, false))?)?;
@@ -146,7 +148,9 @@ pub fn plays(
                 add(&mut stock, Box::new(alloc, Named::new(number, true))?)?;
             }
             Spare::Speaking(number) => {
-                add(&mut stock, Box::new(alloc, Speaking::new(number))?)?;
+                watched = watched.saturating_add(1);
+                let speaking = Tracked::new(Speaking::new(number), tally.share()?);
+                add(&mut stock, Box::new(alloc, speaking)?)?;
             }
         }
     }
@@ -156,8 +160,11 @@ pub fn plays(
         Err(_) => return Ok(Some(0)),
     };
     let first = follow(alloc, &mut host, &tally, script)?;
+    let dropped = tally.drops();
     end(host);
-    let all_left = tally.drops() == counters && tally.retirements() == tally.starts();
+    let all_left = tally.drops() == watched
+        && tally.retirements() == tally.starts()
+        && tally.drops_before_retirement() <= dropped;
     if first.is_none() && !all_left {
         return Ok(Some(script.len()));
     }

@@ -3,14 +3,14 @@
 /// A spare of the host.
 #[derive(Clone, Copy)]
 pub enum Spare {
-    /// A counter that tallies its packets and its drop.
+    /// A counter, watched: what becomes of it is tallied.
     Counting,
     /// The application whose name is the letter of this number, from `A` on. It writes its letter for each packet.
     Writing(u8),
     /// The same, and at each tick it publishes eight packets.
     Publishing(u8),
     /// The application whose name is the letter of this number. It tells of its start, and writes its letter for each packet of
-    /// 0x18D0 and at its retirement.
+    /// 0x18D0 and at its retirement. It is watched, too.
     Speaking(u8),
 }
 
@@ -64,8 +64,8 @@ pub enum Line<'a> {
     Spares(&'a [u8], usize),
     /// The calls of `on_packet` for the last record.
     Calls(u32),
-    /// How many counters were dropped so far.
+    /// How many of those that are watched were dropped so far.
     Drops(u32),
-    /// How many packets counters had so far.
+    /// How many packets those that are watched had so far.
     Packets(u32),
 }

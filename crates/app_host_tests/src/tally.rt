@@ -4,13 +4,15 @@ use std::alloc::{AllocError, Global};
 use std::cell::Cell;
 use std::rc::Rc;
 
-/// The starts and retirements of objects, the packets that they had, and those that were dropped.
+/// The starts and retirements of objects, the packets that they had, and those that were dropped, all in all and before the last
+/// retirement.
 #[derive(Drop)]
 struct Numbers {
     starts: Cell<u32>,
     retirements: Cell<u32>,
     packets: Cell<u32>,
     drops: Cell<u32>,
+    drops_before_retirement: Cell<u32>,
 }
 
 /// The same counts for all who hold one of its copies.
@@ -29,6 +31,7 @@ impl Tally {
                 retirements: Cell::new(0),
                 packets: Cell::new(0),
                 drops: Cell::new(0),
+                drops_before_retirement: Cell::new(0),
             },
         )?;
         Ok(Tally { counts })
@@ -57,6 +60,11 @@ impl Tally {
         self.counts.drops.get()
     }
 
+    /// How many were dropped before the last retirement.
+    pub fn drops_before_retirement(&self) -> u32 {
+        self.counts.drops_before_retirement.get()
+    }
+
     pub fn count_start(&self) {
         self.counts.starts.set(self.starts().saturating_add(1));
     }
@@ -65,6 +73,7 @@ impl Tally {
         self.counts
             .retirements
             .set(self.retirements().saturating_add(1));
+        self.counts.drops_before_retirement.set(self.drops());
     }
 
     pub fn count_packet(&self) {

@@ -1,63 +1,56 @@
-//! The counter, watched.
+//! Applications, watched.
 
-ghost use Rattle.std.specs.Prelude.{◌≡◌, None};
+ghost use Rattle.std.specs.Prelude.{◌≡◌};
 
 use crate::tally::Tally;
 use app_host::{App, Services};
-use flight_core::Counter;
 use lc_model::Seat;
 
-/// A counter that tallies its starts, its packets, its retirements and its drop.
-pub struct Tracked {
-    counter: Counter,
+/// An application whose starts, packets, retirements and drop are tallied.
+pub struct Tracked<A> {
+    app: A,
     tally: Tally,
 }
 
-impl Tracked {
-    /// It holds no seat.
-    pub fn new(tally: Tally) -> Tracked
-        ensures { result.counter.seat ≡ None }
+impl<A: App> Tracked<A> {
+    /// The application, from now on watched.
+    pub fn new(app: A, tally: Tally) -> Tracked<A>
+        ensures { result.app ≡ app }
     {
-        Tracked {
-            counter: Counter::new(),
-            tally,
-        }
+        Tracked { app, tally }
     }
 }
 
-impl App for Tracked {
-    ghost state = { λ t. ⟦<Counter as App>⟧.state t.counter };
+impl<A: App> App for Tracked<A> {
+    ghost state = { λ t. A.state t.app };
 
-    ghost called = { λ t. ⟦<Counter as App>⟧.called t.counter };
+    ghost called = { λ t. A.called t.app };
 
-    ghost held = { λ t. ⟦<Counter as App>⟧.held t.counter };
+    ghost held = { λ t. A.held t.app };
 
     fn name(&self) -> &[u8] {
-        self.counter.name()
+        self.app.name()
     }
 
     fn start(&mut self, seat: Seat, services: &mut Services) {
         self.tally.count_start();
-        self.counter.start(seat, services);
+        self.app.start(seat, services);
     }
 
     fn on_packet(&mut self, services: &mut Services, packet: &[u8]) {
         self.tally.count_packet();
-        self.counter.on_packet(services, packet);
+        self.app.on_packet(services, packet);
     }
 
     fn retire(&mut self, services: &mut Services) {
         self.tally.count_retirement();
-        self.counter.retire(services);
+        self.app.retire(services);
     }
 }
 
-impl Drop for Tracked {
+impl<A: App> Drop for Tracked<A> {
     fn drop(self) {
         self.tally.count_drop();
-        let Tracked {
-            counter: _,
-            tally: _,
-        } = self;
+        let Tracked { app: _, tally: _ } = self;
     }
 }

@@ -153,6 +153,7 @@ module _ (sources : List (List ℕ)) (d : Devices) where
     why = first.why;
     is = first.is;
     unfit = unfit first.source first.why first.refused;
+    first = first.refused;
   }
 
   -- where a text does not compile, or memory is lacking before the run begins

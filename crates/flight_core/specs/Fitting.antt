@@ -5,7 +5,8 @@ use Rattle.std.specs.List.{AllByRecursion}
 use Rattle.lc_model.specs.Rule.{NamedRule}
 use Rattle.lc_model.specs.Text.Reading.{Reads, TextRefusal, ForText, ForRule, IsUnreadable}
 use Rattle.lc_model.specs.Tables.Equation.{terms_of, equation_length, need}
-use Rattle.lc_model.specs.Tables.InForce.{arranged}
+use Rattle.lc_model.specs.Tables.Compiling.{IsRefused}
+use Rattle.lc_model.specs.Tables.InForce.{arranged, limits}
 use Rattle.lc_model.specs.Host.Outcome.{Devices, IsUntouched, Ending, Uncompiled, NoMemory}
 
 -- the text says rules with at most 176 distinct watchpoints, at most 176 of them, each of at most 32 words, EQUAL included
@@ -30,7 +31,7 @@ pub data IsUnfit (source : List ℕ) : TextRefusal → Type 0 where
       32 < equation_length rule.action.condition → IsUnfit source (ForRule 42 number)
 
 module _ (sources : List (List ℕ)) where
-  -- the texts before this one fit, and it does not, for the reason that is answered
+  -- the texts before this one fit, and it does not, for the reason that is answered, which is the first in the order of reasons
   pub record IsFirstUnfit (number : ℕ) (refusal : Option TextRefusal) : Type 0 where
     pub before : AllByRecursion FitsWithFewWaiting (take number sources)
     pub source : List ℕ
@@ -39,6 +40,7 @@ module _ (sources : List (List ℕ)) where
     pub why : TextRefusal
     pub is : refusal ≡ Some why
     pub unfit : IsUnfit source why
+    pub first : IsRefused limits source why
 
   -- memory aside: a text is refused exactly where it is the first that does not fit, and for no other reason; then, and for
   -- want of memory, nothing was read and nothing written

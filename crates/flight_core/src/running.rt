@@ -107,8 +107,9 @@ pub fn run_within<R: ByteSource, W: ByteSink>(
     ensures failures { IsOfProfile schedule.now (map (object state called held) stock.items) →
         TellsFailures reads (devices (R.source reader.old) (R.source reader.new) (W.sink writer.old) (W.sink writer.new)) (ending_of result) }
 
-    // Whatever is in stock: memory aside, the first text is refused that says no rules, or too many or too long ones, and none
-    // for how many operands of a condition wait. Then, and for want of memory, nothing was read and nothing written.
+    // Whatever is in stock: memory aside, the first text is refused that says no rules, or too many or too long ones, for the
+    // first reason that there is, and none for how many operands of a condition wait. Then, and for want of memory, nothing was
+    // read and nothing written.
     ensures refuses { RefusesUnfitAlone (sources_of texts.now) (devices (R.source reader.old) (R.source reader.new) (W.sink writer.old) (W.sink writer.new)) (ending_of result) }
 
     // Commands to event services, to the counter and to other applications can't touch the sequence requests: with others,
@@ -205,8 +206,9 @@ pub fn run<R: ByteSource, W: ByteSink>(
     ensures failures { IsOfProfile schedule.now (map (object state called held) stock.items) →
         TellsFailures MOST_READS (devices (R.source reader.old) (R.source reader.new) (W.sink writer.old) (W.sink writer.new)) (ending_of result) }
 
-    // Whatever is in stock: memory aside, the first text is refused that says no rules, or too many or too long ones, and none
-    // for how many operands of a condition wait. Then, and for want of memory, nothing was read and nothing written.
+    // Whatever is in stock: memory aside, the first text is refused that says no rules, or too many or too long ones, for the
+    // first reason that there is, and none for how many operands of a condition wait. Then, and for want of memory, nothing was
+    // read and nothing written.
     ensures refuses { RefusesUnfitAlone (sources_of texts.now) (devices (R.source reader.old) (R.source reader.new) (W.sink writer.old) (W.sink writer.new)) (ending_of result) }
 
     // Commands to event services, to the counter and to other applications can't touch the sequence requests: with others,

@@ -2,10 +2,10 @@ use Rattle.std.proofs.Common.{refl}
 use Rattle.app_host.proofs.Departed.{may_retire, has_vacated}
 use Rattle.app_host.proofs.host.Host.vacate.Goals as goal
 
-pub retire_at-requires : goal.retire_at-requires
-retire_at-requires g c = may_retire c.args.seat _ _ c.requires.idle (c.requires.seated.running c.args.seat)
+pub retire_at-retired-requires : goal.retire_at-retired-requires
+retire_at-retired-requires g c = may_retire c.args.seat _ _ c.requires.idle (c.requires.seated.running c.args.seat)
 
 pub returns : goal.returns
 returns g c =
-    has_vacated c.table_services_go_by_names.ensures.found _ _ c.args.seat c.requires.seated c.requires.idle c.is_service.ensures c.is_service-2.ensures c.retire_at.ensures.below refl
-    c.retire_at.ensures.gone refl refl _ refl c.retire_at.ensures.left
+    has_vacated c.table_services_go_by_names.ensures.found _ _ c.args.seat c.requires.seated c.requires.idle c.is_service.ensures c.is_service-2.ensures c.retire_at-retired.ensures.below refl
+    c.retire_at-retired.ensures.gone refl refl _ refl c.retire_at-retired.ensures.left
