@@ -42,9 +42,10 @@ pub trait App: Drop {
         ensures settled { Settled (state self.new) seat (held_by services.new) }
         ensures other { state self.old ≡ Other → state self.new ≡ Other };
 
-    /// Answers a packet. Conditions: it holds a seat, and what is there is as its own calls and the commands to the event and
-    /// table services left it; the packet has no fault; nothing waits to be written; and for a tick each pipe has room for
-    /// eight packets. It publishes for a tick alone, at most eight packets and no tick.
+    /// Answers a packet. Conditions: it holds a seat, and what is there is its own and goes with its state, as its own calls and
+    /// the commands to the event and table services left it; the packet has no fault; nothing waits to be written; and for a tick
+    /// each pipe has room for eight packets. It publishes for a tick alone, at most eight packets and no tick. Of an application
+    /// of another kind than this profile's, whose state says nothing, the first condition is that what is there is its own.
     fn on_packet(&mut self, services: &mut Services, packet: &[u8])
         requires home { IsSomeAnd (held self.old) (λ seat. IsAtHome (state self.old) (called self.old) seat services.old) }
         requires given { IfSome (held self.old) (λ seat. MayBeGiven seat (called self.old) packet.now (held_by services.old)) }
