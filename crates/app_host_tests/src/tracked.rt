@@ -7,7 +7,7 @@ use app_host::{App, Services};
 use lc_model::Seat;
 
 /// An application whose starts, packets, retirements and drop are tallied.
-pub struct Tracked<A> {
+pub struct Tracked<A: App> {
     app: A,
     tally: Tally,
 }
