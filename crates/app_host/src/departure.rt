@@ -29,8 +29,9 @@ impl Host {
     pub fn close(mut self)
         requires whole { IsWhole (shown state called held self) }
     {
-        let mut retired: [Option<Box<dyn App>>; Seat::COUNT] =
-            [None, None, None, None, None, None, None, None];
+        let mut retired: [Option<Box<dyn App>>; Seat::COUNT] = [
+            None, None, None, None, None, None, None, None,
+        ];
         for index in 0..8u8 {
             let seat = Seat::new(index);
             retired[seat.index()] = self.vacate(seat);
