@@ -2,5 +2,6 @@
 pub mod Numbered
 pub mod Judging
 pub mod Refused
+pub mod Naming
 pub mod Compiled
 pub mod EntryWords

@@ -9,6 +9,7 @@ ghost use Rattle.lc_model.specs.Tables.InForce.{limits};
 ghost use Rattle.rpn_compiler.specs.declared.error.CompileError.TheVariants.{Memory};
 ghost use Rattle.rpn_compiler.specs.Fault.{Refuses};
 ghost use Rattle.rpn_compiler.specs.Lowered.{IsLowered};
+ghost use Rattle.rpn_compiler.specs.Naming.{NamesTheNumberIn, IsOfTables};
 
 use crate::equation::words_of_rules;
 use crate::error::CompileError;
@@ -26,6 +27,7 @@ use watch_sharing::share;
 fn read(alloc: Global, text: &[u8]) -> Result<RuleSet, CompileError>
     ensures reads { IfOk result (λ set. Reads text.now set.rules) }
     ensures refused { IfErr result (Refuses (IsUnreadable text.now)) }
+    ensures named { IfErr result (NamesTheNumberIn text.now) }
 {
     let tokens = lex(alloc, text)?;
     let file = parse(alloc, text, tokens.as_slice())?;
@@ -38,6 +40,7 @@ fn lower_rules(alloc: Global, rules: RuleSet) -> Result<Lowered, CompileError>
     ensures rules { IfOk result (λ lowered. lowered.rules.rules ≡ rules.rules) }
     ensures lowered { IfOk result IsLowered }
     ensures refused { IfErr result (Refuses (λ refusal. limit_refusal limits rules.rules ≡ Some refusal)) }
+    ensures tables { IfErr result IsOfTables }
 {
     let shared = share(alloc, &rules)?;
     limits::judge(rules.rules.as_slice())?;
@@ -54,6 +57,7 @@ fn lower_text(alloc: Global, text: &[u8]) -> Result<Lowered, CompileError>
     ensures compiles { IfOk result (λ lowered. Compiles limits text.now lowered.rules.rules) }
     ensures lowered { IfOk result IsLowered }
     ensures refused { IfErr result (Refuses (IsRefused limits text.now)) }
+    ensures named { IfErr result (NamesTheNumberIn text.now) }
 {
     reading::rules_are_within_ranges();
     let rules = read(alloc, text)?;
@@ -69,6 +73,7 @@ pub fn lower(alloc: Global, text: &[u8]) -> Result<Lowered, CompileError>
     ensures compiles { IfOk result (λ lowered. Compiles limits text.now lowered.rules.rules) }
     ensures lowered { IfOk result IsLowered }
     ensures refused { IfErr result (Refuses (IsRefused limits text.now)) }
+    ensures named { IfErr result (NamesTheNumberIn text.now) }
     ensures accepts { (rules : List NamedRule) → Compiles limits text.now rules → MatchResult result (λ lowered. lowered.rules.rules ≡ rules) (λ error. error ≡ Memory) }
     ensures refuses { (refusal : TextRefusal) → IsRefused limits text.now refusal → MatchResult result (λ _. ⊥) (Refuses (λ found. found ≡ refusal)) }
 {

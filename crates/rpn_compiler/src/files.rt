@@ -14,6 +14,7 @@ ghost use Rattle.table_file.specs.Layout.{layout_of_version};
 ghost use Rattle.rpn_compiler.specs.declared.error.CompileError.TheVariants.{Memory};
 ghost use Rattle.rpn_compiler.specs.Fault.{Refuses};
 ghost use Rattle.rpn_compiler.specs.Lowered.{IsLowered};
+ghost use Rattle.rpn_compiler.specs.Naming.{NamesTheNumberIn};
 ghost use Rattle.rpn_compiler.specs.Pair.{AreTables};
 
 use crate::compiler::lower;
@@ -109,6 +110,8 @@ fn files(alloc: Global, text: &[u8], lowered: Lowered) -> Result<TablePair, Comp
 pub fn compile(alloc: Global, text: &[u8]) -> Result<TablePair, CompileError>
     ensures compiles { IfOk result (λ pair. (rules : List NamedRule) × Compiles limits text.now rules × AreTables text.now rules pair) }
     ensures refused { IfErr result (Refuses (IsRefused limits text.now)) }
+    // Of a number out of its range, which of the text's numbers that is.
+    ensures named { IfErr result (NamesTheNumberIn text.now) }
     ensures accepts { (rules : List NamedRule) → Compiles limits text.now rules → MatchResult result (AreTables text.now rules) (λ error. error ≡ Memory) }
     ensures refuses { (refusal : TextRefusal) → IsRefused limits text.now refusal → MatchResult result (λ _. ⊥) (Refuses (λ found. found ≡ refusal)) }
 {

@@ -1,6 +1,6 @@
 //! Which rules fit into the tables (176 actionpoints are the cFS Limit Checker's; the words are this project's own).
 
-ghost use Rattle.std.specs.Prelude.{◌≡◌, ◌-◌, ◌^◌, ◌≤◌, None, length, min, MatchResult};
+ghost use Rattle.std.specs.Prelude.{◌≡◌, ◌-◌, ◌^◌, ◌≤◌, None, length, min, IfErr, MatchResult};
 ghost use Rattle.lc_model.specs.Condition.{condition_of};
 ghost use Rattle.lc_model.specs.Codes.{table_entries};
 ghost use Rattle.lc_model.specs.Rule.{rule_of, rules_of};
@@ -8,6 +8,7 @@ ghost use Rattle.lc_model.specs.Tables.Equation.{size as size_of, terms_of};
 ghost use Rattle.lc_model.specs.Tables.Compiling.{limit_refusal};
 ghost use Rattle.lc_model.specs.Tables.InForce.{limits};
 ghost use Rattle.rpn_compiler.specs.Limits.{IsRefusal, refusal_of_rule};
+ghost use Rattle.rpn_compiler.specs.Naming.{IsOfTables};
 
 use crate::error::CompileError;
 use lc_model::{Cond, EQUATION_WORDS, Rule, TABLE_ENTRIES};
@@ -27,7 +28,8 @@ fn size(cond: &Cond) -> usize
 
 /// Whether the equation of the rule with this number is short enough. However its operands stand, few wait at once.
 fn judge_rule(number: usize, rule: &Rule) -> Result<(), CompileError>
-    ensures { MatchResult result (λ _. refusal_of_rule number (rule_of rule.now) ≡ None) (IsRefusal (refusal_of_rule number (rule_of rule.now))) }
+    ensures judged { MatchResult result (λ _. refusal_of_rule number (rule_of rule.now) ≡ None) (IsRefusal (refusal_of_rule number (rule_of rule.now))) }
+    ensures tables { IfErr result IsOfTables }
 {
     if size(&rule.cond) >= EQUATION_WORDS {
         return Err(CompileError::EquationTooLong { rule: number });
@@ -38,7 +40,8 @@ fn judge_rule(number: usize, rule: &Rule) -> Result<(), CompileError>
 /// Whether rules over at most 176 watchpoints are few enough, and then whether each equation is short enough.
 pub fn judge(rules: &[Rule]) -> Result<(), CompileError>
     requires { length (terms_of (rules_of rules.now)) ≤ table_entries }
-    ensures { MatchResult result (λ _. limit_refusal limits (rules_of rules.now) ≡ None) (IsRefusal (limit_refusal limits (rules_of rules.now))) }
+    ensures judged { MatchResult result (λ _. limit_refusal limits (rules_of rules.now) ≡ None) (IsRefusal (limit_refusal limits (rules_of rules.now))) }
+    ensures tables { IfErr result IsOfTables }
 {
     if rules.len() > TABLE_ENTRIES {
         return Err(CompileError::TooManyRules);

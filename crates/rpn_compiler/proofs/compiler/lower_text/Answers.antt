@@ -4,6 +4,7 @@ use Rattle.lc_model.specs.Tables.Compiling.{IsRefused, unreadable, beyond_limits
 use Rattle.lc_model.specs.Tables.InForce.{limits}
 use Rattle.lc_model.proofs.Exits.{passed_on}
 use Rattle.rpn_compiler.specs.Fault.{Refuses}
+use Rattle.rpn_compiler.proofs.Naming.{of_all_tables}
 use Rattle.rpn_compiler.proofs.Refused.{also, also_of, short_texts}
 use Rattle.rpn_compiler.proofs.compiler.lower_text.Goals as goal
 
@@ -21,3 +22,6 @@ pub returns-clause-refused : goal.returns-clause-refused
 returns-clause-refused c =
     also_of (λ refusal. limit_refusal limits c.in_ok-rules.rules.rules ≡ Some refusal) (IsRefused limits c.args.text.now)
     (λ r is. beyond_limits c.in_ok-rules.ensures.reads is) c.lower_rules.result c.lower_rules.ensures.refused
+
+pub returns-clause-named : goal.returns-clause-named
+returns-clause-named c = of_all_tables c.args.text.now c.lower_rules.result c.lower_rules.ensures.tables

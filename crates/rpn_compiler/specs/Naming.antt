@@ -1,0 +1,29 @@
+-- Which number of a text is out of its range. This project's own.
+use Rattle.std.specs.Prelude.{ℕ, List, ⊤}
+use Rattle.lc_model.specs.Text.Token.{Token, Splits}
+use Rattle.lc_model.specs.Text.Syntax.{Item}
+use Rattle.lc_model.specs.Text.Reading.{Parses}
+use Rattle.field_checker.specs.declared.error.CheckError.{CheckError}
+use Rattle.field_checker.specs.Number.{NamesItsNumber}
+use Rattle.rpn_compiler.specs.declared.error.CompileError.{CompileError}
+use Rattle.rpn_compiler.specs.declared.error.CompileError.TheVariants.{Lex, Parse, Check, TooManyWatchpoints, TooManyRules, EquationTooLong, Memory}
+
+-- the number that the error names is the one of the text's items that is out of its range; a text has one list of items
+pub record NamesItsNumberIn (text : List ℕ) (error : CheckError) : Type 0 where
+  pub tokens : List Token
+  pub items : List Item
+  pub splits : Splits text tokens
+  pub parses : Parses tokens items
+  pub names : NamesItsNumber items error
+
+-- the same of the compiler's error
+abbrev pub NamesTheNumberIn : List ℕ → CompileError → Type 0
+NamesTheNumberIn text (Check error) = NamesItsNumberIn text error
+NamesTheNumberIn text error = ⊤
+
+-- it is an error of what rules are too much for the tables, or want of memory
+abbrev pub IsOfTables : CompileError → Type 0
+IsOfTables (Lex error) = ⊥
+IsOfTables (Parse error) = ⊥
+IsOfTables (Check error) = ⊥
+IsOfTables error = ⊤
