@@ -1,5 +1,5 @@
 -- A run refuses the texts that do not fit, and no others.
-use Rattle.std.proofs.Common.{◌≡◌, refl, ◌∙◌, ap, subst, ℕ, suc, ◌+◌, ◌<◌, ◌≤◌, Bool, true, false, nat_lt, List, [], ◌∷◌, length, take, slice_get, filter_map, Option, Some, None, option_map, Result, Ok, Err, arith}
+use Rattle.std.proofs.Common.{◌≡◌, refl, ◌∙◌, ap, subst, ℕ, suc, ◌+◌, ◌<◌, ◌≤◌, Bool, true, false, nat_lt, List, [], ◌∷◌, length, take, slice_get, filter_map, Option, Some, None, option_map, Result, Ok, Err, IfErr, arith}
 use Rattle.std.specs.List.{enumerate_from, AllByRecursion}
 use Rattle.lc_model.specs.Rule.{NamedRule}
 use Rattle.lc_model.specs.Text.Reading.{Reads, TextRefusal, ForText, ForRule}
@@ -18,7 +18,7 @@ use Rattle.rpn_compiler.specs.Fault.{refusal_of}
 use Rattle.flight_core.specs.declared.error.Report.{Report}
 use Rattle.flight_core.specs.declared.error.RunError.{RunError}
 use Rattle.flight_core.specs.declared.error.RunError.TheVariants.{Compile, BadRecord, Truncated, Read, Write, ReadBound, Memory}
-use Rattle.flight_core.specs.Compiled.{AreAllCompiled, IsFirstRefused, IsNotCompiled}
+use Rattle.flight_core.specs.Compiled.{AreAllCompiled, IsFirstRefused, IsNotCompiled, NamesTheNumber}
 use Rattle.flight_core.specs.Ending.{ending_of}
 use Rattle.flight_core.specs.Fitting.{Fits, FitsWithFewWaiting, IsFirstUnfit, IsUnfit, RefusesUnfitAlone}
 use Rattle.flight_core.specs.Flight.{HasBegun}
@@ -143,6 +143,16 @@ begun d (Err Read) is = tt
 begun d (Err (Write sent)) is = tt
 begun d (Err ReadBound) is = tt
 
+-- the number that an error names
+pub named : (sources : List (List ℕ)) (error : RunError) → IsNotCompiled sources error → NamesTheNumber sources error
+named sources (Compile number error) first = (first.source, first.there, first.named)
+named sources Memory not = tt
+named sources (BadRecord n) not = tt
+named sources (Truncated n) not = tt
+named sources Read not = tt
+named sources (Write sent) not = tt
+named sources ReadBound not = tt
+
 module _ (sources : List (List ℕ)) (d : Devices) where
   first_unfit : (number : ℕ) (error : CompileError) → IsFirstRefused sources number error → IsFirstUnfit sources number (refusal_of error)
   first_unfit number error first = record {
@@ -176,3 +186,14 @@ module _ (sources : List (List ℕ)) (d : Devices) where
   taken pairs are (Err Read) none = compiled_fit sources pairs are
   taken pairs are (Err (Write sent)) none = compiled_fit sources pairs are
   taken pairs are (Err ReadBound) none = compiled_fit sources pairs are
+
+  -- where a run has begun it names none
+  pub none_named : (result : Result Report RunError) → RefusesNone d result → IfErr result (NamesTheNumber sources)
+  none_named (Ok report) none = tt
+  none_named (Err (Compile number error)) none = absurd none
+  none_named (Err Memory) none = tt
+  none_named (Err (BadRecord n)) none = tt
+  none_named (Err (Truncated n)) none = tt
+  none_named (Err Read) none = tt
+  none_named (Err (Write sent)) none = tt
+  none_named (Err ReadBound) none = tt

@@ -10,6 +10,7 @@ use Rattle.lc_model.specs.Host.Promise.{AreCompiled}
 use Rattle.rpn_compiler.specs.declared.error.CompileError.{CompileError}
 use Rattle.rpn_compiler.specs.declared.error.CompileError.TheVariants as compiler
 use Rattle.rpn_compiler.specs.declared.files.TablePair.{TablePair}
+use Rattle.rpn_compiler.specs.Naming.{NamesTheNumberIn}
 use Rattle.rpn_compiler.specs.Fault.{Refuses, refusal_of}
 use Rattle.flight_core.specs.declared.error.RunError.{RunError}
 use Rattle.flight_core.specs.Compiled.{edition, sources_of, file_in, IsCompiled, AreAllCompiled, refusal_for, IsNotCompiled}
@@ -77,22 +78,23 @@ texts_of (source ∷ sources) (pair ∷ pairs) all =
 -- ---- a text that does not compile
 
 first_refused : (sources : List (List ℕ)) (pairs : List TablePair) (n : ℕ) (source : List ℕ) (error : CompileError) → slice_get sources n ≡ Some source →
-    AreAllCompiled (take n sources) pairs → Refuses (IsRefused limits source) error → IsNotCompiled sources (refusal_for n error)
-first_refused sources pairs n source error there so_far (inl memory) = subst (λ (e : CompileError). IsNotCompiled sources (refusal_for n e)) (sym memory) tt
-first_refused sources pairs n source error there so_far (inr (refusal, is, why)) = by_error error is
+    AreAllCompiled (take n sources) pairs → Refuses (IsRefused limits source) error → NamesTheNumberIn source error → IsNotCompiled sources (refusal_for n error)
+first_refused sources pairs n source error there so_far (inl memory) named = subst (λ (e : CompileError). IsNotCompiled sources (refusal_for n e)) (sym memory) tt
+first_refused sources pairs n source error there so_far (inr (refusal, is, why)) named = by_error error is named
   where
     known : AreTexts (take n sources) pairs
     known = texts_of (take n sources) pairs so_far
 
-    by_error : (e : CompileError) → refusal_of e ≡ Some refusal → IsNotCompiled sources (refusal_for n e)
-    by_error compiler.Memory is = tt
-    by_error (compiler.Lex e) is = record { texts = known.texts; before = known.compile; source = source; there = there; why = refusal; is = is; refused = why }
-    by_error (compiler.Parse e) is = record { texts = known.texts; before = known.compile; source = source; there = there; why = refusal; is = is; refused = why }
-    by_error (compiler.Check e) is = record { texts = known.texts; before = known.compile; source = source; there = there; why = refusal; is = is; refused = why }
-    by_error compiler.TooManyWatchpoints is = record { texts = known.texts; before = known.compile; source = source; there = there; why = refusal; is = is; refused = why }
-    by_error compiler.TooManyRules is = record { texts = known.texts; before = known.compile; source = source; there = there; why = refusal; is = is; refused = why }
-    by_error (compiler.EquationTooLong rule) is = record { texts = known.texts; before = known.compile; source = source; there = there; why = refusal; is = is; refused = why }
+    by_error : (e : CompileError) → refusal_of e ≡ Some refusal → NamesTheNumberIn source e → IsNotCompiled sources (refusal_for n e)
+    by_error compiler.Memory is named = tt
+    by_error (compiler.Lex e) is named = record { texts = known.texts; before = known.compile; source = source; there = there; why = refusal; is = is; refused = why; named = named }
+    by_error (compiler.Parse e) is named = record { texts = known.texts; before = known.compile; source = source; there = there; why = refusal; is = is; refused = why; named = named }
+    by_error (compiler.Check e) is named = record { texts = known.texts; before = known.compile; source = source; there = there; why = refusal; is = is; refused = why; named = named }
+    by_error compiler.TooManyWatchpoints is named = record { texts = known.texts; before = known.compile; source = source; there = there; why = refusal; is = is; refused = why; named = named }
+    by_error compiler.TooManyRules is named = record { texts = known.texts; before = known.compile; source = source; there = there; why = refusal; is = is; refused = why; named = named }
+    by_error (compiler.EquationTooLong rule) is named = record { texts = known.texts; before = known.compile; source = source; there = there; why = refusal; is = is; refused = why; named = named }
 
 pub refused : (sources : List (List ℕ)) (pairs : List TablePair) (n : ℕ) (source : List ℕ) (error : CompileError) → slice_get sources n ≡ Some source →
-    AreAllCompiled (take n sources) pairs → Refuses (IsRefused limits source) error → (answer : RunError) → answer ≡ refusal_for n error → IsNotCompiled sources answer
-refused sources pairs n source error there so_far why answer is = subst (IsNotCompiled sources) (sym is) (first_refused sources pairs n source error there so_far why)
+    AreAllCompiled (take n sources) pairs → Refuses (IsRefused limits source) error → NamesTheNumberIn source error → (answer : RunError) → answer ≡ refusal_for n error → IsNotCompiled sources answer
+refused sources pairs n source error there so_far why named answer is =
+    subst (IsNotCompiled sources) (sym is) (first_refused sources pairs n source error there so_far why named)

@@ -16,6 +16,7 @@ use Rattle.rpn_compiler.specs.declared.error.CompileError.{CompileError}
 use Rattle.rpn_compiler.specs.declared.error.CompileError.TheVariants as compiler
 use Rattle.rpn_compiler.specs.declared.files.TablePair.{TablePair}
 use Rattle.rpn_compiler.specs.Fault.{refusal_of}
+use Rattle.rpn_compiler.specs.Naming.{NamesTheNumberIn}
 use Rattle.rpn_compiler.specs.Pair.{AreTables}
 use Rattle.flight_core.specs.declared.error.RunError.{RunError}
 use Rattle.flight_core.specs.declared.error.RunError.TheVariants.{Compile, Memory}
@@ -65,9 +66,15 @@ pub record IsFirstRefused (sources : List (List ℕ)) (number : ℕ) (error : Co
   pub why : TextRefusal
   pub is : refusal_of error ≡ Some why
   pub refused : IsRefused limits source why
+  pub named : NamesTheNumberIn source error
 
 -- the first text that does not compile, or want of memory
 abbrev pub IsNotCompiled : List (List ℕ) → RunError → Type 0
 IsNotCompiled sources (Compile number error) = IsFirstRefused sources number error
 IsNotCompiled sources Memory = ⊤
 IsNotCompiled sources other = ⊥
+
+-- of a number out of its range, the error names which number of the text that is
+abbrev pub NamesTheNumber : List (List ℕ) → RunError → Type 0
+NamesTheNumber sources (Compile number error) = (source : List ℕ) × (slice_get sources number ≡ Some source) × NamesTheNumberIn source error
+NamesTheNumber sources error = ⊤

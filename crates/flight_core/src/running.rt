@@ -1,13 +1,13 @@
 //! A whole run: from rule texts and a stream of records to the packets that the host writes.
 
-ghost use Rattle.std.specs.Prelude.{◌≡◌, ◌≤◌, false, length, map};
+ghost use Rattle.std.specs.Prelude.{◌≡◌, ◌≤◌, false, length, map, IfErr};
 ghost use Rattle.lc_model.specs.Host.Outcome.{devices};
 ghost use Rattle.lc_model.specs.Host.Promise.{FollowsTexts, IsRun, WritesWhatBytesCallFor, WritesWhatIsCalledFor, WritesWithFixedTables};
 ghost use Rattle.app_host.specs.Hosted.{object};
 ghost use Rattle.app_host.specs.Whole.{AreSpares};
 ghost use Rattle.flight_core.specs.Asides.{IsNotTouchedByAsides, IsNotTouchedByAsidesInBytes};
 ghost use Rattle.flight_core.specs.Brought.{AreWhole};
-ghost use Rattle.flight_core.specs.Compiled.{sources_of};
+ghost use Rattle.flight_core.specs.Compiled.{NamesTheNumber, sources_of};
 ghost use Rattle.flight_core.specs.Ending.{ending_of};
 ghost use Rattle.flight_core.specs.Failures.{TellsFailures};
 ghost use Rattle.flight_core.specs.Fitting.{RefusesUnfitAlone};
@@ -112,6 +112,9 @@ pub fn run_within<R: ByteSource, W: ByteSink>(
     // read and nothing written.
     ensures refuses { RefusesUnfitAlone (sources_of texts.now) (devices (R.source reader.old) (R.source reader.new) (W.sink writer.old) (W.sink writer.new)) (ending_of result) }
 
+    // Of a number of that text that is out of its range: which one it is.
+    ensures named { IfErr result (NamesTheNumber (sources_of texts.now)) }
+
     // Commands to event services, to the counter and to other applications can't touch the sequence requests: with others,
     // or with none, these are the same.
     ensures asides { IsOfProfile schedule.now (map (object state called held) stock.items) →
@@ -147,6 +150,7 @@ fn begin<R: ByteSource, W: ByteSink>(
     ensures run { IsOfProfile schedule.now (map (object state called held) stock.items) →
         IsRun (mission_of texts.now schedule.now (map (object state called held) stock.items) reads) (devices (R.source reader.old) (R.source reader.new) (W.sink writer.old) (W.sink writer.new)) (ending_of result) }
     ensures refuses { RefusesUnfitAlone (sources_of texts.now) (devices (R.source reader.old) (R.source reader.new) (W.sink writer.old) (W.sink writer.new)) (ending_of result) }
+    ensures named { IfErr result (NamesTheNumber (sources_of texts.now)) }
     ensures bounded { (R.source reader.new).reads ≤ reads }
 {
     writes_a_mission();
@@ -210,6 +214,9 @@ pub fn run<R: ByteSource, W: ByteSink>(
     // first reason that there is, and none for how many operands of a condition wait. Then, and for want of memory, nothing was
     // read and nothing written.
     ensures refuses { RefusesUnfitAlone (sources_of texts.now) (devices (R.source reader.old) (R.source reader.new) (W.sink writer.old) (W.sink writer.new)) (ending_of result) }
+
+    // Of a number of that text that is out of its range: which one it is.
+    ensures named { IfErr result (NamesTheNumber (sources_of texts.now)) }
 
     // Commands to event services, to the counter and to other applications can't touch the sequence requests: with others,
     // or with none, these are the same.

@@ -7,7 +7,7 @@ pub returns-in-Err-clause-refused : goal.returns-in-Err-clause-refused
 returns-in-Err-clause-refused c =
     refused (sources_of c.args.texts.now) c.loop-number.pairs.items c.loop-number.number c.text_at.result.now c.in-Err.error
     c.text_at.ensures
-    c.loop-number.invariant.2 c.in-Err.ensures.refused c.refusal.result c.refusal.ensures
+    c.loop-number.invariant.2 c.in-Err.ensures.refused c.in-Err.ensures.named c.refusal.result c.refusal.ensures
 
 pub loop-number-preserved : goal.loop-number-preserved
 loop-number-preserved c =

@@ -1,7 +1,7 @@
 use Rattle.std.proofs.Common.{refl, sym, subst}
 use Rattle.flight_core.specs.Brought.{AreWhole}
 use Rattle.flight_core.specs.Compiled.{sources_of, AreAllCompiled}
-use Rattle.flight_core.proofs.Fitting.{refused, taken}
+use Rattle.flight_core.proofs.Fitting.{named, none_named, refused, taken}
 use Rattle.flight_core.proofs.Outset.{all_not_other, whole_files, is_run}
 use Rattle.flight_core.proofs.running.begin.Goals as goal
 
@@ -26,3 +26,9 @@ returns-in-Err-clause-refuses g c = refused (sources_of c.args.texts.now) _ (rec
   gained = refl;
   no_write_failed = c.requires.writable;
 }) _ c.in-Err.ensures.refused
+
+pub returns-in-Ok-clause-named : goal.returns-in-Ok-clause-named
+returns-in-Ok-clause-named g c = none_named (sources_of c.args.texts.now) _ _ c.run_compiled.ensures.judged
+
+pub returns-in-Err-clause-named : goal.returns-in-Err-clause-named
+returns-in-Err-clause-named g c = named (sources_of c.args.texts.now) _ c.in-Err.ensures.refused
