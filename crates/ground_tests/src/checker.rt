@@ -3,7 +3,6 @@
 mod borders;
 mod meanings;
 mod memory;
-mod messages;
 mod names;
 
 use crate::shared::{accepted, joined, replaced, same};

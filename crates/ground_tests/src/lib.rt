@@ -15,6 +15,8 @@ pub mod judging;
 #[cfg(test)]
 mod lexer;
 #[cfg(test)]
+mod messages;
+#[cfg(test)]
 mod parser;
 #[cfg(test)]
 mod shared;

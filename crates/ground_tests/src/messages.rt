@@ -1,0 +1,233 @@
+//! What a person reads of each error.
+
+use crate::shared::{accepted, same};
+use field_checker::{CheckError, RuleNumber};
+use rpn_compiler::CompileError;
+use rule_lexer::LexReason;
+use std::fmt::{Debug, Display};
+use std::process::Abort;
+use table_file::FileError;
+use table_validator::{FaultCode, TableFault, WHOLE_IMAGE};
+use watch_sharing::ShareError;
+
+/// Each error is written so.
+fn all_read<R: Abort + AllocGlobal, E: Copy + Debug + Display>(rt: &R, rows: &[(E, &str)]) {
+    for &(error, expected) in rows {
+        let written = accepted(rt, error, format!(in rt.alloc(); "{error}"));
+        same(rt, error, written.as_str(), expected);
+    }
+}
+
+/// What the lexer refuses is told by what is wrong with it.
+#[test]
+fn of_texts(rt: HostRuntime) {
+    let rows = &[
+        (
+            LexReason::NoToken { at: 3 },
+            "no token begins with the byte at 3",
+        ),
+        (
+            LexReason::NotANumber { at: 4 },
+            "the number at 4 isn't of digits alone, or of `0x` and hexadecimal digits",
+        ),
+        (
+            LexReason::NumberTooLarge { at: 5 },
+            "the number at 5 is over 4,294,967,295",
+        ),
+        (
+            LexReason::NameTooLong { at: 6 },
+            "the name at 6 has over 32 bytes",
+        ),
+        (
+            LexReason::Unclosed { at: 7 },
+            "the string at 7 isn't closed on its line",
+        ),
+        (
+            LexReason::StringTooLong { at: 8 },
+            "the string at 8 has over 31 bytes",
+        ),
+        (
+            LexReason::ForbiddenByte { at: 9 },
+            "the byte at 9 may not stand in a string",
+        ),
+        (LexReason::TextTooLong, "the text has over 65,536 bytes"),
+    ];
+    all_read(&rt, rows);
+}
+
+/// A name is declared twice, or not at all, or its field doesn't lie in its packet.
+#[test]
+fn of_names(rt: HostRuntime) {
+    let rows = &[
+        (
+            CheckError::DuplicateName { at: 30 },
+            "the name at 30 is declared before",
+        ),
+        (
+            CheckError::UnknownName { at: 10 },
+            "nothing of that kind has the name at 10",
+        ),
+        (
+            CheckError::FieldOutside { at: 40 },
+            "the field at 40 isn't inside its packet",
+        ),
+    ];
+    all_read(&rt, rows);
+}
+
+/// A number out of its range is named, with its range.
+#[test]
+fn of_numbers(rt: HostRuntime) {
+    let rows = &[
+        (
+            CheckError::NumberRange {
+                at: 100,
+                number: RuleNumber::Fails,
+            },
+            "the number at 100 is out of range: `fails` takes 1 to 65,535",
+        ),
+        (
+            CheckError::NumberRange {
+                at: 111,
+                number: RuleNumber::Sequence,
+            },
+            "the number at 111 is out of range: `sequence` takes 1 to 65,535",
+        ),
+        (
+            CheckError::NumberRange {
+                at: 125,
+                number: RuleNumber::EventId,
+            },
+            "the number at 125 is out of range: an event has a number from 1,000 to 65,535",
+        ),
+        (
+            CheckError::NumberRange {
+                at: 149,
+                number: RuleNumber::ReportPassive,
+            },
+            "the number at 149 is out of range: the first number of `report` is 0 to 255",
+        ),
+        (
+            CheckError::NumberRange {
+                at: 151,
+                number: RuleNumber::ReportPassToFail,
+            },
+            "the number at 151 is out of range: the second number of `report` is 0 to 65,535",
+        ),
+        (
+            CheckError::NumberRange {
+                at: 153,
+                number: RuleNumber::ReportFailToPass,
+            },
+            "the number at 153 is out of range: the third number of `report` is 0 to 65,535",
+        ),
+        (
+            CheckError::NumberRange {
+                at: 75,
+                number: RuleNumber::Stale,
+            },
+            "the number at 75 is out of range: `stale` takes 0 to 4,294,967,295",
+        ),
+    ];
+    all_read(&rt, rows);
+}
+
+/// So are the ranges of message ids, lengths, masks and compared numbers.
+#[test]
+fn of_ranges(rt: HostRuntime) {
+    let rows = &[
+        (
+            CheckError::MidRange { at: 15 },
+            "the message id at 15 isn't one of telemetry, 0x0800 to 0x0FFF",
+        ),
+        (
+            CheckError::ReservedMid { at: 15 },
+            "the message id at 15 is one of the host's own, 0x0808 and 0x08A7",
+        ),
+        (
+            CheckError::LengthRange { at: 29 },
+            "the packet length at 29 isn't from 12 to 2,048",
+        ),
+        (
+            CheckError::MaskRange { at: 62 },
+            "the mask at 62 isn't in the field's type: 1 to 0xFF in 8 bits, to 0xFFFF in 16, to 0xFFFFFFFF in 32",
+        ),
+        (
+            CheckError::ConstRange { at: 119 },
+            "the number at 119 isn't in the field's type: u8 0 to 255, i8 -128 to 127, u16 0 to 65,535, i16 -32,768 to 32,767, u32 0 to 4,294,967,295, i32 -2,147,483,648 to 2,147,483,647",
+        ),
+    ];
+    all_read(&rt, rows);
+}
+
+/// Rules are too many or too long for their tables.
+#[test]
+fn of_rules(rt: HostRuntime) {
+    let rows = &[
+        (
+            CompileError::Check(CheckError::UnknownName { at: 10 }),
+            "nothing of that kind has the name at 10",
+        ),
+        (
+            CompileError::TooManyWatchpoints,
+            "the rules mention over 176 watchpoints",
+        ),
+        (CompileError::TooManyRules, "there are over 176 rules"),
+        (
+            CompileError::EquationTooLong { rule: 3 },
+            "the equation of rule 3, counted from 0, has over 32 words",
+        ),
+        (CompileError::Memory, "out of memory"),
+    ];
+    all_read(&rt, rows);
+    let shared = &[(
+        ShareError::TooManyWatchpoints,
+        "the rules mention over 176 watchpoints",
+    )];
+    all_read(&rt, shared);
+}
+
+#[test]
+fn of_files(rt: HostRuntime) {
+    let rows = &[
+        (FileError::ShortFile, "the file has under 116 bytes"),
+        (FileError::NotCfe, "no cFE file"),
+        (FileError::WrongSubtype, "no table file"),
+        (FileError::HeaderLength, "the file header's length isn't 64"),
+        (FileError::PartialLoad, "a part of a table"),
+        (
+            FileError::SizeMismatch,
+            "the image has another length than its header says",
+        ),
+    ];
+    all_read(&rt, rows);
+}
+
+/// A fault of an image stands behind its entry.
+#[test]
+fn of_images(rt: HostRuntime) {
+    let rows = &[
+        (
+            TableFault {
+                code: FaultCode::UnknownWatchpoint,
+                entry: 0,
+            },
+            "entry 0: no such watchpoint",
+        ),
+        (
+            TableFault {
+                code: FaultCode::UnknownType,
+                entry: 175,
+            },
+            "entry 175: no such type",
+        ),
+        (
+            TableFault {
+                code: FaultCode::WrongSize,
+                entry: WHOLE_IMAGE,
+            },
+            "entry 65535: another length than the table's images have",
+        ),
+    ];
+    all_read(&rt, rows);
+}
