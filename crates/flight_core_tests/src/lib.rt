@@ -8,6 +8,8 @@ mod bad;
 mod long_run;
 pub mod marks;
 #[cfg(test)]
+mod messages;
+#[cfg(test)]
 mod pieces;
 #[cfg(test)]
 mod room;
