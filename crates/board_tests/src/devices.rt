@@ -175,6 +175,52 @@ impl io::Write for Full {
     }
 }
 
+/// A device of the standard library whose first call fails or takes nothing, and whose later ones don't.
+struct Late {
+    called: bool,
+}
+
+impl Drop for Late {
+    fn drop(self) {
+        let Late { called: _ } = self;
+    }
+}
+
+impl io::Read for Late {
+    fn read(&mut self, buffer: &mut [u8]) -> io::Result<usize> {
+        if self.called {
+            return Ok(buffer.len().min(1));
+        }
+        self.called = true;
+        Err(io::Error::from(io::ErrorKind::Interrupted))
+    }
+}
+
+impl io::Write for Late {
+    fn write(&mut self, bytes: &[u8]) -> io::Result<usize> {
+        if self.called {
+            return Ok(bytes.len());
+        }
+        self.called = true;
+        Ok(0)
+    }
+
+    fn flush(&mut self) -> io::Result<()> {
+        Ok(())
+    }
+}
+
+#[test]
+fn tries_nothing_again(rt: HostRuntime) {
+    let mut source = Reading::new(Late { called: false });
+    let read = (source.read(&mut [0; 32]), source.failed());
+    same(&rt, "read", read, (Err(DeviceFault), true));
+
+    let mut sink = Writing::new(Late { called: false });
+    let written = (sink.write(TEXT), sink.failed());
+    same(&rt, "write", written, (Err(DeviceFault), true));
+}
+
 #[test]
 fn reads_by_the_standard_library(rt: HostRuntime) {
     let mut room = [0; 32];

@@ -12,4 +12,5 @@ mod Setting
 mod SampledRules
 mod CountedWords
 mod Whole
+mod Noting
 mod Packing

@@ -1,5 +1,5 @@
 -- What is requested by what a sample leads to.
-use Rattle.std.specs.Prelude.{ℕ, List, [], ◌∷◌, ◌++◌, flat_map, slice_get, Option, Some, None}
+use Rattle.std.specs.Prelude.{ℕ, ◌+◌, ◌<◌, ◌≤◌, ⊤, IsTrue, Bool, ◌||◌, List, [], ◌∷◌, ◌++◌, flat_map, slice_get, Option, Some, None, is_some}
 use Rattle.lc_model.specs.Count.{capped}
 use Rattle.lc_model.specs.Rule.{Actionpoint}
 use Rattle.lc_model.specs.Events.Request.{Request, Sequence, rule_failed, failed_lc_passive, failed_passive, turned_to_fail, turned_to_pass}
@@ -35,3 +35,12 @@ requests_at (Some rule) asked = requests_of rule asked.rule asked.reactions
 -- what several of these rules request, in order
 abbrev pub requests_in : List Actionpoint → List Asked → List Request
 requests_in rules asked = flat_map (λ (a : Asked). requests_at (slice_get rules a.rule) a) asked
+
+-- a rule asks for something
+abbrev pub asks : Reactions → Bool
+asks reactions = is_some reactions.turn || is_some reactions.failure
+
+-- items of rules from this number on and below that one, in order, one of each rule that asks for something
+abbrev pub AreInOrder : (from below : ℕ) → List Asked → Type 0
+AreInOrder from below [] = ⊤
+AreInOrder from below (a ∷ asked) = (from ≤ a.rule) × (a.rule < below) × IsTrue (asks a.reactions) × AreInOrder (a.rule + 1) below asked

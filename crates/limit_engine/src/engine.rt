@@ -11,7 +11,7 @@ ghost use Rattle.lc_model.specs.Tables.InForce.{layouts};
 ghost use Rattle.lc_model.specs.Tables.Spelled.{spelled_terms, spelled_rules};
 ghost use Rattle.limit_engine.specs.Engine as engine;
 ghost use Rattle.limit_engine.specs.Engine.{after_telemetry, points_sampled, tells_short, with_tables, without_tables};
-ghost use Rattle.limit_engine.specs.Reactions.{requests_in};
+ghost use Rattle.limit_engine.specs.Reactions.{requests_in, AreInOrder};
 ghost use Rattle.limit_engine.specs.States.{answered, outcome, unless_refused};
 
 use crate::actionpoint::{Entry, Point};
@@ -212,13 +212,15 @@ impl Engine {
     }
 
     /// Samples the rules that the request takes, in order, those that are disabled or off aside; then, where it is asked for,
-    /// all watchpoints age. What the rules ask for is put into `asked`, which is empty and has room for one item of each rule.
+    /// all watchpoints age. What the rules ask for is put into `asked`, which is empty and has room for one item of each rule: in
+    /// order, an item for each rule that asks for something, and none else.
     /// A disabled Limit Checker samples and ages nothing.
     pub fn sample(&mut self, request: &SampleRequest, asked: &mut Vec<Asked>)
         requires none { asked.old.items ≡ [] }
         requires room { TABLE_ENTRIES ≤ vec_capacity asked.old }
         ensures after { self.new ≡ engine.after_sample request.now self.old }
         ensures asked { requests_in self.old.rules asked.new.items ≡ (points_sampled request.now self.old).1 }
+        ensures order { AreInOrder 0 (length self.old.rules) asked.new.items }
         ensures capacity { vec_capacity asked.new ≡ vec_capacity asked.old }
     {
         if is_disabled(self.mode) {

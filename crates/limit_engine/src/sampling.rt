@@ -8,7 +8,7 @@ ghost use Rattle.lc_model.specs.Kept.Effort.{sampled_words};
 ghost use Rattle.lc_model.specs.Kept.Next.{by_counts};
 ghost use Rattle.lc_model.specs.LimitChecker.Steps.{sampled_point, sampled_points};
 ghost use Rattle.limit_engine.specs.Entry.{IsRunnable, rule_in};
-ghost use Rattle.limit_engine.specs.Reactions.{requests_in, requests_of};
+ghost use Rattle.limit_engine.specs.Reactions.{requests_in, requests_of, AreInOrder};
 ghost use Rattle.limit_engine.specs.Shared.{AreShared};
 ghost use Rattle.limit_engine.specs.Tables.{AreTables};
 
@@ -42,6 +42,7 @@ fn note(asked: &mut Vec<Asked>, rule: u16, reactions: Reactions)
     requires { vec_len asked.old < vec_capacity asked.old }
     ensures requests { (rules : List Actionpoint) (this : Actionpoint) → slice_get rules rule ≡ Some this
         → requests_in rules asked.new.items ≡ requests_in rules asked.old.items ++ requests_of this rule reactions }
+    ensures order { AreInOrder 0 rule asked.old.items → AreInOrder 0 (rule + 1) asked.new.items }
     ensures len { vec_len asked.new ≤ vec_len asked.old + 1 }
     ensures capacity { vec_capacity asked.new ≡ vec_capacity asked.old }
 {
@@ -73,6 +74,7 @@ pub(crate) fn sample_rules(
     ensures steps { (terms : List Term) → AreTables terms watch.now entries.now points.old words.now
         → result ≡ sampled_words request.now 0 (map (rule_in terms words.now) entries.now) points.old }
     ensures few { result ≤ 32 * length entries.now }
+    ensures order { AreInOrder 0 (length entries.now) asked.new.items }
     ensures capacity { vec_capacity asked.new ≡ vec_capacity asked.old }
 {
     let mut steps = 0;

@@ -1,5 +1,6 @@
 mod Again
 mod Letters
+mod Listed
 mod Meaning
 mod Reading
 mod Trees

@@ -4,6 +4,7 @@ pub mod Headers
 pub mod Judged
 pub mod Laws
 pub mod Lines
+pub mod Listed
 pub mod Reading
 pub mod Shown
 pub mod Words

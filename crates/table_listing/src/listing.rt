@@ -1,15 +1,17 @@
 //! The listing of a table file.
 
-ghost use Rattle.std.specs.Prelude.{ℕ, ◌≡◌, ◌<◌, ◌≤◌, ◌++◌, IfOk, OnOk, codes};
+ghost use Rattle.std.specs.Prelude.{ℕ, ◌≡◌, ◌<◌, ◌≤◌, ◌++◌, true, IfOk, OnOk, codes};
 ghost use Rattle.std.specs.Io.KnownBytes.{Appends};
 ghost use Rattle.lc_model.specs.Codes.{table_entries};
 ghost use Rattle.lc_model.specs.declared.kind.Kind.TheVariants.{Wdt, Adt};
+ghost use Rattle.lc_model.specs.Tables.File.{opened};
 ghost use Rattle.lc_model.specs.Tables.Image.{Watchpoints, all_words, entry_at, own_count, words_before_equal};
 ghost use Rattle.lc_model.specs.Tables.Spelled.{spelled_term};
-ghost use Rattle.table_validator.specs.Sound.{HasSoundActionpoints, IsSoundEquation};
+ghost use Rattle.table_validator.specs.Sound.{HasSoundActionpoints, IsSoundEquation, adt_layout};
 ghost use Rattle.table_listing.specs.Formula.{IsTreeOf, formula_of};
 ghost use Rattle.table_listing.specs.Judged.{is_sound_file, is_sound_image};
 ghost use Rattle.table_listing.specs.Lines as line;
+ghost use Rattle.table_listing.specs.Listed.{Adds, AreEntriesListed, IsActionpointListed, IsFileListed, IsImageListed, headers_shown, preamble_shown};
 
 use crate::decompiler::decompile;
 use crate::equation::Equation;
@@ -20,7 +22,7 @@ use crate::lines::{ActionpointLine, WatchpointLine};
 use lc_model::Kind;
 use std::alloc::{AllocError, Global};
 use std::io::Write;
-use table_file::{ActionpointEntry, preamble};
+use table_file::{ActionpointEntry, TableFile, preamble};
 use table_validator::{ValidImage, validate};
 
 /// The words of an entry's equation before EQUAL.
@@ -69,6 +71,7 @@ fn list_actionpoint<W: Write>(
     requires kind { valid.now.kind ≡ Adt }
     requires used { number < own_count valid.now.bytes }
     requires sound { HasSoundActionpoints valid.now.bytes }
+    ensures { OnOk result (Adds (IsActionpointListed (entry_at (adt_layout valid.now.bytes) valid.now.bytes number) number) (W.contents out.old) (W.contents out.new)) }
 {
     let entry = valid.actionpoint(usize::from(number));
     let condition = condition_of(alloc, &entry)?;
@@ -87,35 +90,72 @@ fn list_actionpoint<W: Write>(
     Ok(())
 }
 
+/// The lines of the used entries of an image of watchpoints.
+fn list_watchpoints<W: Write>(valid: &ValidImage, out: &mut W) -> Result<(), ListingError>
+    requires kind { valid.now.kind ≡ Wdt }
+    ensures { OnOk result (Adds (AreEntriesListed Wdt valid.now.bytes) (W.contents out.old) (W.contents out.new)) }
+{
+    for number in 0..preamble::own_count(valid.image()) {
+        list_watchpoint(valid, number, out)?;
+    }
+    Ok(())
+}
+
+/// The lines of the used entries of an image of actionpoints.
+fn list_actionpoints<W: Write>(
+    alloc: Global,
+    valid: &ValidImage,
+    out: &mut W,
+) -> Result<(), ListingError>
+    requires kind { valid.now.kind ≡ Adt }
+    ensures { OnOk result (Adds (AreEntriesListed Adt valid.now.bytes) (W.contents out.old) (W.contents out.new)) }
+{
+    for number in 0..preamble::own_count(valid.image()) {
+        list_actionpoint(alloc, valid, number, out)?;
+    }
+    Ok(())
+}
+
 /// The lines of the used entries of an image.
 fn list_entries<W: Write>(
     alloc: Global,
     valid: &ValidImage,
     out: &mut W,
-) -> Result<(), ListingError> {
-    let used = preamble::own_count(valid.image());
+) -> Result<(), ListingError>
+    ensures { OnOk result (Adds (AreEntriesListed valid.now.kind valid.now.bytes) (W.contents out.old) (W.contents out.new)) }
+{
     match valid.kind() {
-        Kind::Wdt => {
-            for number in 0..used {
-                list_watchpoint(valid, number, out)?;
-            }
-        }
-        Kind::Adt => {
-            for number in 0..used {
-                list_actionpoint(alloc, valid, number, out)?;
-            }
-        }
+        Kind::Wdt => list_watchpoints(valid, out),
+        Kind::Adt => list_actionpoints(alloc, valid, out),
     }
+}
+
+/// The lines of a file's headers.
+fn list_headers<W: Write>(file: &TableFile, out: &mut W) -> Result<(), ListingError>
+    ensures { OnOk result (Appends (W.contents out.old) (W.contents out.new) (headers_shown file.now)) }
+{
+    writeln!(out, "{}", FileLine::of(file))?;
+    writeln!(out, "{}", TableLine::of(file))?;
+    Ok(())
+}
+
+/// The lines of an image's preamble, where there is one.
+fn list_preamble<W: Write>(image: &[u8], out: &mut W) -> Result<(), ListingError>
+    ensures { OnOk result (Appends (W.contents out.old) (W.contents out.new) (preamble_shown image.now)) }
+{
+    if image.len() < PREAMBLE {
+        return Ok(());
+    }
+    writeln!(out, "{}", PreambleLines::of(image))?;
     Ok(())
 }
 
 /// The lines of an image: its preamble, and its entries or its fault.
 fn list_image<W: Write>(alloc: Global, image: &[u8], out: &mut W) -> Result<bool, ListingError>
-    ensures { IfOk result (λ sound. sound ≡ is_sound_image image.now) }
+    ensures judged { IfOk result (λ sound. sound ≡ is_sound_image image.now) }
+    ensures listed { IfOk result (λ sound. sound ≡ true → Adds (IsImageListed image.now) (W.contents out.old) (W.contents out.new)) }
 {
-    if image.len() >= PREAMBLE {
-        writeln!(out, "{}", PreambleLines::of(image))?;
-    }
+    list_preamble(image, out)?;
     match validate(kind_of_image(image), image) {
         Ok(valid) => {
             list_entries(alloc, &valid, out)?;
@@ -139,12 +179,12 @@ fn list_image<W: Write>(alloc: Global, image: &[u8], out: &mut W) -> Result<bool
 /// Memory is taken for one equation at a time. Errors: want of memory; bytes that the writer refuses. What was written by then
 /// stands.
 pub fn list_table<W: Write>(alloc: Global, file: &[u8], out: &mut W) -> Result<bool, ListingError>
-    ensures { IfOk result (λ sound. sound ≡ is_sound_file file.now) }
+    ensures judged { IfOk result (λ sound. sound ≡ is_sound_file file.now) }
+    ensures listed { IfOk result (λ sound. sound ≡ true → Adds (IsFileListed (opened file.now)) (W.contents out.old) (W.contents out.new)) }
 {
     match table_file::open(file) {
         Ok(file) => {
-            writeln!(out, "{}", FileLine::of(&file))?;
-            writeln!(out, "{}", TableLine::of(&file))?;
+            list_headers(&file, out)?;
             list_image(alloc, file.image(), out)
         }
         Err(error) => {

@@ -80,3 +80,25 @@ fn several_texts_are_numbered_in_order(rt: HostRuntime) {
     says(&rt, &low_second, 0, "records 7, bytes 672\n");
     flight.folder.remove(&rt);
 }
+
+#[test]
+fn a_half_is_of_the_text_with_its_number(rt: HostRuntime) {
+    let samples = two_failing_samples(rt.alloc()).expect(&rt, "memory for a stream");
+    let expected = of_two_failing_samples(rt.alloc()).expect(&rt, "memory for packets");
+    let mut stream = Vec::new(rt.alloc());
+    for (place, byte) in samples.as_slice().iter().enumerate() {
+        let of_second = place == 53 || place == 107;
+        let byte = if of_second { 1 } else { *byte };
+        stream.push(byte).expect(&rt, "memory for a stream");
+    }
+    let flight = Flight::new(&rt, "second_text", NO_ENTRIES, stream.as_slice(), b"");
+    let low_volts = flight.folder.file(&rt, "low_volts", TEXT);
+    let words = flight.words_over(flight.rules.as_str(), low_volts.as_str());
+    says(&rt, &words, 0, "records 7, bytes 852\n");
+    let written = read(&rt, flight.out.as_str());
+    assert!(rt;
+        written.as_slice() == expected.as_slice(),
+        "the second text's packets"
+    );
+    flight.folder.remove(&rt);
+}

@@ -1,10 +1,11 @@
-use Rattle.std.proofs.Common.{refl, ◌∙◌, sym, ap, map, length, arith}
+use Rattle.std.proofs.Common.{refl, ◌∙◌, sym, ap, map, length, ◌+◌, arith}
 use Rattle.std.proofs.lemmas.List.{length-set, length-map}
 use Rattle.lc_model.specs.LimitChecker.Steps.{Point, is_sampled, sampled_point}
 use Rattle.lc_model.specs.Kept.Next.{by_counts}
 use Rattle.lc_model.specs.Kept.Summary.{Tally}
 use Rattle.lc_model.proofs.Facts.{and_second_false}
 use Rattle.limit_engine.specs.Entry.{rule_in}
+use Rattle.limit_engine.proofs.Noting.{below_more}
 use Rattle.limit_engine.proofs.SampledRules.{rule_skipped, rule_sampled, points_sampled_are, requests_sampled_are, steps_sampled_are, short_entry, as_many_points, first_point, first_point_at}
 use Rattle.limit_engine.proofs.sampling.sample_rules.Goals as goal
 use Rattle.limit_engine.proofs.sampling.sample_rules.Goals.{then-takes+then-is_sampled, else-takes, else-takes-via-then-takes+else-is_sampled, else-takes-via-else-takes}
@@ -31,6 +32,8 @@ loop-rule-preserved c =
                 let short = short_entry c.args.watch.now c.args.entries.now c.args.points.now c.args.words.now c.requires.tables.0 c.requires.tables.1 c.loop-rule.rule entry c.loop-rule-test.true c.index-entries-rule.is in
                 omega (arith, w.steps-is, short, kept.few);
             noted = rw w.asked-is (omega (arith, kept.noted, w.note.ensures.len));
+            within = omega (arith, c.loop-rule-test.true);
+            order = rw w.asked-is (w.note.ensures.order kept.order);
             capacity = rw w.asked-is (w.note.ensures.capacity ∙ kept.capacity);
           }
       | else-takes w ↦ elim w.else-takes.branch [
@@ -44,6 +47,8 @@ loop-rule-preserved c =
               long = kept.long;
               few = omega (arith, kept.few);
               noted = omega (arith, kept.noted);
+              within = omega (arith, c.loop-rule-test.true);
+              order = below_more 0 c.loop-rule.rule (c.loop-rule.rule + 1) c.loop-rule.asked.items (omega arith) kept.order;
               capacity = kept.capacity;
             })
         | else-takes-via-else-takes w2 ↦
@@ -57,6 +62,8 @@ loop-rule-preserved c =
               long = kept.long;
               few = omega (arith, kept.few);
               noted = omega (arith, kept.noted);
+              within = omega (arith, c.loop-rule-test.true);
+              order = below_more 0 c.loop-rule.rule (c.loop-rule.rule + 1) c.loop-rule.asked.items (omega arith) kept.order;
               capacity = kept.capacity;
             })
       ]
@@ -79,3 +86,7 @@ returns-clause-steps c = λ terms tables.
     steps_sampled_are c.args.request.now terms c.args.mode c.args.watch.now (map (rule_in terms c.args.words.now) c.args.entries.now) c.args.points.now c.loop-rule.rule c.loop-rule.points _ _
     (c.loop-rule.invariant.sampled terms tables) (as_many_points terms c.args.watch.now c.args.entries.now c.args.points.now c.args.words.now tables c.loop-rule.points c.loop-rule.invariant.long)
     (omega (arith, c.loop-rule-test.false, length-map c.args.entries.now (rule_in terms c.args.words.now)))
+
+pub returns-clause-order : goal.returns-clause-order
+returns-clause-order c =
+    below_more 0 c.loop-rule.rule (length c.args.entries.now) c.loop-rule.asked.items c.loop-rule.invariant.within c.loop-rule.invariant.order

@@ -1,7 +1,7 @@
 use Rattle.std.proofs.Common.{◌≡◌, ◌≤◌, ◌*◌, List, length, map, vec_len, vec_capacity}
 use Rattle.lc_model.specs.declared.field.Term.{Term}
 use Rattle.limit_engine.specs.Entry.{rule_in}
-use Rattle.limit_engine.specs.Reactions.{requests_in}
+use Rattle.limit_engine.specs.Reactions.{requests_in, AreInOrder}
 use Rattle.limit_engine.specs.Tables.{AreTables}
 use Rattle.limit_engine.proofs.SampledRules.{SampledBelow}
 use Rattle.limit_engine.proofs.sampling.sample_rules.Given as goal
@@ -13,5 +13,7 @@ invariant-loop-rule l = record {
   long : length l.points ≡ length l.initial.points;
   few : l.steps ≤ 32 * l.rule;
   noted : vec_len l.asked ≤ l.rule;
+  within : l.rule ≤ length l.entries;
+  order : AreInOrder 0 l.rule l.asked.items;
   capacity : vec_capacity l.asked ≡ vec_capacity l.initial.asked;
 }
