@@ -140,12 +140,9 @@ module _ (law : TablesAreFound) (old new : Hosted) (seat : ℕ) (o o' : Object) 
 
     becomes_so : Becomes new (after_call seat o.called [] e answer.called)
     becomes_so = record {
-      known = record {
-        spares = rw stock known.spares;
-        seated = λ other. rw seats
-            (fact_at_set (λ i (x : Option Object). IfSome x (λ (y : Object). y.state ≢ Other)) old.seats seat other (Some o') None (omega (arith, below, seated.eight))
-            (λ other_kind. answer.known (sym leaves.becomes ∙ other_kind)) (λ i another. known.seated i));
-      };
+      known = λ other. rw seats
+          (fact_at_set (λ i (x : Option Object). IfSome x (λ (y : Object). y.state ≢ Other)) old.seats seat other (Some o') None (omega (arith, below, seated.eight))
+          (λ other_kind. answer.known (sym leaves.becomes ∙ other_kind)) (λ i another. known i));
       executive = λ i. record { stock = map member_of (stock i); seats = seats_are i; pipes = pipes_are i; services = leaves.services i };
       outgoing = leaves.outgoing;
     }

@@ -1,22 +1,24 @@
 -- The next one took its seat, and what it asked for is written.
 use Rattle.std.proofs.Common.{◌≡◌, ap, ap₂, sym, ◌∙◌, subst, inl, inr, ℕ, ◌+◌, ◌≤◌, List, [], ◌++◌, length, take, arith, length-append, Option, Result, Ok, Err}
-use Rattle.std.specs.Prelude.{IsErrAnd}
-use Rattle.std.specs.List.{concat}
+use Rattle.std.specs.Prelude.{IsErrAnd, All, Contains, ◌⊎◌}
+use Rattle.std.specs.List.{concat, remove}
 use Rattle.std.specs.Io.KnownBytes.{Appends}
+use Rattle.std.proofs.lemmas.List.Elements.{All-contains_itself}
 use Rattle.lc_model.specs.declared.record.Moment.{Moment}
 use Rattle.lc_model.specs.Device.{Sink}
 use Rattle.lc_model.specs.Kept.Executive.{Executive, Written}
 use Rattle.app_host.specs.declared.services.Services.{Services}
 use Rattle.app_host.specs.declared.error.WriteFault.{WriteFault}
-use Rattle.app_host.specs.Hosted.{Hosted}
+use Rattle.app_host.specs.Hosted.{Object, Hosted}
 use Rattle.app_host.specs.Whole.{AreSpares, AreKnown}
 use Rattle.app_host.specs.Delivered.{executive_in, Becomes}
 use Rattle.app_host.specs.Writing.{IsFlushed, IsAllSent, IsPartSent}
-use Rattle.app_host.specs.Ordered.{Next, IsKnownNext, followed_by, seated_next, HasFollowed, HasComeIn, HasFailed, ComesIn, HasEntered, HasNotEntered, Enters}
-use Rattle.app_host.specs.Roster.{roster_of, ComesTo}
-use Rattle.app_host.proofs.Rosters.{roster_still}
+use Rattle.app_host.specs.Ordered.{Next, Nobody, Spare, Same, IsKnownNext, followed_by, seated_next, HasFollowed, HasComeIn, HasFailed, ComesIn, HasEntered, HasNotEntered, Enters}
+use Rattle.app_host.specs.Roster.{Roster, roster_of, ComesTo}
+use Rattle.app_host.proofs.Rosters.{roster_still, still_among}
 use Rattle.app_host.proofs.Course.{taken_both, cut_behind}
 use Rattle.app_host.proofs.Draining.{same_executive, still_known}
+use Rattle.app_host.proofs.Followed.{all_removed}
 
 -- what a write leaves alone
 pub spares_still : (old new : Hosted) → IsFlushed old new → AreSpares old.stock → AreSpares new.stock
@@ -30,13 +32,13 @@ module _ (next : Next) (old one two new : Hosted) (sent : ℕ) (before mid now :
   moment_one : one.services.moment ≡ old.services.moment
   moment_one = ap (λ (s : Services). s.moment) first.services
 
-  module _ (known : AreKnown old) (its_own : IsKnownNext next) (none : old.services.outgoing ≡ []) where
+  module _ (known : AreKnown old) (its_own : IsKnownNext old.stock next) (none : old.services.outgoing ≡ []) where
     abbrev step : Written (List ℕ)
     step = followed_by old.services.moment next (executive_in old)
 
     becomes : Becomes two step
     becomes =
-        subst (Becomes two) (ap₂ (λ (m : Moment) (x : Executive (List ℕ)). followed_by m next x) moment_one (same_executive old one first)) (followed.exact (still_known old one first known) its_own)
+        subst (Becomes two) (ap₂ (λ (m : Moment) (x : Executive (List ℕ)). followed_by m next x) moment_one (same_executive old one first)) (followed.exact (still_known old one first known) (subst (λ (stock : List Object). IsKnownNext stock next) (sym first.stock) its_own))
 
     nothing_sent : sent ≡ 0
     nothing_sent = let count = all.count in let nothing : length old.services.outgoing ≡ 0 = ap length none in omega (arith, count, nothing)
@@ -136,6 +138,19 @@ pub not_entered_so : (next : Next) (old new : Hosted) (before now : Option (List
     HasNotEntered next fault.sent old new before now → Enters next old new before now result
 not_entered_so next old new before now (Ok total) fault is part = absurd is
 not_entered_so next old new before now (Err e) fault is part = subst (λ (f : WriteFault). HasNotEntered next f.sent old new before now) (sym is) part
+
+-- no spare is new where the next one has its seat
+pub among_come : (next : Next) (old new : Hosted) → ComesTo (seated_next next (roster_of old)) old new → All (Contains old.stock) new.stock
+among_come Nobody old new comes = still_among old new (ap (λ (r : Roster). r.stock) comes.roster)
+among_come (Spare place seat) old new comes =
+    let left : new.stock ≡ remove old.stock place = ap (λ (r : Roster). r.stock) comes.roster in
+    rw left (all_removed (Contains old.stock) old.stock place (All-contains_itself old.stock))
+among_come (Same o seat) old new comes = still_among old new (ap (λ (r : Roster). r.stock) comes.roster)
+
+-- or nobody has it
+pub among_not_come : (next : Next) (old new : Hosted) → ComesTo (seated_next next (roster_of old)) old new ⊎ ComesTo (roster_of old) old new → All (Contains old.stock) new.stock
+among_not_come next old new (inl comes) = among_come next old new comes
+among_not_come next old new (inr stays) = still_among old new (ap (λ (r : Roster). r.stock) stays.roster)
 
 -- an error that is passed on
 pub failed_so : (next : Next) (old new : Hosted) (before now : Sink) (result : Result ℕ WriteFault) (fault : WriteFault) → IsErrAnd result (λ e. e ≡ fault) → HasFailed next fault.sent old new before now →

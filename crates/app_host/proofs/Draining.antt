@@ -5,6 +5,7 @@ use Rattle.std.specs.Io.KnownBytes.{Appends}
 use Rattle.std.proofs.lemmas.List.{append-nil}
 use Rattle.lc_model.specs.declared.record.Moment.{Moment}
 use Rattle.lc_model.specs.Device.{Sink}
+use Rattle.lc_model.specs.Name.{Name}
 use Rattle.lc_model.specs.Kept.Executive.{Written, ready_seat, delivered_at, drained}
 use Rattle.lc_model.specs.Kept.Stations.{Station, delivery_stations, last_calls}
 use Rattle.lc_model.specs.Services.Bus.{seen}
@@ -17,10 +18,10 @@ use Rattle.app_host.specs.Load.{IsLight, load}
 use Rattle.app_host.specs.Delivered.{executive_in, Becomes, HasDelivered}
 use Rattle.app_host.specs.Writing.{written_off, IsFlushed, IsAllSent, IsPartSent, IsCut, HandlesAll, HandlesPart, Handles}
 use Rattle.lc_model.proofs.Facts.{test_less}
-use Rattle.app_host.specs.Roster.{roster_of, ComesTo}
+use Rattle.app_host.specs.Roster.{Roster, roster_of, ComesTo}
 use Rattle.app_host.specs.Response.{Response, handing_on, IsAlone, HasCalled, RespondsWhole, RespondsPart, Responds}
 use Rattle.app_host.proofs.Flushed.{same_shared}
-use Rattle.app_host.proofs.Rosters.{roster_still}
+use Rattle.app_host.proofs.Rosters.{roster_still, still_among}
 use Rattle.app_host.proofs.Course.{nothing_taken, taken_both, cut_behind, SoFar, so_far_first, so_far_more, cut_here, all_done, all_counted}
 
 -- what the applications have sent so far, and that what is HOST's own stays
@@ -76,7 +77,7 @@ module _ (given later : Hosted) (flushed : IsFlushed given later) where
   }
 
   pub still_known : AreKnown given → AreKnown later
-  still_known known = record { spares = rw flushed.stock known.spares; seated = λ seat. rw flushed.seats (known.seated seat) }
+  still_known known = λ seat. rw flushed.seats (known seat)
 
 module _ (first now given later : Hosted) (sent seat : ℕ) (before mid after : Sink) (far : Draining first now sent before mid) (ready : ready_seat (seen now.services.bus) ≡ Some seat)
     (delivered : HasDelivered seat now given) (flushed : IsFlushed given later) where
@@ -141,13 +142,14 @@ module _ (first now given later : Hosted) (sent seat : ℕ) (before mid after : 
   }
 
   pub draining_cut : (total : ℕ) → IsPartSent sent given later mid after total →
-      HandlesPart (delivery_stations on_board first.services.moment 0 520 (executive_in first)) (drained on_board first.services.moment 520 (executive_in first)) total first later before after
+      HandlesPart None (delivery_stations on_board first.services.moment 0 520 (executive_in first)) (drained on_board first.services.moment 520 (executive_in first)) total first later before after
   draining_cut total part = record {
     whole = whole_then;
+    stock = still_among first later (ap (λ (r : Roster). r.stock) own_then.roster);
     is_closed = part.is_closed;
     calls = omega (arith, few_then);
     failed = part.failed;
-    exact = λ known.
+    exact = λ known spare.
         subst (λ n. IsCut (delivery_stations on_board first.services.moment 0 520 (executive_in first)) (drained on_board first.services.moment 520 (executive_in first)) n later before.gained after.gained)
         (sym part.count) (cut known part.taken part.fewer part.gains);
   }
@@ -183,16 +185,17 @@ module _ (first now given later : Hosted) (sent seat : ℕ) (before mid after : 
       inside = omega (arith, part.count, part.fewer, far.own.count, length-append far.own.theirs given.services.outgoing)
 
 pub draining_end : (first now : Hosted) (sent : ℕ) (before after : Sink) → Draining first now sent before after → ready_seat (seen now.services.bus) ≡ None →
-    HandlesAll (delivery_stations on_board first.services.moment 0 520 (executive_in first)) (drained on_board first.services.moment 520 (executive_in first))
+    HandlesAll None (delivery_stations on_board first.services.moment 0 520 (executive_in first)) (drained on_board first.services.moment 520 (executive_in first))
     (last_calls on_board first.services.moment (delivery_stations on_board first.services.moment 0 520 (executive_in first))) sent first now before after
 draining_end first now sent before after far none = record {
   whole = far.whole;
   quiet = none;
+  stock = still_among first now (ap (λ (r : Roster). r.stock) far.own.own.roster);
   is_closed = far.is_closed;
   calls = omega (arith, far.few);
   fine = far.fine;
-  exact = λ known. all_done first.services.moment (executive_in first) now sent before.gained after.gained (far.exact known) none;
-  count = λ known. all_counted first.services.moment (executive_in first) now sent before.gained after.gained (far.exact known) none;
+  exact = λ known spare. all_done first.services.moment (executive_in first) now sent before.gained after.gained (far.exact known) none;
+  count = λ known spare. all_counted first.services.moment (executive_in first) now sent before.gained after.gained (far.exact known) none;
 }
 
 -- nor to what was written whole
@@ -219,7 +222,7 @@ pub responds_short : (moment : Moment) (response : Response) (old new : Hosted) 
 responds_short moment response old new before now (Ok done) fault is part = absurd is
 responds_short moment response old new before now (Err e) fault is part = subst (λ (f : WriteFault). RespondsPart moment response f.sent old new before now) (sym is) part
 
-pub cut_short : (stations : List (Station (List ℕ))) (step : Written (List ℕ)) (last : ℕ) (old new : Hosted) (before now : Sink) (result : Result ℕ WriteFault) (fault : WriteFault) →
-    IsErrAnd result (λ e. e ≡ fault) → HandlesPart stations step fault.sent old new before now → Handles stations step last old new before now result
-cut_short stations step last old new before now (Ok done) fault is part = absurd is
-cut_short stations step last old new before now (Err e) fault is part = subst (λ f. HandlesPart stations step f.sent old new before now) (sym is) part
+pub cut_short : (spare : Option Name) (stations : List (Station (List ℕ))) (step : Written (List ℕ)) (last : ℕ) (old new : Hosted) (before now : Sink) (result : Result ℕ WriteFault) (fault : WriteFault) →
+    IsErrAnd result (λ e. e ≡ fault) → HandlesPart spare stations step fault.sent old new before now → Handles spare stations step last old new before now result
+cut_short spare stations step last old new before now (Ok done) fault is part = absurd is
+cut_short spare stations step last old new before now (Err e) fault is part = subst (λ f. HandlesPart spare stations step f.sent old new before now) (sym is) part

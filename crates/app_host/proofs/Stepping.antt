@@ -1,13 +1,14 @@
 -- A step, by what is handled in it.
 use Rattle.std.proofs.Common.{◌≡◌, refl, ap, sym, ◌∙◌, subst, ℕ, ◌==◌, true, false, List, ◌∷◌, [], length, map, if◌then◌else◌, Option, Some, None, Result, Ok, Err}
-use Rattle.std.specs.Prelude.{option_map}
+use Rattle.std.specs.Prelude.{option_map, All, Contains}
 use Rattle.std.specs.Option.{option_map_or}
 use Rattle.std.specs.List.{concat}
 use Rattle.lc_model.specs.declared.record.Moment.{Moment}
 use Rattle.lc_model.specs.Device.{Sink}
 use Rattle.lc_model.specs.Name.{Name}
 use Rattle.lc_model.specs.Services.Seen.{meaning_of}
-use Rattle.lc_model.specs.Packet.{stream_fault, message_id, event_services_mid, table_services_mid, executive_services_mid}
+use Rattle.lc_model.specs.Packet.{stream_fault, function_code, payload, message_id, event_services_mid, table_services_mid, executive_services_mid}
+use Rattle.lc_model.specs.Command.{app_command}
 use Rattle.lc_model.specs.Refusal.{Refusal}
 use Rattle.lc_model.specs.Events.Request.{event_services, table_services, executive_services, bad_packet}
 use Rattle.lc_model.specs.Host.React.{Input, Packet, File, stored}
@@ -19,13 +20,14 @@ use Rattle.lc_model.specs.Kept.Stations.{Station, Host, stop_at, written_once, o
 use Rattle.app_host.specs.declared.services.Services.{Services}
 use Rattle.app_host.specs.declared.error.WriteFault.{WriteFault}
 use Rattle.app_host.specs.Shared.{on_board, shared, at_moment}
-use Rattle.app_host.specs.Hosted.{Hosted, member_of, in_numbers}
-use Rattle.app_host.specs.Whole.{AreKnown, IsWhole, IsQuiet}
+use Rattle.app_host.specs.Hosted.{Object, Hosted, member_of, in_numbers}
+use Rattle.app_host.specs.Whole.{AreKnown, IsKnownSpare, IsWhole, IsQuiet}
+use Rattle.app_host.specs.Roster.{spare_by}
 use Rattle.app_host.specs.Delivered.{executive_in}
 use Rattle.app_host.specs.Writing.{IsDone, IsCut, Handles, PassesOn}
 use Rattle.app_host.specs.Told.{TellsAlone, Files, ObeysEvents, ObeysTables}
 use Rattle.app_host.specs.Ordered.{ObeysOrders}
-use Rattle.app_host.specs.Step.{HasBegun, Takes, IsBetween, StepsSo, StopsSo, Steps, without_count, Counts}
+use Rattle.app_host.specs.Step.{spare_taken, HasBegun, Takes, IsBetween, StepsSo, StopsSo, Steps, without_count, Counts}
 use Rattle.app_host.proofs.Flushed.{same_shared, same_seated}
 
 -- ---- it begins
@@ -62,7 +64,13 @@ module _ (moment : Moment) (input : Input (List ℕ)) (old begun : Hosted) (bega
   moment_begun = ap (λ (s : Services). s.moment) began.services
 
   known_begun : AreKnown old → AreKnown begun
-  known_begun known = record { spares = rw began.stock known.spares; seated = λ seat. rw began.seats (known.seated seat) }
+  known_begun known = λ seat. rw began.seats (known seat)
+
+  spare_begun : IsKnownSpare (spare_taken input) old.stock → IsKnownSpare (spare_taken input) begun.stock
+  spare_begun known = subst (λ (stock : List Object). IsKnownSpare (spare_taken input) stock) (sym began.stock) known
+
+  among_begun : (new : Hosted) → All (Contains begun.stock) new.stock → All (Contains old.stock) new.stock
+  among_begun new among = subst (λ (stock : List Object). All (Contains stock) new.stock) began.stock among
 
   pub quiet_begun : IsQuiet old → IsQuiet begun
   quiet_begun quiet = ap (λ (s : Services). ready_seat (seen s.bus)) began.services ∙ quiet
@@ -106,19 +114,21 @@ module _ (moment : Moment) (input : Input (List ℕ)) (old begun : Hosted) (bega
   pub steps : (new : Hosted) (before now : Sink) (result : Result ℕ WriteFault) → old.is_closed ≡ false → Takes input begun new before now result → Steps moment input old new before now (without_count result)
   steps new before now (Ok total) is_open all = record {
     is_open = all.is_closed ∙ began.is_closed ∙ is_open;
+    stock = among_begun new all.stock;
     few = all.calls;
     fine = all.fine;
-    exact = λ known. steps_so new before.gained now.gained (all.is_closed ∙ began.is_closed ∙ is_open) is_open (all.exact (known_begun known));
+    exact = λ known spare. steps_so new before.gained now.gained (all.is_closed ∙ began.is_closed ∙ is_open) is_open (all.exact (known_begun known) (spare_begun spare));
   }
   steps new before now (Err fault) is_open part = record {
     is_closed = part.is_closed;
+    stock = among_begun new part.stock;
     few = part.calls;
     failed = part.failed;
-    exact = λ known. stops_so new fault.sent before.gained now.gained part.is_closed is_open (part.exact (known_begun known));
+    exact = λ known spare. stops_so new fault.sent before.gained now.gained part.is_closed is_open (part.exact (known_begun known) (spare_begun spare));
   }
 
   pub counts_then : (new : Hosted) (before now : Sink) (result : Result ℕ WriteFault) → Takes input begun new before now result → Counts moment input old result
-  counts_then new before now (Ok total) all = λ known. all.count (known_begun known)
+  counts_then new before now (Ok total) all = λ known spare. all.count (known_begun known) (spare_begun spare)
       ∙ ap (λ (from : Moment × Executive (List ℕ)). length (concat (step_by on_board from.0 from.1 input).1)) (λ i. (moment_begun i, executive_begun i))
   counts_then new before now (Err fault) part = tt
 
@@ -146,8 +156,8 @@ module _ (old new : Hosted) (before now : Sink) (result : Result ℕ WriteFault)
   e = executive_in old
 
   -- a write behind all, as what a record leads to
-  once : (step : Written (List ℕ)) → Handles (written_once step) step 0 old new before now result → Handles (written_once step) step (last_calls on_board moment (written_once step)) old new before now result
-  once step handles = subst (λ last. Handles (written_once step) step last old new before now result) (sym (no_call moment step)) handles
+  once : (step : Written (List ℕ)) → Handles None (written_once step) step 0 old new before now result → Handles None (written_once step) step (last_calls on_board moment (written_once step)) old new before now result
+  once step handles = subst (λ last. Handles None (written_once step) step last old new before now result) (sym (no_call moment step)) handles
 
   -- a file
   pub filed_so : (name : Name) (bytes : List ℕ) (input : Input (List ℕ)) → input ≡ File name (length bytes) (meaning_of bytes) → Files name bytes old new before now result → Takes input old new before now result
@@ -156,11 +166,15 @@ module _ (old new : Hosted) (before now : Sink) (result : Result ℕ WriteFault)
       (once (filed_now moment e (stored name (length bytes) (meaning_of bytes) e.services.files)) files)
 
   module _ (packet : List ℕ) where
+    -- the name of the spare that it takes, if any
+    abbrev name : Option Name
+    name = spare_by (app_command (function_code packet) (payload packet))
+
     -- by the fault of the packet
     abbrev ByFault : Option ℕ → Type 0
     ByFault fault =
         let stations : List (Station (List ℕ)) = option_map_or (λ reason. written_once (told_by_host moment (bad_packet reason ∷ []) e)) fault (routed_stations on_board moment packet e) in
-        Handles stations (option_map_or (λ reason. told_by_host moment (bad_packet reason ∷ []) e) fault (routed_now on_board moment packet e)) (last_calls on_board moment stations) old new before now result
+        Handles (option_map_or (λ reason. None) fault (if message_id packet == executive_services_mid then name else None)) stations (option_map_or (λ reason. told_by_host moment (bad_packet reason ∷ []) e) fault (routed_now on_board moment packet e)) (last_calls on_board moment stations) old new before now result
 
     pub refused_so : (reason : ℕ) → stream_fault packet ≡ Some reason → TellsAlone (bad_packet reason) old new before now result → Takes (Packet packet) old new before now result
     refused_so reason is tells = subst ByFault (sym is) (once (told_by_host moment (bad_packet reason ∷ []) e) tells)
@@ -182,7 +196,7 @@ module _ (old new : Hosted) (before now : Sink) (result : Result ℕ WriteFault)
         else if mid == table_services_mid then written_once tables_step
         else if mid == executive_services_mid then order_stations on_board moment packet e (executive_service_now on_board moment packet e)
         else passing_stations on_board moment packet e in
-        Handles stations (if mid == event_services_mid then events_step
+        Handles (if mid == executive_services_mid then name else None) stations (if mid == event_services_mid then events_step
         else if mid == table_services_mid then tables_step
         else if mid == executive_services_mid then orders_step
         else passed_on on_board moment packet e) (last_calls on_board moment stations) old new before now result
@@ -199,7 +213,7 @@ module _ (old new : Hosted) (before now : Sink) (result : Result ℕ WriteFault)
 
       pub for_orders : message_id packet ≡ executive_services_mid → ObeysOrders packet old new before now result → Takes (Packet packet) old new before now result
       for_orders is obeys = routed_so (subst ByMid (sym is)
-          (subst (λ last. Handles (order_stations on_board moment packet e (executive_service_now on_board moment packet e)) orders_step last old new before now result)
+          (subst (λ last. Handles name (order_stations on_board moment packet e (executive_service_now on_board moment packet e)) orders_step last old new before now result)
           (sym (no_call_for_orders moment packet e (executive_service_now on_board moment packet e))) obeys))
 
       pub for_pipes : (message_id packet == event_services_mid) ≡ false → (message_id packet == table_services_mid) ≡ false → (message_id packet == executive_services_mid) ≡ false →

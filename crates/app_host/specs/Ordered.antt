@@ -1,16 +1,17 @@
 -- What an order to an application asks for and leaves.
-use Rattle.std.specs.Prelude.{◌≡◌, ◌≢◌, ◌⊎◌, ℕ, ◌<◌, ◌≤◌, ⊤, true, false, List, [], length, take, Option, Some, None, option_to_list, Result, Ok, Err, IfSome, IsSomeAnd, slice_set}
+use Rattle.std.specs.Prelude.{◌≡◌, ◌⊎◌, ℕ, ◌<◌, ◌≤◌, ⊤, true, false, List, [], length, take, Option, Some, None, option_to_list, Result, Ok, Err, IfSome, IsSomeAnd, slice_set}
 use Rattle.std.specs.Global.{Global}
 use Rattle.std.specs.List.{concat}
 use Rattle.std.specs.declared.dyn_box.DynBox.{DynBox}
 use Rattle.std.specs.Io.KnownBytes.{Appends}
 use Rattle.lc_model.specs.declared.record.Moment.{Moment}
 use Rattle.lc_model.specs.Device.{Sink}
+use Rattle.lc_model.specs.Packet.{function_code, payload}
 use Rattle.lc_model.specs.Name.{Name, is_named, name_in}
 use Rattle.lc_model.specs.Refusal.{Refusal}
 use Rattle.lc_model.specs.Command as model
 use Rattle.lc_model.specs.Events.Request.{executive_services}
-use Rattle.lc_model.specs.Kept.Summary.{AppState, Other}
+use Rattle.lc_model.specs.Kept.Summary.{AppState}
 use Rattle.lc_model.specs.Kept.Executive.{Executive, Written, spare_at, begun_on, without_spare, ordered_now, answered_now, executive_service_now}
 use Rattle.lc_model.specs.Kept.Stations.{order_stations}
 use Rattle.app_host.specs.declared.orders.Order.{Order}
@@ -22,11 +23,11 @@ use Rattle.app_host.specs.declared.error.WriteFault.{WriteFault}
 use Rattle.app_host.specs.Error.{error_code}
 use Rattle.app_host.specs.Shared.{on_board}
 use Rattle.app_host.specs.Hosted.{Object, object, Hosted, object_at, spare_in, member_of}
-use Rattle.app_host.specs.Whole.{AreSeated, AreSpares, AreKnown, IsWhole, IsQuiet}
+use Rattle.app_host.specs.Whole.{AreSeated, AreSpares, IsKnown, AreKnown, IsKnownSpare, IsWhole, IsQuiet}
 use Rattle.app_host.specs.Delivered.{executive_in, Becomes}
 use Rattle.app_host.specs.Objects.{HasRetired}
 use Rattle.app_host.specs.Left.{HasGone, LeavesExactly}
-use Rattle.app_host.specs.Roster.{Roster, roster_of, with_seat, with_spare, Succession, ComesTo}
+use Rattle.app_host.specs.Roster.{Roster, roster_of, with_seat, with_spare, Succession, spare_by, ComesTo}
 use Rattle.app_host.specs.Writing.{Handles}
 
 -- ---- who takes a seat next
@@ -56,10 +57,10 @@ MayFollow h (Spare place seat) = (place < length h.stock) × MayBegin seat h (sp
 MayFollow h (Same o seat) = MayBegin seat h o
 
 -- it is one of this profile
-abbrev pub IsKnownNext : Next → Type 0
-IsKnownNext Nobody = ⊤
-IsKnownNext (Spare place seat) = ⊤
-IsKnownNext (Same o seat) = o.state ≢ Other
+abbrev pub IsKnownNext : List Object → Next → Type 0
+IsKnownNext stock Nobody = ⊤
+IsKnownNext stock (Spare place seat) = IsKnown (spare_in stock place)
+IsKnownNext stock (Same o seat) = IsKnown o
 
 -- what is then, in numbers
 abbrev pub followed_by : Moment → Next → Executive (List ℕ) → Written (List ℕ)
@@ -93,14 +94,14 @@ pub record HasBegun (seat : ℕ) (o : Object) (old new : Hosted) : Type 0 where
   pub whole : StaysWhole old new
   pub stock : new.stock ≡ old.stock
   pub own : ComesTo (with_seat seat (Some o.called) (roster_of old)) old new
-  pub exact : AreKnown old → o.state ≢ Other → Becomes new (begun_on on_board old.services.moment seat (member_of o) (executive_in old))
+  pub exact : AreKnown old → IsKnown o → Becomes new (begun_on on_board old.services.moment seat (member_of o) (executive_in old))
 
 -- the next one took its seat
 pub record HasFollowed (next : Next) (old new : Hosted) : Type 0 where
   pub whole : StaysWhole old new
   pub spares : AreSpares new.stock
   pub own : ComesTo (seated_next next (roster_of old)) old new
-  pub exact : AreKnown old → IsKnownNext next → Becomes new (followed_by old.services.moment next (executive_in old))
+  pub exact : AreKnown old → IsKnownNext old.stock next → Becomes new (followed_by old.services.moment next (executive_in old))
 
 -- this object gave the seat back
 pub record HasWithdrawn (seat : ℕ) (old new : Hosted) (o : Object) : Type 0 where
@@ -110,7 +111,7 @@ pub record HasWithdrawn (seat : ℕ) (old new : Hosted) (o : Object) : Type 0 wh
   pub spare : o.held ≡ None
   pub was : IfSome (object_at seat old.seats) (λ (there : Object). member_of there ≡ member_of o)
   pub retired : IsSomeAnd (object_at seat old.seats) (λ (there : Object). HasRetired seat old.services new.services there o)
-  pub exact : o.state ≢ Other → LeavesExactly seat old new
+  pub exact : IsKnown o → LeavesExactly seat old new
 
 -- ---- an order
 
@@ -136,28 +137,28 @@ refusal_of error = option_to_list (error_code error)
 -- who was there is gone, nothing waits to be written, and what the next one leaves is what is wanted
 pub record LeadsTo (wanted : Result (Written (List ℕ)) Refusal) (h : Hosted) (next : Next) : Type 0 where
   pub known : AreKnown h
-  pub next_known : IsKnownNext next
+  pub next_known : IsKnownNext h.stock next
   pub outgoing : h.services.outgoing ≡ []
   pub step : wanted ≡ Ok (followed_by h.services.moment next (executive_in h))
 
--- the seat is free for the next one
-pub record IsPrepared (wanted : Result (Written (List ℕ)) Refusal) (old new : Hosted) (next : Next) : Type 0 where
+-- the seat is free for the next one, which may be the first spare of a name
+pub record IsPrepared (spare : Option Name) (wanted : Result (Written (List ℕ)) Refusal) (old new : Hosted) (next : Next) : Type 0 where
   pub whole : StaysWhole old new
   pub stock : new.stock ≡ old.stock
   pub may : MayFollow new next
-  pub exact : AreKnown old → LeadsTo wanted new next
+  pub exact : AreKnown old → IsKnownSpare spare old.stock → LeadsTo wanted new next
 
 -- one of the two, by the answer
 abbrev pub Prepares : {X : Type 0} {D : X → Type 0} → (DynBox X Global D → AppState) → (DynBox X Global D → Name) → (DynBox X Global D → Option ℕ) →
-    Result (Written (List ℕ)) Refusal → Hosted → Hosted → Result (Successor X D) HostError → Type 0
-Prepares state called held wanted old new (Ok next) = IsPrepared wanted old new (next_of state called held next)
-Prepares state called held wanted old new (Err error) = (wanted ≡ Err (refusal_of error)) × (new ≡ old)
+    Option Name → Result (Written (List ℕ)) Refusal → Hosted → Hosted → Result (Successor X D) HostError → Type 0
+Prepares state called held spare wanted old new (Ok next) = IsPrepared spare wanted old new (next_of state called held next)
+Prepares state called held spare wanted old new (Err error) = (wanted ≡ Err (refusal_of error)) × (new ≡ old)
 
 -- the same of a command that is refused for its code or its length, too
 abbrev pub Takes : {X : Type 0} {D : X → Type 0} → (DynBox X Global D → AppState) → (DynBox X Global D → Name) → (DynBox X Global D → Option ℕ) →
-    Result (Written (List ℕ)) Refusal → Hosted → Hosted → Result (Successor X D) Refusal → Type 0
-Takes state called held wanted old new (Ok next) = IsPrepared wanted old new (next_of state called held next)
-Takes state called held wanted old new (Err numbers) = (wanted ≡ Err numbers) × (new ≡ old)
+    Option Name → Result (Written (List ℕ)) Refusal → Hosted → Hosted → Result (Successor X D) Refusal → Type 0
+Takes state called held spare wanted old new (Ok next) = IsPrepared spare wanted old new (next_of state called held next)
+Takes state called held spare wanted old new (Err numbers) = (wanted ≡ Err numbers) × (new ≡ old)
 
 -- ---- the same of who is where, whatever the applications are
 
@@ -199,7 +200,7 @@ pub record IsBroken (step : Written (List ℕ)) (sent : ℕ) (new : Hosted) (bef
 
 -- an object of this profile left nothing to write, and one of it comes next
 abbrev pub IfExact : Hosted → Next → Type 0 → Type 0
-IfExact h next P = AreKnown h → IsKnownNext next → h.services.outgoing ≡ [] → P
+IfExact h next P = AreKnown h → IsKnownNext h.stock next → h.services.outgoing ≡ [] → P
 
 -- the next one took its seat, and all that waited is written
 pub record HasComeIn (next : Next) (sent : ℕ) (old new : Hosted) (before now : Sink) : Type 0 where
@@ -248,4 +249,4 @@ abbrev pub ObeysOrders : List ℕ → Hosted → Hosted → Sink → Sink → Re
 ObeysOrders packet old new before now result =
     let e : Executive (List ℕ) = executive_in old in
     let answer : Result (Written (List ℕ)) Refusal = executive_service_now on_board old.services.moment packet e in
-    Handles (order_stations on_board old.services.moment packet e answer) (answered_now on_board old.services.moment executive_services packet e answer) 0 old new before now result
+    Handles (spare_by (model.app_command (function_code packet) (payload packet))) (order_stations on_board old.services.moment packet e answer) (answered_now on_board old.services.moment executive_services packet e answer) 0 old new before now result

@@ -1,5 +1,5 @@
 -- What an event of HOST leaves.
-use Rattle.std.specs.Prelude.{◌≡◌, ℕ, ◌≤◌, List, [], ◌∷◌, length, Some, Result}
+use Rattle.std.specs.Prelude.{◌≡◌, ℕ, ◌≤◌, List, [], ◌∷◌, length, Some, None, Result}
 use Rattle.std.specs.List.{concat}
 use Rattle.lc_model.specs.Device.{Sink}
 use Rattle.lc_model.specs.Name.{Name}
@@ -38,25 +38,25 @@ pub record HasTold (request : Request) (old new : Hosted) : Type 0 where
 
 -- the event is written, and that is all
 abbrev pub TellsAlone : Request → Hosted → Hosted → Sink → Sink → Result ℕ WriteFault → Type 0
-TellsAlone request old new before now result = Handles (written_once (telling request old)) (telling request old) 0 old new before now result
+TellsAlone request old new before now result = Handles None (written_once (telling request old)) (telling request old) 0 old new before now result
 
 -- a file is stored or refused, and that is written
 abbrev pub Files : Name → List ℕ → Hosted → Hosted → Sink → Sink → Result ℕ WriteFault → Type 0
 Files name bytes old new before now result =
     let e : Executive (List ℕ) = executive_in old in
     let step : Written (List ℕ) = filed_now old.services.moment e (stored name (length bytes) (meaning_of bytes) e.services.files) in
-    Handles (written_once step) step 0 old new before now result
+    Handles None (written_once step) step 0 old new before now result
 
 -- a command to the event services is obeyed or refused, and that is written
 abbrev pub ObeysEvents : List ℕ → Hosted → Hosted → Sink → Sink → Result ℕ WriteFault → Type 0
 ObeysEvents packet old new before now result =
     let e : Executive (List ℕ) = executive_in old in
     let step : Written (List ℕ) = answered_now on_board old.services.moment event_services packet e (with_services e (event_service_now packet e.services)) in
-    Handles (written_once step) step 0 old new before now result
+    Handles None (written_once step) step 0 old new before now result
 
 -- a command to the table services is obeyed or refused, and that is written
 abbrev pub ObeysTables : List ℕ → Hosted → Hosted → Sink → Sink → Result ℕ WriteFault → Type 0
 ObeysTables packet old new before now result =
     let e : Executive (List ℕ) = executive_in old in
     let step : Written (List ℕ) = answered_now on_board old.services.moment table_services packet e (with_services e (table_service_now on_board packet e.services)) in
-    Handles (written_once step) step 0 old new before now result
+    Handles None (written_once step) step 0 old new before now result
