@@ -132,3 +132,8 @@ module _ (request : Request) (old mid new : Hosted) (before after : Sink) (whole
   pub told_so : (result : Result ℕ WriteFault) → IsSent 0 mid new before after result → TellsAlone request old new before after result
   told_so (Ok total) all = told_all total all
   told_so (Err fault) part = told_part fault.sent part
+
+-- the same event by another name for its request
+pub tells_same : (asked request : Request) (old new : Hosted) (before now : Sink) (result : Result ℕ WriteFault) → asked ≡ request →
+    TellsAlone asked old new before now result → TellsAlone request old new before now result
+tells_same asked request old new before now result is = subst (λ r. TellsAlone r old new before now result) is
