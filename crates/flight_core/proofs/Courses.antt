@@ -1,5 +1,5 @@
 -- A run between two steps, and how it ends.
-use Rattle.std.proofs.Common.{◌≡◌, refl, sym, ◌∙◌, ap, subst, ℕ, ◌+◌, ◌*◌, ◌<◌, ◌≤◌, Bool, true, false, if◌then◌else◌, List, [], ◌∷◌, ◌++◌, length, take, get_or, Option, Some, None, arith, append_assoc, length-append}
+use Rattle.std.proofs.Common.{◌≡◌, refl, sym, ◌∙◌, ap, subst, ℕ, ◌+◌, ◌*◌, ◌<◌, ◌≤◌, Bool, true, false, cond, List, [], ◌∷◌, ◌++◌, length, take, get_or, Option, Some, None, arith, append_assoc, length-append}
 use Rattle.std.specs.Prelude.{All, Contains, find, IfSome}
 use Rattle.std.specs.List.{concat}
 use Rattle.std.specs.Io.KnownBytes.{Appends, Consumes}
@@ -57,7 +57,7 @@ found_known : (test : Object → Bool) (stock : List Object) → All IsKnown sto
 found_known test [] all = tt
 found_known test (o ∷ stock) all = by_test (test o) (found_known test stock (All-tail IsKnown o stock all))
   where
-    by_test : (b : Bool) → IfSome (find test stock) IsKnown → IfSome (if b then Some o else find test stock) IsKnown
+    by_test : (b : Bool) → IfSome (find test stock) IsKnown → IfSome (cond b (Some o) (find test stock)) IsKnown
     by_test true rest = All-head IsKnown o stock all
     by_test false rest = rest
 
