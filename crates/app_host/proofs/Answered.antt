@@ -168,12 +168,14 @@ module _ (law : TablesAreFound) (h new : Hosted) (now : Services) (seat : ℕ) (
 
     becomes_so : Becomes new (after_call seat o.called (behind before.bus seat has) e answer.called)
     becomes_so = record {
-      known = λ other. rw seats
-          (fact_at_set (λ i (x : Option Object). IfSome x (λ (y : Object). y.state ≢ Other)) h.seats seat other (Some o') None (omega (arith, below, whole.eight))
-          (λ other_kind. answer.known (sym leaves.becomes ∙ other_kind)) (λ i another. known i));
       executive = λ i. record { stock = map member_of (stock i); seats = seats_are i; pipes = pipes_are i; services = leaves.services i };
       outgoing = leaves.outgoing;
     }
+
+    pub known_then : AreKnown new
+    known_then = λ other. rw seats
+        (fact_at_set (λ i (x : Option Object). IfSome x (λ (y : Object). y.state ≢ Other)) h.seats seat other (Some o') None (omega (arith, below, whole.eight))
+        (λ other_kind. answer.known (sym leaves.becomes ∙ other_kind)) (λ i another. known i))
 
     pub exact_then : Becomes new (delivered_at on_board before.moment seat e)
     exact_then = subst (Becomes new) (sym step_is) becomes_so
@@ -193,5 +195,6 @@ module _ (law : TablesAreFound) (h new : Hosted) (now : Services) (seat : ℕ) (
       files = answered.rules.call.others.files ∙ ap (λ (t : TableService). t.files) tables;
       roster = same_roster h new stock (names_still h new seat o o' at answered.name seats);
     };
+    known = known_then;
     exact = exact_then;
   }

@@ -32,13 +32,19 @@ module _ (next : Next) (old one two new : Hosted) (sent : ℕ) (before mid now :
   moment_one : one.services.moment ≡ old.services.moment
   moment_one = ap (λ (s : Services). s.moment) first.services
 
-  module _ (known : AreKnown old) (its_own : IsKnownNext old.stock next) (none : old.services.outgoing ≡ []) where
+  its_own_one : IsKnownNext old.stock next → IsKnownNext one.stock next
+  its_own_one its_own = subst (λ (stock : List Object). IsKnownNext stock next) (sym first.stock) its_own
+
+  known_new : AreKnown old → IsKnownNext old.stock next → AreKnown new
+  known_new known its_own = still_known two new second (followed.known (still_known old one first known) (its_own_one its_own))
+
+  module _ (its_own : IsKnownNext old.stock next) (none : old.services.outgoing ≡ []) where
     abbrev step : Written (List ℕ)
     step = followed_by old.services.moment next (executive_in old)
 
     becomes : Becomes two step
     becomes =
-        subst (Becomes two) (ap₂ (λ (m : Moment) (x : Executive (List ℕ)). followed_by m next x) moment_one (same_executive old one first)) (followed.exact (still_known old one first known) (subst (λ (stock : List Object). IsKnownNext stock next) (sym first.stock) its_own))
+        subst (Becomes two) (ap₂ (λ (m : Moment) (x : Executive (List ℕ)). followed_by m next x) moment_one (same_executive old one first)) (followed.exact (its_own_one its_own))
 
     nothing_sent : sent ≡ 0
     nothing_sent = let count = all.count in let nothing : length old.services.outgoing ≡ 0 = ap length none in omega (arith, count, nothing)
@@ -63,13 +69,13 @@ module _ (next : Next) (old one two new : Hosted) (sent : ℕ) (before mid now :
     idle = idle_then two new second;
     small = let a = all.count in let b = rest.count in let c = followed.whole.fits in omega (arith, a, b, c, fits);
     fine = rest.fine ∙ all.fine;
-    exact = λ known its_own none. record {
-      known = still_known two new second (becomes known its_own none).known;
-      executive = executive_then known its_own none;
-      count = let a = rest.count in let b = nothing_sent known its_own none in let size : length two.services.outgoing ≡ length (concat (step known its_own none).1) = ap length (becomes known its_own none).outgoing in omega (arith, a, b, size);
+    known = known_new;
+    exact = λ its_own none. record {
+      executive = executive_then its_own none;
+      count = let a = rest.count in let b = nothing_sent its_own none in let size : length two.services.outgoing ≡ length (concat (step its_own none).1) = ap length (becomes its_own none).outgoing in omega (arith, a, b, size);
       gains =
-          taken_both before.gained mid.gained now.gained [] (concat (step known its_own none).1) (gains_nothing known its_own none)
-          (subst (Appends mid.gained now.gained) (becomes known its_own none).outgoing rest.gains);
+          taken_both before.gained mid.gained now.gained [] (concat (step its_own none).1) (gains_nothing its_own none)
+          (subst (Appends mid.gained now.gained) (becomes its_own none).outgoing rest.gains);
     };
   }
 
@@ -79,14 +85,14 @@ module _ (next : Next) (old one two new : Hosted) (sent : ℕ) (before mid now :
     is_closed = part.is_closed;
     calls = second.calls ∙ followed.whole.calls ∙ first.calls;
     failed = part.failed;
-    exact = λ known its_own none. let so : total ≡ part.taken = (let a = part.count in let b = nothing_sent known its_own none in omega (arith, a, b)) in record {
-      known = still_known two new second (becomes known its_own none).known;
-      executive = executive_then known its_own none;
-      fewer = let less = part.fewer in let size : length two.services.outgoing ≡ length (concat (step known its_own none).1) = ap length (becomes known its_own none).outgoing in omega (arith, so, less, size);
+    known = known_new;
+    exact = λ its_own none. let so : total ≡ part.taken = (let a = part.count in let b = nothing_sent its_own none in omega (arith, a, b)) in record {
+      executive = executive_then its_own none;
+      fewer = let less = part.fewer in let size : length two.services.outgoing ≡ length (concat (step its_own none).1) = ap length (becomes its_own none).outgoing in omega (arith, so, less, size);
       gains =
-          taken_both before.gained mid.gained now.gained [] (take total (concat (step known its_own none).1)) (gains_nothing known its_own none)
-          (subst (λ n. Appends mid.gained now.gained (take n (concat (step known its_own none).1))) (sym so)
-          (subst (λ bytes. Appends mid.gained now.gained (take part.taken bytes)) (becomes known its_own none).outgoing part.gains));
+          taken_both before.gained mid.gained now.gained [] (take total (concat (step its_own none).1)) (gains_nothing its_own none)
+          (subst (λ n. Appends mid.gained now.gained (take n (concat (step its_own none).1))) (sym so)
+          (subst (λ bytes. Appends mid.gained now.gained (take part.taken bytes)) (becomes its_own none).outgoing part.gains));
     };
   }
 
@@ -157,3 +163,14 @@ pub failed_so : (next : Next) (old new : Hosted) (before now : Sink) (result : R
     ComesIn next old new before now result
 failed_so next old new before now (Ok total) fault is part = absurd is
 failed_so next old new before now (Err e) fault is part = subst (λ (f : WriteFault). HasFailed next f.sent old new before now) (sym is) part
+
+-- what waited could not be written, and nobody came
+pub nobody_came : (next : Next) (old one : Hosted) (before now : Sink) → AreSpares old.stock → IsFlushed old one → (total : ℕ) → IsPartSent 0 old one before now total → HasFailed next total old one before now
+nobody_came next old one before now spares flushed total part = record {
+  whole = record { seated = flushed.seated; spares = spares_still old one flushed spares; idle = idle_then old one flushed };
+  is_closed = part.is_closed;
+  calls = flushed.calls;
+  failed = part.failed;
+  known = λ known its_own. still_known old one flushed known;
+  exact = λ its_own none. absurd (omega (arith, part.fewer, ap length none));
+}

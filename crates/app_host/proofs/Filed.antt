@@ -22,6 +22,7 @@ use Rattle.app_host.specs.Shared.{shared}
 use Rattle.app_host.specs.Telling.{name_of}
 use Rattle.app_host.specs.Hosted.{Object, Hosted, member_of}
 use Rattle.app_host.specs.Whole.{AreKnown, IsWhole, IsQuiet}
+use Rattle.app_host.specs.Party.{nobody}
 use Rattle.app_host.specs.Delivered.{executive_in}
 use Rattle.app_host.specs.Writing.{IsDone, IsCut, Handles}
 use Rattle.app_host.specs.Told.{TellsAlone, Files}
@@ -40,7 +41,7 @@ module _ (old mid new : Hosted) (e : Executive (List ℕ)) (is : executive_in mi
   among_behind : All (Contains mid.stock) new.stock → All (Contains old.stock) new.stock
   among_behind among = subst (λ (spares : List Object). All (Contains spares) new.stock) stock among
 
-  pub told_behind : (before now : Sink) (result : Result ℕ WriteFault) → TellsAlone request mid new before now result → Handles None (written_once step) step 0 old new before now result
+  pub told_behind : (before now : Sink) (result : Result ℕ WriteFault) → TellsAlone request mid new before now result → Handles nobody (written_once step) step 0 old new before now result
   told_behind before now (Ok total) all = record {
     whole = all.whole;
     quiet = all.quiet;
@@ -48,8 +49,9 @@ module _ (old mid new : Hosted) (e : Executive (List ℕ)) (is : executive_in mi
     is_closed = all.is_closed ∙ closed;
     calls = all.calls;
     fine = all.fine;
-    exact = λ k spare. subst (λ (w : Written (List ℕ)). IsDone (written_once w) w 0 new before.gained now.gained) step_is (all.exact (known k) tt);
-    count = λ k spare. all.count (known k) tt ∙ ap (λ (w : Written (List ℕ)). length (concat w.1)) step_is;
+    known = λ k those. all.known (known k) those;
+    exact = λ those. subst (λ (w : Written (List ℕ)). IsDone (written_once w) w 0 new before.gained now.gained) step_is (all.exact those);
+    count = λ those. all.count those ∙ ap (λ (w : Written (List ℕ)). length (concat w.1)) step_is;
   }
   told_behind before now (Err fault) part = record {
     whole = part.whole;
@@ -57,7 +59,8 @@ module _ (old mid new : Hosted) (e : Executive (List ℕ)) (is : executive_in mi
     is_closed = part.is_closed;
     calls = part.calls;
     failed = part.failed;
-    exact = λ k spare. subst (λ (w : Written (List ℕ)). IsCut (written_once w) w fault.sent new before.gained now.gained) step_is (part.exact (known k) tt);
+    known = λ k those. part.known (known k) those;
+    exact = λ those. subst (λ (w : Written (List ℕ)). IsCut (written_once w) w fault.sent new before.gained now.gained) step_is (part.exact those);
   }
 
 -- ---- files
@@ -145,7 +148,7 @@ module _ (found : TablesAreFound) (storing : StoringFiles) (old mid : Hosted) (n
   pub is_filed : Ok mid.services.tables ≡ file_put name bytes old.services.tables → (request : Request) → request ≡ file_stored → (new : Hosted) (before now : Sink) (result : Result ℕ WriteFault) →
       TellsAlone request mid new before now result → Files name bytes old new before now result
   is_filed is request asked new before now result tells =
-      subst (λ (w : Written (List ℕ)). Handles None (written_once w) w 0 old new before now result) (sym step_is)
+      subst (λ (w : Written (List ℕ)). Handles nobody (written_once w) w 0 old new before now result) (sym step_is)
       (told_behind old mid new (record e { services = record e.services { files = files_seen mid.services.tables.files } })
       (executive_filed (places_stay name bytes old.services.tables mid.services.tables is)) alone.stock alone.moment alone.is_closed known_filed request before now result tells)
     where
@@ -166,7 +169,7 @@ module _ (found : TablesAreFound) (storing : StoringFiles) (old mid : Hosted) (n
   pub is_not_filed : mid.services.tables ≡ old.services.tables → (refusal : Refusal) → Err refusal ≡ file_put name bytes old.services.tables → (request : Request) → request ≡ file_refused refusal →
       (new : Hosted) (before now : Sink) (result : Result ℕ WriteFault) → TellsAlone request mid new before now result → Files name bytes old new before now result
   is_not_filed tables refusal is request asked new before now result tells =
-      subst (λ (w : Written (List ℕ)). Handles None (written_once w) w 0 old new before now result) (sym step_is)
+      subst (λ (w : Written (List ℕ)). Handles nobody (written_once w) w 0 old new before now result) (sym step_is)
       (told_behind old mid new e (same_executive tables) alone.stock alone.moment alone.is_closed known_filed request before now result tells)
     where
       step_is : this_step ≡ told_by_host old.services.moment (request ∷ []) e

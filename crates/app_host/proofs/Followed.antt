@@ -52,13 +52,14 @@ nobody_followed h seated spares idle = record {
   whole = stays_so h h seated idle refl refl refl refl;
   spares = spares;
   own = record { host = refl; files = refl; roster = refl };
-  exact = λ known its_own. record { known = known; executive = refl; outgoing = idle };
+  known = λ known its_own. known;
+  exact = λ its_own. record { executive = refl; outgoing = idle };
 }
 
 -- ---- one that was there before
 
 pub same_followed : (old new : Hosted) (seat : ℕ) (o : Object) → AreSpares old.stock → HasBegun seat o old new → HasFollowed (Same o seat) old new
-same_followed old new seat o spares begun = record { whole = begun.whole; spares = rw begun.stock spares; own = begun.own; exact = begun.exact }
+same_followed old new seat o spares begun = record { whole = begun.whole; spares = rw begun.stock spares; own = begun.own; known = begun.known; exact = begun.exact }
 
 -- ---- a spare
 
@@ -112,7 +113,8 @@ module _ (old mid : Hosted) (place : ℕ) (less : place < length old.stock) (sto
       files = begun.own.files ∙ ap (λ (s : Services). s.tables.files) services;
       roster = begun.own.roster ∙ (λ i. record { stock = stock i; seats = slice_set (map (option_map name_of) (seats i)) seat (Some (is i).called) });
     };
-    exact = λ known its_own. subst (Becomes new) step_is (begun.exact (known_mid known) (rw is its_own));
+    known = λ known its_own. begun.known (known_mid known) (rw is its_own);
+    exact = λ its_own. subst (Becomes new) step_is (begun.exact (rw is its_own));
   }
     where
       step_is : begun_on on_board mid.services.moment seat (member_of o) (executive_in mid)

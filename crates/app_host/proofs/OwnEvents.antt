@@ -16,6 +16,7 @@ use Rattle.app_host.specs.declared.error.WriteFault.{WriteFault}
 use Rattle.app_host.specs.Telling.{Tells, name_of}
 use Rattle.app_host.specs.Hosted.{Hosted, member_of}
 use Rattle.app_host.specs.Whole.{AreSeated, AreKnown, IsWhole, IsQuiet}
+use Rattle.app_host.specs.Party.{nobody}
 use Rattle.app_host.specs.Delivered.{executive_in}
 use Rattle.app_host.specs.Writing.{IsFlushed, IsAllSent, IsPartSent, IsSent, HandlesAll, HandlesPart}
 use Rattle.app_host.specs.Response.{asked_by_host}
@@ -93,7 +94,7 @@ module _ (request : Request) (old mid new : Hosted) (before after : Sink) (whole
       ∙ passes (room - size_at station) station []
       ∙ none_stops (room - size_at station)
 
-  told_all : (total : ℕ) → IsAllSent 0 mid new before after total → HandlesAll None (written_once step) step 0 total old new before after
+  told_all : (total : ℕ) → IsAllSent 0 mid new before after total → HandlesAll nobody (written_once step) step 0 total old new before after
   told_all total all = record {
     whole = whole_then;
     quiet = ap (λ (s : Services). ready_seat (seen s.bus)) flushed.services ∙ ap ready_seat told.pipes ∙ quiet;
@@ -101,25 +102,25 @@ module _ (request : Request) (old mid new : Hosted) (before after : Sink) (whole
     is_closed = all.is_closed ∙ told.is_closed;
     calls = omega (arith, calls_then);
     fine = all.fine;
-    exact = λ known spare. record {
-      known = known_then known;
+    known = λ known those. known_then known;
+    exact = λ those. record {
       executive = executive_then;
       calls = calls_then;
       gains = subst (Appends before.gained after.gained) told.outgoing all.gains;
       fits = all_room;
     };
-    count = λ known spare. omega (arith, all.count, ap length told.outgoing);
+    count = λ those. omega (arith, all.count, ap length told.outgoing);
   }
 
-  told_part : (total : ℕ) → IsPartSent 0 mid new before after total → HandlesPart None (written_once step) step total old new before after
+  told_part : (total : ℕ) → IsPartSent 0 mid new before after total → HandlesPart nobody (written_once step) step total old new before after
   told_part total part = record {
     whole = whole_then;
     stock = among_then;
     is_closed = part.is_closed;
     calls = omega (arith, calls_then);
     failed = part.failed;
-    exact = λ known spare. record {
-      known = known_then known;
+    known = λ known those. known_then known;
+    exact = λ those. record {
       station = station;
       stops = stops_here total station [] (omega (arith, part.fewer, ap length told.outgoing, part.count));
       executive = executive_then;

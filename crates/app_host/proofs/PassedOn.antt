@@ -94,9 +94,10 @@ module _ (law : TablesAreFound) (old mid : Hosted) (packet : List ℕ) (whole : 
     is_closed = all.is_closed ∙ closed;
     calls = all.calls;
     fine = all.fine;
-    exact = λ known spare. subst (λ (p : Moment × Executive (List ℕ)). IsDone (delivery_stations on_board p.0 0 520 p.1) (drained on_board p.0 520 p.1) (last_calls on_board p.0 (delivery_stations on_board p.0 0 520 p.1)) new before.gained now.gained)
-        (λ i. (moment i, executive_mid i)) (all.exact (known_mid known) tt);
-    count = λ known spare. all.count (known_mid known) tt ∙ ap (λ (p : Moment × Executive (List ℕ)). length (concat (drained on_board p.0 520 p.1).1)) (λ i. (moment i, executive_mid i));
+    known = λ known everyone. all.known (known_mid known) (known_mid everyone);
+    exact = λ known. subst (λ (p : Moment × Executive (List ℕ)). IsDone (delivery_stations on_board p.0 0 520 p.1) (drained on_board p.0 520 p.1) (last_calls on_board p.0 (delivery_stations on_board p.0 0 520 p.1)) new before.gained now.gained)
+        (λ i. (moment i, executive_mid i)) (all.exact (known_mid known));
+    count = λ known. all.count (known_mid known) ∙ ap (λ (p : Moment × Executive (List ℕ)). length (concat (drained on_board p.0 520 p.1).1)) (λ i. (moment i, executive_mid i));
   }
   passes_on new before now (Err fault) part = record {
     whole = part.whole;
@@ -104,8 +105,9 @@ module _ (law : TablesAreFound) (old mid : Hosted) (packet : List ℕ) (whole : 
     is_closed = part.is_closed;
     calls = part.calls;
     failed = part.failed;
-    exact = λ known spare. subst (λ (p : Moment × Executive (List ℕ)). IsCut (delivery_stations on_board p.0 0 520 p.1) (drained on_board p.0 520 p.1) fault.sent new before.gained now.gained)
-        (λ i. (moment i, executive_mid i)) (part.exact (known_mid known) tt);
+    known = λ known everyone. part.known (known_mid known) (known_mid everyone);
+    exact = λ known. subst (λ (p : Moment × Executive (List ℕ)). IsCut (delivery_stations on_board p.0 0 520 p.1) (drained on_board p.0 520 p.1) fault.sent new before.gained now.gained)
+        (λ i. (moment i, executive_mid i)) (part.exact (known_mid known));
   }
 
 -- what was answered, where it is not refused

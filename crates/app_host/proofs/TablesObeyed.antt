@@ -1,5 +1,5 @@
 -- A command to the table services, by names.
-use Rattle.std.proofs.Common.{length, ◌≡◌, refl, ap, sym, ◌∙◌, subst, ℕ, List, [], ◌∷◌, map, None, Result, Ok, Err}
+use Rattle.std.proofs.Common.{length, ◌≡◌, refl, ap, sym, ◌∙◌, subst, ℕ, List, [], ◌∷◌, map, Result, Ok, Err}
 use Rattle.std.specs.Prelude.{IfOk, option_map}
 use Rattle.std.specs.List.{AllByRecursion}
 use Rattle.std.specs.List.{concat}
@@ -22,6 +22,7 @@ use Rattle.app_host.specs.declared.error.WriteFault.{WriteFault}
 use Rattle.app_host.specs.Shared.{on_board, shared}
 use Rattle.app_host.specs.Hosted.{Hosted, member_of}
 use Rattle.app_host.specs.Whole.{AreKnown, IsWhole}
+use Rattle.app_host.specs.Party.{Everyone, nobody}
 use Rattle.app_host.specs.Delivered.{executive_in}
 use Rattle.app_host.specs.Writing.{IsDone, IsCut, Handles}
 use Rattle.app_host.specs.ObeyedTables.{tables_by}
@@ -71,7 +72,7 @@ kept_by law (Err refusal) before after is = cc
 
 -- where this step is that one if all objects on the seats are known
 exactly : (old new : Hosted) (this that : Written (List ℕ)) → (AreKnown old → this ≡ that) → (before now : Sink) (result : Result ℕ WriteFault) →
-    Handles None (written_once this) this 0 old new before now result → Handles None (written_once that) that 0 old new before now result
+    Handles nobody (written_once this) this 0 old new before now result → Handles Everyone (written_once that) that 0 old new before now result
 exactly old new this that same before now (Ok total) all = record {
   whole = all.whole;
   quiet = all.quiet;
@@ -79,8 +80,9 @@ exactly old new this that same before now (Ok total) all = record {
   is_closed = all.is_closed;
   calls = all.calls;
   fine = all.fine;
-  exact = λ known spare. subst (λ (w : Written (List ℕ)). IsDone (written_once w) w 0 new before.gained now.gained) (same known) (all.exact known spare);
-  count = λ known spare. all.count known spare ∙ ap (λ (w : Written (List ℕ)). length (concat w.1)) (same known);
+  known = λ known everyone. all.known known (tt, tt);
+  exact = λ known. subst (λ (w : Written (List ℕ)). IsDone (written_once w) w 0 new before.gained now.gained) (same known) (all.exact (tt, tt));
+  count = λ known. all.count (tt, tt) ∙ ap (λ (w : Written (List ℕ)). length (concat w.1)) (same known);
 }
 exactly old new this that same before now (Err fault) part = record {
   whole = part.whole;
@@ -88,7 +90,8 @@ exactly old new this that same before now (Err fault) part = record {
   is_closed = part.is_closed;
   calls = part.calls;
   failed = part.failed;
-  exact = λ known spare. subst (λ (w : Written (List ℕ)). IsCut (written_once w) w fault.sent new before.gained now.gained) (same known) (part.exact known spare);
+  known = λ known everyone. part.known known (tt, tt);
+  exact = λ known. subst (λ (w : Written (List ℕ)). IsCut (written_once w) w fault.sent new before.gained now.gained) (same known) (part.exact (tt, tt));
 }
 
 -- ---- the host

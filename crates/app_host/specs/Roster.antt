@@ -1,6 +1,6 @@
 -- Who is in stock and who is on the seats, whatever the applications are, and what an order makes of it. Orders are those of the
 -- cFE user's guide (executive services); seats, and the numbers of the refusals, are this project's own.
-use Rattle.std.specs.Prelude.{◌≡◌, ℕ, Bool, false, List, map, remove, if◌then◌else◌, Option, Some, None, is_some, is_none, option_map, slice_set, Result, Ok, Err}
+use Rattle.std.specs.Prelude.{◌≡◌, ℕ, Bool, false, List, map, remove, if◌then◌else◌, Option, Some, None, is_some, is_none, option_map, slice_set, Result, Ok}
 use Rattle.std.specs.List.{position_from}
 use Rattle.lc_model.specs.Name.{Name, is_named}
 use Rattle.lc_model.specs.Packet.{function_code, payload}
@@ -85,15 +85,3 @@ abbrev pub succession_by : List ℕ → Roster → Result Succession Refusal
 succession_by packet r = do
   command ← app_command (function_code packet) (payload packet)
   ordered_by command.0 command.1 r
-
--- the name whose first spare an order takes, if it takes one
-abbrev pub spare_for : Order → Name → Option Name
-spare_for Start name = Some name
-spare_for Stop name = None
-spare_for Restart name = None
-spare_for Reload name = Some name
-
--- the same of a command, which may be none
-abbrev pub spare_by : Result (Order × Name) Refusal → Option Name
-spare_by (Ok command) = spare_for command.0 command.1
-spare_by (Err refusal) = None

@@ -1,6 +1,6 @@
 -- What each call of the host keeps.
-use Rattle.std.specs.Prelude.{◌≡◌, ◌≢◌, ℕ, ⊤, List, [], length, Option, Some, None, option_map, All, find, IfSome}
-use Rattle.lc_model.specs.Name.{Name, is_named}
+use Rattle.std.specs.Prelude.{◌≡◌, ◌≢◌, ℕ, List, [], length, Option, Some, None, option_map, All, IfSome}
+use Rattle.lc_model.specs.Name.{Name}
 use Rattle.lc_model.specs.Kept.Summary.{Other}
 use Rattle.lc_model.specs.Kept.Executive.{seat_count, ready_seat}
 use Rattle.lc_model.specs.Services.Bus.{seen}
@@ -48,8 +48,3 @@ IsKnown o = o.state ≢ Other
 -- all objects on the seats are
 abbrev pub AreKnown : Hosted → Type 0
 AreKnown h = (seat : ℕ) → IfSome (object_at seat h.seats) IsKnown
-
--- the first spare of this name is, where a name is asked for and there is one
-abbrev pub IsKnownSpare : Option Name → List Object → Type 0
-IsKnownSpare None stock = ⊤
-IsKnownSpare (Some name) stock = IfSome (find (λ (spare : Object). is_named name spare.called) stock) IsKnown

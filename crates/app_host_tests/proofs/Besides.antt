@@ -15,9 +15,10 @@ use Rattle.lc_model.specs.Kept.Stations.{first_host}
 use Rattle.app_host.specs.declared.error.WriteFault.{WriteFault}
 use Rattle.app_host.specs.Shared.{on_board}
 use Rattle.app_host.specs.Hosted.{Object, Hosted, object_at, member_of, in_numbers}
-use Rattle.app_host.specs.Whole.{IsKnown, AreKnown, IsKnownSpare}
+use Rattle.app_host.specs.Whole.{IsKnown, AreKnown}
+use Rattle.app_host.specs.Party.{Party, Everyone, Only, IsKnownSpare, AreKnownIn}
 use Rattle.app_host.specs.Delivered.{executive_in}
-use Rattle.app_host.specs.Step.{spare_taken, StepsWhole, Steps}
+use Rattle.app_host.specs.Step.{party_of, StepsWhole, Steps}
 use Rattle.app_host_tests.specs.Beside.{now, start, count, written_from, written_beside}
 
 -- ---- the premises at the beginning
@@ -51,17 +52,18 @@ spare_first h stock first other is items named counts =
 
 -- ---- two records
 
-start_takes : spare_taken (Packet start) ≡ Some counter_name
-start_takes = refl
+start_asks : party_of (Packet start) ≡ Only None (Some counter_name)
+start_asks = refl
 
-count_takes : spare_taken (Packet count) ≡ None
-count_takes = refl
+count_asks : party_of (Packet count) ≡ Everyone
+count_asks = refl
 
 module _ (h₀ h₁ h₂ : Hosted) (s₀ s₁ s₂ : Sink) (known : AreKnown h₀) (spare : IsKnownSpare (Some counter_name) h₀.stock) (one : StepsWhole now (Packet start) h₀ h₁ s₀ s₁) where
   both : StepsWhole now (Packet count) h₁ h₂ s₁ s₂ → Appends s₀.gained s₂.gained (written_from (executive_in h₀))
   both two =
-      let first = one.exact known (subst (λ name. IsKnownSpare name h₀.stock) (sym start_takes) spare) in
-      let second = two.exact first.known (subst (λ name. IsKnownSpare name h₁.stock) (sym count_takes) tt) in
+      let those = subst (λ (p : Party). AreKnownIn p h₀) (sym start_asks) (tt, spare) in
+      let first = one.exact those in
+      let second = two.exact (subst (λ (p : Party). AreKnownIn p h₁) (sym count_asks) (one.known known those)) in
       Appends-trans _ _ _ _ _ first.gains
       (subst (λ (e : Executive (List ℕ)). Appends s₁.gained s₂.gained (concat (step_by on_board now e (Packet count)).1)) (ap (λ (x : model.Host (List ℕ)). x.executive) first.host) second.gains)
 

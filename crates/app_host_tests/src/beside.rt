@@ -7,7 +7,8 @@ ghost use Rattle.lc_model.specs.Kept.Summary.{CounterState};
 ghost use Rattle.app_host.specs.Delivered.{executive_in};
 ghost use Rattle.app_host.specs.Hosted.{object, member_of, shown};
 ghost use Rattle.app_host.specs.Step.{IsBetween};
-ghost use Rattle.app_host.specs.Whole.{AreKnown, AreSpares, IsKnownSpare};
+ghost use Rattle.app_host.specs.Party.{IsKnownSpare};
+ghost use Rattle.app_host.specs.Whole.{AreKnown, AreSpares};
 ghost use Rattle.app_host_tests.specs.Beside.{written_beside, written_from};
 
 use app_host::{App, Host, WriteFault};

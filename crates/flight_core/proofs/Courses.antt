@@ -21,10 +21,11 @@ use Rattle.lc_model.specs.Kept.Stations.{host_step}
 use Rattle.host_laws.specs.Statements.{AreBytes, executive_after, RunsGoOn}
 use Rattle.host_laws.specs.Writes.{OpenHostsTake}
 use Rattle.app_host.specs.Shared.{on_board}
-use Rattle.app_host.specs.Hosted.{Object, Hosted}
-use Rattle.app_host.specs.Whole.{IsKnown, IsKnownSpare}
+use Rattle.app_host.specs.Hosted.{Object, Hosted, object_at}
+use Rattle.app_host.specs.Whole.{IsKnown}
+use Rattle.app_host.specs.Party.{Party, Everyone, Only, IsKnownOnSeat, IsKnownSpare, AreKnownIn}
 use Rattle.app_host.specs.Delivered.{executive_in}
-use Rattle.app_host.specs.Step.{IsBetween, spare_taken, called_for, StepsSo}
+use Rattle.app_host.specs.Step.{IsBetween, party_of, called_for, StepsSo}
 use Rattle.flight_core.specs.Cutting.{IsHandedOut, Begins, Comes, Goes}
 use Rattle.flight_core.specs.Flight.{AreAllKnown, written_by}
 use Rattle.flight_core.specs.Going as going
@@ -51,7 +52,7 @@ pub taken_front : (ws cs xs : List ℕ) (sent : ℕ) → sent ≤ length cs → 
 taken_front ws cs xs sent few =
     take-append-le (length ws + sent) (ws ++ cs) xs (omega (arith, few, length-append ws cs)) ∙ take-append-add ws cs sent
 
--- ---- spares
+-- ---- who is known
 
 found_known : (test : Object → Bool) (stock : List Object) → All IsKnown stock → IfSome (find test stock) IsKnown
 found_known test [] all = tt
@@ -61,10 +62,22 @@ found_known test (o ∷ stock) all = by_test (test o) (found_known test stock (A
     by_test true rest = All-head IsKnown o stock all
     by_test false rest = rest
 
--- where all are known, so is the one that a record takes
-pub spare_known : (name : Option Name) (stock : List Object) → All IsKnown stock → IsKnownSpare name stock
+-- where all are known, so are those who take part in a record
+spare_known : (name : Option Name) (stock : List Object) → All IsKnown stock → IsKnownSpare name stock
 spare_known None stock all = tt
 spare_known (Some name) stock all = found_known (λ (spare : Object). is_named name spare.called) stock all
+
+seat_known : (name : Option Name) (seats : List (Option Object)) → ((seat : ℕ) → IfSome (object_at seat seats) IsKnown) → IsKnownOnSeat name seats
+seat_known None seats all = tt
+seat_known (Some name) seats all = λ seat. by_place (object_at seat seats) (all seat)
+  where
+    by_place : (place : Option Object) → IfSome place IsKnown → IfSome place (λ (o : Object). is_named name o.called ≡ true → IsKnown o)
+    by_place None known = tt
+    by_place (Some o) known = λ named. known
+
+pub party_known : (party : Party) (h : Hosted) → AreAllKnown h → AreKnownIn party h
+party_known Everyone h all = all.seated
+party_known (Only leaving coming) h all = (seat_known leaving h.seats all.seated, spare_known coming h.stock all.spares)
 
 -- and where none is new, all are
 still_known : (old new : List Object) → All IsKnown old → All (Contains old) new → All IsKnown new
@@ -152,10 +165,10 @@ module _ (n : ℕ) (meanings : FileMeanings (List ℕ)) (first : Hosted) where
         ∙ concat-append (written_from on_board (executive_in first) meanings entries) (step_by on_board entry.moment (then entries) (input_of meanings entry.contents)).1
         ∙ ap (λ bs. written_by meanings first entries ++ bs) (sym called)
 
-    exact_more : (new : Hosted) (after : Option (List ℕ)) (total : ℕ) → StepsSo entry.moment (input_of meanings entry.contents) now new mid after → All (Contains now.stock) new.stock →
+    exact_more : (new : Hosted) (after : Option (List ℕ)) (total : ℕ) → StepsSo entry.moment (input_of meanings entry.contents) now new mid after → AreAllKnown new →
         total ≡ length (called_for entry.moment (input_of meanings entry.contents) now) → Exact new (entries ++ entry ∷ []) before after (bytes + total)
-    exact_more new after total s stock count = record {
-      known = record { spares = still_known now.stock new.stock far.known.spares stock; seated = s.known };
+    exact_more new after total s known count = record {
+      known = known;
       executive =
           ap (λ (h : model.Host (List ℕ)). h.executive) s.host
           ∙ ap (λ e. (step_by on_board entry.moment e (input_of meanings entry.contents)).0) far.executive
@@ -196,9 +209,9 @@ module _ (n : ℕ) (meanings : FileMeanings (List ℕ)) (first : Hosted) where
         small = omega (arith, far.small, fits);
         exact = λ known.
             let e = far.exact known in
-            let spare = spare_known (spare_taken (input_of meanings next.entry.contents)) now.stock e.known.spares in
-            exact_more goes_on now far.entries next.entry sink.gained sink_now.gained bytes e new sink_after.gained total
-            (done.steps.exact e.known.seated spare) done.steps.stock (done.count e.known.seated spare);
+            let those = party_known (party_of (input_of meanings next.entry.contents)) now e.known in
+            exact_more goes_on now far.entries next.entry sink.gained sink_now.gained bytes e new sink_after.gained total (done.steps.exact those)
+            (record { spares = still_known now.stock new.stock e.known.spares done.steps.stock; seated = done.steps.known e.known.seated those }) (done.count those);
       }
 
   -- ---- nothing more is held, and a piece comes

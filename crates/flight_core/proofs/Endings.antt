@@ -17,7 +17,7 @@ use Rattle.host_laws.specs.Writes.{OpenHostsTake, Takes}
 use Rattle.app_host.specs.Shared.{on_board}
 use Rattle.app_host.specs.Hosted.{Hosted, in_numbers}
 use Rattle.app_host.specs.Delivered.{executive_in}
-use Rattle.app_host.specs.Step.{spare_taken, called_for, StopsSo}
+use Rattle.app_host.specs.Step.{party_of, called_for, StopsSo}
 use Rattle.flight_core.specs.declared.error.Report.{Report}
 use Rattle.flight_core.specs.declared.error.RunError.{RunError}
 use Rattle.flight_core.specs.declared.halt.Halt.{Halt}
@@ -28,7 +28,7 @@ use Rattle.flight_core.specs.Flight.{AreAllKnown, written_by, stopped_by, ended_
 use Rattle.flight_core.specs.Front.{part_of}
 use Rattle.flight_core.specs.Going.{IsCutShort, NoneIsHeld, IsOver, HandlesNext, TakesPiece}
 use Rattle.flight_core.specs.Records.{Held, front_of}
-use Rattle.flight_core.proofs.Courses.{spare_known, written_behind, taken_front, Exact, SoFar, in_front, joined, idle}
+use Rattle.flight_core.proofs.Courses.{party_known, written_behind, taken_front, Exact, SoFar, in_front, joined, idle}
 
 -- the laws that say how records end
 pub record Laws : Type 0 where
@@ -145,7 +145,7 @@ module _ (laws : Laws) (n : ℕ) (meanings : FileMeanings (List ℕ)) (first : H
     called = called_for entry.moment (input_of meanings entry.contents) now
 
     stops : StopsSo entry.moment (input_of meanings entry.contents) sent now new sink_now.gained sink_after.gained
-    stops = cut.steps.exact exact.known.seated (spare_known (spare_taken (input_of meanings entry.contents)) now.stock exact.known.spares)
+    stops = cut.steps.exact (party_known (party_of (input_of meanings entry.contents)) now exact.known)
 
     sent_fewer : sent < length called
     sent_fewer =
