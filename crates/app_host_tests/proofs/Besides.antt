@@ -1,25 +1,19 @@
 -- An application of this profile beside one of another kind.
-use Rattle.std.proofs.Common.{◌≡◌, refl, ap, sym, ◌∙◌, subst, ℕ, zero, suc, true, false, if◌then◌else◌, List, [], ◌∷◌, map, replicate, Option, Some, None, Result, Ok, Err}
+use Rattle.std.proofs.Common.{◌≡◌, refl, ap, sym, ◌∙◌, subst, ℕ, zero, suc, true, false, if◌then◌else◌, List, [], ◌∷◌, map, replicate, Option, Some, None, Result}
 use Rattle.std.specs.Prelude.{option_map, find, IfSome, OnOk}
-use Rattle.std.specs.List.{concat}
 use Rattle.std.specs.Io.KnownBytes.{Appends}
-use Rattle.std.proofs.KnownBytes.{Appends-trans}
 use Rattle.std.proofs.lemmas.Slice.Eq.{bytes_eq-Decides}
-use Rattle.lc_model.specs.Device.{Sink}
-use Rattle.lc_model.specs.Name.{Name, is_named, counter_name}
-use Rattle.lc_model.specs.Host.React.{Packet}
-use Rattle.lc_model.specs.Kept.Summary.{AppState, CounterState, Other}
-use Rattle.lc_model.specs.Kept.Executive.{Member, Executive, step_by}
+use Rattle.lc_model.specs.Name.{is_named, counter_name}
+use Rattle.lc_model.specs.Kept.Summary.{CounterState, Other}
+use Rattle.lc_model.specs.Kept.Executive.{Member}
 use Rattle.lc_model.specs.Kept.Stations as model
 use Rattle.lc_model.specs.Kept.Stations.{first_host}
 use Rattle.app_host.specs.declared.error.WriteFault.{WriteFault}
-use Rattle.app_host.specs.Shared.{on_board}
 use Rattle.app_host.specs.Hosted.{Object, Hosted, object_at, member_of, in_numbers}
 use Rattle.app_host.specs.Whole.{IsKnown, AreKnown}
-use Rattle.app_host.specs.Party.{Party, Everyone, Only, IsKnownSpare, AreKnownIn}
+use Rattle.app_host.specs.Party.{IsKnownSpare}
 use Rattle.app_host.specs.Delivered.{executive_in}
-use Rattle.app_host.specs.Step.{party_of, StepsWhole, Steps}
-use Rattle.app_host_tests.specs.Beside.{now, start, count, written_from, written_beside}
+use Rattle.app_host_tests.specs.Beside.{written_from, written_beside}
 
 -- ---- the premises at the beginning
 
@@ -49,27 +43,6 @@ pub spare_first : (h : Hosted) (stock : List Object) (first other : Object) → 
     first.state ≡ CounterState 0 → IsKnownSpare (Some counter_name) h.stock
 spare_first h stock first other is items named counts =
     spare_in_front h.stock first (member_of other ∷ []) (ap (λ (x : model.Host (List ℕ)). x.executive.stock) is ∙ ap (map member_of) items) named counts
-
--- ---- two records
-
-start_asks : party_of (Packet start) ≡ Only None (Some counter_name)
-start_asks = refl
-
-count_asks : party_of (Packet count) ≡ Everyone
-count_asks = refl
-
-module _ (h₀ h₁ h₂ : Hosted) (s₀ s₁ s₂ : Sink) (known : AreKnown h₀) (spare : IsKnownSpare (Some counter_name) h₀.stock) (one : StepsWhole now (Packet start) h₀ h₁ s₀ s₁) where
-  both : StepsWhole now (Packet count) h₁ h₂ s₁ s₂ → Appends s₀.gained s₂.gained (written_from (executive_in h₀))
-  both two =
-      let those = subst (λ (p : Party). AreKnownIn p h₀) (sym start_asks) (tt, spare) in
-      let first = one.exact those in
-      let second = two.exact (subst (λ (p : Party). AreKnownIn p h₁) (sym count_asks) (one.known known those)) in
-      Appends-trans _ _ _ _ _ first.gains
-      (subst (λ (e : Executive (List ℕ)). Appends s₁.gained s₂.gained (concat (step_by on_board now e (Packet count)).1)) (ap (λ (x : model.Host (List ℕ)). x.executive) first.host) second.gains)
-
-  pub both_written : (result : Result (Unit {0}) WriteFault) → Steps now (Packet count) h₁ h₂ s₁ s₂ result → OnOk result (Appends s₀.gained s₂.gained (written_from (executive_in h₀)))
-  both_written (Ok done) two = both two
-  both_written (Err fault) two = tt
 
 -- ---- from the first host on
 
