@@ -128,7 +128,7 @@ module _ (law : TablesAreFound) (h new : Hosted) (now : Services) (seat : ℕ) (
 
   module _ (known : AreKnown h) where
     known_here : o.state ≢ Other
-    known_here = subst (λ (x : Option Object). IfSome x (λ (y : Object). y.state ≢ Other)) at (known.seated seat)
+    known_here = subst (λ (x : Option Object). IfSome x (λ (y : Object). y.state ≢ Other)) at (known seat)
 
     answer : Answers (next_on_packet on_board before.moment o.state packet (shared before))
     answer = answers before.moment o.state packet (shared before) known_here
@@ -168,15 +168,14 @@ module _ (law : TablesAreFound) (h new : Hosted) (now : Services) (seat : ℕ) (
 
     becomes_so : Becomes new (after_call seat o.called (behind before.bus seat has) e answer.called)
     becomes_so = record {
-      known = record {
-        spares = rw stock known.spares;
-        seated = λ other. rw seats
-            (fact_at_set (λ i (x : Option Object). IfSome x (λ (y : Object). y.state ≢ Other)) h.seats seat other (Some o') None (omega (arith, below, whole.eight))
-            (λ other_kind. answer.known (sym leaves.becomes ∙ other_kind)) (λ i another. known.seated i));
-      };
       executive = λ i. record { stock = map member_of (stock i); seats = seats_are i; pipes = pipes_are i; services = leaves.services i };
       outgoing = leaves.outgoing;
     }
+
+    pub known_then : AreKnown new
+    known_then = λ other. rw seats
+        (fact_at_set (λ i (x : Option Object). IfSome x (λ (y : Object). y.state ≢ Other)) h.seats seat other (Some o') None (omega (arith, below, whole.eight))
+        (λ other_kind. answer.known (sym leaves.becomes ∙ other_kind)) (λ i another. known i))
 
     pub exact_then : Becomes new (delivered_at on_board before.moment seat e)
     exact_then = subst (Becomes new) (sym step_is) becomes_so
@@ -196,5 +195,6 @@ module _ (law : TablesAreFound) (h new : Hosted) (now : Services) (seat : ℕ) (
       files = answered.rules.call.others.files ∙ ap (λ (t : TableService). t.files) tables;
       roster = same_roster h new stock (names_still h new seat o o' at answered.name seats);
     };
+    known = known_then;
     exact = exact_then;
   }

@@ -114,7 +114,7 @@ module _ (law : TablesAreFound) (old new : Hosted) (seat : ℕ) (o o' : Object) 
   abbrev e : Executive (List ℕ)
   e = executive_in old
 
-  module _ (known : AreKnown old) (its_own : o.state ≢ Other) where
+  module _ (its_own : o.state ≢ Other) where
     answer : Starts (next_start on_board old.services.moment o.state (shared old.services))
     answer = starts old.services.moment o.state (shared old.services) its_own
 
@@ -140,15 +140,14 @@ module _ (law : TablesAreFound) (old new : Hosted) (seat : ℕ) (o o' : Object) 
 
     becomes_so : Becomes new (after_call seat o.called [] e answer.called)
     becomes_so = record {
-      known = record {
-        spares = rw stock known.spares;
-        seated = λ other. rw seats
-            (fact_at_set (λ i (x : Option Object). IfSome x (λ (y : Object). y.state ≢ Other)) old.seats seat other (Some o') None (omega (arith, below, seated.eight))
-            (λ other_kind. answer.known (sym leaves.becomes ∙ other_kind)) (λ i another. known.seated i));
-      };
       executive = λ i. record { stock = map member_of (stock i); seats = seats_are i; pipes = pipes_are i; services = leaves.services i };
       outgoing = leaves.outgoing;
     }
+
+    known_then : AreKnown old → AreKnown new
+    known_then known = λ other. rw seats
+        (fact_at_set (λ i (x : Option Object). IfSome x (λ (y : Object). y.state ≢ Other)) old.seats seat other (Some o') None (omega (arith, below, seated.eight))
+        (λ other_kind. answer.known (sym leaves.becomes ∙ other_kind)) (λ i another. known i))
 
     exact_then : Becomes new (begun_on on_board old.services.moment seat (member_of o) e)
     exact_then = subst (Becomes new) (sym step_is) becomes_so
@@ -173,6 +172,7 @@ module _ (law : TablesAreFound) (old new : Hosted) (seat : ℕ) (o o' : Object) 
             ∙ (λ j. slice_set (map (option_map name_of) old.seats) seat (Some (started.name j)))) i;
       };
     };
+    known = λ known its_own. known_then its_own known;
     exact = exact_then;
   }
 

@@ -211,7 +211,6 @@ module _ (moment : Moment) (first : Now) (now given : Hosted) (sent : ℕ) (befo
       where
         so : (left : ℕ) → far.left ≡ suc left → IsCut (delivery_stations on_board moment 0 520 first) (drained on_board moment 520 first) (sent + taken) later before after
         so left is = record {
-          known = known;
           station = station;
           stops =
               ap (λ n. stop_at (n + taken) (delivery_stations on_board moment 0 520 first)) far.count
@@ -253,7 +252,6 @@ all_counted moment first now sent before after far none = far.count ∙ ap lengt
 pub all_done : (moment : Moment) (first : Now) (now : Hosted) (sent : ℕ) (before after : Option (List ℕ)) → SoFar moment first now sent before after → ready_seat (seen now.services.bus) ≡ None →
     IsDone (delivery_stations on_board moment 0 520 first) (drained on_board moment 520 first) (last_calls on_board moment (delivery_stations on_board moment 0 520 first)) now before after
 all_done moment first now sent before after far none = record {
-  known = far.known;
   executive = sym (far.ends ∙ ap (λ (w : Step). w.0) nothing_more);
   calls = sym (last_are moment (delivery_stations on_board moment 0 520 first) ∙ far.calls ∙ ap (calls_after now.calls) no_stations ∙ no_calls now.calls);
   gains = subst (Appends before after) (sym bytes_are) far.gains;

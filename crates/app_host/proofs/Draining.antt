@@ -13,14 +13,15 @@ use Rattle.app_host.specs.declared.error.WriteFault.{WriteFault}
 use Rattle.app_host.specs.Shared.{on_board, shared}
 use Rattle.app_host.specs.Hosted.{Hosted, member_of}
 use Rattle.app_host.specs.Whole.{IsWhole, AreKnown}
+use Rattle.app_host.specs.Party.{Party, Everyone, nobody}
 use Rattle.app_host.specs.Load.{IsLight, load}
 use Rattle.app_host.specs.Delivered.{executive_in, Becomes, HasDelivered}
 use Rattle.app_host.specs.Writing.{written_off, IsFlushed, IsAllSent, IsPartSent, IsCut, HandlesAll, HandlesPart, Handles}
 use Rattle.lc_model.proofs.Facts.{test_less}
-use Rattle.app_host.specs.Roster.{roster_of, ComesTo}
+use Rattle.app_host.specs.Roster.{Roster, roster_of, ComesTo}
 use Rattle.app_host.specs.Response.{Response, handing_on, IsAlone, HasCalled, RespondsWhole, RespondsPart, Responds}
 use Rattle.app_host.proofs.Flushed.{same_shared}
-use Rattle.app_host.proofs.Rosters.{roster_still}
+use Rattle.app_host.proofs.Rosters.{roster_still, still_among}
 use Rattle.app_host.proofs.Course.{nothing_taken, taken_both, cut_behind, SoFar, so_far_first, so_far_more, cut_here, all_done, all_counted}
 
 -- what the applications have sent so far, and that what is HOST's own stays
@@ -76,7 +77,7 @@ module _ (given later : Hosted) (flushed : IsFlushed given later) where
   }
 
   pub still_known : AreKnown given → AreKnown later
-  still_known known = record { spares = rw flushed.stock known.spares; seated = λ seat. rw flushed.seats (known.seated seat) }
+  still_known known = λ seat. rw flushed.seats (known seat)
 
 module _ (first now given later : Hosted) (sent seat : ℕ) (before mid after : Sink) (far : Draining first now sent before mid) (ready : ready_seat (seen now.services.bus) ≡ Some seat)
     (delivered : HasDelivered seat now given) (flushed : IsFlushed given later) where
@@ -110,16 +111,19 @@ module _ (first now given later : Hosted) (sent seat : ℕ) (before mid after : 
     becomes : Becomes given (delivered_at on_board first.services.moment seat (executive_in now))
     becomes = subst (λ m. Becomes given (delivered_at on_board m seat (executive_in now))) far.moment (delivered.exact so_far.known)
 
+    known_given : AreKnown given
+    known_given = delivered.known so_far.known
+
     more : Appends mid.gained after.gained given.services.outgoing → SoFar first.services.moment (executive_in first) later (sent + length given.services.outgoing) before.gained after.gained
     more gains =
         so_far_more first.services.moment (executive_in first) now given sent before.gained mid.gained so_far seat ready becomes delivered.falls
-        later after.gained (still_known given later flushed becomes.known) (same_executive given later flushed) calls_then (ap load bus_then) gains
+        later after.gained (still_known given later flushed known_given) (same_executive given later flushed) calls_then (ap load bus_then) gains
 
     cut : (taken : ℕ) → taken < length given.services.outgoing → Appends mid.gained after.gained (take taken given.services.outgoing) →
         IsCut (delivery_stations on_board first.services.moment 0 520 (executive_in first)) (drained on_board first.services.moment 520 (executive_in first)) (sent + taken) later before.gained after.gained
     cut taken fewer gains =
         cut_here first.services.moment (executive_in first) now given sent before.gained mid.gained so_far seat ready becomes delivered.falls
-        later after.gained (still_known given later flushed becomes.known) (same_executive given later flushed) calls_then (ap load bus_then) taken fewer gains
+        later after.gained (still_known given later flushed known_given) (same_executive given later flushed) calls_then (ap load bus_then) taken fewer gains
 
   pub draining_next : (total : ℕ) → IsAllSent sent given later mid after total → Draining first later total before after
   draining_next total all = record {
@@ -141,12 +145,14 @@ module _ (first now given later : Hosted) (sent seat : ℕ) (before mid after : 
   }
 
   pub draining_cut : (total : ℕ) → IsPartSent sent given later mid after total →
-      HandlesPart (delivery_stations on_board first.services.moment 0 520 (executive_in first)) (drained on_board first.services.moment 520 (executive_in first)) total first later before after
+      HandlesPart Everyone (delivery_stations on_board first.services.moment 0 520 (executive_in first)) (drained on_board first.services.moment 520 (executive_in first)) total first later before after
   draining_cut total part = record {
     whole = whole_then;
+    stock = still_among first later (ap (λ (r : Roster). r.stock) own_then.roster);
     is_closed = part.is_closed;
     calls = omega (arith, few_then);
     failed = part.failed;
+    known = λ known everyone. still_known given later flushed (known_given known);
     exact = λ known.
         subst (λ n. IsCut (delivery_stations on_board first.services.moment 0 520 (executive_in first)) (drained on_board first.services.moment 520 (executive_in first)) n later before.gained after.gained)
         (sym part.count) (cut known part.taken part.fewer part.gains);
@@ -183,14 +189,16 @@ module _ (first now given later : Hosted) (sent seat : ℕ) (before mid after : 
       inside = omega (arith, part.count, part.fewer, far.own.count, length-append far.own.theirs given.services.outgoing)
 
 pub draining_end : (first now : Hosted) (sent : ℕ) (before after : Sink) → Draining first now sent before after → ready_seat (seen now.services.bus) ≡ None →
-    HandlesAll (delivery_stations on_board first.services.moment 0 520 (executive_in first)) (drained on_board first.services.moment 520 (executive_in first))
+    HandlesAll Everyone (delivery_stations on_board first.services.moment 0 520 (executive_in first)) (drained on_board first.services.moment 520 (executive_in first))
     (last_calls on_board first.services.moment (delivery_stations on_board first.services.moment 0 520 (executive_in first))) sent first now before after
 draining_end first now sent before after far none = record {
   whole = far.whole;
   quiet = none;
+  stock = still_among first now (ap (λ (r : Roster). r.stock) far.own.own.roster);
   is_closed = far.is_closed;
   calls = omega (arith, far.few);
   fine = far.fine;
+  known = λ known everyone. (far.exact known).known;
   exact = λ known. all_done first.services.moment (executive_in first) now sent before.gained after.gained (far.exact known) none;
   count = λ known. all_counted first.services.moment (executive_in first) now sent before.gained after.gained (far.exact known) none;
 }
@@ -219,7 +227,31 @@ pub responds_short : (moment : Moment) (response : Response) (old new : Hosted) 
 responds_short moment response old new before now (Ok done) fault is part = absurd is
 responds_short moment response old new before now (Err e) fault is part = subst (λ (f : WriteFault). RespondsPart moment response f.sent old new before now) (sym is) part
 
-pub cut_short : (stations : List (Station (List ℕ))) (step : Written (List ℕ)) (last : ℕ) (old new : Hosted) (before now : Sink) (result : Result ℕ WriteFault) (fault : WriteFault) →
-    IsErrAnd result (λ e. e ≡ fault) → HandlesPart stations step fault.sent old new before now → Handles stations step last old new before now result
-cut_short stations step last old new before now (Ok done) fault is part = absurd is
-cut_short stations step last old new before now (Err e) fault is part = subst (λ f. HandlesPart stations step f.sent old new before now) (sym is) part
+pub cut_short : (party : Party) (stations : List (Station (List ℕ))) (step : Written (List ℕ)) (last : ℕ) (old new : Hosted) (before now : Sink) (result : Result ℕ WriteFault) (fault : WriteFault) →
+    IsErrAnd result (λ e. e ≡ fault) → HandlesPart party stations step fault.sent old new before now → Handles party stations step last old new before now result
+cut_short party stations step last old new before now (Ok done) fault is part = absurd is
+cut_short party stations step last old new before now (Err e) fault is part = subst (λ f. HandlesPart party stations step f.sent old new before now) (sym is) part
+
+-- where nothing is asked, all the more where something is
+pub asking_more : (party : Party) (stations : List (Station (List ℕ))) (step : Written (List ℕ)) (last : ℕ) (old new : Hosted) (before now : Sink) (result : Result ℕ WriteFault) →
+    Handles nobody stations step last old new before now result → Handles party stations step last old new before now result
+asking_more party stations step last old new before now (Ok total) all = record {
+  whole = all.whole;
+  quiet = all.quiet;
+  stock = all.stock;
+  is_closed = all.is_closed;
+  calls = all.calls;
+  fine = all.fine;
+  known = λ known asked. all.known known (tt, tt);
+  exact = λ asked. all.exact (tt, tt);
+  count = λ asked. all.count (tt, tt);
+}
+asking_more party stations step last old new before now (Err fault) part = record {
+  whole = part.whole;
+  stock = part.stock;
+  is_closed = part.is_closed;
+  calls = part.calls;
+  failed = part.failed;
+  known = λ known asked. part.known known (tt, tt);
+  exact = λ asked. part.exact (tt, tt);
+}

@@ -24,6 +24,7 @@ use Rattle.app_host.specs.Shared.{on_board, shared}
 use Rattle.app_host.specs.Telling.{name_of}
 use Rattle.app_host.specs.Hosted.{Hosted, member_of}
 use Rattle.app_host.specs.Whole.{AreKnown, IsWhole}
+use Rattle.app_host.specs.Party.{nobody}
 use Rattle.app_host.specs.Delivered.{executive_in}
 use Rattle.app_host.specs.Writing.{Handles}
 use Rattle.app_host.specs.Obeyed.{events_by}
@@ -148,7 +149,7 @@ pub record EventsAlone (old mid : Hosted) : Type 0 where
 
 module _ (found_law : TablesAreFound) (law : CommandsByName) (old mid : Hosted) (packet : List ℕ) (whole : IsWhole old) (sound : IsTableService old.services.tables) (alone : EventsAlone old mid) where
   known_obeyed : AreKnown old → AreKnown mid
-  known_obeyed known = record { spares = rw alone.stock known.spares; seated = λ seat. rw alone.seats (known.seated seat) }
+  known_obeyed known = λ seat. rw alone.seats (known seat)
 
   abbrev e : Executive (List ℕ)
   e = executive_in old
@@ -194,9 +195,9 @@ module _ (found_law : TablesAreFound) (law : CommandsByName) (old mid : Hosted) 
     pub is_obeyed : (request : Request) → request ≡ command_done event_services (function_code packet) → (new : Hosted) (before now : Sink) (result : Result ℕ WriteFault) →
         TellsAlone request mid new before now result → ObeysEvents packet old new before now result
     is_obeyed request asked new before now result tells =
-        subst (λ (w : Written (List ℕ)). Handles (written_once w) w 0 old new before now result)
+        subst (λ (w : Written (List ℕ)). Handles nobody (written_once w) w 0 old new before now result)
         (ap (λ r. told_by_host old.services.moment (r ∷ []) later) asked ∙ sym step_obeyed)
-        (told_behind old mid new later executive_obeyed alone.moment alone.is_closed known_obeyed request before now result tells)
+        (told_behind old mid new later executive_obeyed alone.stock alone.moment alone.is_closed known_obeyed request before now result tells)
 
   -- it is refused
   module _ (same : mid.services.events ≡ old.services.events) (refusal : Refusal) (is : Err refusal ≡ events_by (event_command (function_code packet) (payload packet)) old.services.events) where
@@ -219,6 +220,6 @@ module _ (found_law : TablesAreFound) (law : CommandsByName) (old mid : Hosted) 
     pub is_not_obeyed : (request : Request) → request ≡ command_refused event_services refusal → (new : Hosted) (before now : Sink) (result : Result ℕ WriteFault) →
         TellsAlone request mid new before now result → ObeysEvents packet old new before now result
     is_not_obeyed request asked new before now result tells =
-        subst (λ (w : Written (List ℕ)). Handles (written_once w) w 0 old new before now result)
+        subst (λ (w : Written (List ℕ)). Handles nobody (written_once w) w 0 old new before now result)
         (ap (λ r. told_by_host old.services.moment (r ∷ []) e) asked ∙ sym step_refused)
-        (told_behind old mid new e executive_same alone.moment alone.is_closed known_obeyed request before now result tells)
+        (told_behind old mid new e executive_same alone.stock alone.moment alone.is_closed known_obeyed request before now result tells)

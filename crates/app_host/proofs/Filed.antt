@@ -1,6 +1,6 @@
 -- A service of the host changes, and HOST tells of it.
 use Rattle.std.proofs.Common.{◌≡◌, refl, ap, ap₂, sym, ◌∙◌, subst, ℕ, List, [], ◌∷◌, length, map, Some, None, Result, Ok, Err}
-use Rattle.std.specs.Prelude.{option_map, slice_index_or}
+use Rattle.std.specs.Prelude.{option_map, slice_index_or, All, Contains}
 use Rattle.lc_model.specs.declared.record.Moment.{Moment}
 use Rattle.std.specs.List.{concat}
 use Rattle.lc_model.specs.Device.{Sink}
@@ -20,8 +20,9 @@ use Rattle.app_host.specs.declared.services.Services.{Services}
 use Rattle.app_host.specs.declared.error.WriteFault.{WriteFault}
 use Rattle.app_host.specs.Shared.{shared}
 use Rattle.app_host.specs.Telling.{name_of}
-use Rattle.app_host.specs.Hosted.{Hosted, member_of}
+use Rattle.app_host.specs.Hosted.{Object, Hosted, member_of}
 use Rattle.app_host.specs.Whole.{AreKnown, IsWhole, IsQuiet}
+use Rattle.app_host.specs.Party.{nobody}
 use Rattle.app_host.specs.Delivered.{executive_in}
 use Rattle.app_host.specs.Writing.{IsDone, IsCut, Handles}
 use Rattle.app_host.specs.Told.{TellsAlone, Files}
@@ -29,7 +30,7 @@ use Rattle.app_host.proofs.Flushed.{same_shared}
 use Rattle.app_host.proofs.Frames.{StaysAt, seated_still}
 
 -- HOST's event behind a change is the last that a step writes
-module _ (old mid new : Hosted) (e : Executive (List ℕ)) (is : executive_in mid ≡ e) (moment : mid.services.moment ≡ old.services.moment) (closed : mid.is_closed ≡ old.is_closed)
+module _ (old mid new : Hosted) (e : Executive (List ℕ)) (is : executive_in mid ≡ e) (stock : mid.stock ≡ old.stock) (moment : mid.services.moment ≡ old.services.moment) (closed : mid.is_closed ≡ old.is_closed)
     (known : AreKnown old → AreKnown mid) (request : Request) where
   abbrev step : Written (List ℕ)
   step = told_by_host old.services.moment (request ∷ []) e
@@ -37,22 +38,29 @@ module _ (old mid new : Hosted) (e : Executive (List ℕ)) (is : executive_in mi
   step_is : told_by_host mid.services.moment (request ∷ []) (executive_in mid) ≡ step
   step_is = ap₂ (λ (m : Moment) (x : Executive (List ℕ)). told_by_host m (request ∷ []) x) moment is
 
-  pub told_behind : (before now : Sink) (result : Result ℕ WriteFault) → TellsAlone request mid new before now result → Handles (written_once step) step 0 old new before now result
+  among_behind : All (Contains mid.stock) new.stock → All (Contains old.stock) new.stock
+  among_behind among = subst (λ (spares : List Object). All (Contains spares) new.stock) stock among
+
+  pub told_behind : (before now : Sink) (result : Result ℕ WriteFault) → TellsAlone request mid new before now result → Handles nobody (written_once step) step 0 old new before now result
   told_behind before now (Ok total) all = record {
     whole = all.whole;
     quiet = all.quiet;
+    stock = among_behind all.stock;
     is_closed = all.is_closed ∙ closed;
     calls = all.calls;
     fine = all.fine;
-    exact = λ k. subst (λ (w : Written (List ℕ)). IsDone (written_once w) w 0 new before.gained now.gained) step_is (all.exact (known k));
-    count = λ k. all.count (known k) ∙ ap (λ (w : Written (List ℕ)). length (concat w.1)) step_is;
+    known = λ k those. all.known (known k) those;
+    exact = λ those. subst (λ (w : Written (List ℕ)). IsDone (written_once w) w 0 new before.gained now.gained) step_is (all.exact those);
+    count = λ those. all.count those ∙ ap (λ (w : Written (List ℕ)). length (concat w.1)) step_is;
   }
   told_behind before now (Err fault) part = record {
     whole = part.whole;
+    stock = among_behind part.stock;
     is_closed = part.is_closed;
     calls = part.calls;
     failed = part.failed;
-    exact = λ k. subst (λ (w : Written (List ℕ)). IsCut (written_once w) w fault.sent new before.gained now.gained) step_is (part.exact (known k));
+    known = λ k those. part.known (known k) those;
+    exact = λ those. subst (λ (w : Written (List ℕ)). IsCut (written_once w) w fault.sent new before.gained now.gained) step_is (part.exact those);
   }
 
 -- ---- files
@@ -103,7 +111,7 @@ pub record TablesAlone (old mid : Hosted) : Type 0 where
 module _ (found : TablesAreFound) (storing : StoringFiles) (old mid : Hosted) (name : Name) (bytes : List ℕ) (whole : IsWhole old) (quiet : IsQuiet old)
     (sound : IsTableService old.services.tables) (sound' : IsTableService mid.services.tables) (alone : TablesAlone old mid) where
   known_filed : AreKnown old → AreKnown mid
-  known_filed known = record { spares = rw alone.stock known.spares; seated = λ seat. rw alone.seats (known.seated seat) }
+  known_filed known = λ seat. rw alone.seats (known seat)
 
   pub quiet_filed : IsQuiet mid
   quiet_filed = ap (λ (b : Bus). ready_seat (seen b)) alone.bus ∙ quiet
@@ -140,9 +148,9 @@ module _ (found : TablesAreFound) (storing : StoringFiles) (old mid : Hosted) (n
   pub is_filed : Ok mid.services.tables ≡ file_put name bytes old.services.tables → (request : Request) → request ≡ file_stored → (new : Hosted) (before now : Sink) (result : Result ℕ WriteFault) →
       TellsAlone request mid new before now result → Files name bytes old new before now result
   is_filed is request asked new before now result tells =
-      subst (λ (w : Written (List ℕ)). Handles (written_once w) w 0 old new before now result) (sym step_is)
+      subst (λ (w : Written (List ℕ)). Handles nobody (written_once w) w 0 old new before now result) (sym step_is)
       (told_behind old mid new (record e { services = record e.services { files = files_seen mid.services.tables.files } })
-      (executive_filed (places_stay name bytes old.services.tables mid.services.tables is)) alone.moment alone.is_closed known_filed request before now result tells)
+      (executive_filed (places_stay name bytes old.services.tables mid.services.tables is)) alone.stock alone.moment alone.is_closed known_filed request before now result tells)
     where
       step_is : this_step ≡ told_by_host old.services.moment (request ∷ []) (record e { services = record e.services { files = files_seen mid.services.tables.files } })
       step_is =
@@ -161,8 +169,8 @@ module _ (found : TablesAreFound) (storing : StoringFiles) (old mid : Hosted) (n
   pub is_not_filed : mid.services.tables ≡ old.services.tables → (refusal : Refusal) → Err refusal ≡ file_put name bytes old.services.tables → (request : Request) → request ≡ file_refused refusal →
       (new : Hosted) (before now : Sink) (result : Result ℕ WriteFault) → TellsAlone request mid new before now result → Files name bytes old new before now result
   is_not_filed tables refusal is request asked new before now result tells =
-      subst (λ (w : Written (List ℕ)). Handles (written_once w) w 0 old new before now result) (sym step_is)
-      (told_behind old mid new e (same_executive tables) alone.moment alone.is_closed known_filed request before now result tells)
+      subst (λ (w : Written (List ℕ)). Handles nobody (written_once w) w 0 old new before now result) (sym step_is)
+      (told_behind old mid new e (same_executive tables) alone.stock alone.moment alone.is_closed known_filed request before now result tells)
     where
       step_is : this_step ≡ told_by_host old.services.moment (request ∷ []) e
       step_is =

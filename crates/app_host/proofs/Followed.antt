@@ -1,13 +1,13 @@
 -- The next one took its seat.
-use Rattle.std.proofs.Common.{◌≡◌, ◌≢◌, refl, ap, ap₂, sym, ◌∙◌, subst, ℕ, suc, ◌<◌, List, [], ◌++◌, length, map, take, drop, arith, Option, Some, None, get_or}
+use Rattle.std.proofs.Common.{◌≡◌, refl, ap, ap₂, sym, ◌∙◌, subst, ℕ, suc, ◌<◌, List, [], ◌++◌, length, map, take, drop, arith, Option, Some, None, get_or}
 use Rattle.std.specs.Prelude.{option_map, All, slice_set}
 use Rattle.std.specs.List.{remove}
 use Rattle.std.proofs.lemmas.List.{take-map, drop-map, map-append, length-map}
-use Rattle.std.proofs.lemmas.List.Elements.{All-get_or, All-append, All-take, All-drop}
+use Rattle.std.proofs.lemmas.List.Elements.{All-append, All-take, All-drop}
 use Rattle.std.specs.Global.{Global}
 use Rattle.std.specs.declared.dyn_box.DynBox.{DynBox}
 use Rattle.lc_model.specs.Name.{Name}
-use Rattle.lc_model.specs.Kept.Summary.{AppState, Other}
+use Rattle.lc_model.specs.Kept.Summary.{AppState}
 use Rattle.lc_model.specs.Kept.Executive.{no_member, spare_at, begun_on, without_spare}
 use Rattle.lc_model.specs.Services.Bus.{seen}
 use Rattle.app_host.specs.declared.services.Services.{Services}
@@ -52,13 +52,14 @@ nobody_followed h seated spares idle = record {
   whole = stays_so h h seated idle refl refl refl refl;
   spares = spares;
   own = record { host = refl; files = refl; roster = refl };
-  exact = λ known its_own. record { known = known; executive = refl; outgoing = idle };
+  known = λ known its_own. known;
+  exact = λ its_own. record { executive = refl; outgoing = idle };
 }
 
 -- ---- one that was there before
 
 pub same_followed : (old new : Hosted) (seat : ℕ) (o : Object) → AreSpares old.stock → HasBegun seat o old new → HasFollowed (Same o seat) old new
-same_followed old new seat o spares begun = record { whole = begun.whole; spares = rw begun.stock spares; own = begun.own; exact = begun.exact }
+same_followed old new seat o spares begun = record { whole = begun.whole; spares = rw begun.stock spares; own = begun.own; known = begun.known; exact = begun.exact }
 
 -- ---- a spare
 
@@ -72,7 +73,7 @@ spare_is f xs i x inside is less = sym (shown_at f xs i x no_object less is)
 pub stock_is : {B : Type 0} (f : B → Object) (xs ys : List B) (i : ℕ) → ys ≡ remove xs i → map f ys ≡ remove (map f xs) i
 stock_is f xs ys i is = ap (map f) is ∙ map_removed f xs i
 
-all_removed : {A : Type 0} (P : A → Type 0) (xs : List A) (i : ℕ) → All P xs → All P (remove xs i)
+pub all_removed : {A : Type 0} (P : A → Type 0) (xs : List A) (i : ℕ) → All P xs → All P (remove xs i)
 all_removed P xs i all = All-append P (take i xs) (drop (suc i) xs) (All-take P i xs all) (All-drop P (suc i) xs all)
 
 module _ (old mid : Hosted) (place : ℕ) (less : place < length old.stock) (stock : mid.stock ≡ remove old.stock place) (seats : mid.seats ≡ old.seats) (services : mid.services ≡ old.services)
@@ -100,7 +101,7 @@ module _ (old mid : Hosted) (place : ℕ) (less : place < length old.stock) (sto
   spare_member = shown_in member_of old.stock place no_object no_member less
 
   known_mid : AreKnown old → AreKnown mid
-  known_mid known = record { spares = rw stock (all_removed (λ (spare : Object). spare.state ≢ Other) old.stock place known.spares); seated = λ seat. rw seats (known.seated seat) }
+  known_mid known = λ seat. rw seats (known seat)
 
   pub spare_followed : (seat : ℕ) (o : Object) (new : Hosted) → o ≡ spare_in old.stock place → AreSeated old.seats old.services → old.services.outgoing ≡ [] → AreSpares old.stock → HasBegun seat o mid new →
       HasFollowed (Spare place seat) old new
@@ -112,12 +113,10 @@ module _ (old mid : Hosted) (place : ℕ) (less : place < length old.stock) (sto
       files = begun.own.files ∙ ap (λ (s : Services). s.tables.files) services;
       roster = begun.own.roster ∙ (λ i. record { stock = stock i; seats = slice_set (map (option_map name_of) (seats i)) seat (Some (is i).called) });
     };
-    exact = λ known its_own. subst (Becomes new) (step_is) (begun.exact (known_mid known) (known_spare known));
+    known = λ known its_own. begun.known (known_mid known) (rw is its_own);
+    exact = λ its_own. subst (Becomes new) step_is (begun.exact (rw is its_own));
   }
     where
-      known_spare : AreKnown old → o.state ≢ Other
-      known_spare known = rw is (All-get_or (λ (spare : Object). spare.state ≢ Other) old.stock place no_object less known.spares)
-
       step_is : begun_on on_board mid.services.moment seat (member_of o) (executive_in mid)
           ≡ begun_on on_board old.services.moment seat (spare_at (map member_of old.stock) place) (without_spare place (executive_in old))
       step_is = λ i. begun_on on_board (services i).moment seat ((ap member_of is ∙ sym spare_member) i) (executive_mid i)

@@ -1,6 +1,6 @@
 -- The first object that passes a test, as a loop finds it.
 use Rattle.std.proofs.Common.{◌≡◌, ℕ, ◌+◌, ◌<◌, ◌≤◌, Bool, true, false, List, [], ◌∷◌, Option, Some, None, map, refl, ap, ◌∙◌, sym, length, cond, suc, zero, arith, get_or, set, drop, take, count_by}
-use Rattle.std.specs.Prelude.{option_map, is_some}
+use Rattle.std.specs.Prelude.{option_map, is_some, find}
 use Rattle.std.specs.List.{position_from}
 use Rattle.std.proofs.lemmas.List.{drop_more, drop_all, length-map, map-set, get_or-set_same}
 use Rattle.std.proofs.lemmas.List.Sums.{count_by_more_yes, count_by_more_no}
@@ -62,6 +62,22 @@ found_from p i (x ∷ xs) k d e = found_case p i x xs k d (p x) refl e (λ h. fo
 
 pub found : {M : Type 0} (p : M → Bool) (xs : List M) (k : ℕ) (d : M) → Some k ≡ position_from p 0 xs → (k < length xs) × (p (get_or xs k d) ≡ true)
 found p xs k d e = let r = found_from p 0 xs k d (sym e) in let same : r.0 ≡ k = omega (arith, r.1) in (omega (arith, r.2), rw (← same) r.3)
+
+-- it is the first that passes
+first_case : {M : Type 0} (p : M → Bool) (i : ℕ) (x : M) (xs : List M) (k : ℕ) (d : M) (b : Bool) → cond b (Some i) (position_from p (i + 1) xs) ≡ Some k
+    → (position_from p (i + 1) xs ≡ Some k → (j : ℕ) × (k ≡ (i + 1) + j) × (find p xs ≡ Some (get_or xs j d))) → (j : ℕ) × (k ≡ i + j) × (cond b (Some x) (find p xs) ≡ Some (get_or (x ∷ xs) j d))
+first_case p i x xs k d true e rest = (0, omega (arith, same_Some i k e), refl)
+first_case p i x xs k d false e rest = let r = rest e in (suc r.0, omega (arith, r.1), r.2)
+
+first_from : {M : Type 0} (p : M → Bool) (i : ℕ) (xs : List M) (k : ℕ) (d : M) → position_from p i xs ≡ Some k → (j : ℕ) × (k ≡ i + j) × (find p xs ≡ Some (get_or xs j d))
+first_from p i [] k d e = cc
+first_from p i (x ∷ xs) k d e = first_case p i x xs k d (p x) e (λ h. first_from p (i + 1) xs k d h)
+
+pub found_first : {M : Type 0} (p : M → Bool) (xs : List M) (k : ℕ) (d : M) → Some k ≡ position_from p 0 xs → find p xs ≡ Some (get_or xs k d)
+found_first p xs k d e =
+    let r = first_from p 0 xs k d (sym e) in
+    let same : r.0 ≡ k = omega (arith, r.1) in
+    r.2 ∙ ap (λ j. Some (get_or xs j d)) same
 
 -- where none was found, none passes
 nowhere_case : {M : Type 0} (p : M → Bool) (x : M) (xs : List M) (i k : ℕ) (d : M) (b : Bool) → p x ≡ b → cond b (Some i) (position_from p (i + 1) xs) ≡ None →

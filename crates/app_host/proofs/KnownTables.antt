@@ -1,4 +1,4 @@
--- Where all objects are this profile's, each registered table is one of the Limit Checker's two.
+-- Where all objects on the seats are this profile's, each registered table is one of the Limit Checker's two.
 use Rattle.std.proofs.Common.{◌≡◌, ◌≢◌, refl, ap, ℕ, suc, List, [], ◌∷◌, map, Option, Some, None, inl, inr, subst, sym}
 use Rattle.std.specs.Prelude.{◌⊎◌, IfSome, slice_index_or}
 use Rattle.std.specs.List.{AllByRecursion}
@@ -45,4 +45,4 @@ all_places P (tables ∷ places) each = (each 0, all_places P places (λ seat. e
 pub known_tables : (h : Hosted) → AreSeated h.seats h.services → AreKnown h → AllByRecursion (λ (tables : List Table). AllByRecursion HasKnownForm tables) h.services.tables.places
 known_tables h seated known =
     all_places (λ (tables : List Table). AllByRecursion HasKnownForm tables) h.services.tables.places
-    (λ seat. known_at seat h.services (object_at seat h.seats) (seated.running seat) (seated.free seat) (known.seated seat))
+    (λ seat. known_at seat h.services (object_at seat h.seats) (seated.running seat) (seated.free seat) (known seat))

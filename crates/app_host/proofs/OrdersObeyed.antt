@@ -1,12 +1,14 @@
 -- A command to the executive services: what the application asks for is written, and then HOST's event.
 use Rattle.std.proofs.Common.{◌≡◌, ap, ap₂, sym, ◌∙◌, subst, ℕ, ◌+◌, ◌-◌, ◌<◌, ◌≤◌, List, [], ◌∷◌, ◌++◌, length, take, arith, length-append, Option, None, Result, Err}
+use Rattle.std.specs.Prelude.{All, Contains}
 use Rattle.std.specs.List.{concat}
 use Rattle.std.specs.Io.KnownBytes.{Appends}
 use Rattle.std.proofs.lemmas.List.{take-append-le}
 use Rattle.std.proofs.lemmas.List.Folds.{concat-append}
 use Rattle.std.proofs.Math.Seq.{take-append-add}
 use Rattle.lc_model.specs.Device.{Sink}
-use Rattle.lc_model.specs.Packet.{function_code}
+use Rattle.lc_model.specs.Packet.{function_code, payload}
+use Rattle.lc_model.specs.Command.{app_command}
 use Rattle.lc_model.specs.Refusal.{Refusal}
 use Rattle.lc_model.specs.Events.Request.{Request, executive_services, command_done, command_refused}
 use Rattle.lc_model.specs.Kept.Executive.{Written, ready_seat, told_by_host, answered_now, executive_service_now}
@@ -15,14 +17,16 @@ use Rattle.lc_model.specs.Services.Bus.{seen}
 use Rattle.app_host.specs.declared.services.Services.{Services}
 use Rattle.app_host.specs.declared.error.WriteFault.{WriteFault}
 use Rattle.app_host.specs.Shared.{on_board}
-use Rattle.app_host.specs.Hosted.{Hosted}
+use Rattle.app_host.specs.Hosted.{Object, Hosted}
 use Rattle.app_host.specs.Whole.{AreKnown, IsWhole, IsQuiet}
+use Rattle.app_host.specs.Party.{Party, nobody, party_by, AreKnownIn}
 use Rattle.app_host.specs.Delivered.{executive_in}
 use Rattle.app_host.specs.Writing.{IsFlushed, IsAllSent, IsPartSent, IsDone, IsCut, HandlesAll, HandlesPart, Handles}
 use Rattle.app_host.specs.Told.{telling, HasTold, TellsAlone}
-use Rattle.app_host.specs.Ordered.{Next, followed_by, IsPrepared, LeadsTo, IsWritten, IsBroken, HasComeIn, HasFailed, ObeysOrders}
+use Rattle.app_host.specs.Ordered.{Next, followed_by, IsPrepared, LeadsTo, IsWritten, IsBroken, HasComeIn, HasFailed, HasEntered, HasNotEntered, ObeysOrders}
 use Rattle.app_host.proofs.Course.{taken_both, passes, stops_here, none_stops}
-use Rattle.app_host.proofs.Draining.{same_executive, still_known}
+use Rattle.app_host.proofs.Draining.{same_executive, still_known, asking_more}
+use Rattle.app_host.proofs.CameIn.{among_come, among_not_come}
 
 -- ---- two writes
 
@@ -54,7 +58,6 @@ module _ (step told : Written (List ℕ)) where
   -- the first write failed
   cut_first : (sent : ℕ) (new : Hosted) (before now : Option (List ℕ)) → IsBroken step sent new before now → new.calls ≡ 0 → IsCut stations both sent new before now
   cut_first sent new before now broken calls = record {
-    known = broken.known;
     station = first_station;
     stops = stops_here sent first_station (second_station ∷ []) broken.fewer;
     executive = broken.executive;
@@ -63,10 +66,9 @@ module _ (step told : Written (List ℕ)) where
         (sym (ap (take sent) all_bytes ∙ take-append-le sent (concat step.1) (concat told.1) (let less = broken.fewer in omega (arith, less)))) broken.gains;
   }
 
-  module _ (sent : ℕ) (one new : Hosted) (before mid now : Option (List ℕ)) (written : IsWritten step sent one before mid) (known : AreKnown new) (executive : executive_in new ≡ told.0) (calls : new.calls ≡ 0) where
+  module _ (sent : ℕ) (one new : Hosted) (before mid now : Option (List ℕ)) (written : IsWritten step sent one before mid) (executive : executive_in new ≡ told.0) (calls : new.calls ≡ 0) where
     done_both : Appends mid now (concat told.1) → IsDone stations both 0 new before now
     done_both gains = record {
-      known = known;
       executive = executive;
       calls = calls;
       gains = subst (Appends before now) (sym all_bytes) (taken_both before mid now (concat step.1) (concat told.1) written.gains gains);
@@ -76,7 +78,6 @@ module _ (step told : Written (List ℕ)) where
     -- the second one failed
     cut_second : (total taken : ℕ) → total ≡ sent + taken → taken < length (concat told.1) → Appends mid now (take taken (concat told.1)) → IsCut stations both total new before now
     cut_second total taken is fewer gains = record {
-      known = known;
       station = second_station;
       stops = ap (λ n. stop_at n stations) so ∙ passes taken first_station (second_station ∷ []) ∙ stops_here taken second_station [] fewer;
       executive = executive;
@@ -93,7 +94,14 @@ module _ (step told : Written (List ℕ)) where
 -- ---- an order that is obeyed
 
 module _ (packet : List ℕ) (old ready : Hosted) (next : Next) (whole : IsWhole old) (quiet : IsQuiet old) (none_yet : old.calls ≡ 0)
-    (prepared : IsPrepared (executive_service_now on_board old.services.moment packet (executive_in old)) old ready next) where
+    (prepared : IsPrepared (party_by (app_command (function_code packet) (payload packet))) (executive_service_now on_board old.services.moment packet (executive_in old)) old ready next) where
+  -- who takes part
+  abbrev party : Party
+  party = party_by (app_command (function_code packet) (payload packet))
+
+  among_then : (new : Hosted) → All (Contains ready.stock) new.stock → All (Contains old.stock) new.stock
+  among_then new among = subst (λ (stock : List Object). All (Contains stock) new.stock) prepared.stock among
+
   abbrev Answer : Type 0
   Answer = Result (Written (List ℕ)) Refusal
 
@@ -123,22 +131,24 @@ module _ (packet : List ℕ) (old ready : Hosted) (next : Next) (whole : IsWhole
       (sym leads.step) cut
 
   -- what the application asks for could not be written
-  pub order_broken : (sent : ℕ) (new : Hosted) (before now : Sink) → HasFailed next sent ready new before now →
-      HandlesPart (order_stations on_board old.services.moment packet (executive_in old) answer) (answered_now on_board old.services.moment executive_services packet (executive_in old) answer) sent old new before now
-  order_broken sent new before now failed = record {
+  pub order_broken : (sent : ℕ) (new : Hosted) (before now : Sink) → HasFailed next sent ready new before now → HasNotEntered next sent ready new before.gained now.gained →
+      HandlesPart party (order_stations on_board old.services.moment packet (executive_in old) answer) (answered_now on_board old.services.moment executive_services packet (executive_in old) answer) sent old new before now
+  order_broken sent new before now failed entered = record {
     whole = failed.whole;
+    stock = among_then new (among_not_come next ready new entered.own);
     is_closed = failed.is_closed;
     calls = omega (arith, calls_then);
     failed = failed.failed;
-    exact = λ known.
-        let leads : LeadsTo answer ready next = prepared.exact known in
-        cut_as sent new before.gained now.gained leads (cut_first step told sent new before.gained now.gained (failed.exact leads.known leads.next_known leads.outgoing) calls_then);
+    known = λ known asked. failed.known (prepared.known known) (prepared.exact asked).next_known;
+    exact = λ asked.
+        let leads : LeadsTo answer ready next = prepared.exact asked in
+        cut_as sent new before.gained now.gained leads (cut_first step told sent new before.gained now.gained (failed.exact leads.next_known leads.outgoing) calls_then);
   }
     where
       calls_then : new.calls ≡ 0
       calls_then = failed.calls ∙ prepared.whole.calls ∙ none_yet
 
-  module _ (sent : ℕ) (one two new : Hosted) (before mid now : Sink) (came : HasComeIn next sent ready one before mid) (asked : Request) (asked_is : asked ≡ request) (told_as : HasTold asked one two)
+  module _ (sent : ℕ) (one two new : Hosted) (before mid now : Sink) (came : HasComeIn next sent ready one before mid) (entered : HasEntered next sent ready one before.gained mid.gained) (asked : Request) (asked_is : asked ≡ request) (told_as : HasTold asked one two)
       (flushed : IsFlushed two new) where
     has_told : HasTold request one two
     has_told = subst (λ (r : Request). HasTold r one two) asked_is told_as
@@ -153,18 +163,21 @@ module _ (packet : List ℕ) (old ready : Hosted) (next : Next) (whole : IsWhole
       idle = ap (λ (s : Services). s.outgoing) flushed.services;
     }
 
-    module _ (known : AreKnown old) where
+    stock_new : All (Contains old.stock) new.stock
+    stock_new = among_then new (rw (flushed.stock, has_told.stock) (among_come next ready one entered.own))
+
+    known_new : AreKnown old → AreKnownIn party old → AreKnown new
+    known_new known asked = let one_known = came.known (prepared.known known) (prepared.exact asked).next_known in still_known two new flushed (λ seat. rw has_told.seats (one_known seat))
+
+    module _ (asked_known : AreKnownIn party old) where
       leads : LeadsTo answer ready next
-      leads = prepared.exact known
+      leads = prepared.exact asked_known
 
       written : IsWritten step sent one before.gained mid.gained
-      written = came.exact leads.known leads.next_known leads.outgoing
+      written = came.exact leads.next_known leads.outgoing
 
       telling_is : telling request one ≡ told
       telling_is = λ i. told_by_host ((came.whole.moment ∙ prepared.whole.moment) i) (request ∷ []) (written.executive i)
-
-      known_new : AreKnown new
-      known_new = still_known two new flushed (record { spares = rw has_told.stock written.known.spares; seated = λ seat. rw has_told.seats (written.known.seated seat) })
 
       executive_new : executive_in new ≡ told.0
       executive_new = same_executive two new flushed ∙ has_told.executive ∙ ap (λ (w : Written (List ℕ)). w.0) telling_is
@@ -173,35 +186,39 @@ module _ (packet : List ℕ) (old ready : Hosted) (next : Next) (whole : IsWhole
       outgoing_is = has_told.outgoing ∙ ap (λ (w : Written (List ℕ)). concat w.1) telling_is
 
     pub order_done : (total : ℕ) → IsAllSent sent two new mid now total →
-        HandlesAll (order_stations on_board old.services.moment packet (executive_in old) answer) (answered_now on_board old.services.moment executive_services packet (executive_in old) answer) 0 total old new before now
+        HandlesAll party (order_stations on_board old.services.moment packet (executive_in old) answer) (answered_now on_board old.services.moment executive_services packet (executive_in old) answer) 0 total old new before now
     order_done total all = record {
       whole = whole_new;
       quiet = ap (λ (s : Services). ready_seat (seen s.bus)) flushed.services ∙ ap ready_seat has_told.pipes ∙ came.whole.quiet (prepared.whole.quiet quiet);
+      stock = stock_new;
       is_closed = all.is_closed ∙ has_told.is_closed ∙ came.whole.is_closed ∙ prepared.whole.is_closed;
       calls = omega (arith, calls_new);
       fine = all.fine ∙ came.fine;
-      exact = λ known.
-          done_as new before.gained now.gained (leads known)
-          (done_both step told sent one new before.gained mid.gained now.gained (written known) (known_new known) (executive_new known) calls_new
-          (subst (Appends mid.gained now.gained) (outgoing_is known) all.gains));
-      count = λ known.
-          subst (λ (r : Answer). total ≡ length (concat (answered_now on_board old.services.moment executive_services packet (executive_in old) r).1)) (sym (leads known).step)
+      known = known_new;
+      exact = λ s.
+          done_as new before.gained now.gained (leads s)
+          (done_both step told sent one new before.gained mid.gained now.gained (written s) (executive_new s) calls_new
+          (subst (Appends mid.gained now.gained) (outgoing_is s) all.gains));
+      count = λ s.
+          subst (λ (r : Answer). total ≡ length (concat (answered_now on_board old.services.moment executive_services packet (executive_in old) r).1)) (sym (leads s).step)
           (let size : length (concat (both step told).1) ≡ length (concat step.1) + length (concat told.1) = ap length (all_bytes step told) ∙ length-append (concat step.1) (concat told.1) in
-          let first = (written known).count in let second = all.count in omega (arith, size, first, second, ap length (outgoing_is known)));
+          let first = (written s).count in let second = all.count in omega (arith, size, first, second, ap length (outgoing_is s)));
     }
 
     pub order_cut : (total : ℕ) → IsPartSent sent two new mid now total →
-        HandlesPart (order_stations on_board old.services.moment packet (executive_in old) answer) (answered_now on_board old.services.moment executive_services packet (executive_in old) answer) total old new before now
+        HandlesPart party (order_stations on_board old.services.moment packet (executive_in old) answer) (answered_now on_board old.services.moment executive_services packet (executive_in old) answer) total old new before now
     order_cut total part = record {
       whole = whole_new;
+      stock = stock_new;
       is_closed = part.is_closed;
       calls = omega (arith, calls_new);
       failed = part.failed;
-      exact = λ known.
-          cut_as total new before.gained now.gained (leads known)
-          (cut_second step told sent one new before.gained mid.gained now.gained (written known) (known_new known) (executive_new known) calls_new total part.taken part.count
-          (let less = part.fewer in let size : length two.services.outgoing ≡ length (concat told.1) = ap length (outgoing_is known) in omega (arith, less, size))
-          (subst (λ bytes. Appends mid.gained now.gained (take part.taken bytes)) (outgoing_is known) part.gains));
+      known = known_new;
+      exact = λ s.
+          cut_as total new before.gained now.gained (leads s)
+          (cut_second step told sent one new before.gained mid.gained now.gained (written s) (executive_new s) calls_new total part.taken part.count
+          (let less = part.fewer in let size : length two.services.outgoing ≡ length (concat told.1) = ap length (outgoing_is s) in omega (arith, less, size))
+          (subst (λ bytes. Appends mid.gained now.gained (take part.taken bytes)) (outgoing_is s) part.gains));
     }
 
 -- ---- an order that is refused
@@ -209,9 +226,10 @@ module _ (packet : List ℕ) (old ready : Hosted) (next : Next) (whole : IsWhole
 pub order_refused : (packet : List ℕ) (old mid new : Hosted) (refusal : Refusal) → executive_service_now on_board old.services.moment packet (executive_in old) ≡ Err refusal → mid ≡ old → (request : Request) →
     request ≡ command_refused executive_services refusal → (before now : Sink) (result : Result ℕ WriteFault) → TellsAlone request mid new before now result → ObeysOrders packet old new before now result
 order_refused packet old mid new refusal is same request asked before now result tells =
-    subst (λ (r : Result (Written (List ℕ)) Refusal).
-    Handles (order_stations on_board old.services.moment packet (executive_in old) r) (answered_now on_board old.services.moment executive_services packet (executive_in old) r) 0 old new before now result)
+    asking_more (party_by (app_command (function_code packet) (payload packet))) _ _ _ _ _ _ _ result
+    (subst (λ (r : Result (Written (List ℕ)) Refusal).
+    Handles nobody (order_stations on_board old.services.moment packet (executive_in old) r) (answered_now on_board old.services.moment executive_services packet (executive_in old) r) 0 old new before now result)
     (sym is)
-    (subst (λ (r : Request). Handles (written_once (told_by_host old.services.moment (r ∷ []) (executive_in old))) (told_by_host old.services.moment (r ∷ []) (executive_in old)) 0 old new before now result)
+    (subst (λ (r : Request). Handles nobody (written_once (told_by_host old.services.moment (r ∷ []) (executive_in old))) (told_by_host old.services.moment (r ∷ []) (executive_in old)) 0 old new before now result)
     asked
-    (subst (λ (h : Hosted). TellsAlone request h new before now result) same tells))
+    (subst (λ (h : Hosted). TellsAlone request h new before now result) same tells)))

@@ -1,6 +1,6 @@
 -- An event of HOST.
 use Rattle.std.proofs.Common.{◌≡◌, ap, sym, ◌∙◌, subst, ℕ, ◌+◌, ◌-◌, ◌≤◌, List, [], ◌∷◌, ◌++◌, length, take, map, arith, Some, None, Result, Ok, Err}
-use Rattle.std.specs.Prelude.{option_map, slice_index_or}
+use Rattle.std.specs.Prelude.{option_map, slice_index_or, All, Contains}
 use Rattle.std.specs.List.{concat}
 use Rattle.std.specs.Io.KnownBytes.{Appends}
 use Rattle.lc_model.specs.Device.{Sink}
@@ -16,6 +16,7 @@ use Rattle.app_host.specs.declared.error.WriteFault.{WriteFault}
 use Rattle.app_host.specs.Telling.{Tells, name_of}
 use Rattle.app_host.specs.Hosted.{Hosted, member_of}
 use Rattle.app_host.specs.Whole.{AreSeated, AreKnown, IsWhole, IsQuiet}
+use Rattle.app_host.specs.Party.{nobody}
 use Rattle.app_host.specs.Delivered.{executive_in}
 use Rattle.app_host.specs.Writing.{IsFlushed, IsAllSent, IsPartSent, IsSent, HandlesAll, HandlesPart}
 use Rattle.app_host.specs.Response.{asked_by_host}
@@ -23,6 +24,7 @@ use Rattle.app_host.specs.Told.{telling, HasTold, TellsAlone}
 use Rattle.app_host.proofs.Frames.{StaysAt, seated_still}
 use Rattle.app_host.proofs.Course.{passes, stops_here, none_stops}
 use Rattle.app_host.proofs.Draining.{same_executive, still_known}
+use Rattle.app_host.proofs.Rosters.{still_among}
 
 module _ (law : TablesAreFound) (request : Request) (old new : Hosted) (told : Tells None host_name (request ∷ []) old.services new.services) (sound : IsTableService old.services.tables)
     (seated : AreSeated old.seats old.services) (idle : old.services.outgoing ≡ []) (stock : new.stock ≡ old.stock) (seats : new.seats ≡ old.seats) (closed : new.is_closed ≡ old.is_closed)
@@ -78,7 +80,10 @@ module _ (request : Request) (old mid new : Hosted) (before after : Sink) (whole
   calls_then = flushed.calls ∙ told.calls ∙ none_yet
 
   known_then : AreKnown old → AreKnown new
-  known_then known = still_known mid new flushed (record { spares = rw told.stock known.spares; seated = λ seat. rw told.seats (known.seated seat) })
+  known_then known = still_known mid new flushed (λ seat. rw told.seats (known seat))
+
+  among_then : All (Contains old.stock) new.stock
+  among_then = still_among old new (flushed.stock ∙ told.stock)
 
   executive_then : executive_in new ≡ step.0
   executive_then = same_executive mid new flushed ∙ told.executive
@@ -89,31 +94,33 @@ module _ (request : Request) (old mid new : Hosted) (before after : Sink) (whole
       ∙ passes (room - size_at station) station []
       ∙ none_stops (room - size_at station)
 
-  told_all : (total : ℕ) → IsAllSent 0 mid new before after total → HandlesAll (written_once step) step 0 total old new before after
+  told_all : (total : ℕ) → IsAllSent 0 mid new before after total → HandlesAll nobody (written_once step) step 0 total old new before after
   told_all total all = record {
     whole = whole_then;
     quiet = ap (λ (s : Services). ready_seat (seen s.bus)) flushed.services ∙ ap ready_seat told.pipes ∙ quiet;
+    stock = among_then;
     is_closed = all.is_closed ∙ told.is_closed;
     calls = omega (arith, calls_then);
     fine = all.fine;
-    exact = λ known. record {
-      known = known_then known;
+    known = λ known those. known_then known;
+    exact = λ those. record {
       executive = executive_then;
       calls = calls_then;
       gains = subst (Appends before.gained after.gained) told.outgoing all.gains;
       fits = all_room;
     };
-    count = λ known. omega (arith, all.count, ap length told.outgoing);
+    count = λ those. omega (arith, all.count, ap length told.outgoing);
   }
 
-  told_part : (total : ℕ) → IsPartSent 0 mid new before after total → HandlesPart (written_once step) step total old new before after
+  told_part : (total : ℕ) → IsPartSent 0 mid new before after total → HandlesPart nobody (written_once step) step total old new before after
   told_part total part = record {
     whole = whole_then;
+    stock = among_then;
     is_closed = part.is_closed;
     calls = omega (arith, calls_then);
     failed = part.failed;
-    exact = λ known. record {
-      known = known_then known;
+    known = λ known those. known_then known;
+    exact = λ those. record {
       station = station;
       stops = stops_here total station [] (omega (arith, part.fewer, ap length told.outgoing, part.count));
       executive = executive_then;
@@ -126,3 +133,8 @@ module _ (request : Request) (old mid new : Hosted) (before after : Sink) (whole
   pub told_so : (result : Result ℕ WriteFault) → IsSent 0 mid new before after result → TellsAlone request old new before after result
   told_so (Ok total) all = told_all total all
   told_so (Err fault) part = told_part fault.sent part
+
+-- the same event by another name for its request
+pub tells_same : (asked request : Request) (old new : Hosted) (before now : Sink) (result : Result ℕ WriteFault) → asked ≡ request →
+    TellsAlone asked old new before now result → TellsAlone request old new before now result
+tells_same asked request old new before now result is = subst (λ r. TellsAlone r old new before now result) is

@@ -1,7 +1,7 @@
 -- All deliveries behind a publication.
 use Rattle.std.proofs.Common.{◌≡◌, true, ap, sym, ◌∙◌, subst, ℕ, ◌≤◌, List, length, map, Option, Some, None, Result, Ok, Err}
 use Rattle.std.specs.List.{concat}
-use Rattle.std.specs.Prelude.{IsOk, OnOk, option_map, slice_index_or}
+use Rattle.std.specs.Prelude.{IsOk, OnOk, option_map, slice_index_or, All, Contains}
 use Rattle.std.proofs.lemmas.List.{length-map}
 use Rattle.lc_model.specs.declared.record.Moment.{Moment}
 use Rattle.lc_model.specs.Device.{Sink}
@@ -16,7 +16,7 @@ use Rattle.packet_bus.specs.declared.error.BusError.{BusError}
 use Rattle.app_host.specs.declared.error.WriteFault.{WriteFault}
 use Rattle.app_host.specs.Shared.{on_board}
 use Rattle.app_host.specs.Telling.{name_of}
-use Rattle.app_host.specs.Hosted.{Hosted, member_of}
+use Rattle.app_host.specs.Hosted.{Object, Hosted, member_of}
 use Rattle.app_host.specs.Whole.{AreKnown, IsWhole, IsQuiet}
 use Rattle.app_host.specs.Load.{IsLight, load}
 use Rattle.app_host.specs.Delivered.{executive_in}
@@ -81,24 +81,31 @@ module _ (law : TablesAreFound) (old mid : Hosted) (packet : List ℕ) (whole : 
   }
 
   known_mid : AreKnown old → AreKnown mid
-  known_mid known = record { spares = rw stock known.spares; seated = λ seat. rw seats (known.seated seat) }
+  known_mid known = λ seat. rw seats (known seat)
+
+  among_mid : (new : Hosted) → All (Contains mid.stock) new.stock → All (Contains old.stock) new.stock
+  among_mid new among = subst (λ (spares : List Object). All (Contains spares) new.stock) stock among
 
   pub passes_on : (new : Hosted) (before now : Sink) (result : Result ℕ WriteFault) → Drains mid new before now result → PassesOn packet old new before now result
   passes_on new before now (Ok total) all = record {
     whole = all.whole;
     quiet = all.quiet;
+    stock = among_mid new all.stock;
     is_closed = all.is_closed ∙ closed;
     calls = all.calls;
     fine = all.fine;
+    known = λ known everyone. all.known (known_mid known) (known_mid everyone);
     exact = λ known. subst (λ (p : Moment × Executive (List ℕ)). IsDone (delivery_stations on_board p.0 0 520 p.1) (drained on_board p.0 520 p.1) (last_calls on_board p.0 (delivery_stations on_board p.0 0 520 p.1)) new before.gained now.gained)
         (λ i. (moment i, executive_mid i)) (all.exact (known_mid known));
     count = λ known. all.count (known_mid known) ∙ ap (λ (p : Moment × Executive (List ℕ)). length (concat (drained on_board p.0 520 p.1).1)) (λ i. (moment i, executive_mid i));
   }
   passes_on new before now (Err fault) part = record {
     whole = part.whole;
+    stock = among_mid new part.stock;
     is_closed = part.is_closed;
     calls = part.calls;
     failed = part.failed;
+    known = λ known everyone. part.known (known_mid known) (known_mid everyone);
     exact = λ known. subst (λ (p : Moment × Executive (List ℕ)). IsCut (delivery_stations on_board p.0 0 520 p.1) (drained on_board p.0 520 p.1) fault.sent new before.gained now.gained)
         (λ i. (moment i, executive_mid i)) (part.exact (known_mid known));
   }

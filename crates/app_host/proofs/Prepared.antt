@@ -11,11 +11,13 @@ use Rattle.lc_model.specs.Kept.Summary.{Other}
 use Rattle.lc_model.specs.Kept.Executive.{Member, Executive, Written, no_member, is_called, is_seated, seat_of, spare_of, free_seat, spare_at, seated, begun_on, left_from, without_spare}
 use Rattle.app_host.specs.Shared.{on_board}
 use Rattle.app_host.specs.Hosted.{Object, Hosted, object_at, spare_in, no_object, member_of}
-use Rattle.app_host.specs.Whole.{AreKnown, IsWhole}
+use Rattle.app_host.specs.Whole.{IsKnown, AreKnown, IsWhole}
+use Rattle.app_host.specs.Party.{ordered, IsKnownOnSeat, IsKnownSpare}
 use Rattle.app_host.specs.Delivered.{executive_in}
 use Rattle.app_host.specs.Left.{LeavesExactly}
 use Rattle.app_host.specs.Ordered.{Nobody, Spare, Same, MayBegin, HasWithdrawn, outcome_of, IsPrepared}
-use Rattle.app_host.proofs.Found.{shown_in, found, nowhere}
+use Rattle.app_host.proofs.Found.{shown_in, found, found_first, nowhere}
+use Rattle.app_host.proofs.Rosters.{spare_by_name}
 use Rattle.app_host.proofs.Frames.{fact_at_set}
 use Rattle.app_host.proofs.Answered.{seated_is}
 use Rattle.app_host.proofs.Followed.{stays_so}
@@ -81,6 +83,11 @@ module _ (h : Hosted) (name : Name) (whole : IsWhole h) where
         holds_none = All-get_or (λ (spare : Object). spare.held ≡ None) h.stock i no_object inside whole.spares;
       }
 
+  -- the first one is known, where that is asked for
+  known_spare : (i : ℕ) → Some i ≡ spare_of name e.stock → IsKnownSpare (Some name) h.stock → IsKnown (spare_in h.stock i)
+  known_spare i is known =
+      subst (λ (o : Option Object). IfSome o IsKnown) (found_first (λ (spare : Object). is_named name spare.called) h.stock i no_object (is ∙ spare_by_name name h.stock)) known
+
   -- ---- start
 
   abbrev started_by : Option ℕ → Option ℕ → Option ℕ → Result (Written (List ℕ)) Refusal
@@ -100,7 +107,7 @@ module _ (h : Hosted) (name : Name) (whole : IsWhole h) where
     start_by is i k spares free = λ j. started_by ((sym searched ∙ nowhere_so is) j) (sym spares j) (sym free j)
 
     module _ (is : is_some s ≡ false) (i k : Option ℕ) (place : ℕ) (spares : i ≡ spare_of name e.stock) (there : i ≡ Some place) (free : k ≡ free_seat e.seats) where
-      pub start_ready : (seat : ℕ) → k ≡ Some seat → IsPrepared (outcome_of Start name h) h h (Spare place seat)
+      pub start_ready : (seat : ℕ) → k ≡ Some seat → IsPrepared (ordered Start name) (outcome_of Start name h) h h (Spare place seat)
       start_ready seat at = record {
         whole = stays_so h h whole.seated whole.idle refl refl refl refl;
         stock = refl;
@@ -112,7 +119,8 @@ module _ (h : Hosted) (name : Name) (whole : IsWhole h) where
             unused = λ other. subst (λ n. IfSome (object_at other h.seats) (λ (there : Object). is_named n there.called ≡ false)) spare.named (unlike (sym (nowhere_so is) ∙ searched) other);
           },
         );
-        exact = λ known. record { known = known; next_known = tt; outgoing = whole.idle; step = start_by is i k spares free ∙ (λ j. started_by None (there j) (at j)) };
+        known = λ known. known;
+        exact = λ asked. record { next_known = known_spare place (sym there ∙ spares) asked.1; outgoing = whole.idle; step = start_by is i k spares free ∙ (λ j. started_by None (there j) (at j)) };
       }
         where
           spare : SpareAt place
@@ -138,18 +146,17 @@ module _ (h : Hosted) (name : Name) (whole : IsWhole h) where
         was_so : member_of runs.o ≡ member_of gone
         was_so = subst (λ (x : Option Object). IfSome x (λ (there : Object). member_of there ≡ member_of gone)) runs.at left.was
 
-        known_gone : AreKnown h → gone.state ≢ Other
-        known_gone known other = subst (λ (x : Option Object). IfSome x (λ (there : Object). there.state ≢ Other)) runs.at (known.seated k) (ap (λ (m : Member). m.state) was_so ∙ other)
+        known_gone : IsKnownOnSeat (Some name) h.seats → gone.state ≢ Other
+        known_gone known other =
+            subst (λ (x : Option Object). IfSome x (λ (there : Object). is_named name there.called ≡ true → IsKnown there)) runs.at (known k)
+            ((bytes_eq-Decides name runs.o.called).1 runs.named) (ap (λ (m : Member). m.state) was_so ∙ other)
 
-        leaves : AreKnown h → LeavesExactly k h new
+        leaves : IsKnownOnSeat (Some name) h.seats → LeavesExactly k h new
         leaves known = left.exact (known_gone known)
 
         known_then : AreKnown h → AreKnown new
-        known_then known = record {
-          spares = rw left.stock known.spares;
-          seated = λ other. rw left.seats
-              (fact_at_set (λ i (x : Option Object). IfSome x (λ (there : Object). there.state ≢ Other)) h.seats k other None None runs.inside tt (λ i another. known.seated i));
-        }
+        known_then known = λ other. rw left.seats
+            (fact_at_set (λ i (x : Option Object). IfSome x (λ (there : Object). there.state ≢ Other)) h.seats k other None None runs.inside tt (λ i another. known i))
 
         differ : (n : Name) → n ≡ runs.o.called → (other : ℕ) → other ≢ k → (place : Option Object) → object_at other h.seats ≡ place → IfSome place (λ (there : Object). is_named n there.called ≡ false)
         differ n same other another None at = tt
@@ -171,44 +178,44 @@ module _ (h : Hosted) (name : Name) (whole : IsWhole h) where
               (λ i another. differ o.called same i another (object_at i h.seats) refl));
         }
 
-        pub stop_ready : IsPrepared (outcome_of Stop name h) h new Nobody
+        pub stop_ready : IsPrepared (ordered Stop name) (outcome_of Stop name h) h new Nobody
         stop_ready = record {
           whole = left.whole;
           stock = left.stock;
           may = tt;
-          exact = λ known. record {
-            known = known_then known;
+          known = known_then;
+          exact = λ asked. let gone_so = leaves asked.0 in record {
             next_known = tt;
-            outgoing = (leaves known).outgoing;
-            step = ap stopped_by (sym searched ∙ there) ∙ ap (λ (x : Executive (List ℕ)). Ok (x, [])) (sym (leaves known).executive);
+            outgoing = gone_so.outgoing;
+            step = ap stopped_by (sym searched ∙ there) ∙ ap (λ (x : Executive (List ℕ)). Ok (x, [])) (sym gone_so.executive);
           };
         }
 
-        pub restart_ready : IsPrepared (outcome_of Restart name h) h new (Same gone k)
+        pub restart_ready : IsPrepared (ordered Restart name) (outcome_of Restart name h) h new (Same gone k)
         restart_ready = record {
           whole = left.whole;
           stock = left.stock;
           may = may_begin gone left.spare (ap (λ (m : Member). m.called) (sym was_so));
-          exact = λ known. record {
-            known = known_then known;
-            next_known = known_gone known;
-            outgoing = (leaves known).outgoing;
+          known = known_then;
+          exact = λ asked. let gone_so = leaves asked.0 in record {
+            next_known = known_gone asked.0;
+            outgoing = gone_so.outgoing;
             step = ap restarted_by (sym searched ∙ there)
-                ∙ (λ j. Ok (begun_on on_board (sym left.whole.moment j) k ((seated_is h.seats k runs.o runs.inside runs.at ∙ was_so) j) (sym (leaves known).executive j)));
+                ∙ (λ j. Ok (begun_on on_board (sym left.whole.moment j) k ((seated_is h.seats k runs.o runs.inside runs.at ∙ was_so) j) (sym gone_so.executive j)));
           };
         }
 
-        pub reload_ready : (i : Option ℕ) (place : ℕ) → i ≡ spare_of name e.stock → i ≡ Some place → IsPrepared (outcome_of Reload name h) h new (Spare place k)
+        pub reload_ready : (i : Option ℕ) (place : ℕ) → i ≡ spare_of name e.stock → i ≡ Some place → IsPrepared (ordered Reload name) (outcome_of Reload name h) h new (Spare place k)
         reload_ready i place spares at = record {
           whole = left.whole;
           stock = left.stock;
           may = subst (λ (stock : List Object). (place < length stock) × MayBegin k new (spare_in stock place)) (sym left.stock) (spare.less, may_begin (spare_in h.stock place) spare.holds_none (sym spare.named ∙ runs.named));
-          exact = λ known. record {
-            known = known_then known;
-            next_known = tt;
-            outgoing = (leaves known).outgoing;
+          known = known_then;
+          exact = λ asked. let gone_so = leaves asked.0 in record {
+            next_known = rw left.stock (known_spare place (sym at ∙ spares) asked.1);
+            outgoing = gone_so.outgoing;
             step = (λ j. reloaded_by ((sym searched ∙ there) j) ((sym spares ∙ at) j))
-                ∙ (λ j. Ok (begun_on on_board (sym left.whole.moment j) k (spare_at (sym (leaves known).executive j).stock place) (without_spare place (sym (leaves known).executive j))));
+                ∙ (λ j. Ok (begun_on on_board (sym left.whole.moment j) k (spare_at (sym gone_so.executive j).stock place) (without_spare place (sym gone_so.executive j))));
           };
         }
           where

@@ -1,7 +1,8 @@
 -- Who is where, by names.
 use Rattle.std.proofs.Common.{◌≡◌, refl, ap, ap₂, sym, ◌∙◌, ℕ, ◌+◌, Bool, cond, List, [], ◌∷◌, map, Option, Some, None}
-use Rattle.std.specs.Prelude.{option_map, is_none, slice_set}
+use Rattle.std.specs.Prelude.{option_map, is_none, slice_set, All, Contains}
 use Rattle.std.specs.List.{position_from}
+use Rattle.std.proofs.lemmas.List.Elements.{All-contains_itself}
 use Rattle.std.proofs.Math.Seq.{map-set_same}
 use Rattle.lc_model.specs.Name.{Name, is_named}
 use Rattle.lc_model.specs.Kept.Executive.{is_called, is_seated, seat_of, spare_of, free_seat}
@@ -16,6 +17,10 @@ same_roster old new stock seats = λ i. record { stock = stock i; seats = seats 
 
 pub roster_still : (old new : Hosted) → IsFlushed old new → roster_of new ≡ roster_of old
 roster_still old new flushed = same_roster old new flushed.stock (ap (map (option_map name_of)) flushed.seats)
+
+-- no spare is new
+pub still_among : (old new : Hosted) → new.stock ≡ old.stock → All (Contains old.stock) new.stock
+still_among old new same = rw same (All-contains_itself old.stock)
 
 -- an object that is replaced by one of its name
 pub names_still : (old new : Hosted) (seat : ℕ) (o o' : Object) → object_at seat old.seats ≡ Some o → o'.called ≡ o.called → new.seats ≡ slice_set old.seats seat (Some o') →

@@ -1,13 +1,14 @@
 -- A step, by what is handled in it.
 use Rattle.std.proofs.Common.{◌≡◌, refl, ap, sym, ◌∙◌, subst, ℕ, ◌==◌, true, false, List, ◌∷◌, [], length, map, if◌then◌else◌, Option, Some, None, Result, Ok, Err}
-use Rattle.std.specs.Prelude.{option_map}
+use Rattle.std.specs.Prelude.{option_map, All, Contains}
 use Rattle.std.specs.Option.{option_map_or}
 use Rattle.std.specs.List.{concat}
 use Rattle.lc_model.specs.declared.record.Moment.{Moment}
 use Rattle.lc_model.specs.Device.{Sink}
 use Rattle.lc_model.specs.Name.{Name}
 use Rattle.lc_model.specs.Services.Seen.{meaning_of}
-use Rattle.lc_model.specs.Packet.{stream_fault, message_id, event_services_mid, table_services_mid, executive_services_mid}
+use Rattle.lc_model.specs.Packet.{stream_fault, function_code, payload, message_id, event_services_mid, table_services_mid, executive_services_mid}
+use Rattle.lc_model.specs.Command.{app_command}
 use Rattle.lc_model.specs.Refusal.{Refusal}
 use Rattle.lc_model.specs.Events.Request.{event_services, table_services, executive_services, bad_packet}
 use Rattle.lc_model.specs.Host.React.{Input, Packet, File, stored}
@@ -19,13 +20,14 @@ use Rattle.lc_model.specs.Kept.Stations.{Station, Host, stop_at, written_once, o
 use Rattle.app_host.specs.declared.services.Services.{Services}
 use Rattle.app_host.specs.declared.error.WriteFault.{WriteFault}
 use Rattle.app_host.specs.Shared.{on_board, shared, at_moment}
-use Rattle.app_host.specs.Hosted.{Hosted, member_of, in_numbers}
+use Rattle.app_host.specs.Hosted.{Object, Hosted, member_of, in_numbers}
 use Rattle.app_host.specs.Whole.{AreKnown, IsWhole, IsQuiet}
+use Rattle.app_host.specs.Party.{Party, Everyone, Only, nobody, party_by, IsKnownOnSeat, IsKnownSpare, AreKnownIn}
 use Rattle.app_host.specs.Delivered.{executive_in}
 use Rattle.app_host.specs.Writing.{IsDone, IsCut, Handles, PassesOn}
 use Rattle.app_host.specs.Told.{TellsAlone, Files, ObeysEvents, ObeysTables}
 use Rattle.app_host.specs.Ordered.{ObeysOrders}
-use Rattle.app_host.specs.Step.{HasBegun, Takes, IsBetween, StepsSo, StopsSo, Steps, without_count, Counts}
+use Rattle.app_host.specs.Step.{party_of, routed_party, HasBegun, Takes, IsBetween, StepsSo, StopsSo, Steps, without_count, Counts}
 use Rattle.app_host.proofs.Flushed.{same_shared, same_seated}
 
 -- ---- it begins
@@ -62,7 +64,17 @@ module _ (moment : Moment) (input : Input (List ℕ)) (old begun : Hosted) (bega
   moment_begun = ap (λ (s : Services). s.moment) began.services
 
   known_begun : AreKnown old → AreKnown begun
-  known_begun known = record { spares = rw began.stock known.spares; seated = λ seat. rw began.seats (known.seated seat) }
+  known_begun known = λ seat. rw began.seats (known seat)
+
+  asked_begun : (party : Party) → AreKnownIn party old → AreKnownIn party begun
+  asked_begun Everyone known = known_begun known
+  asked_begun (Only leaving coming) known = (
+    subst (λ (seats : List (Option Object)). IsKnownOnSeat leaving seats) (sym began.seats) known.0,
+    subst (λ (stock : List Object). IsKnownSpare coming stock) (sym began.stock) known.1,
+  )
+
+  among_begun : (new : Hosted) → All (Contains begun.stock) new.stock → All (Contains old.stock) new.stock
+  among_begun new among = subst (λ (stock : List Object). All (Contains stock) new.stock) began.stock among
 
   pub quiet_begun : IsQuiet old → IsQuiet begun
   quiet_begun quiet = ap (λ (s : Services). ready_seat (seen s.bus)) began.services ∙ quiet
@@ -74,7 +86,6 @@ module _ (moment : Moment) (input : Input (List ℕ)) (old begun : Hosted) (bega
       IsDone (stations_by (begun.services.moment, executive_in begun)) (step_by on_board begun.services.moment (executive_in begun) input) (last_calls on_board begun.services.moment (stations_by (begun.services.moment, executive_in begun))) new before now →
       StepsSo moment input old new before now
   steps_so new before now is_open was_open begun_done = record {
-    known = done.known;
     host = after;
     gains = done.gains;
     room = λ room enough. open_step moment room (in_numbers old) input None was_open (done.fits room enough) ∙ ap (λ (h : Host (List ℕ)). (h, None)) (sym after);
@@ -91,7 +102,6 @@ module _ (moment : Moment) (input : Input (List ℕ)) (old begun : Hosted) (bega
       IsCut (stations_by (begun.services.moment, executive_in begun)) (step_by on_board begun.services.moment (executive_in begun) input) sent new before now →
       StopsSo moment input sent old new before now
   stops_so new sent before now is_closed was_open begun_cut = record {
-    known = cut.known;
     host = open_step moment sent (in_numbers old) input (Some cut.station) was_open cut.stops ∙ ap (λ (h : Host (List ℕ)). (h, Some sent)) (sym after);
     gains = cut.gains;
   }
@@ -106,19 +116,23 @@ module _ (moment : Moment) (input : Input (List ℕ)) (old begun : Hosted) (bega
   pub steps : (new : Hosted) (before now : Sink) (result : Result ℕ WriteFault) → old.is_closed ≡ false → Takes input begun new before now result → Steps moment input old new before now (without_count result)
   steps new before now (Ok total) is_open all = record {
     is_open = all.is_closed ∙ began.is_closed ∙ is_open;
+    stock = among_begun new all.stock;
     few = all.calls;
     fine = all.fine;
-    exact = λ known. steps_so new before.gained now.gained (all.is_closed ∙ began.is_closed ∙ is_open) is_open (all.exact (known_begun known));
+    known = λ known asked. all.known (known_begun known) (asked_begun (party_of input) asked);
+    exact = λ asked. steps_so new before.gained now.gained (all.is_closed ∙ began.is_closed ∙ is_open) is_open (all.exact (asked_begun (party_of input) asked));
   }
   steps new before now (Err fault) is_open part = record {
     is_closed = part.is_closed;
+    stock = among_begun new part.stock;
     few = part.calls;
     failed = part.failed;
-    exact = λ known. stops_so new fault.sent before.gained now.gained part.is_closed is_open (part.exact (known_begun known));
+    known = λ known asked. part.known (known_begun known) (asked_begun (party_of input) asked);
+    exact = λ asked. stops_so new fault.sent before.gained now.gained part.is_closed is_open (part.exact (asked_begun (party_of input) asked));
   }
 
   pub counts_then : (new : Hosted) (before now : Sink) (result : Result ℕ WriteFault) → Takes input begun new before now result → Counts moment input old result
-  counts_then new before now (Ok total) all = λ known. all.count (known_begun known)
+  counts_then new before now (Ok total) all = λ asked. all.count (asked_begun (party_of input) asked)
       ∙ ap (λ (from : Moment × Executive (List ℕ)). length (concat (step_by on_board from.0 from.1 input).1)) (λ i. (moment_begun i, executive_begun i))
   counts_then new before now (Err fault) part = tt
 
@@ -146,24 +160,28 @@ module _ (old new : Hosted) (before now : Sink) (result : Result ℕ WriteFault)
   e = executive_in old
 
   -- a write behind all, as what a record leads to
-  once : (step : Written (List ℕ)) → Handles (written_once step) step 0 old new before now result → Handles (written_once step) step (last_calls on_board moment (written_once step)) old new before now result
-  once step handles = subst (λ last. Handles (written_once step) step last old new before now result) (sym (no_call moment step)) handles
+  once : (party : Party) (step : Written (List ℕ)) → Handles party (written_once step) step 0 old new before now result → Handles party (written_once step) step (last_calls on_board moment (written_once step)) old new before now result
+  once party step handles = subst (λ last. Handles party (written_once step) step last old new before now result) (sym (no_call moment step)) handles
 
   -- a file
   pub filed_so : (name : Name) (bytes : List ℕ) (input : Input (List ℕ)) → input ≡ File name (length bytes) (meaning_of bytes) → Files name bytes old new before now result → Takes input old new before now result
   filed_so name bytes input is files =
       subst (λ given. Takes given old new before now result) (sym is)
-      (once (filed_now moment e (stored name (length bytes) (meaning_of bytes) e.services.files)) files)
+      (once nobody (filed_now moment e (stored name (length bytes) (meaning_of bytes) e.services.files)) files)
 
   module _ (packet : List ℕ) where
+    -- who takes part in an order
+    abbrev party : Party
+    party = party_by (app_command (function_code packet) (payload packet))
+
     -- by the fault of the packet
     abbrev ByFault : Option ℕ → Type 0
     ByFault fault =
         let stations : List (Station (List ℕ)) = option_map_or (λ reason. written_once (told_by_host moment (bad_packet reason ∷ []) e)) fault (routed_stations on_board moment packet e) in
-        Handles stations (option_map_or (λ reason. told_by_host moment (bad_packet reason ∷ []) e) fault (routed_now on_board moment packet e)) (last_calls on_board moment stations) old new before now result
+        Handles (option_map_or (λ reason. nobody) fault (routed_party packet)) stations (option_map_or (λ reason. told_by_host moment (bad_packet reason ∷ []) e) fault (routed_now on_board moment packet e)) (last_calls on_board moment stations) old new before now result
 
     pub refused_so : (reason : ℕ) → stream_fault packet ≡ Some reason → TellsAlone (bad_packet reason) old new before now result → Takes (Packet packet) old new before now result
-    refused_so reason is tells = subst ByFault (sym is) (once (told_by_host moment (bad_packet reason ∷ []) e) tells)
+    refused_so reason is tells = subst ByFault (sym is) (once nobody (told_by_host moment (bad_packet reason ∷ []) e) tells)
 
     -- by its message id
     abbrev events_step : Written (List ℕ)
@@ -182,7 +200,7 @@ module _ (old new : Hosted) (before now : Sink) (result : Result ℕ WriteFault)
         else if mid == table_services_mid then written_once tables_step
         else if mid == executive_services_mid then order_stations on_board moment packet e (executive_service_now on_board moment packet e)
         else passing_stations on_board moment packet e in
-        Handles stations (if mid == event_services_mid then events_step
+        Handles (if mid == event_services_mid then nobody else if mid == executive_services_mid then party else Everyone) stations (if mid == event_services_mid then events_step
         else if mid == table_services_mid then tables_step
         else if mid == executive_services_mid then orders_step
         else passed_on on_board moment packet e) (last_calls on_board moment stations) old new before now result
@@ -192,14 +210,14 @@ module _ (old new : Hosted) (before now : Sink) (result : Result ℕ WriteFault)
       routed_so routes = subst ByFault (sym good) routes
 
       pub for_events : message_id packet ≡ event_services_mid → ObeysEvents packet old new before now result → Takes (Packet packet) old new before now result
-      for_events is obeys = routed_so (subst ByMid (sym is) (once events_step obeys))
+      for_events is obeys = routed_so (subst ByMid (sym is) (once nobody events_step obeys))
 
       pub for_tables : message_id packet ≡ table_services_mid → ObeysTables packet old new before now result → Takes (Packet packet) old new before now result
-      for_tables is obeys = routed_so (subst ByMid (sym is) (once tables_step obeys))
+      for_tables is obeys = routed_so (subst ByMid (sym is) (once Everyone tables_step obeys))
 
       pub for_orders : message_id packet ≡ executive_services_mid → ObeysOrders packet old new before now result → Takes (Packet packet) old new before now result
       for_orders is obeys = routed_so (subst ByMid (sym is)
-          (subst (λ last. Handles (order_stations on_board moment packet e (executive_service_now on_board moment packet e)) orders_step last old new before now result)
+          (subst (λ last. Handles party (order_stations on_board moment packet e (executive_service_now on_board moment packet e)) orders_step last old new before now result)
           (sym (no_call_for_orders moment packet e (executive_service_now on_board moment packet e))) obeys))
 
       pub for_pipes : (message_id packet == event_services_mid) ≡ false → (message_id packet == table_services_mid) ≡ false → (message_id packet == executive_services_mid) ≡ false →

@@ -22,6 +22,7 @@ use Rattle.app_host.specs.declared.error.WriteFault.{WriteFault}
 use Rattle.app_host.specs.Shared.{on_board, shared}
 use Rattle.app_host.specs.Hosted.{Hosted, member_of}
 use Rattle.app_host.specs.Whole.{AreKnown, IsWhole}
+use Rattle.app_host.specs.Party.{Everyone, nobody}
 use Rattle.app_host.specs.Delivered.{executive_in}
 use Rattle.app_host.specs.Writing.{IsDone, IsCut, Handles}
 use Rattle.app_host.specs.ObeyedTables.{tables_by}
@@ -69,31 +70,35 @@ kept_by law (Err refusal) before after is = cc
 
 -- ---- a step that is known under a premise
 
--- where this step is that one if all objects are known
+-- where this step is that one if all objects on the seats are known
 exactly : (old new : Hosted) (this that : Written (List ℕ)) → (AreKnown old → this ≡ that) → (before now : Sink) (result : Result ℕ WriteFault) →
-    Handles (written_once this) this 0 old new before now result → Handles (written_once that) that 0 old new before now result
+    Handles nobody (written_once this) this 0 old new before now result → Handles Everyone (written_once that) that 0 old new before now result
 exactly old new this that same before now (Ok total) all = record {
   whole = all.whole;
   quiet = all.quiet;
+  stock = all.stock;
   is_closed = all.is_closed;
   calls = all.calls;
   fine = all.fine;
-  exact = λ known. subst (λ (w : Written (List ℕ)). IsDone (written_once w) w 0 new before.gained now.gained) (same known) (all.exact known);
-  count = λ known. all.count known ∙ ap (λ (w : Written (List ℕ)). length (concat w.1)) (same known);
+  known = λ known everyone. all.known known (tt, tt);
+  exact = λ known. subst (λ (w : Written (List ℕ)). IsDone (written_once w) w 0 new before.gained now.gained) (same known) (all.exact (tt, tt));
+  count = λ known. all.count (tt, tt) ∙ ap (λ (w : Written (List ℕ)). length (concat w.1)) (same known);
 }
 exactly old new this that same before now (Err fault) part = record {
   whole = part.whole;
+  stock = part.stock;
   is_closed = part.is_closed;
   calls = part.calls;
   failed = part.failed;
-  exact = λ known. subst (λ (w : Written (List ℕ)). IsCut (written_once w) w fault.sent new before.gained now.gained) (same known) (part.exact known);
+  known = λ known everyone. part.known known (tt, tt);
+  exact = λ known. subst (λ (w : Written (List ℕ)). IsCut (written_once w) w fault.sent new before.gained now.gained) (same known) (part.exact (tt, tt));
 }
 
 -- ---- the host
 
 module _ (old mid : Hosted) (whole : IsWhole old) (alone : TablesAlone old mid) where
   known_obeyed : AreKnown old → AreKnown mid
-  known_obeyed known = record { spares = rw alone.stock known.spares; seated = λ seat. rw alone.seats (known.seated seat) }
+  known_obeyed known = λ seat. rw alone.seats (known seat)
 
   pub whole_obeyed : TablesAreFound → ChangingTables → IsTableService old.services.tables → Keeps old.services.tables mid.services.tables → IsWhole mid
   whole_obeyed found changing sound keeps = record {
@@ -144,7 +149,7 @@ module _ (old mid : Hosted) (whole : IsWhole old) (alone : TablesAlone old mid) 
           exactly old new (told_by_host old.services.moment (request ∷ []) later) this_step
           (λ known. ap (λ r. told_by_host old.services.moment (r ∷ []) later) asked
           ∙ ap (λ r. answered_now on_board old.services.moment table_services packet e (with_services e (left_by old.services r))) is ∙ sym (step_so known)) before now result
-          (told_behind old mid new later executive_obeyed alone.moment alone.is_closed known_obeyed request before now result tells)
+          (told_behind old mid new later executive_obeyed alone.stock alone.moment alone.is_closed known_obeyed request before now result tells)
 
     -- it is refused
     module _ (same : mid.services.tables ≡ old.services.tables) (refusal : Refusal) (is : Err refusal ≡ answer) where
@@ -162,4 +167,4 @@ module _ (old mid : Hosted) (whole : IsWhole old) (alone : TablesAlone old mid) 
           exactly old new (told_by_host old.services.moment (request ∷ []) e) this_step
           (λ known. ap (λ r. told_by_host old.services.moment (r ∷ []) e) asked
           ∙ ap (λ r. answered_now on_board old.services.moment table_services packet e (with_services e (left_by old.services r))) is ∙ sym (step_so known)) before now result
-          (told_behind old mid new e executive_same alone.moment alone.is_closed known_obeyed request before now result tells)
+          (told_behind old mid new e executive_same alone.stock alone.moment alone.is_closed known_obeyed request before now result tells)

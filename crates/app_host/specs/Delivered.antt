@@ -15,7 +15,6 @@ executive_in h = executive_of h.stock h.seats h.services
 
 -- a host has become what this step leaves, and what the step writes waits to be written
 pub record Becomes (h : Hosted) (step : Written (List ℕ)) : Type 0 where
-  pub known : AreKnown h
   pub executive : executive_in h ≡ step.0
   pub outgoing : h.services.outgoing ≡ concat step.1
 
@@ -30,4 +29,5 @@ pub record HasDelivered (seat : ℕ) (old new : Hosted) : Type 0 where
   pub falls : load (seen new.services.bus) < load (seen old.services.bus)
   pub fits : length new.services.outgoing ≤ 65536
   pub own : ComesTo (roster_of old) old new
+  pub known : AreKnown old → AreKnown new
   pub exact : AreKnown old → Becomes new (delivered_at on_board old.services.moment seat (executive_in old))

@@ -7,6 +7,7 @@ pub mod Error
 pub mod Hosted
 pub mod Objects
 pub mod Whole
+pub mod Party
 pub mod Load
 pub mod Delivered
 pub mod HandedOver

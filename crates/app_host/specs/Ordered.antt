@@ -1,16 +1,17 @@
 -- What an order to an application asks for and leaves.
-use Rattle.std.specs.Prelude.{◌≡◌, ◌≢◌, ◌⊎◌, ℕ, ◌<◌, ◌≤◌, ⊤, true, false, List, [], length, take, Option, Some, None, option_to_list, Result, Ok, Err, IfSome, IsSomeAnd, slice_set}
+use Rattle.std.specs.Prelude.{◌≡◌, ◌⊎◌, ℕ, ◌<◌, ◌≤◌, ⊤, true, false, List, [], length, take, Option, Some, None, option_to_list, Result, Ok, Err, IfSome, IsSomeAnd, slice_set}
 use Rattle.std.specs.Global.{Global}
 use Rattle.std.specs.List.{concat}
 use Rattle.std.specs.declared.dyn_box.DynBox.{DynBox}
 use Rattle.std.specs.Io.KnownBytes.{Appends}
 use Rattle.lc_model.specs.declared.record.Moment.{Moment}
 use Rattle.lc_model.specs.Device.{Sink}
+use Rattle.lc_model.specs.Packet.{function_code, payload}
 use Rattle.lc_model.specs.Name.{Name, is_named, name_in}
 use Rattle.lc_model.specs.Refusal.{Refusal}
 use Rattle.lc_model.specs.Command as model
 use Rattle.lc_model.specs.Events.Request.{executive_services}
-use Rattle.lc_model.specs.Kept.Summary.{AppState, Other}
+use Rattle.lc_model.specs.Kept.Summary.{AppState}
 use Rattle.lc_model.specs.Kept.Executive.{Executive, Written, spare_at, begun_on, without_spare, ordered_now, answered_now, executive_service_now}
 use Rattle.lc_model.specs.Kept.Stations.{order_stations}
 use Rattle.app_host.specs.declared.orders.Order.{Order}
@@ -22,7 +23,8 @@ use Rattle.app_host.specs.declared.error.WriteFault.{WriteFault}
 use Rattle.app_host.specs.Error.{error_code}
 use Rattle.app_host.specs.Shared.{on_board}
 use Rattle.app_host.specs.Hosted.{Object, object, Hosted, object_at, spare_in, member_of}
-use Rattle.app_host.specs.Whole.{AreSeated, AreSpares, AreKnown, IsWhole, IsQuiet}
+use Rattle.app_host.specs.Whole.{AreSeated, AreSpares, IsKnown, AreKnown, IsWhole, IsQuiet}
+use Rattle.app_host.specs.Party.{Party, party_by, AreKnownIn}
 use Rattle.app_host.specs.Delivered.{executive_in, Becomes}
 use Rattle.app_host.specs.Objects.{HasRetired}
 use Rattle.app_host.specs.Left.{HasGone, LeavesExactly}
@@ -56,10 +58,10 @@ MayFollow h (Spare place seat) = (place < length h.stock) × MayBegin seat h (sp
 MayFollow h (Same o seat) = MayBegin seat h o
 
 -- it is one of this profile
-abbrev pub IsKnownNext : Next → Type 0
-IsKnownNext Nobody = ⊤
-IsKnownNext (Spare place seat) = ⊤
-IsKnownNext (Same o seat) = o.state ≢ Other
+abbrev pub IsKnownNext : List Object → Next → Type 0
+IsKnownNext stock Nobody = ⊤
+IsKnownNext stock (Spare place seat) = IsKnown (spare_in stock place)
+IsKnownNext stock (Same o seat) = IsKnown o
 
 -- what is then, in numbers
 abbrev pub followed_by : Moment → Next → Executive (List ℕ) → Written (List ℕ)
@@ -93,14 +95,16 @@ pub record HasBegun (seat : ℕ) (o : Object) (old new : Hosted) : Type 0 where
   pub whole : StaysWhole old new
   pub stock : new.stock ≡ old.stock
   pub own : ComesTo (with_seat seat (Some o.called) (roster_of old)) old new
-  pub exact : AreKnown old → o.state ≢ Other → Becomes new (begun_on on_board old.services.moment seat (member_of o) (executive_in old))
+  pub known : AreKnown old → IsKnown o → AreKnown new
+  pub exact : IsKnown o → Becomes new (begun_on on_board old.services.moment seat (member_of o) (executive_in old))
 
 -- the next one took its seat
 pub record HasFollowed (next : Next) (old new : Hosted) : Type 0 where
   pub whole : StaysWhole old new
   pub spares : AreSpares new.stock
   pub own : ComesTo (seated_next next (roster_of old)) old new
-  pub exact : AreKnown old → IsKnownNext next → Becomes new (followed_by old.services.moment next (executive_in old))
+  pub known : AreKnown old → IsKnownNext old.stock next → AreKnown new
+  pub exact : IsKnownNext old.stock next → Becomes new (followed_by old.services.moment next (executive_in old))
 
 -- this object gave the seat back
 pub record HasWithdrawn (seat : ℕ) (old new : Hosted) (o : Object) : Type 0 where
@@ -110,7 +114,7 @@ pub record HasWithdrawn (seat : ℕ) (old new : Hosted) (o : Object) : Type 0 wh
   pub spare : o.held ≡ None
   pub was : IfSome (object_at seat old.seats) (λ (there : Object). member_of there ≡ member_of o)
   pub retired : IsSomeAnd (object_at seat old.seats) (λ (there : Object). HasRetired seat old.services new.services there o)
-  pub exact : o.state ≢ Other → LeavesExactly seat old new
+  pub exact : IsKnown o → LeavesExactly seat old new
 
 -- ---- an order
 
@@ -135,29 +139,29 @@ refusal_of error = option_to_list (error_code error)
 
 -- who was there is gone, nothing waits to be written, and what the next one leaves is what is wanted
 pub record LeadsTo (wanted : Result (Written (List ℕ)) Refusal) (h : Hosted) (next : Next) : Type 0 where
-  pub known : AreKnown h
-  pub next_known : IsKnownNext next
+  pub next_known : IsKnownNext h.stock next
   pub outgoing : h.services.outgoing ≡ []
   pub step : wanted ≡ Ok (followed_by h.services.moment next (executive_in h))
 
 -- the seat is free for the next one
-pub record IsPrepared (wanted : Result (Written (List ℕ)) Refusal) (old new : Hosted) (next : Next) : Type 0 where
+pub record IsPrepared (party : Party) (wanted : Result (Written (List ℕ)) Refusal) (old new : Hosted) (next : Next) : Type 0 where
   pub whole : StaysWhole old new
   pub stock : new.stock ≡ old.stock
   pub may : MayFollow new next
-  pub exact : AreKnown old → LeadsTo wanted new next
+  pub known : AreKnown old → AreKnown new
+  pub exact : AreKnownIn party old → LeadsTo wanted new next
 
 -- one of the two, by the answer
 abbrev pub Prepares : {X : Type 0} {D : X → Type 0} → (DynBox X Global D → AppState) → (DynBox X Global D → Name) → (DynBox X Global D → Option ℕ) →
-    Result (Written (List ℕ)) Refusal → Hosted → Hosted → Result (Successor X D) HostError → Type 0
-Prepares state called held wanted old new (Ok next) = IsPrepared wanted old new (next_of state called held next)
-Prepares state called held wanted old new (Err error) = (wanted ≡ Err (refusal_of error)) × (new ≡ old)
+    Party → Result (Written (List ℕ)) Refusal → Hosted → Hosted → Result (Successor X D) HostError → Type 0
+Prepares state called held party wanted old new (Ok next) = IsPrepared party wanted old new (next_of state called held next)
+Prepares state called held party wanted old new (Err error) = (wanted ≡ Err (refusal_of error)) × (new ≡ old)
 
 -- the same of a command that is refused for its code or its length, too
 abbrev pub Takes : {X : Type 0} {D : X → Type 0} → (DynBox X Global D → AppState) → (DynBox X Global D → Name) → (DynBox X Global D → Option ℕ) →
-    Result (Written (List ℕ)) Refusal → Hosted → Hosted → Result (Successor X D) Refusal → Type 0
-Takes state called held wanted old new (Ok next) = IsPrepared wanted old new (next_of state called held next)
-Takes state called held wanted old new (Err numbers) = (wanted ≡ Err numbers) × (new ≡ old)
+    Party → Result (Written (List ℕ)) Refusal → Hosted → Hosted → Result (Successor X D) Refusal → Type 0
+Takes state called held party wanted old new (Ok next) = IsPrepared party wanted old new (next_of state called held next)
+Takes state called held party wanted old new (Err numbers) = (wanted ≡ Err numbers) × (new ≡ old)
 
 -- ---- the same of who is where, whatever the applications are
 
@@ -185,21 +189,19 @@ MakesWayFor state called held wanted old new (Err numbers) = (wanted ≡ Err num
 
 -- all was written that this step writes, so many bytes
 pub record IsWritten (step : Written (List ℕ)) (sent : ℕ) (new : Hosted) (before now : Option (List ℕ)) : Type 0 where
-  pub known : AreKnown new
   pub executive : executive_in new ≡ step.0
   pub count : sent ≡ length (concat step.1)
   pub gains : Appends before now (concat step.1)
 
 -- the first bytes only
 pub record IsBroken (step : Written (List ℕ)) (sent : ℕ) (new : Hosted) (before now : Option (List ℕ)) : Type 0 where
-  pub known : AreKnown new
   pub executive : executive_in new ≡ step.0
   pub fewer : sent < length (concat step.1)
   pub gains : Appends before now (take sent (concat step.1))
 
--- an object of this profile left nothing to write, and one of it comes next
+-- who left nothing to write, and one of this profile comes next
 abbrev pub IfExact : Hosted → Next → Type 0 → Type 0
-IfExact h next P = AreKnown h → IsKnownNext next → h.services.outgoing ≡ [] → P
+IfExact h next P = IsKnownNext h.stock next → h.services.outgoing ≡ [] → P
 
 -- the next one took its seat, and all that waited is written
 pub record HasComeIn (next : Next) (sent : ℕ) (old new : Hosted) (before now : Sink) : Type 0 where
@@ -208,6 +210,7 @@ pub record HasComeIn (next : Next) (sent : ℕ) (old new : Hosted) (before now :
   pub idle : new.services.outgoing ≡ []
   pub small : sent ≤ 131072
   pub fine : now.failed ≡ before.failed
+  pub known : AreKnown old → IsKnownNext old.stock next → AreKnown new
   pub exact : IfExact old next (IsWritten (followed_by old.services.moment next (executive_in old)) sent new before.gained now.gained)
 
 -- a write failed, and the host is closed
@@ -216,6 +219,7 @@ pub record HasFailed (next : Next) (sent : ℕ) (old new : Hosted) (before now :
   pub is_closed : new.is_closed ≡ true
   pub calls : new.calls ≡ old.calls
   pub failed : now.failed ≡ true
+  pub known : AreKnown old → IsKnownNext old.stock next → AreKnown new
   pub exact : IfExact old next (IsBroken (followed_by old.services.moment next (executive_in old)) sent new before.gained now.gained)
 
 -- one of the two, by the answer
@@ -248,4 +252,4 @@ abbrev pub ObeysOrders : List ℕ → Hosted → Hosted → Sink → Sink → Re
 ObeysOrders packet old new before now result =
     let e : Executive (List ℕ) = executive_in old in
     let answer : Result (Written (List ℕ)) Refusal = executive_service_now on_board old.services.moment packet e in
-    Handles (order_stations on_board old.services.moment packet e answer) (answered_now on_board old.services.moment executive_services packet e answer) 0 old new before now result
+    Handles (party_by (model.app_command (function_code packet) (payload packet))) (order_stations on_board old.services.moment packet e answer) (answered_now on_board old.services.moment executive_services packet e answer) 0 old new before now result

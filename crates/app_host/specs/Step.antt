@@ -1,11 +1,14 @@
 -- What one record leads to.
-use Rattle.std.specs.Prelude.{◌≡◌, ℕ, ◌≤◌, ⊤, true, false, List, length, take, Option, Some, None, Result, Ok, Err}
+use Rattle.std.specs.Prelude.{◌≡◌, ℕ, ◌≤◌, ◌==◌, ⊤, true, false, List, length, take, All, Contains, if◌then◌else◌, Option, Some, None, Result, Ok, Err}
+use Rattle.std.specs.Option.{option_map_or}
 use Rattle.std.specs.List.{concat}
 use Rattle.std.specs.Io.KnownBytes.{Appends}
 use Rattle.lc_model.specs.declared.record.Body.{Body}
 use Rattle.lc_model.specs.declared.record.Body.TheVariants as body
 use Rattle.lc_model.specs.declared.record.Moment.{Moment}
 use Rattle.lc_model.specs.Device.{Sink}
+use Rattle.lc_model.specs.Packet.{stream_fault, function_code, payload, message_id, event_services_mid, executive_services_mid}
+use Rattle.lc_model.specs.Command.{app_command}
 use Rattle.lc_model.specs.Host.React.{Input, Packet, Tick, File}
 use Rattle.lc_model.specs.Host.Stream.{name_size}
 use Rattle.lc_model.specs.Services.Seen.{meaning_of}
@@ -15,6 +18,7 @@ use Rattle.app_host.specs.declared.error.WriteFault.{WriteFault}
 use Rattle.app_host.specs.Shared.{on_board, at_moment}
 use Rattle.app_host.specs.Hosted.{Hosted, in_numbers}
 use Rattle.app_host.specs.Whole.{AreKnown, IsWhole, IsQuiet}
+use Rattle.app_host.specs.Party.{Party, Everyone, nobody, party_by, AreKnownIn}
 use Rattle.app_host.specs.Delivered.{executive_in}
 use Rattle.app_host.specs.Writing.{Handles}
 
@@ -32,6 +36,20 @@ IsNamed (body.Packet bytes) = ⊤
 IsNamed body.Tick = ⊤
 IsNamed (body.File name bytes) = length name.now ≤ name_size
 
+-- who may take part in a good packet: no application in a command to the event services, those of an order, and else every one
+abbrev pub routed_party : List ℕ → Party
+routed_party packet =
+    let mid : ℕ = message_id packet in
+    if mid == event_services_mid then nobody
+    else if mid == executive_services_mid then party_by (app_command (function_code packet) (payload packet))
+    else Everyone
+
+-- in any record
+abbrev pub party_of : Input (List ℕ) → Party
+party_of (Packet bytes) = option_map_or (λ reason. nobody) (stream_fault bytes) (routed_party bytes)
+party_of Tick = Everyone
+party_of (File name size meaning) = nobody
+
 -- ---- inside a step
 
 -- the step has begun: it has its moment, and no call was made
@@ -48,7 +66,7 @@ abbrev pub Takes : Input (List ℕ) → Hosted → Hosted → Sink → Sink → 
 Takes input old new before now result =
     let e : Executive (List ℕ) = executive_in old in
     let stations : List (Station (List ℕ)) = stations_of on_board old.services.moment e input in
-    Handles stations (step_by on_board old.services.moment e input) (last_calls on_board old.services.moment stations) old new before now result
+    Handles (party_of input) stations (step_by on_board old.services.moment e input) (last_calls on_board old.services.moment stations) old new before now result
 
 -- ---- a whole step
 
@@ -67,41 +85,43 @@ pub record IsTurnedAway (old new : Hosted) (before now : Sink) (result : Result 
 abbrev pub called_for : Moment → Input (List ℕ) → Hosted → List ℕ
 called_for moment input h = let step : Written (List ℕ) = step_by on_board moment (executive_in h) input in concat step.1
 
--- with objects of this profile: the host in numbers, and all that it writes
+-- where all that may take part are of this profile: the host in numbers, and all that it writes
 pub record StepsSo (moment : Moment) (input : Input (List ℕ)) (old new : Hosted) (before now : Option (List ℕ)) : Type 0 where
-  pub known : AreKnown new
   pub host : in_numbers new ≡ host_after on_board moment (in_numbers old) input
   pub gains : Appends before now (called_for moment input old)
   pub room : (room : ℕ) → length (called_for moment input old) ≤ room → host_step on_board moment room (in_numbers old) input ≡ (in_numbers new, None)
 
 -- the same up to the write that failed
 pub record StopsSo (moment : Moment) (input : Input (List ℕ)) (sent : ℕ) (old new : Hosted) (before now : Option (List ℕ)) : Type 0 where
-  pub known : AreKnown new
   pub host : host_step on_board moment sent (in_numbers old) input ≡ (in_numbers new, Some sent)
   pub gains : Appends before now (take sent (called_for moment input old))
 
--- all is written, and the host is open
+-- all is written, the host is open, and no spare is new. What is exact asks of those who may take part that they are this profile's.
 pub record StepsWhole (moment : Moment) (input : Input (List ℕ)) (old new : Hosted) (before now : Sink) : Type 0 where
   pub is_open : new.is_closed ≡ false
+  pub stock : All (Contains old.stock) new.stock
   pub few : new.calls ≤ most_deliveries
   pub fine : now.failed ≡ before.failed
-  pub exact : AreKnown old → StepsSo moment input old new before.gained now.gained
+  pub known : AreKnown old → AreKnownIn (party_of input) old → AreKnown new
+  pub exact : AreKnownIn (party_of input) old → StepsSo moment input old new before.gained now.gained
 
 -- a write failed, and the host is closed
 pub record StepsPart (moment : Moment) (input : Input (List ℕ)) (sent : ℕ) (old new : Hosted) (before now : Sink) : Type 0 where
   pub is_closed : new.is_closed ≡ true
+  pub stock : All (Contains old.stock) new.stock
   pub few : new.calls ≤ most_deliveries
   pub failed : now.failed ≡ true
-  pub exact : AreKnown old → StopsSo moment input sent old new before.gained now.gained
+  pub known : AreKnown old → AreKnownIn (party_of input) old → AreKnown new
+  pub exact : AreKnownIn (party_of input) old → StopsSo moment input sent old new before.gained now.gained
 
 -- an answer without the number of bytes
 abbrev pub without_count : Result ℕ WriteFault → Result (Unit {0}) WriteFault
 without_count (Ok total) = Ok tt
 without_count (Err fault) = Err fault
 
--- with objects of this profile, so many bytes are those that the record calls for
+-- then so many bytes are those that the record calls for
 abbrev pub Counts : Moment → Input (List ℕ) → Hosted → Result ℕ WriteFault → Type 0
-Counts moment input old (Ok total) = AreKnown old → total ≡ length (called_for moment input old)
+Counts moment input old (Ok total) = AreKnownIn (party_of input) old → total ≡ length (called_for moment input old)
 Counts moment input old (Err fault) = ⊤
 
 -- one of the two, by the answer

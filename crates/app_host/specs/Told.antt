@@ -13,6 +13,7 @@ use Rattle.app_host.specs.declared.error.WriteFault.{WriteFault}
 use Rattle.app_host.specs.Shared.{on_board}
 use Rattle.app_host.specs.Hosted.{Hosted}
 use Rattle.app_host.specs.Whole.{AreSeated}
+use Rattle.app_host.specs.Party.{Everyone, nobody}
 use Rattle.app_host.specs.Delivered.{executive_in}
 use Rattle.app_host.specs.Writing.{Handles}
 use Rattle.app_host.specs.Response.{asked_by_host}
@@ -38,25 +39,25 @@ pub record HasTold (request : Request) (old new : Hosted) : Type 0 where
 
 -- the event is written, and that is all
 abbrev pub TellsAlone : Request → Hosted → Hosted → Sink → Sink → Result ℕ WriteFault → Type 0
-TellsAlone request old new before now result = Handles (written_once (telling request old)) (telling request old) 0 old new before now result
+TellsAlone request old new before now result = Handles nobody (written_once (telling request old)) (telling request old) 0 old new before now result
 
 -- a file is stored or refused, and that is written
 abbrev pub Files : Name → List ℕ → Hosted → Hosted → Sink → Sink → Result ℕ WriteFault → Type 0
 Files name bytes old new before now result =
     let e : Executive (List ℕ) = executive_in old in
     let step : Written (List ℕ) = filed_now old.services.moment e (stored name (length bytes) (meaning_of bytes) e.services.files) in
-    Handles (written_once step) step 0 old new before now result
+    Handles nobody (written_once step) step 0 old new before now result
 
 -- a command to the event services is obeyed or refused, and that is written
 abbrev pub ObeysEvents : List ℕ → Hosted → Hosted → Sink → Sink → Result ℕ WriteFault → Type 0
 ObeysEvents packet old new before now result =
     let e : Executive (List ℕ) = executive_in old in
     let step : Written (List ℕ) = answered_now on_board old.services.moment event_services packet e (with_services e (event_service_now packet e.services)) in
-    Handles (written_once step) step 0 old new before now result
+    Handles nobody (written_once step) step 0 old new before now result
 
 -- a command to the table services is obeyed or refused, and that is written
 abbrev pub ObeysTables : List ℕ → Hosted → Hosted → Sink → Sink → Result ℕ WriteFault → Type 0
 ObeysTables packet old new before now result =
     let e : Executive (List ℕ) = executive_in old in
     let step : Written (List ℕ) = answered_now on_board old.services.moment table_services packet e (with_services e (table_service_now on_board packet e.services)) in
-    Handles (written_once step) step 0 old new before now result
+    Handles Everyone (written_once step) step 0 old new before now result

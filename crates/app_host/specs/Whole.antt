@@ -41,7 +41,10 @@ pub record IsWhole (h : Hosted) : Type 0 where
 abbrev pub IsQuiet : Hosted → Type 0
 IsQuiet h = ready_seat (seen h.services.bus) ≡ None
 
--- all objects are this profile's
-pub record AreKnown (h : Hosted) : Type 0 where
-  pub spares : All (λ (spare : Object). spare.state ≢ Other) h.stock
-  pub seated : (seat : ℕ) → IfSome (object_at seat h.seats) (λ (o : Object). o.state ≢ Other)
+-- an object is of one of this profile's three kinds
+abbrev pub IsKnown : Object → Type 0
+IsKnown o = o.state ≢ Other
+
+-- all objects on the seats are
+abbrev pub AreKnown : Hosted → Type 0
+AreKnown h = (seat : ℕ) → IfSome (object_at seat h.seats) IsKnown

@@ -1,5 +1,5 @@
 -- What a part of a step writes, and where it stops if a write fails.
-use Rattle.std.specs.Prelude.{◌≡◌, ℕ, ◌+◌, ◌<◌, ◌≤◌, true, List, [], length, take, Option, Some, None, Result, Ok, Err}
+use Rattle.std.specs.Prelude.{◌≡◌, ℕ, ◌+◌, ◌<◌, ◌≤◌, true, List, [], length, take, All, Contains, Option, Some, None, Result, Ok, Err}
 use Rattle.std.specs.List.{concat}
 use Rattle.std.specs.Io.KnownBytes.{Appends}
 use Rattle.lc_model.specs.Device.{Sink}
@@ -10,6 +10,7 @@ use Rattle.app_host.specs.declared.error.WriteFault.{WriteFault}
 use Rattle.app_host.specs.Shared.{on_board}
 use Rattle.app_host.specs.Hosted.{Hosted}
 use Rattle.app_host.specs.Whole.{AreSeated, AreKnown, IsWhole, IsQuiet}
+use Rattle.app_host.specs.Party.{Party, Everyone, AreKnownIn}
 use Rattle.app_host.specs.Delivered.{executive_in}
 
 -- ---- one write
@@ -51,7 +52,6 @@ IsSent sent old new before now (Err fault) = IsPartSent sent old new before now 
 
 -- all was written that this step writes
 pub record IsDone (stations : List (Station (List ℕ))) (step : Written (List ℕ)) (last : ℕ) (new : Hosted) (before now : Option (List ℕ)) : Type 0 where
-  pub known : AreKnown new
   pub executive : executive_in new ≡ step.0
   pub calls : new.calls ≡ last
   pub gains : Appends before now (concat step.1)
@@ -59,46 +59,49 @@ pub record IsDone (stations : List (Station (List ℕ))) (step : Written (List �
 
 -- the first bytes only, and the host stays as it is at that write
 pub record IsCut (stations : List (Station (List ℕ))) (step : Written (List ℕ)) (sent : ℕ) (new : Hosted) (before now : Option (List ℕ)) : Type 0 where
-  pub known : AreKnown new
   pub station : Station (List ℕ)
   pub stops : stop_at sent stations ≡ Some station
   pub executive : executive_in new ≡ station.executive
   pub calls : new.calls ≡ station.calls
   pub gains : Appends before now (take sent (concat step.1))
 
--- ---- a step, or a part of one
+-- ---- a step, or a part of one, by who may take part in it
 
--- all is written, so many bytes; no packet waits, and the host is as open as before
-pub record HandlesAll (stations : List (Station (List ℕ))) (step : Written (List ℕ)) (last total : ℕ) (old new : Hosted) (before now : Sink) : Type 0 where
+-- all is written, so many bytes; no packet waits, no spare is new, and the host is as open as before
+pub record HandlesAll (party : Party) (stations : List (Station (List ℕ))) (step : Written (List ℕ)) (last total : ℕ) (old new : Hosted) (before now : Sink) : Type 0 where
   pub whole : IsWhole new
   pub quiet : IsQuiet new
+  pub stock : All (Contains old.stock) new.stock
   pub is_closed : new.is_closed ≡ old.is_closed
   pub calls : new.calls ≤ most_deliveries
   pub fine : now.failed ≡ before.failed
-  pub exact : AreKnown old → IsDone stations step last new before.gained now.gained
-  pub count : AreKnown old → total ≡ length (concat step.1)
+  pub known : AreKnown old → AreKnownIn party old → AreKnown new
+  pub exact : AreKnownIn party old → IsDone stations step last new before.gained now.gained
+  pub count : AreKnownIn party old → total ≡ length (concat step.1)
 
 -- a write failed, and the host is closed
-pub record HandlesPart (stations : List (Station (List ℕ))) (step : Written (List ℕ)) (sent : ℕ) (old new : Hosted) (before now : Sink) : Type 0 where
+pub record HandlesPart (party : Party) (stations : List (Station (List ℕ))) (step : Written (List ℕ)) (sent : ℕ) (old new : Hosted) (before now : Sink) : Type 0 where
   pub whole : IsWhole new
+  pub stock : All (Contains old.stock) new.stock
   pub is_closed : new.is_closed ≡ true
   pub calls : new.calls ≤ most_deliveries
   pub failed : now.failed ≡ true
-  pub exact : AreKnown old → IsCut stations step sent new before.gained now.gained
+  pub known : AreKnown old → AreKnownIn party old → AreKnown new
+  pub exact : AreKnownIn party old → IsCut stations step sent new before.gained now.gained
 
 -- one of the two, by the answer
-abbrev pub Handles : List (Station (List ℕ)) → Written (List ℕ) → ℕ → Hosted → Hosted → Sink → Sink → Result ℕ WriteFault → Type 0
-Handles stations step last old new before now (Ok total) = HandlesAll stations step last total old new before now
-Handles stations step last old new before now (Err fault) = HandlesPart stations step fault.sent old new before now
+abbrev pub Handles : Party → List (Station (List ℕ)) → Written (List ℕ) → ℕ → Hosted → Hosted → Sink → Sink → Result ℕ WriteFault → Type 0
+Handles party stations step last old new before now (Ok total) = HandlesAll party stations step last total old new before now
+Handles party stations step last old new before now (Err fault) = HandlesPart party stations step fault.sent old new before now
 
 -- all deliveries
 abbrev pub Drains : Hosted → Hosted → Sink → Sink → Result ℕ WriteFault → Type 0
 Drains old new before now result =
     let stations : List (Station (List ℕ)) = delivery_stations on_board old.services.moment 0 most_deliveries (executive_in old) in
-    Handles stations (drained on_board old.services.moment most_deliveries (executive_in old)) (last_calls on_board old.services.moment stations) old new before now result
+    Handles Everyone stations (drained on_board old.services.moment most_deliveries (executive_in old)) (last_calls on_board old.services.moment stations) old new before now result
 
 -- a packet is published, and all deliveries are made
 abbrev pub PassesOn : List ℕ → Hosted → Hosted → Sink → Sink → Result ℕ WriteFault → Type 0
 PassesOn packet old new before now result =
     let stations : List (Station (List ℕ)) = passing_stations on_board old.services.moment packet (executive_in old) in
-    Handles stations (passed_on on_board old.services.moment packet (executive_in old)) (last_calls on_board old.services.moment stations) old new before now result
+    Handles Everyone stations (passed_on on_board old.services.moment packet (executive_in old)) (last_calls on_board old.services.moment stations) old new before now result

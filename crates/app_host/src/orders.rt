@@ -10,6 +10,7 @@ ghost use Rattle.app_host.specs.Hosted.{shown};
 ghost use Rattle.app_host.specs.Whole.{AreSeated, AreSpares, IsWhole, IsQuiet};
 ghost use Rattle.app_host.specs.Delivered.{executive_in};
 ghost use Rattle.app_host.specs.Roster.{roster_of, seat_in, free_in, first_spare_in, ordered_by, succession_by};
+ghost use Rattle.app_host.specs.Party.{ordered, party_by};
 ghost use Rattle.app_host.specs.Response.{obeying_orders, Responds};
 ghost use Rattle.app_host.specs.Ordered.{order_of, named_by, outcome_of, Prepares, MakesWay, Takes, MakesWayFor, MayFollow, ComesIn, Enters, next_of, ObeysOrders};
 
@@ -101,7 +102,7 @@ impl Host {
     /// there is no spare, and where no seat is free, in this order.
     fn prepare_start(&self, name: &[u8]) -> Result<Successor, HostError>
         requires whole { IsWhole (shown state called held self.now) }
-        ensures prepared { Prepares state called held (outcome_of Start name.now (shown state called held self.now)) (shown state called held self.now) (shown state called held self.now) result }
+        ensures prepared { Prepares state called held (ordered Start name.now) (outcome_of Start name.now (shown state called held self.now)) (shown state called held self.now) (shown state called held self.now) result }
         ensures own { MakesWay state called held (ordered_by Start name.now (roster_of (shown state called held self.now))) (shown state called held self.now) (shown state called held self.now) result }
     {
         if self.runs_at(name).is_some() {
@@ -119,7 +120,7 @@ impl Host {
     /// The application of the name gives its seat back and is dropped. It is refused where none runs.
     fn prepare_stop(&mut self, name: &[u8]) -> Result<Successor, HostError>
         requires whole { IsWhole (shown state called held self.old) }
-        ensures prepared { Prepares state called held (outcome_of Stop name.now (shown state called held self.old)) (shown state called held self.old) (shown state called held self.new) result }
+        ensures prepared { Prepares state called held (ordered Stop name.now) (outcome_of Stop name.now (shown state called held self.old)) (shown state called held self.old) (shown state called held self.new) result }
         ensures own { MakesWay state called held (ordered_by Stop name.now (roster_of (shown state called held self.old))) (shown state called held self.old) (shown state called held self.new) result }
     {
         match self.runs_at(name) {
@@ -134,7 +135,7 @@ impl Host {
     /// The application of the name gives its seat back, and is to take it again. It is refused where none runs.
     fn prepare_restart(&mut self, name: &[u8]) -> Result<Successor, HostError>
         requires whole { IsWhole (shown state called held self.old) }
-        ensures prepared { Prepares state called held (outcome_of Restart name.now (shown state called held self.old)) (shown state called held self.old) (shown state called held self.new) result }
+        ensures prepared { Prepares state called held (ordered Restart name.now) (outcome_of Restart name.now (shown state called held self.old)) (shown state called held self.old) (shown state called held self.new) result }
         ensures own { MakesWay state called held (ordered_by Restart name.now (roster_of (shown state called held self.old))) (shown state called held self.old) (shown state called held self.new) result }
     {
         match self.runs_at(name) {
@@ -147,7 +148,7 @@ impl Host {
     /// refused where none runs, and then where there is no spare.
     fn prepare_reload(&mut self, name: &[u8]) -> Result<Successor, HostError>
         requires whole { IsWhole (shown state called held self.old) }
-        ensures prepared { Prepares state called held (outcome_of Reload name.now (shown state called held self.old)) (shown state called held self.old) (shown state called held self.new) result }
+        ensures prepared { Prepares state called held (ordered Reload name.now) (outcome_of Reload name.now (shown state called held self.old)) (shown state called held self.old) (shown state called held self.new) result }
         ensures own { MakesWay state called held (ordered_by Reload name.now (roster_of (shown state called held self.old))) (shown state called held self.old) (shown state called held self.new) result }
     {
         let Some(seat) = self.runs_at(name) else {
@@ -165,7 +166,7 @@ impl Host {
     /// The order is begun: who is to leave a seat has left it. Answers who takes it next, or why the order is refused.
     fn prepare(&mut self, order: Order, name: &[u8]) -> Result<Successor, HostError>
         requires whole { IsWhole (shown state called held self.old) }
-        ensures prepared { Prepares state called held (outcome_of (order_of order) name.now (shown state called held self.old)) (shown state called held self.old) (shown state called held self.new) result }
+        ensures prepared { Prepares state called held (ordered (order_of order) name.now) (outcome_of (order_of order) name.now (shown state called held self.old)) (shown state called held self.old) (shown state called held self.new) result }
         ensures own { MakesWay state called held (ordered_by (order_of order) name.now (roster_of (shown state called held self.old))) (shown state called held self.old) (shown state called held self.new) result }
     {
         match order {
@@ -180,7 +181,7 @@ impl Host {
     fn take_order(&mut self, packet: &[u8]) -> Result<Successor, Numbers>
         requires whole { IsWhole (shown state called held self.old) }
         requires headers { 8 ≤ length packet.now }
-        ensures prepared { Takes state called held (executive_service_now on_board self.old.services.moment packet.now (executive_in (shown state called held self.old))) (shown state called held self.old) (shown state called held self.new) result }
+        ensures prepared { Takes state called held (party_by (app_command (function_code packet.now) (payload packet.now))) (executive_service_now on_board self.old.services.moment packet.now (executive_in (shown state called held self.old))) (shown state called held self.old) (shown state called held self.new) result }
         ensures own { MakesWayFor state called held (succession_by packet.now (roster_of (shown state called held self.old))) (shown state called held self.old) (shown state called held self.new) result }
     {
         let (order, name) = read_order(packet)?;

@@ -1,3 +1,4 @@
+mod Besides
 mod Homes
 mod Names
 mod Spoken

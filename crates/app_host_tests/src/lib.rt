@@ -5,6 +5,7 @@
 #![tactic(auto)]
 
 pub mod alone;
+pub mod beside;
 #[cfg(test)]
 mod counting;
 #[cfg(test)]

@@ -52,6 +52,23 @@ fn a_reload_and_a_stop_drop_and_a_restart_does_not(rt: HostRuntime) {
     all_holds(&rt, &[Spare::Counting, Spare::Counting], script);
 }
 
+/// Beside a spare of another kind a counter counts, and is not reloaded by it.
+#[test]
+fn a_spare_of_another_kind_changes_nothing(rt: HostRuntime) {
+    let script = &[
+        Step(Order(START, b"COUNTER"), &[Done(8, b"app command 1 done")]),
+        Step(COUNT, &[Count(b"count 1")]),
+        Step(
+            Order(RELOAD, b"COUNTER"),
+            &[Refused(9, b"app command refused 122")],
+        ),
+        Step(COUNT, &[Count(b"count 2")]),
+        Calls(1),
+        Spares(b"A", 1),
+    ];
+    all_holds(&rt, &[Spare::Writing(0), Spare::Counting], script);
+}
+
 #[test]
 fn an_order_is_refused_for_what_runs_and_what_there_is(rt: HostRuntime) {
     let script = &[

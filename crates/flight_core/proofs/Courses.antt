@@ -1,12 +1,15 @@
 -- A run between two steps, and how it ends.
-use Rattle.std.proofs.Common.{◌≡◌, refl, sym, ◌∙◌, ap, subst, ℕ, ◌+◌, ◌*◌, ◌<◌, ◌≤◌, false, List, [], ◌∷◌, ◌++◌, length, take, Option, arith, append_assoc, length-append}
+use Rattle.std.proofs.Common.{◌≡◌, refl, sym, ◌∙◌, ap, subst, ℕ, ◌+◌, ◌*◌, ◌<◌, ◌≤◌, Bool, true, false, cond, List, [], ◌∷◌, ◌++◌, length, take, get_or, Option, Some, None, arith, append_assoc, length-append}
+use Rattle.std.specs.Prelude.{All, Contains, find, IfSome}
 use Rattle.std.specs.List.{concat}
 use Rattle.std.specs.Io.KnownBytes.{Appends, Consumes}
 use Rattle.std.proofs.KnownBytes.{Appends-nil, Appends-trans, Consumes-nil, Consumes-trans}
 use Rattle.std.proofs.lemmas.List.{take-append-le}
+use Rattle.std.proofs.lemmas.List.Elements.{All-head, All-tail, All-contains}
 use Rattle.std.proofs.lemmas.List.Folds.{concat-append}
 use Rattle.std.proofs.Math.Seq.{take-append-add}
 use Rattle.lc_model.specs.Device.{Source, Sink}
+use Rattle.lc_model.specs.Name.{Name, is_named}
 use Rattle.lc_model.specs.Tables.HalvesAndBytes.{as_bytes}
 use Rattle.lc_model.specs.Tables.InForce.{layouts}
 use Rattle.lc_model.specs.Tables.Interpretation.{FileMeanings}
@@ -18,12 +21,13 @@ use Rattle.lc_model.specs.Kept.Stations.{host_step}
 use Rattle.host_laws.specs.Statements.{AreBytes, executive_after, RunsGoOn}
 use Rattle.host_laws.specs.Writes.{OpenHostsTake}
 use Rattle.app_host.specs.Shared.{on_board}
-use Rattle.app_host.specs.Hosted.{Hosted}
-use Rattle.app_host.specs.Whole.{AreKnown}
+use Rattle.app_host.specs.Hosted.{Object, Hosted, object_at}
+use Rattle.app_host.specs.Whole.{IsKnown}
+use Rattle.app_host.specs.Party.{Party, Everyone, Only, IsKnownOnSeat, IsKnownSpare, AreKnownIn}
 use Rattle.app_host.specs.Delivered.{executive_in}
-use Rattle.app_host.specs.Step.{IsBetween, called_for, StepsSo}
+use Rattle.app_host.specs.Step.{IsBetween, party_of, called_for, StepsSo}
 use Rattle.flight_core.specs.Cutting.{IsHandedOut, Begins, Comes, Goes}
-use Rattle.flight_core.specs.Flight.{written_by}
+use Rattle.flight_core.specs.Flight.{AreAllKnown, written_by}
 use Rattle.flight_core.specs.Going as going
 use Rattle.flight_core.specs.Going.{IsNext, IsHandled, IsCutShort, NoneIsHeld, MeetsNone, IsOver, IsBroken, IsAtBound}
 use Rattle.flight_core.specs.Records.{Held, nothing_held, front_of}
@@ -48,6 +52,37 @@ pub taken_front : (ws cs xs : List ℕ) (sent : ℕ) → sent ≤ length cs → 
 taken_front ws cs xs sent few =
     take-append-le (length ws + sent) (ws ++ cs) xs (omega (arith, few, length-append ws cs)) ∙ take-append-add ws cs sent
 
+-- ---- who is known
+
+found_known : (test : Object → Bool) (stock : List Object) → All IsKnown stock → IfSome (find test stock) IsKnown
+found_known test [] all = tt
+found_known test (o ∷ stock) all = by_test (test o) (found_known test stock (All-tail IsKnown o stock all))
+  where
+    by_test : (b : Bool) → IfSome (find test stock) IsKnown → IfSome (cond b (Some o) (find test stock)) IsKnown
+    by_test true rest = All-head IsKnown o stock all
+    by_test false rest = rest
+
+-- where all are known, so are those who take part in a record
+spare_known : (name : Option Name) (stock : List Object) → All IsKnown stock → IsKnownSpare name stock
+spare_known None stock all = tt
+spare_known (Some name) stock all = found_known (λ (spare : Object). is_named name spare.called) stock all
+
+seat_known : (name : Option Name) (seats : List (Option Object)) → ((seat : ℕ) → IfSome (object_at seat seats) IsKnown) → IsKnownOnSeat name seats
+seat_known None seats all = tt
+seat_known (Some name) seats all = λ seat. by_place (object_at seat seats) (all seat)
+  where
+    by_place : (place : Option Object) → IfSome place IsKnown → IfSome place (λ (o : Object). is_named name o.called ≡ true → IsKnown o)
+    by_place None known = tt
+    by_place (Some o) known = λ named. known
+
+pub party_known : (party : Party) (h : Hosted) → AreAllKnown h → AreKnownIn party h
+party_known Everyone h all = all.seated
+party_known (Only leaving coming) h all = (seat_known leaving h.seats all.seated, spare_known coming h.stock all.spares)
+
+-- and where none is new, all are
+still_known : (old new : List Object) → All IsKnown old → All (Contains old) new → All IsKnown new
+still_known old new all among k d less = All-contains IsKnown old (get_or new k d) all (among k d less)
+
 -- ---- what is written over records
 
 pub written_behind : (meanings : FileMeanings (List ℕ)) (e : Executive (List ℕ)) (entries others : List StreamEntry) →
@@ -66,12 +101,12 @@ module _ (n : ℕ) (meanings : FileMeanings (List ℕ)) (first : Hosted) where
 
   -- with objects of this profile: what there is behind these records, and what was written
   pub record Exact (now : Hosted) (entries : List StreamEntry) (before after : Option (List ℕ)) (bytes : ℕ) : Type 0 where
-    pub known : AreKnown now
+    pub known : AreAllKnown now
     pub executive : executive_in now ≡ executive_after on_board (executive_in first) meanings entries
     pub wrote : Appends before after (written_by meanings first entries)
     pub long : bytes ≡ length (written_by meanings first entries)
 
-  exact_first : (before : Option (List ℕ)) → AreKnown first → Exact first [] before before 0
+  exact_first : (before : Option (List ℕ)) → AreAllKnown first → Exact first [] before before 0
   unfolding written_from executive_after
   exact_first before known = record { known = known; executive = refl; wrote = Appends-nil before; long = refl }
 
@@ -93,7 +128,7 @@ module _ (n : ℕ) (meanings : FileMeanings (List ℕ)) (first : Hosted) where
     pub few : count + length held.bytes ≤ length come
     pub pieces : length come ≤ 8192 * source_now.reads
     pub small : bytes ≤ 18446744073709551616 * count
-    pub exact : AreKnown first → Exact now entries sink.gained sink_now.gained bytes
+    pub exact : AreAllKnown first → Exact now entries sink.gained sink_now.gained bytes
 
   pub nothing_yet : Begins → (source : Source) (sink : Sink) (held : Held) → held ≡ nothing_held n → IsBetween first → first.is_closed ≡ false → source.reads ≡ 0 → source.failed ≡ false → sink.failed ≡ false →
       SoFar source sink first source sink held 0 0
@@ -130,10 +165,10 @@ module _ (n : ℕ) (meanings : FileMeanings (List ℕ)) (first : Hosted) where
         ∙ concat-append (written_from on_board (executive_in first) meanings entries) (step_by on_board entry.moment (then entries) (input_of meanings entry.contents)).1
         ∙ ap (λ bs. written_by meanings first entries ++ bs) (sym called)
 
-    exact_more : (new : Hosted) (after : Option (List ℕ)) (total : ℕ) → StepsSo entry.moment (input_of meanings entry.contents) now new mid after →
+    exact_more : (new : Hosted) (after : Option (List ℕ)) (total : ℕ) → StepsSo entry.moment (input_of meanings entry.contents) now new mid after → AreAllKnown new →
         total ≡ length (called_for entry.moment (input_of meanings entry.contents) now) → Exact new (entries ++ entry ∷ []) before after (bytes + total)
-    exact_more new after total s count = record {
-      known = s.known;
+    exact_more new after total s known count = record {
+      known = known;
       executive =
           ap (λ (h : model.Host (List ℕ)). h.executive) s.host
           ∙ ap (λ e. (step_by on_board entry.moment e (input_of meanings entry.contents)).0) far.executive
@@ -174,7 +209,9 @@ module _ (n : ℕ) (meanings : FileMeanings (List ℕ)) (first : Hosted) where
         small = omega (arith, far.small, fits);
         exact = λ known.
             let e = far.exact known in
-            exact_more goes_on now far.entries next.entry sink.gained sink_now.gained bytes e new sink_after.gained total (done.steps.exact e.known) (done.count e.known);
+            let those = party_known (party_of (input_of meanings next.entry.contents)) now e.known in
+            exact_more goes_on now far.entries next.entry sink.gained sink_now.gained bytes e new sink_after.gained total (done.steps.exact those)
+            (record { spares = still_known now.stock new.stock e.known.spares done.steps.stock; seated = done.steps.known e.known.seated those }) (done.count those);
       }
 
   -- ---- nothing more is held, and a piece comes

@@ -16,20 +16,19 @@ use Rattle.host_laws.specs.Statements.{AreBrought, StreamsBring, executive_after
 use Rattle.host_laws.specs.Writes.{OpenHostsTake, Takes}
 use Rattle.app_host.specs.Shared.{on_board}
 use Rattle.app_host.specs.Hosted.{Hosted, in_numbers}
-use Rattle.app_host.specs.Whole.{AreKnown}
 use Rattle.app_host.specs.Delivered.{executive_in}
-use Rattle.app_host.specs.Step.{called_for, StopsSo}
+use Rattle.app_host.specs.Step.{party_of, called_for, StopsSo}
 use Rattle.flight_core.specs.declared.error.Report.{Report}
 use Rattle.flight_core.specs.declared.error.RunError.{RunError}
 use Rattle.flight_core.specs.declared.halt.Halt.{Halt}
 use Rattle.flight_core.specs.declared.halt.Halt.TheVariants as halt
 use Rattle.flight_core.specs.Cutting.{Goes, EndsBadly, EndsWhole, EndsCut}
 use Rattle.flight_core.specs.Ending.{ending_of}
-use Rattle.flight_core.specs.Flight.{written_by, stopped_by, ended_by}
+use Rattle.flight_core.specs.Flight.{AreAllKnown, written_by, stopped_by, ended_by}
 use Rattle.flight_core.specs.Front.{part_of}
 use Rattle.flight_core.specs.Going.{IsCutShort, NoneIsHeld, IsOver, HandlesNext, TakesPiece}
 use Rattle.flight_core.specs.Records.{Held, front_of}
-use Rattle.flight_core.proofs.Courses.{written_behind, taken_front, Exact, SoFar, in_front, joined, idle}
+use Rattle.flight_core.proofs.Courses.{party_known, written_behind, taken_front, Exact, SoFar, in_front, joined, idle}
 
 -- the laws that say how records end
 pub record Laws : Type 0 where
@@ -41,7 +40,7 @@ pub record Laws : Type 0 where
   pub whole : EndsWhole
   pub cut : EndsCut
 
-module _ (laws : Laws) (n : ℕ) (meanings : FileMeanings (List ℕ)) (first : Hosted) (most : ℕ) (source : Source) (sink : Sink) (known : AreKnown first)
+module _ (laws : Laws) (n : ℕ) (meanings : FileMeanings (List ℕ)) (first : Hosted) (most : ℕ) (source : Source) (sink : Sink) (known : AreAllKnown first)
     (output : List StreamEntry → List ℕ) (same : (entries : List StreamEntry) → AreBrought n entries → written_by meanings first entries ≡ output entries)
     (now : Hosted) (source_now : Source) (sink_now : Sink) (held : Held) (count bytes : ℕ) (far : SoFar n meanings first source sink now source_now sink_now held count bytes) where
   abbrev records : List ℕ → List StreamEntry × End
@@ -146,7 +145,7 @@ module _ (laws : Laws) (n : ℕ) (meanings : FileMeanings (List ℕ)) (first : H
     called = called_for entry.moment (input_of meanings entry.contents) now
 
     stops : StopsSo entry.moment (input_of meanings entry.contents) sent now new sink_now.gained sink_after.gained
-    stops = cut.steps.exact exact.known
+    stops = cut.steps.exact (party_known (party_of (input_of meanings entry.contents)) now exact.known)
 
     sent_fewer : sent < length called
     sent_fewer =
@@ -223,7 +222,7 @@ module _ (laws : Laws) (n : ℕ) (meanings : FileMeanings (List ℕ)) (first : H
 
 -- ---- the same as the loop has it
 
-module _ (laws : Laws) (n : ℕ) (meanings : FileMeanings (List ℕ)) (first : Hosted) (most : ℕ) (source : Source) (sink : Sink) (known : AreKnown first)
+module _ (laws : Laws) (n : ℕ) (meanings : FileMeanings (List ℕ)) (first : Hosted) (most : ℕ) (source : Source) (sink : Sink) (known : AreAllKnown first)
     (output : List StreamEntry → List ℕ) (same : (entries : List StreamEntry) → AreBrought n entries → written_by meanings first entries ≡ output entries)
     (now : Hosted) (source_now : Source) (sink_now : Sink) (held : Held) (count bytes : ℕ) (far : SoFar n meanings first source sink now source_now sink_now held count bytes)
     (after : Held) (new : Hosted) (sink_after : Sink) where

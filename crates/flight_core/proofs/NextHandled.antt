@@ -8,8 +8,8 @@ use Rattle.lc_model.specs.Host.Run.{input_of}
 use Rattle.lc_model.specs.Host.Stream.{StreamEntry, Front, EndOfStream, Record, NoRecord, CutRecord}
 use Rattle.rpn_compiler.specs.declared.files.TablePair.{TablePair}
 use Rattle.app_host.specs.Hosted.{Hosted}
-use Rattle.app_host.specs.Whole.{AreKnown}
-use Rattle.app_host.specs.Step.{input_by, IsBetween, called_for, StepsWhole, StepsPart}
+use Rattle.app_host.specs.Party.{AreKnownIn}
+use Rattle.app_host.specs.Step.{input_by, party_of, IsBetween, called_for, StepsWhole, StepsPart}
 use Rattle.flight_core.specs.declared.found.Found.{Found}
 use Rattle.flight_core.specs.declared.found.Found.TheVariants as found
 use Rattle.flight_core.specs.Answer.{Entry}
@@ -67,13 +67,14 @@ module _ (pairs : List TablePair) (held after : Held) (f : Found) (given : Given
   input_is : input_by given.body ≡ input_of (meanings_of pairs) next.0.entry.contents
   input_is = taken.input ∙ ap (λ (e : StreamEntry). input_of (meanings_of pairs) e.contents) (sym next.1)
 
-  pub handled : (total : ℕ) → StepsWhole given.moment (input_by given.body) old new before now → (AreKnown old → total ≡ length (called_for given.moment (input_by given.body) old)) →
+  pub handled : (total : ℕ) → StepsWhole given.moment (input_by given.body) old new before now →
+      (AreKnownIn (party_of (input_by given.body)) old → total ≡ length (called_for given.moment (input_by given.body) old)) →
       IsHandled (meanings_of pairs) held after old new before now total
   handled total steps count = record {
     next = next.0;
     between = between;
     steps = subst (λ (x : Moment × Input (List ℕ)). StepsWhole x.0 x.1 old new before now) (λ i. (moment_is i, input_is i)) steps;
-    count = λ known. count known ∙ (λ i. length (called_for (moment_is i) (input_is i) old));
+    count = λ those. count (subst (λ (x : Input (List ℕ)). AreKnownIn (party_of x) old) (sym input_is) those) ∙ (λ i. length (called_for (moment_is i) (input_is i) old));
   }
 
   pub cut_short : (sent : ℕ) → StepsPart given.moment (input_by given.body) sent old new before now → IsCutShort (meanings_of pairs) held after old new before now sent

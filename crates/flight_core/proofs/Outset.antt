@@ -26,14 +26,14 @@ use Rattle.host_laws.specs.Keeping as keeping
 use Rattle.host_laws.specs.Statements.{AreBrought, WritesByBytes}
 use Rattle.app_host.specs.Shared.{on_board}
 use Rattle.app_host.specs.Hosted.{Object, Hosted, member_of, in_numbers, object_at}
-use Rattle.app_host.specs.Whole.{AreKnown}
+use Rattle.app_host.specs.Whole.{IsKnown}
 use Rattle.flight_core.specs.declared.error.Report.{Report}
 use Rattle.flight_core.specs.declared.error.RunError.{RunError}
 use Rattle.flight_core.specs.declared.error.RunError.TheVariants as error
 use Rattle.flight_core.specs.Brought.{meanings_of, AreWhole}
 use Rattle.flight_core.specs.Compiled.{edition, sources_of, file_in, AreAllCompiled, IsNotCompiled}
 use Rattle.flight_core.specs.Ending.{ending_of}
-use Rattle.flight_core.specs.Flight.{FliesSo}
+use Rattle.flight_core.specs.Flight.{AreAllKnown, FliesSo}
 use Rattle.flight_core.specs.Run.{members_of, mission_of, IsOfProfile, IsOutputFrom, EndsSo, RunsSo}
 use Rattle.flight_core.proofs.TextsCompiled.{AreTexts, texts_of}
 
@@ -54,7 +54,7 @@ all_not_other schedule (member ∷ members) all = (not_other schedule member all
 
 -- ---- the first host
 
-spares_known : (stock : List Object) → AllByRecursion (λ (member : Member). member.state ≢ Other) (map member_of stock) → All (λ (spare : Object). spare.state ≢ Other) stock
+spares_known : (stock : List Object) → AllByRecursion (λ (member : Member). member.state ≢ Other) (map member_of stock) → All IsKnown stock
 spares_known [] all k d less = absurd (omega (arith, less))
 spares_known (spare ∷ stock) all zero d less = all.0
 spares_known (spare ∷ stock) all (suc k) d less = spares_known stock all.1 k d (omega (arith, less))
@@ -66,10 +66,10 @@ no_seat (suc n) (None ∷ seats) zero is = refl
 no_seat (suc n) (None ∷ seats) (suc seat) is = let rest : map (option_map member_of) seats ≡ replicate n None = cc is in no_seat n seats seat rest
 no_seat (suc n) (Some o ∷ seats) seat is = let clash : Some (member_of o) ≡ None = cc is in absurd (cc clash)
 
-pub known_first : (h : Hosted) (members : List Member) → in_numbers h ≡ first_host members → AllByRecursion (λ (member : Member). member.state ≢ Other) members → AreKnown h
+pub known_first : (h : Hosted) (members : List Member) → in_numbers h ≡ first_host members → AllByRecursion (λ (member : Member). member.state ≢ Other) members → AreAllKnown h
 known_first h members is all = record {
   spares = spares_known h.stock (subst (AllByRecursion (λ (member : Member). member.state ≢ Other)) (sym (ap (λ (x : model.Host (List ℕ)). x.executive.stock) is)) all);
-  seated = λ seat. subst (λ o. IfSome o (λ (o : Object). o.state ≢ Other)) (sym (no_seat 8 h.seats seat (ap (λ (x : model.Host (List ℕ)). x.executive.seats) is))) tt;
+  seated = λ seat. subst (λ o. IfSome o IsKnown) (sym (no_seat 8 h.seats seat (ap (λ (x : model.Host (List ℕ)). x.executive.seats) is))) tt;
 }
 
 -- ---- the files

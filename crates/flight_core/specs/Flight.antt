@@ -1,5 +1,5 @@
 -- What a run of the host writes over records, and how it ends.
-use Rattle.std.specs.Prelude.{◌≡◌, ℕ, ◌+◌, List, [], ◌∷◌, length, Result, Ok, Err, ⊤}
+use Rattle.std.specs.Prelude.{◌≡◌, ℕ, ◌+◌, List, [], ◌∷◌, length, All, Result, Ok, Err, ⊤}
 use Rattle.std.specs.List.{concat}
 use Rattle.lc_model.specs.Host.Outcome.{Devices, IsOutcome}
 use Rattle.lc_model.specs.Host.Stream.{StreamEntry, records_of}
@@ -9,7 +9,7 @@ use Rattle.rpn_compiler.specs.declared.files.TablePair.{TablePair}
 use Rattle.host_laws.specs.Statements.{AreBrought}
 use Rattle.app_host.specs.Shared.{on_board}
 use Rattle.app_host.specs.Hosted.{Hosted}
-use Rattle.app_host.specs.Whole.{AreKnown}
+use Rattle.app_host.specs.Whole.{IsKnown, AreKnown}
 use Rattle.app_host.specs.Delivered.{executive_in}
 use Rattle.flight_core.specs.declared.halt.Halt.{Halt}
 use Rattle.flight_core.specs.declared.halt.Halt.TheVariants as halt
@@ -45,7 +45,12 @@ written_by meanings h entries = concat (written_from on_board (executive_in h) m
 abbrev pub IsOutputOf : List TablePair → Hosted → (List StreamEntry → List ℕ) → Type 0
 IsOutputOf pairs h output = (entries : List StreamEntry) → AreBrought (length pairs) entries → written_by (meanings_of pairs) h entries ≡ output entries
 
+-- all objects are this profile's, in stock and on the seats
+pub record AreAllKnown (h : Hosted) : Type 0 where
+  pub spares : All IsKnown h.stock
+  pub seated : AreKnown h
+
 -- with objects of this profile a run ends so, whatever definition says what the host writes
 abbrev pub FliesSo : List TablePair → ℕ → Hosted → Devices → Result Report RunError → Type 0
-FliesSo pairs most h d result = AreKnown h → (output : List StreamEntry → List ℕ) → IsOutputOf pairs h output →
+FliesSo pairs most h d result = AreAllKnown h → (output : List StreamEntry → List ℕ) → IsOutputOf pairs h output →
     IsOutcome (records_of (length pairs)) output most d (ending_of result)

@@ -6,8 +6,8 @@ use Rattle.lc_model.specs.Host.Run.{input_of}
 use Rattle.lc_model.specs.Host.Stream.{StreamEntry, Record, NoRecord}
 use Rattle.lc_model.specs.Tables.Interpretation.{FileMeanings}
 use Rattle.app_host.specs.Hosted.{Hosted}
-use Rattle.app_host.specs.Step.{IsBetween, called_for, StepsWhole, StepsPart}
-use Rattle.app_host.specs.Whole.{AreKnown}
+use Rattle.app_host.specs.Step.{IsBetween, party_of, called_for, StepsWhole, StepsPart}
+use Rattle.app_host.specs.Party.{AreKnownIn}
 use Rattle.host_laws.specs.Statements.{AreBytes}
 use Rattle.flight_core.specs.declared.halt.Halt.{Halt}
 use Rattle.flight_core.specs.declared.halt.Halt.TheVariants as halt
@@ -30,7 +30,7 @@ module _ (meanings : FileMeanings (List ℕ)) (held after : Held) (old new : Hos
     pub next : IsNext held after
     pub between : IsBetween new
     pub steps : StepsWhole next.entry.moment (input_of meanings next.entry.contents) old new before now
-    pub count : AreKnown old → total ≡ length (called_for next.entry.moment (input_of meanings next.entry.contents) old)
+    pub count : AreKnownIn (party_of (input_of meanings next.entry.contents)) old → total ≡ length (called_for next.entry.moment (input_of meanings next.entry.contents) old)
 
   -- a write failed, behind so many bytes of it
   pub record IsCutShort (sent : ℕ) : Type 0 where

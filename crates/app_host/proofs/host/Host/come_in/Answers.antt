@@ -1,5 +1,10 @@
-use Rattle.app_host.proofs.CameIn.{came_in, failed_then, failed_so, entered, not_entered, nobody_entered, not_entered_so}
+use Rattle.app_host.proofs.CameIn.{nobody_came, came_in, failed_then, failed_so, entered, not_entered, nobody_entered, not_entered_so}
 use Rattle.app_host.proofs.host.Host.come_in.Goals as goal
+
+pub returns-in_err-sent-clause-comes : goal.returns-in_err-sent-clause-comes
+returns-in_err-sent-clause-comes g c =
+    failed_so _ _ _ _ _ c.from_residual.result c.in_err-sent.field-0.0 c.from_residual.ensures.1
+    (nobody_came _ _ _ _ _ c.requires.spares c.flush.ensures.flushed c.in_err-sent.field-0.0.sent c.in_err-sent.ensures.sent)
 
 pub returns-in_err-total-clause-comes : goal.returns-in_err-total-clause-comes
 returns-in_err-total-clause-comes g c =

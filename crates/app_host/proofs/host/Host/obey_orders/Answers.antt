@@ -8,18 +8,18 @@ use Rattle.app_host.proofs.host.Host.obey_orders.Goals as goal
 
 pub returns-in_err-sent-in-Ok-clause-handled : goal.returns-in_err-sent-in-Ok-clause-handled
 returns-in_err-sent-in-Ok-clause-handled g c =
-    cut_short _ _ _ _ _ _ _ c.from_residual.result c.in_err-sent-in-Ok.field-0.0 c.from_residual.ensures.1
-    (order_broken c.args.packet.now _ _ _ c.requires.whole c.requires.quiet c.requires.none_yet c.in-Ok.ensures.prepared c.in_err-sent-in-Ok.field-0.0.sent _ _ _ c.in_err-sent-in-Ok.ensures.comes)
+    cut_short _ _ _ _ _ _ _ _ c.from_residual.result c.in_err-sent-in-Ok.field-0.0 c.from_residual.ensures.1
+    (order_broken c.args.packet.now _ _ _ c.requires.whole c.requires.quiet c.requires.none_yet c.in-Ok.ensures.prepared c.in_err-sent-in-Ok.field-0.0.sent _ _ _ c.in_err-sent-in-Ok.ensures.comes c.in_err-sent-in-Ok.ensures.own)
 
 pub returns-in_err-total-in-Ok-clause-handled : goal.returns-in_err-total-in-Ok-clause-handled
 returns-in_err-total-in-Ok-clause-handled g c =
-    cut_short _ _ _ _ _ _ _ c.from_residual-in_err-total-in-Ok.result c.in_err-total-in-Ok.field-0.0 c.from_residual-in_err-total-in-Ok.ensures.1
-    (order_cut c.args.packet.now _ _ _ c.requires.whole c.requires.quiet c.requires.none_yet c.in-Ok.ensures.prepared c.in_ok-sent-in-Ok.sent _ _ _ _ _ _ c.in_ok-sent-in-Ok.ensures.comes _
+    cut_short _ _ _ _ _ _ _ _ c.from_residual-in_err-total-in-Ok.result c.in_err-total-in-Ok.field-0.0 c.from_residual-in_err-total-in-Ok.ensures.1
+    (order_cut c.args.packet.now _ _ _ c.requires.whole c.requires.quiet c.requires.none_yet c.in-Ok.ensures.prepared c.in_ok-sent-in-Ok.sent _ _ _ _ _ _ c.in_ok-sent-in-Ok.ensures.comes c.in_ok-sent-in-Ok.ensures.own _
     (c.command_done-text.ensures ∙ ap (command_done executive_services) c.function_code.ensures) c.tell.ensures c.flush.ensures.flushed c.in_err-total-in-Ok.field-0.0.sent c.in_err-total-in-Ok.ensures.sent)
 
 pub returns-in_ok-total-in-Ok-clause-handled : goal.returns-in_ok-total-in-Ok-clause-handled
 returns-in_ok-total-in-Ok-clause-handled g c =
-    order_done c.args.packet.now _ _ _ c.requires.whole c.requires.quiet c.requires.none_yet c.in-Ok.ensures.prepared c.in_ok-sent-in-Ok.sent _ _ _ _ _ _ c.in_ok-sent-in-Ok.ensures.comes _
+    order_done c.args.packet.now _ _ _ c.requires.whole c.requires.quiet c.requires.none_yet c.in-Ok.ensures.prepared c.in_ok-sent-in-Ok.sent _ _ _ _ _ _ c.in_ok-sent-in-Ok.ensures.comes c.in_ok-sent-in-Ok.ensures.own _
     (c.command_done-text.ensures ∙ ap (command_done executive_services) c.function_code.ensures) c.tell.ensures c.flush.ensures.flushed c.in_ok-total-in-Ok.total c.in_ok-total-in-Ok.ensures.sent
 
 pub returns-in-Err-clause-handled : goal.returns-in-Err-clause-handled

@@ -71,7 +71,7 @@ returns-in_err-sent-in-Some-clause-handled g c =
     let only = sym c.only_hearer.ensures.only ∙ c.in-Some.is in
     offered_passes _ _ c.args.packet.now (offered_first law c.args.packet.now _ c.requires.whole c.requires.quiet c.is_service.ensures c.requires.good c.only_hearer.ensures.eight c.in-Some.seat only)
     law c.requires.whole c.requires.quiet c.is_service.ensures _ _ _ c.from_residual.result
-    (cut_short _ _ _ _ _ _ _ c.from_residual.result c.in_err-sent-in-Some.field-0.0 c.from_residual.ensures.1
+    (cut_short _ _ _ _ _ _ _ _ c.from_residual.result c.in_err-sent-in-Some.field-0.0 c.from_residual.ensures.1
     (draining_cut _ _ _ _ 0 c.in-Some.seat _ _ _
     (handing_first law c.args.packet.now _ c.requires.whole c.requires.quiet c.is_service.ensures c.requires.good c.only_hearer.ensures.eight c.in-Some.seat only _ c.requires.none_yet)
     (ready_first law c.args.packet.now _ c.requires.whole c.requires.quiet c.is_service.ensures c.requires.good c.only_hearer.ensures.eight c.in-Some.seat only)
@@ -93,7 +93,7 @@ pub returns-in_err-sent-clause-handled : goal.returns-in_err-sent-clause-handled
 returns-in_err-sent-clause-handled g c =
     offered_passes _ c.loop-next.invariant.first c.args.packet.now c.loop-next.invariant.offered c.table_services_go_by_names.ensures.found c.requires.whole c.requires.quiet c.is_service.ensures
     _ _ _ c.from_residual-in_err-sent.result
-    (cut_short _ _ _ _ _ _ _ c.from_residual-in_err-sent.result c.in_err-sent.field-0.0 c.from_residual-in_err-sent.ensures.1
+    (cut_short _ _ _ _ _ _ _ _ c.from_residual-in_err-sent.result c.in_err-sent.field-0.0 c.from_residual-in_err-sent.ensures.1
     (draining_cut _ _ _ _ c.loop-next.sent c.in-Some-next.seat _ _ _ c.loop-next.invariant.far (sym c.loop-next.invariant.next ∙ c.in-Some-next.is)
     c.deliver-next.ensures.delivered c.flush-in-Some-next.ensures.flushed c.in_err-sent.field-0.0.sent c.in_err-sent.ensures.sent))
 

@@ -1,0 +1,96 @@
+//! An application of this profile beside one of any other kind that lies in stock.
+
+ghost use Rattle.std.specs.Prelude.{◌≡◌, ◌∷◌, [], false, map, IfOk, None, OnOk, Some};
+ghost use Rattle.std.specs.Io.KnownBytes.{Appends};
+ghost use Rattle.lc_model.specs.Name.{counter_name};
+ghost use Rattle.lc_model.specs.Kept.Summary.{CounterState};
+ghost use Rattle.app_host.specs.Delivered.{executive_in};
+ghost use Rattle.app_host.specs.Hosted.{object, member_of, shown};
+ghost use Rattle.app_host.specs.Step.{IsBetween};
+ghost use Rattle.app_host.specs.Party.{IsKnownSpare};
+ghost use Rattle.app_host.specs.Whole.{AreKnown, AreSpares};
+ghost use Rattle.app_host_tests.specs.Beside.{written_beside, written_from};
+
+use app_host::{App, Host, WriteFault};
+use lc_model::{Body, ByteSink, Moment, Record};
+use std::alloc::{AllocError, Global};
+
+/// The moment of both records.
+const NOW: Moment = Moment {
+    seconds: 100,
+    subseconds: 0,
+};
+
+/// The order that starts the counter.
+const START: &[u8] = &[
+    0x18, 0x06, 0xC0, 0, 0, 21, 1, 0, 67, 79, 85, 78, 84, 69, 82, 0, 0, 0, 0, 0, 0, 0, 0, 0, 0, 0,
+    0, 0,
+];
+
+/// The command that it counts.
+const COUNT: &[u8] = &[0x18, 0xC1, 0xC0, 0, 0, 1, 1, 0];
+
+/// The first spare that a counter is, and one of any kind behind it. Condition: they hold no seats.
+fn stock_of(
+    alloc: Global,
+    counter: Box<dyn App>,
+    other: Box<dyn App>,
+) -> Result<Vec<Box<dyn App>>, AllocError>
+    requires counter { held counter ≡ None }
+    requires other { held other ≡ None }
+    ensures spares { IfOk result (λ stock. AreSpares (map (object state called held) stock.items)) }
+    ensures items { IfOk result (λ stock. map (object state called held) stock.items ≡ object state called held counter ∷ object state called held other ∷ []) }
+{
+    let mut stock: Vec<Box<dyn App>> = Vec::new(alloc);
+    stock.push(counter)?;
+    stock.push(other)?;
+    Ok(stock)
+}
+
+/// The host starts the counter and gives it a command. What is written is what both records call for in the host in numbers.
+/// Conditions: the objects on the seats are of this profile, and so is the first spare that goes by the counter's name.
+fn count<W: ByteSink>(host: &mut Host, out: &mut W) -> Result<(), WriteFault>
+    requires between { IsBetween (shown (λ b. (⟦<dyn App as App>⟧ b.vtable).state b.value) (λ b. (⟦<dyn App as App>⟧ b.vtable).called b.value) (λ b. (⟦<dyn App as App>⟧ b.vtable).held b.value) host.old) }
+    requires open { (shown (λ b. (⟦<dyn App as App>⟧ b.vtable).state b.value) (λ b. (⟦<dyn App as App>⟧ b.vtable).called b.value) (λ b. (⟦<dyn App as App>⟧ b.vtable).held b.value) host.old).is_closed ≡ false }
+    requires known { AreKnown (shown (λ b. (⟦<dyn App as App>⟧ b.vtable).state b.value) (λ b. (⟦<dyn App as App>⟧ b.vtable).called b.value) (λ b. (⟦<dyn App as App>⟧ b.vtable).held b.value) host.old) }
+    requires spare { IsKnownSpare (Some counter_name) (shown (λ b. (⟦<dyn App as App>⟧ b.vtable).state b.value) (λ b. (⟦<dyn App as App>⟧ b.vtable).called b.value) (λ b. (⟦<dyn App as App>⟧ b.vtable).held b.value) host.old).stock }
+    ensures between { IsBetween (shown (λ b. (⟦<dyn App as App>⟧ b.vtable).state b.value) (λ b. (⟦<dyn App as App>⟧ b.vtable).called b.value) (λ b. (⟦<dyn App as App>⟧ b.vtable).held b.value) host.new) }
+    ensures written { OnOk result (Appends (W.sink out.old).gained (W.sink out.new).gained (written_from (executive_in (shown (λ b. (⟦<dyn App as App>⟧ b.vtable).state b.value) (λ b. (⟦<dyn App as App>⟧ b.vtable).called b.value) (λ b. (⟦<dyn App as App>⟧ b.vtable).held b.value) host.old)))) }
+{
+    let start = Record {
+        moment: NOW,
+        body: Body::Packet(START),
+    };
+    host.step(&start, out)?;
+    let count = Record {
+        moment: NOW,
+        body: Body::Packet(COUNT),
+    };
+    host.step(&count, out)
+}
+
+/// A host with a counter and an application of any kind in stock starts the counter, gives it a command, and is closed. It writes
+/// exactly what both records call for in the host in numbers, whatever the other application is: that one stays in stock. Out of
+/// memory is the outer error.
+pub fn counts_beside<W: ByteSink>(
+    alloc: Global,
+    counter: Box<dyn App>,
+    other: Box<dyn App>,
+    out: &mut W,
+) -> Result<Result<(), WriteFault>, AllocError>
+    requires named { called counter ≡ counter_name }
+    requires counts { state counter ≡ CounterState 0 }
+    requires counter { held counter ≡ None }
+    requires other { held other ≡ None }
+    ensures { IfOk result (λ answer. OnOk answer (Appends (W.sink out.old).gained (W.sink out.new).gained (written_beside (member_of (object state called held other))))) }
+{
+    let stock = stock_of(alloc, counter, other)?;
+    match Host::new(alloc, stock) {
+        Err(_) => Err(AllocError),
+        Ok(mut host) => {
+            let answer = count(&mut host, out);
+            host.close();
+            Ok(answer)
+        }
+    }
+}
