@@ -9,7 +9,7 @@ use thiserror::Error;
 /// Why a line of a script says nothing.
 #[derive(Clone, Copy, Debug, PartialEq, Eq, Error)]
 pub enum Reason {
-    /// No statement has this first word and so many words.
+    /// No statement is written so: it has another first word, too few or too many words, or a word that none may have there.
     #[error("no statement")]
     UnknownStatement,
     /// A word that has to be a number isn't one, or is out of its range.
