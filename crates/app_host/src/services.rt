@@ -36,6 +36,7 @@ impl Services {
         ensures events { IfOk result (λ s. s.events ≡ first_events) }
         ensures tables { IfOk result (λ s. s.tables ≡ first_tables) }
         ensures counts { IfOk result (λ s. s.counts ≡ replicate 8192 0) }
+        ensures moment { IfOk result (λ s. s.moment ≡ record { seconds = 0; subseconds = 0 }) }
         ensures outgoing { IfOk result (λ s. s.outgoing ≡ []) }
     {
         Ok(Services {

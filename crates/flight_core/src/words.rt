@@ -3,6 +3,7 @@
 ghost use Rattle.std.specs.Prelude.{◌≡◌, ◌≤◌, false, length, map, codes, IfOk, IsSomeAnd, Ok, Some};
 ghost use Rattle.clap.specs.Words.{all_of, app_of, first_of, found_of, rows_of, rule_of, subcommand_rows_of};
 ghost use Rattle.flight_core.specs.declared.words.Plan.TheVariants.{Stored};
+ghost use Rattle.flight_core.specs.declared.words.WordsError.TheVariants.{Memory};
 ghost use Rattle.flight_core.specs.Words.{HoldsRows, HoldsWords, command_line, file, files, option};
 
 use clap::error::ErrorKind;
@@ -42,6 +43,8 @@ pub enum WordsError {
 }
 
 impl From<AllocError> for WordsError {
+    ghost from_gives = { λ _ e. e ≡ Memory };
+
     fn from(_error: AllocError) -> WordsError {
         WordsError::Memory
     }

@@ -1,6 +1,6 @@
 //! A slice as a sink, with a limit.
 
-ghost use Rattle.std.specs.Prelude.{◌≡◌, ◌-◌, ◌<◌, ◌≤◌, ◌⊎◌, ◌↔◌, ℕ, min, length, take, Some, None, false, IfOk, OnErr, IsErr};
+ghost use Rattle.std.specs.Prelude.{◌≡◌, ◌-◌, ◌<◌, ◌≤◌, ◌⊎◌, ◌↔◌, ℕ, min, length, take, drop, Some, None, false, IfOk, OnErr, IsErr};
 ghost use Rattle.lc_model.specs.Device.{one_call_more, WritesSome, WriteFails};
 
 use crate::device::{ByteSink, DeviceFault};
@@ -85,6 +85,7 @@ impl<'a> ByteSink for Limited<'a> {
         ensures told { IsErr result ↔ ((self.old.fault_at ≡ Some self.new.writes) ⊎ (self.old.taken ≡ self.old.limit)) }
         ensures whole { IfOk result (λ count. count ≡ min (length bytes.now) (self.old.limit - self.old.taken)) }
         ensures writes { self.new.writes ≡ one_call_more self.old.writes }
+        ensures behind { drop self.new.taken self.new.room.now ≡ drop self.new.taken self.old.room.now }
         ensures limit { self.new.limit ≡ self.old.limit }
         ensures fault_at { self.new.fault_at ≡ self.old.fault_at }
     {
