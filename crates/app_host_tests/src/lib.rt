@@ -4,35 +4,46 @@
 //! the interface (`alone`). Expected values come from the packets' layout.
 #![tactic(auto)]
 
-pub mod alone;
+#[cfg(test)]
+mod alone;
 pub mod beside;
 #[cfg(test)]
 mod counting;
 #[cfg(test)]
 mod files;
-pub mod hosting;
+#[cfg(test)]
+mod hosting;
 #[cfg(test)]
 mod mistakes;
-pub mod named;
+#[cfg(test)]
+mod named;
 #[cfg(test)]
 mod orders;
-pub mod output;
+#[cfg(test)]
+mod output;
 #[cfg(test)]
 mod own_words;
-pub mod packets;
-pub mod playing;
-pub mod recorder;
+#[cfg(test)]
+mod packets;
+#[cfg(test)]
+mod playing;
+#[cfg(test)]
+mod recorder;
 #[cfg(test)]
 mod refusals;
-pub mod script;
+#[cfg(test)]
+mod script;
 #[cfg(test)]
 mod seats;
 #[cfg(test)]
 mod shared;
 #[cfg(test)]
 mod sharing;
-pub mod speaking;
-pub mod tally;
-pub mod tracked;
+#[cfg(test)]
+mod speaking;
+#[cfg(test)]
+mod tally;
+#[cfg(test)]
+mod tracked;
 #[cfg(test)]
 mod writers;

@@ -16,6 +16,7 @@ mod images;
 mod shared;
 #[cfg(test)]
 mod validity;
-pub mod values;
+#[cfg(test)]
+mod values;
 #[cfg(test)]
 mod watching;

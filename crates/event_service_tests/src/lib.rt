@@ -3,7 +3,8 @@
 //! from what the crate answers.
 #![tactic(auto)]
 
-pub mod calls;
+#[cfg(test)]
+mod calls;
 #[cfg(test)]
 mod filters;
 #[cfg(test)]

@@ -6,7 +6,8 @@
 mod bad;
 #[cfg(test)]
 mod long_run;
-pub mod marks;
+#[cfg(test)]
+mod marks;
 #[cfg(test)]
 mod messages;
 #[cfg(test)]

@@ -11,7 +11,8 @@ mod checker;
 mod compiler;
 #[cfg(test)]
 mod ground_team;
-pub mod judging;
+#[cfg(test)]
+mod judging;
 #[cfg(test)]
 mod lexer;
 #[cfg(test)]

@@ -6,7 +6,8 @@
 mod headers;
 #[cfg(test)]
 mod long_run;
-pub mod marks;
+#[cfg(test)]
+mod marks;
 #[cfg(test)]
 mod outgoing;
 #[cfg(test)]

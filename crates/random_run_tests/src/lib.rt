@@ -4,7 +4,9 @@
 //! The model is no test and ends no process, so that it is proved once; what drives both stands under `cfg(test)`.
 #![tactic(auto)]
 
-pub mod chance;
-pub mod model;
+#[cfg(test)]
+mod chance;
+#[cfg(test)]
+mod model;
 #[cfg(test)]
 mod run;

@@ -13,6 +13,7 @@ mod memory;
 mod pages;
 #[cfg(test)]
 mod results;
-pub mod stream;
+#[cfg(test)]
+mod stream;
 #[cfg(test)]
 mod swaps;

@@ -4,7 +4,8 @@
 
 #[cfg(test)]
 mod bus;
-pub mod cuts;
+#[cfg(test)]
+mod cuts;
 #[cfg(test)]
 mod fields;
 #[cfg(test)]

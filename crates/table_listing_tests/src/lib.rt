@@ -9,6 +9,7 @@ mod conditions;
 mod faults;
 #[cfg(test)]
 mod files;
-pub mod forms;
+#[cfg(test)]
+mod forms;
 #[cfg(test)]
 mod shared;

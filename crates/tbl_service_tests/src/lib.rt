@@ -3,7 +3,8 @@
 //! what the crate answers.
 #![tactic(auto)]
 
-pub mod bench;
+#[cfg(test)]
+mod bench;
 #[cfg(test)]
 mod files;
 #[cfg(test)]

@@ -2,7 +2,8 @@
 //! what the crate answers.
 #![tactic(auto)]
 
-pub mod marks;
+#[cfg(test)]
+mod marks;
 #[cfg(test)]
 mod refusals;
 #[cfg(test)]

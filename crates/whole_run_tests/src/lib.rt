@@ -2,7 +2,8 @@
 //! packet by packet, from the formats; nothing is taken from what the host answers.
 #![tactic(auto)]
 
-pub mod by_hand;
+#[cfg(test)]
+mod by_hand;
 #[cfg(test)]
 mod closing;
 #[cfg(test)]
@@ -11,17 +12,22 @@ mod commands;
 mod devices;
 #[cfg(test)]
 mod each_fault;
-pub mod expected;
+#[cfg(test)]
+mod expected;
 #[cfg(test)]
 mod flight;
-pub mod flying;
-pub mod full;
+#[cfg(test)]
+mod flying;
+#[cfg(test)]
+mod full;
 #[cfg(test)]
 mod full_tables;
 #[cfg(test)]
 mod hostile;
-pub mod images;
-pub mod leaving;
+#[cfg(test)]
+mod images;
+#[cfg(test)]
+mod leaving;
 pub mod low_volts;
 #[cfg(test)]
 mod memory;
@@ -31,7 +37,8 @@ mod requests;
 mod rows;
 #[cfg(test)]
 mod sampling;
-pub mod scene;
+#[cfg(test)]
+mod scene;
 #[cfg(test)]
 mod services;
 #[cfg(test)]
@@ -42,7 +49,8 @@ mod speed;
 mod starting;
 #[cfg(test)]
 mod steps;
-pub mod stream;
+#[cfg(test)]
+mod stream;
 #[cfg(test)]
 mod tables;
 #[cfg(test)]
