@@ -16,7 +16,6 @@ mod images;
 mod shared;
 #[cfg(test)]
 mod validity;
-#[cfg(test)]
-mod values;
+pub mod values;
 #[cfg(test)]
 mod watching;

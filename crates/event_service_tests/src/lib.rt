@@ -3,8 +3,7 @@
 //! from what the crate answers.
 #![tactic(auto)]
 
-#[cfg(test)]
-mod calls;
+pub mod calls;
 #[cfg(test)]
 mod filters;
 #[cfg(test)]

@@ -6,8 +6,7 @@
 mod bad;
 #[cfg(test)]
 mod long_run;
-#[cfg(test)]
-mod marks;
+pub mod marks;
 #[cfg(test)]
 mod messages;
 #[cfg(test)]

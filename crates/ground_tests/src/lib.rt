@@ -11,8 +11,7 @@ mod checker;
 mod compiler;
 #[cfg(test)]
 mod ground_team;
-#[cfg(test)]
-mod judging;
+pub mod judging;
 #[cfg(test)]
 mod lexer;
 #[cfg(test)]

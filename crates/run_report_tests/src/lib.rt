@@ -13,7 +13,6 @@ mod memory;
 mod pages;
 #[cfg(test)]
 mod results;
-#[cfg(test)]
-mod stream;
+pub mod stream;
 #[cfg(test)]
 mod swaps;

@@ -4,8 +4,7 @@
 
 #[cfg(test)]
 mod bus;
-#[cfg(test)]
-mod cuts;
+pub mod cuts;
 #[cfg(test)]
 mod fields;
 #[cfg(test)]

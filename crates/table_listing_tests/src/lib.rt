@@ -9,7 +9,6 @@ mod conditions;
 mod faults;
 #[cfg(test)]
 mod files;
-#[cfg(test)]
-mod forms;
+pub mod forms;
 #[cfg(test)]
 mod shared;

@@ -3,8 +3,7 @@
 //! what the crate answers.
 #![tactic(auto)]
 
-#[cfg(test)]
-mod bench;
+pub mod bench;
 #[cfg(test)]
 mod files;
 #[cfg(test)]

@@ -2,8 +2,7 @@
 //! what the crate answers.
 #![tactic(auto)]
 
-#[cfg(test)]
-mod marks;
+pub mod marks;
 #[cfg(test)]
 mod refusals;
 #[cfg(test)]
