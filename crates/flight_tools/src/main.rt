@@ -6,8 +6,6 @@ mod files;
 mod listing;
 mod report;
 mod scenario;
-#[cfg(test)]
-mod tests;
 mod words;
 
 use crate::fault::Fault;

@@ -1,6 +1,7 @@
 //! Telemetry whose fields are set by type and offset, in bytes made by hand from the formats; and why such a line says nothing.
 
-use crate::shared::{is_refused, same, says};
+use crate::claims::same;
+use crate::scripts::shared::{is_refused, says};
 use std::test::Fail;
 use stream_script::{Reason, read_script};
 

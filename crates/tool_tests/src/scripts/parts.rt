@@ -1,8 +1,8 @@
 //! A stream cut at each byte, and bytes that are no record: what is there is said, and the fault is named.
 
-use crate::bus::STREAM;
-use crate::cuts::last;
-use crate::shared::same;
+use crate::claims::same;
+use crate::scripts::bus::STREAM;
+use crate::scripts::cuts::last;
 use std::process::Abort;
 use std::test::Fail;
 use stream_script::{read_script, write_listing, write_script};

@@ -1,6 +1,6 @@
 //! The example of the repository, `crates/examples/data/bus.stream`, and the scenario that says it, `crates/examples/data/bus.scenario`.
 
-use crate::shared::same;
+use crate::claims::same;
 use std::test::Fail;
 use stream_script::{read_script, write_listing, write_script};
 

@@ -1,6 +1,6 @@
 //! What each statement says, in bytes made by hand from the formats; and why a line says nothing.
 
-use crate::shared::{is_refused, says};
+use crate::scripts::shared::{is_refused, says};
 use std::test::Fail;
 use stream_script::Reason;
 

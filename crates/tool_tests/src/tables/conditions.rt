@@ -1,6 +1,6 @@
 //! Equations as their files list them: parentheses stand where they are needed, and only there.
 
-use crate::shared::{actionpoints, ends};
+use crate::tables::shared::{actionpoints, ends};
 use std::process::Abort;
 
 const AND: u16 = 0xFF01;

@@ -1,23 +1,13 @@
-//! Claims of tests, and files with their listings.
+//! Files with their listings.
 
 ghost use Rattle.std.specs.Prelude.{◌≤◌};
 
+use crate::claims::same;
 use crate::forms::entry_size;
 use lc_model::Kind;
-use std::fmt::Debug;
 use std::process::Abort;
 use table_file::wrap;
 use table_listing::list_table;
-
-/// What was found is what was expected.
-pub fn same<R: Abort, W: Debug + Drop, T: Debug + PartialEq + Drop>(
-    rt: &R,
-    of: W,
-    found: T,
-    expected: T,
-) {
-    assert_eq!(rt; found, expected, "of {of:?}");
-}
 
 /// A hash: what it is of plays no part.
 const HASH: [u8; 32] = [0xA7; 32];

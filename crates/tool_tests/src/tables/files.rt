@@ -1,6 +1,7 @@
 //! Files with their listings, to the byte.
 
-use crate::shared::{actionpoints, ends, is, listed, same, watchpoints};
+use crate::claims::same;
+use crate::tables::shared::{actionpoints, ends, is, listed, watchpoints};
 
 const WDT: &str =
     "file: content type 0x63464531 subtype 8 spacecraft 66 processor 1 application 0 seconds 0 subseconds 0

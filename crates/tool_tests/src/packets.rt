@@ -1,5 +1,6 @@
 //! The lines of packets.
 
+use crate::claims::same;
 use packet_listing::list_packets;
 use std::process::Abort;
 
@@ -7,7 +8,7 @@ use std::process::Abort;
 fn are_listed<R: Abort + AllocGlobal>(rt: &R, packets: &[u8], lines: &str) {
     let mut listing = Vec::new(rt.alloc());
     list_packets(packets, &mut listing).expect(rt, "memory for a listing");
-    assert_eq!(rt; listing.as_slice(), lines.as_bytes());
+    same(rt, lines, listing.as_slice(), lines.as_bytes());
 }
 
 /// The bytes in the front of so many, the others zero.

@@ -1,18 +1,8 @@
-//! The claims of tests.
+//! Scripts with the streams that they say, and refused ones.
 
-use std::fmt::Debug;
+use crate::claims::same;
 use std::process::Abort;
 use stream_script::{Reason, ScriptError, read_script, write_script};
-
-/// What was found is what was expected.
-pub fn same<R: Abort, W: Copy + Debug, T: Copy + Debug + PartialEq>(
-    rt: &R,
-    of: W,
-    found: T,
-    expected: T,
-) {
-    assert_eq!(rt; found, expected, "of {of:?}");
-}
 
 /// The script says this stream, and the stream's own script says it again.
 pub fn says<R: Abort + AllocGlobal>(rt: &R, script: &[u8], stream: &[u8]) {

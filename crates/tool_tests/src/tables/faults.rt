@@ -1,6 +1,6 @@
 //! Faults of files and of images, each by its number, its entry and its meaning.
 
-use crate::shared::{actionpoints, ends, is, watchpoints};
+use crate::tables::shared::{actionpoints, ends, is, watchpoints};
 use std::process::Abort;
 
 /// The file with these bytes at these places.

@@ -1,3 +1,0 @@
-//! Tests of the program, and of what its listings say.
-
-mod packet_lines;

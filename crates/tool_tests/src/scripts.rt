@@ -1,0 +1,8 @@
+//! Scripts with the streams that they say, streams with the scripts that say them again, and lines at fault.
+
+mod bus;
+mod cuts;
+mod fields;
+mod parts;
+mod shared;
+mod statements;
