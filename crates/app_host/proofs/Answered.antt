@@ -1,5 +1,5 @@
 -- What there is when the object of a seat had its packet.
-use Rattle.std.proofs.Common.{◌≡◌, ◌≢◌, refl, ap, ap₂, sym, ◌∙◌, subst, ℕ, ◌+◌, ◌<◌, ◌==◌, Bool, true, false, List, [], ◌∷◌, ◌++◌, length, map, filter, arith, if◌then◌else◌, Option, Some, None}
+use Rattle.std.proofs.Common.{◌≡◌, ◌≢◌, inl, inr, refl, ap, ap₂, sym, ◌∙◌, subst, ℕ, ◌+◌, ◌<◌, ◌≤◌, ◌==◌, Bool, true, false, List, [], ◌∷◌, ◌++◌, length, map, filter, arith, if◌then◌else◌, Option, Some, None}
 use Rattle.std.specs.Prelude.{IfSome, option_map, unwrap_or, slice_index_or, slice_set}
 use Rattle.std.specs.Option.{option_map_or}
 use Rattle.std.proofs.lemmas.List.{get_or-set_same, length-map, map-set, set-set}
@@ -19,13 +19,14 @@ use Rattle.app_host.specs.Shared.{on_board, held_by, shared}
 use Rattle.app_host.specs.Calls.{Leaves}
 use Rattle.app_host.specs.Hosted.{Object, Hosted, object_at, member_of}
 use Rattle.app_host.specs.Objects.{HasAnswered}
-use Rattle.app_host.specs.Whole.{IsRunning, AreSeated, AreKnown}
-use Rattle.app_host.specs.Load.{load, IsLight}
+use Rattle.app_host.specs.Whole.{IsRunning, AreSeated, IsKnown, AreKnown}
+use Rattle.app_host.specs.Party.{AreKnownWhoWait, IsDetermined}
+use Rattle.app_host.specs.Load.{packets_in, all_ticks, load, IsLight}
 use Rattle.app_host.specs.Delivered.{executive_in, Becomes, HasDelivered}
 use Rattle.app_host.proofs.Found.{shown_in}
 use Rattle.app_host.proofs.Rosters.{same_roster, names_still}
 use Rattle.app_host.proofs.Frames.{fact_at_set, others_stay, seated_still, seated_with, alone_still}
-use Rattle.app_host.proofs.Loads.{falls, still_light}
+use Rattle.app_host.proofs.Loads.{waits_here, falls, still_light, still_no_ticks, no_more}
 use Rattle.app_host.proofs.Delivery.{HasFirst, first_packet, behind, pipe_is, waits, bus_then, shared_still, stays_taken}
 
 -- ---- an object of this profile answers
@@ -126,12 +127,18 @@ module _ (law : TablesAreFound) (h new : Hosted) (now : Services) (seat : ℕ) (
   abbrev e : Executive (List ℕ)
   e = executive_in h
 
-  module _ (known : AreKnown h) where
-    known_here : o.state ≢ Other
-    known_here = subst (λ (x : Option Object). IfSome x (λ (y : Object). y.state ≢ Other)) at (known seat)
+  abbrev IsHereKnown : Option Object → Type 0
+  IsHereKnown place = IfSome place IsKnown
 
+  -- the object is known, where it is determined what the deliveries lead to
+  known_here : IsDetermined h → o.state ≢ Other
+  known_here (inl all) = subst IsHereKnown at (all seat)
+  known_here (inr waiting) =
+      subst IsHereKnown at (waiting.known seat (waits_here (seen before.bus) seat light (seen_pipe has.queue) (first_packet before.bus seat has) (behind before.bus seat has) (pipe_is before.bus seat has) (waits before.bus seat has) below))
+
+  module _ (known : o.state ≢ Other) where
     answer : Answers (next_on_packet on_board before.moment o.state packet (shared before))
-    answer = answers before.moment o.state packet (shared before) known_here
+    answer = answers before.moment o.state packet (shared before) known
 
     leaves : Leaves seat o'.state now new.services answer.called
     leaves =
@@ -172,13 +179,32 @@ module _ (law : TablesAreFound) (h new : Hosted) (now : Services) (seat : ℕ) (
       outgoing = leaves.outgoing;
     }
 
-    pub known_then : AreKnown new
-    known_then = λ other. rw seats
-        (fact_at_set (λ i (x : Option Object). IfSome x (λ (y : Object). y.state ≢ Other)) h.seats seat other (Some o') None (omega (arith, below, whole.eight))
-        (λ other_kind. answer.known (sym leaves.becomes ∙ other_kind)) (λ i another. known i))
+    still_here : o'.state ≢ Other
+    still_here = λ other_kind. answer.known (sym leaves.becomes ∙ other_kind)
 
-    pub exact_then : Becomes new (delivered_at on_board before.moment seat e)
+    exact_then : Becomes new (delivered_at on_board before.moment seat e)
     exact_then = subst (Becomes new) (sym step_is) becomes_so
+
+  known_then : AreKnown h → AreKnown new
+  known_then known = λ other. rw seats
+      (fact_at_set (λ i (x : Option Object). IsHereKnown x) h.seats seat other (Some o') None (omega (arith, below, whole.eight)) (still_here (known_here (inl known))) (λ i another. known i))
+
+  determined_then : IsDetermined h → IsDetermined new
+  determined_then (inl all) = inl (known_then all)
+  determined_then (inr waiting) = inr (record {
+    no_ticks =
+        still_no_ticks (seen before.bus) seat light (seen_pipe has.queue) (first_packet before.bus seat has) (behind before.bus seat has) (pipe_is before.bus seat has) (waits before.bus seat has) below
+        (seen new.services.bus) answered.rules.published as_eight may heard own waiting.no_ticks;
+    known = λ other. rw seats
+        (fact_at_set (λ i (x : Option Object). 1 ≤ packets_in (slice_index_or (seen new.services.bus) i None) → IsHereKnown x) h.seats seat other (Some o') None (omega (arith, below, whole.eight))
+        (λ some. still_here (known_here (inr waiting)))
+        (λ i another. λ some. waiting.known i (let fewer = fewer_then waiting.no_ticks i in omega (arith, some, fewer))));
+  })
+    where
+      fewer_then : all_ticks (seen before.bus) ≡ 0 → (i : ℕ) → packets_in (slice_index_or (seen new.services.bus) i None) ≤ packets_in (slice_index_or (seen before.bus) i None)
+      fewer_then none =
+          no_more (seen before.bus) seat light (seen_pipe has.queue) (first_packet before.bus seat has) (behind before.bus seat has) (pipe_is before.bus seat has) (waits before.bus seat has) below
+          (seen new.services.bus) answered.rules.published as_eight may heard own none
 
   pub has_delivered : new.is_closed ≡ h.is_closed → new.calls ≡ h.calls + 1 → HasDelivered seat h new
   has_delivered closed calls = record {
@@ -196,5 +222,6 @@ module _ (law : TablesAreFound) (h new : Hosted) (now : Services) (seat : ℕ) (
       roster = same_roster h new stock (names_still h new seat o o' at answered.name seats);
     };
     known = known_then;
-    exact = exact_then;
+    determined = determined_then;
+    exact = λ determined. exact_then (known_here determined);
   }

@@ -13,7 +13,7 @@ use Rattle.lc_model.specs.Services.Bus.{seen}
 use Rattle.lc_model.proofs.Facts.{test_less, test_not_less}
 use Rattle.app_host.specs.Shared.{on_board}
 use Rattle.app_host.specs.Hosted.{Hosted}
-use Rattle.app_host.specs.Whole.{AreKnown}
+use Rattle.app_host.specs.Party.{IsDetermined}
 use Rattle.app_host.specs.Load.{load}
 use Rattle.app_host.specs.Delivered.{executive_in, Becomes}
 use Rattle.app_host.specs.Writing.{IsDone, IsCut}
@@ -114,7 +114,7 @@ pub record SoFar (moment : Moment) (first : Now) (now : Hosted) (sent : ℕ) (be
   pub left : ℕ
   pub done : List ℕ
   pub enough : load (seen now.services.bus) ≤ left
-  pub known : AreKnown now
+  pub determined : IsDetermined now
   pub count : sent ≡ length done
   pub gains : Appends before after done
   pub writes : concat (drained on_board moment 520 first).1 ≡ done ++ concat (drained on_board moment left (executive_in now)).1
@@ -122,12 +122,12 @@ pub record SoFar (moment : Moment) (first : Now) (now : Hosted) (sent : ℕ) (be
   pub stops : (room : ℕ) → stop_at (length done + room) (delivery_stations on_board moment 0 520 first) ≡ stop_at room (delivery_stations on_board moment now.calls left (executive_in now))
   pub calls : calls_after 0 (delivery_stations on_board moment 0 520 first) ≡ calls_after now.calls (delivery_stations on_board moment now.calls left (executive_in now))
 
-pub so_far_first : (moment : Moment) (h : Hosted) (known : Option (List ℕ)) → AreKnown h → load (seen h.services.bus) ≤ 520 → h.calls ≡ 0 → SoFar moment (executive_in h) h 0 known known
-so_far_first moment h bytes known light none = record {
+pub so_far_first : (moment : Moment) (h : Hosted) (known : Option (List ℕ)) → IsDetermined h → load (seen h.services.bus) ≤ 520 → h.calls ≡ 0 → SoFar moment (executive_in h) h 0 known known
+so_far_first moment h bytes determined light none = record {
   left = 520;
   done = [];
   enough = light;
-  known = known;
+  determined = determined;
   count = refl;
   gains = nothing_taken bytes;
   writes = refl;
@@ -160,7 +160,7 @@ module _ (moment : Moment) (first : Now) (now given : Hosted) (sent : ℕ) (befo
   size_is : length given.services.outgoing ≡ size_at station
   size_is = ap length becomes.outgoing
 
-  module _ (later : Hosted) (after : Option (List ℕ)) (known : AreKnown later) (same : executive_in later ≡ executive_in given) (calls : later.calls ≡ now.calls + 1)
+  module _ (later : Hosted) (after : Option (List ℕ)) (determined : IsDetermined later) (same : executive_in later ≡ executive_in given) (calls : later.calls ≡ now.calls + 1)
       (still : load (seen later.services.bus) ≡ load (seen given.services.bus)) where
     -- all of it was written
     more_with : (left : ℕ) → far.left ≡ suc left → Appends mid after given.services.outgoing → SoFar moment first later (sent + length given.services.outgoing) before after
@@ -168,7 +168,7 @@ module _ (moment : Moment) (first : Now) (now given : Hosted) (sent : ℕ) (befo
       left = left;
       done = far.done ++ given.services.outgoing;
       enough = omega (arith, far.enough, is, falls, still);
-      known = known;
+      determined = determined;
       count = omega (arith, length-append far.done given.services.outgoing, far.count);
       gains = taken_both before mid after far.done given.services.outgoing far.gains gains;
       writes =

@@ -1,6 +1,6 @@
 -- The loop of the deliveries.
-use Rattle.std.proofs.Common.{◌≡◌, true, false, refl, ap, sym, ◌∙◌, subst, ℕ, ◌+◌, ◌*◌, ◌<◌, ◌≤◌, inl, List, [], ◌++◌, length, take, map, arith, length-append, if◌then◌else◌, Option, Some, None, Result, Ok, Err}
-use Rattle.std.specs.Prelude.{option_map, IsErrAnd}
+use Rattle.std.proofs.Common.{◌≡◌, true, false, refl, ap, sym, ◌∙◌, subst, ℕ, ◌+◌, ◌*◌, ◌<◌, ◌≤◌, inl, inr, List, [], ◌++◌, length, take, map, arith, length-append, if◌then◌else◌, Option, Some, None, Result, Ok, Err}
+use Rattle.std.specs.Prelude.{option_map, slice_index_or, IsErrAnd}
 use Rattle.std.specs.Io.KnownBytes.{Appends}
 use Rattle.std.proofs.lemmas.List.{append-nil}
 use Rattle.lc_model.specs.declared.record.Moment.{Moment}
@@ -13,8 +13,8 @@ use Rattle.app_host.specs.declared.error.WriteFault.{WriteFault}
 use Rattle.app_host.specs.Shared.{on_board, shared}
 use Rattle.app_host.specs.Hosted.{Hosted, member_of}
 use Rattle.app_host.specs.Whole.{IsWhole, AreKnown}
-use Rattle.app_host.specs.Party.{Party, Everyone, nobody}
-use Rattle.app_host.specs.Load.{IsLight, load}
+use Rattle.app_host.specs.Party.{Party, Waiting, nobody, IsDetermined}
+use Rattle.app_host.specs.Load.{packets_in, all_ticks, IsLight, load}
 use Rattle.app_host.specs.Delivered.{executive_in, Becomes, HasDelivered}
 use Rattle.app_host.specs.Writing.{written_off, IsFlushed, IsAllSent, IsPartSent, IsCut, HandlesAll, HandlesPart, Handles}
 use Rattle.lc_model.proofs.Facts.{test_less}
@@ -41,7 +41,8 @@ pub record Draining (first now : Hosted) (sent : ℕ) (before after : Sink) : Ty
   pub moment : now.services.moment ≡ first.services.moment
   pub fine : after.failed ≡ before.failed
   pub own : Hearing first now sent before.gained after.gained
-  pub exact : AreKnown first → SoFar first.services.moment (executive_in first) now sent before.gained after.gained
+  pub known : AreKnown first → AreKnown now
+  pub exact : IsDetermined first → SoFar first.services.moment (executive_in first) now sent before.gained after.gained
 
 pub draining_first : (h : Hosted) (sink : Sink) → IsWhole h → IsLight (seen h.services.bus) → load (seen h.services.bus) ≤ 520 → h.calls ≡ 0 → Draining h h 0 sink sink
 draining_first h sink whole light few none = record {
@@ -59,7 +60,8 @@ draining_first h sink whole light few none = record {
     own = record { host = refl; files = refl; roster = refl };
     alone = λ none. record { nothing = refl; events = refl; tables = refl; seats = refl };
   };
-  exact = λ known. so_far_first h.services.moment h sink.gained known few none;
+  known = λ known. known;
+  exact = λ determined. so_far_first h.services.moment h sink.gained determined few none;
 }
 
 -- packets are given
@@ -78,6 +80,15 @@ module _ (given later : Hosted) (flushed : IsFlushed given later) where
 
   pub still_known : AreKnown given → AreKnown later
   still_known known = λ seat. rw flushed.seats (known seat)
+
+  pub still_determined : IsDetermined given → IsDetermined later
+  still_determined (inl known) = inl (still_known known)
+  still_determined (inr waiting) = inr (record {
+    no_ticks = ap (λ (s : Services). all_ticks (seen s.bus)) flushed.services ∙ waiting.no_ticks;
+    known = λ seat some.
+        let still : packets_in (slice_index_or (seen later.services.bus) seat None) ≡ packets_in (slice_index_or (seen given.services.bus) seat None) = ap (λ (s : Services). packets_in (slice_index_or (seen s.bus) seat None)) flushed.services in
+        rw flushed.seats (waiting.known seat (omega (arith, some, still)));
+  })
 
 module _ (first now given later : Hosted) (sent seat : ℕ) (before mid after : Sink) (far : Draining first now sent before mid) (ready : ready_seat (seen now.services.bus) ≡ Some seat)
     (delivered : HasDelivered seat now given) (flushed : IsFlushed given later) where
@@ -104,26 +115,29 @@ module _ (first now given later : Hosted) (sent seat : ℕ) (before mid after : 
     roster = roster_still given later flushed ∙ delivered.own.roster ∙ far.own.own.roster;
   }
 
-  module _ (known : AreKnown first) where
+  known_later : AreKnown first → AreKnown later
+  known_later known = still_known given later flushed (delivered.known (far.known known))
+
+  module _ (determined : IsDetermined first) where
     so_far : SoFar first.services.moment (executive_in first) now sent before.gained mid.gained
-    so_far = far.exact known
+    so_far = far.exact determined
 
     becomes : Becomes given (delivered_at on_board first.services.moment seat (executive_in now))
-    becomes = subst (λ m. Becomes given (delivered_at on_board m seat (executive_in now))) far.moment (delivered.exact so_far.known)
+    becomes = subst (λ m. Becomes given (delivered_at on_board m seat (executive_in now))) far.moment (delivered.exact so_far.determined)
 
-    known_given : AreKnown given
-    known_given = delivered.known so_far.known
+    determined_later : IsDetermined later
+    determined_later = still_determined given later flushed (delivered.determined so_far.determined)
 
     more : Appends mid.gained after.gained given.services.outgoing → SoFar first.services.moment (executive_in first) later (sent + length given.services.outgoing) before.gained after.gained
     more gains =
         so_far_more first.services.moment (executive_in first) now given sent before.gained mid.gained so_far seat ready becomes delivered.falls
-        later after.gained (still_known given later flushed known_given) (same_executive given later flushed) calls_then (ap load bus_then) gains
+        later after.gained determined_later (same_executive given later flushed) calls_then (ap load bus_then) gains
 
     cut : (taken : ℕ) → taken < length given.services.outgoing → Appends mid.gained after.gained (take taken given.services.outgoing) →
         IsCut (delivery_stations on_board first.services.moment 0 520 (executive_in first)) (drained on_board first.services.moment 520 (executive_in first)) (sent + taken) later before.gained after.gained
     cut taken fewer gains =
         cut_here first.services.moment (executive_in first) now given sent before.gained mid.gained so_far seat ready becomes delivered.falls
-        later after.gained (still_known given later flushed known_given) (same_executive given later flushed) calls_then (ap load bus_then) taken fewer gains
+        later after.gained determined_later (same_executive given later flushed) calls_then (ap load bus_then) taken fewer gains
 
   pub draining_next : (total : ℕ) → IsAllSent sent given later mid after total → Draining first later total before after
   draining_next total all = record {
@@ -141,21 +155,22 @@ module _ (first now given later : Hosted) (sent seat : ℕ) (before mid after : 
       own = own_then;
       alone = λ none. absurd (omega (arith, none, calls_then));
     };
-    exact = λ known. subst (λ n. SoFar first.services.moment (executive_in first) later n before.gained after.gained) (sym all.count) (more known all.gains);
+    known = known_later;
+    exact = λ determined. subst (λ n. SoFar first.services.moment (executive_in first) later n before.gained after.gained) (sym all.count) (more determined all.gains);
   }
 
   pub draining_cut : (total : ℕ) → IsPartSent sent given later mid after total →
-      HandlesPart Everyone (delivery_stations on_board first.services.moment 0 520 (executive_in first)) (drained on_board first.services.moment 520 (executive_in first)) total first later before after
+      HandlesPart Waiting (delivery_stations on_board first.services.moment 0 520 (executive_in first)) (drained on_board first.services.moment 520 (executive_in first)) total first later before after
   draining_cut total part = record {
     whole = whole_then;
     stock = still_among first later (ap (λ (r : Roster). r.stock) own_then.roster);
     is_closed = part.is_closed;
     calls = omega (arith, few_then);
     failed = part.failed;
-    known = λ known everyone. still_known given later flushed (known_given known);
-    exact = λ known.
+    known = λ known determined. known_later known;
+    exact = λ determined.
         subst (λ n. IsCut (delivery_stations on_board first.services.moment 0 520 (executive_in first)) (drained on_board first.services.moment 520 (executive_in first)) n later before.gained after.gained)
-        (sym part.count) (cut known part.taken part.fewer part.gains);
+        (sym part.count) (cut determined part.taken part.fewer part.gains);
   }
 
   abbrev called_then : HasCalled first.services.moment (handing_on first) first later
@@ -189,7 +204,7 @@ module _ (first now given later : Hosted) (sent seat : ℕ) (before mid after : 
       inside = omega (arith, part.count, part.fewer, far.own.count, length-append far.own.theirs given.services.outgoing)
 
 pub draining_end : (first now : Hosted) (sent : ℕ) (before after : Sink) → Draining first now sent before after → ready_seat (seen now.services.bus) ≡ None →
-    HandlesAll Everyone (delivery_stations on_board first.services.moment 0 520 (executive_in first)) (drained on_board first.services.moment 520 (executive_in first))
+    HandlesAll Waiting (delivery_stations on_board first.services.moment 0 520 (executive_in first)) (drained on_board first.services.moment 520 (executive_in first))
     (last_calls on_board first.services.moment (delivery_stations on_board first.services.moment 0 520 (executive_in first))) sent first now before after
 draining_end first now sent before after far none = record {
   whole = far.whole;
@@ -198,9 +213,9 @@ draining_end first now sent before after far none = record {
   is_closed = far.is_closed;
   calls = omega (arith, far.few);
   fine = far.fine;
-  known = λ known everyone. (far.exact known).known;
-  exact = λ known. all_done first.services.moment (executive_in first) now sent before.gained after.gained (far.exact known) none;
-  count = λ known. all_counted first.services.moment (executive_in first) now sent before.gained after.gained (far.exact known) none;
+  known = λ known determined. far.known known;
+  exact = λ determined. all_done first.services.moment (executive_in first) now sent before.gained after.gained (far.exact determined) none;
+  count = λ determined. all_counted first.services.moment (executive_in first) now sent before.gained after.gained (far.exact determined) none;
 }
 
 -- nor to what was written whole

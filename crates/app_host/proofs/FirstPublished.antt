@@ -1,6 +1,6 @@
 -- A packet is published where none waits.
-use Rattle.std.proofs.Common.{◌≡◌, refl, ap, ap₂, ◌∙◌, ℕ, zero, suc, ◌+◌, ◌*◌, ◌≤◌, ◌&&◌, ◌||◌, Bool, true, false, List, [], ◌∷◌, ◌++◌, length, map, arith, cond, if◌then◌else◌, Option, Some, None, Result, Ok, Err}
-use Rattle.std.specs.Prelude.{IsOk, option_map, slice_index_or, nat_le}
+use Rattle.std.proofs.Common.{◌≡◌, refl, ap, ap₂, ◌∙◌, ℕ, zero, suc, ◌+◌, ◌*◌, ◌≤◌, ◌&&◌, ◌||◌, Bool, true, false, List, [], ◌∷◌, ◌++◌, length, map, count_by, arith, cond, if◌then◌else◌, Option, Some, None, Result, Ok, Err}
+use Rattle.std.specs.Prelude.{IsOk, IsTrue, IfSome, option_map, slice_index_or, nat_le}
 use Rattle.std.specs.Option.{option_or}
 use Rattle.std.specs.List.{sum_by, position_from}
 use Rattle.std.proofs.lemmas.List.{length-map}
@@ -13,6 +13,7 @@ use Rattle.packet_bus.specs.declared.error.BusError.{BusError}
 use Rattle.packet_bus.specs.Error.{refusal_in}
 use Rattle.app_host.specs.Load.{is_tick, packets_in, ticks_in, weight_of, all_ticks, load, IsLight}
 use Rattle.app_host.proofs.Found.{nowhere}
+use Rattle.app_host.proofs.Loads.{no_ticks_in}
 
 -- ---- the pipes after it
 
@@ -83,6 +84,39 @@ one_at_most packet (Some pipe) e = by_waiting pipe.waiting e (hears packet pipe)
     by_waiting [] e true = omega arith
     by_waiting [] e false = omega arith
     by_waiting (first ∷ rest) e b = cc
+
+-- a pipe in which something waits hears the packet
+heard_where_waits : {P : Type 0} (packet : List ℕ) (pipe : Option Pipe) → is_ready pipe ≡ false → IfSome pipe (λ (p : Pipe). IsTrue (hears packet p) → P) → 1 ≤ packets_in (option_map (offered packet) pipe) → P
+heard_where_waits packet None e known waits = absurd (let none : 1 ≤ 0 = waits in omega (arith, none))
+heard_where_waits {P} packet (Some pipe) e known waits = by_waiting pipe.waiting e (hears packet pipe) known waits
+  where
+    by_waiting : (waiting : List (List ℕ)) → has_some waiting ≡ false → (b : Bool) → (IsTrue b → P) →
+        1 ≤ length (if b then record pipe { waiting = waiting ++ packet ∷ [] } else record pipe { waiting = waiting }).waiting → P
+    by_waiting [] e true known waits = known refl
+    by_waiting [] e false known waits = absurd (let none : 1 ≤ 0 = waits in omega (arith, none))
+    by_waiting (first ∷ rest) e b known waits = cc
+
+-- and what waits is no tick, if the packet is none
+no_tick_at : (packet : List ℕ) (pipe : Option Pipe) → is_tick packet ≡ false → is_ready pipe ≡ false → ticks_in (option_map (offered packet) pipe) ≡ 0
+no_tick_at packet None other e = refl
+no_tick_at packet (Some pipe) other e = by_waiting pipe.waiting e (hears packet pipe)
+  where
+    by_waiting : (waiting : List (List ℕ)) → has_some waiting ≡ false → (b : Bool) →
+        count_by is_tick (if b then record pipe { waiting = waiting ++ packet ∷ [] } else record pipe { waiting = waiting }).waiting ≡ 0
+    by_waiting [] e true = no_ticks_in (packet ∷ []) ((λ is. grind (arith, is, other)), tt)
+    by_waiting [] e false = refl
+    by_waiting (first ∷ rest) e b = cc
+
+module _ (packet : List ℕ) (pipes : List (Option Pipe)) (quiet : ready_seat pipes ≡ None) where
+  pub none_is_tick : is_tick packet ≡ false → all_ticks (published_to pipes packet) ≡ 0
+  none_is_tick other =
+      let each : (i : ℕ) → ticks_in (slice_index_or (published_to pipes packet) i None) ≤ 0 = λ i.
+      (let none : ticks_in (slice_index_or (published_to pipes packet) i None) ≡ 0 = ap ticks_in (offered_at packet pipes i) ∙ no_tick_at packet (slice_index_or pipes i None) other (nowhere is_ready pipes 0 i None quiet refl) in omega (arith, none)) in
+      let sum : all_ticks (published_to pipes packet) ≤ length (published_to pipes packet) * 0 = sum_bounded ticks_in (published_to pipes packet) None 0 each in
+      omega (arith, sum)
+
+  pub who_waits_hears : {P : Type 0} (i : ℕ) → IfSome (slice_index_or pipes i None) (λ (p : Pipe). IsTrue (hears packet p) → P) → 1 ≤ packets_in (slice_index_or (published_to pipes packet) i None) → P
+  who_waits_hears i known waits = heard_where_waits packet (slice_index_or pipes i None) (nowhere is_ready pipes 0 i None quiet refl) known (rw (offered_at packet pipes i) at waits)
 
 module _ (packet : List ℕ) (pipes : List (Option Pipe)) (eight : length pipes ≡ 8) (quiet : ready_seat pipes ≡ None) where
   abbrev new : List (Option Pipe)

@@ -29,7 +29,7 @@ tick_number packet = if is_tick packet then 1 else 0
 no_tick : (packet : List ℕ) → message_id packet ≢ tick_mid → is_tick packet ≡ false
 no_tick packet other = grind (arith, other)
 
-no_ticks_in : (packets : List (List ℕ)) → AllByRecursion (λ (other : List ℕ). message_id other ≢ tick_mid) packets → count_by is_tick packets ≡ 0
+pub no_ticks_in : (packets : List (List ℕ)) → AllByRecursion (λ (other : List ℕ). message_id other ≢ tick_mid) packets → count_by is_tick packets ≡ 0
 no_ticks_in [] none = refl
 no_ticks_in (packet ∷ packets) none =
     let rest : count_by is_tick packets ≡ 0 = no_ticks_in packets none.1 in
@@ -121,6 +121,10 @@ module _ (pipes : List (Option Pipe)) (seat : ℕ) (light : IsLight pipes) (pipe
   one_less : packets_in (slice_index_or pipes seat None) ≡ suc (length rest)
   one_less = ap packets_in at ∙ ap length first
 
+  -- a packet waits here
+  pub waits_here : 1 ≤ packets_in (slice_index_or pipes seat None)
+  waits_here = omega (arith, one_less)
+
   ticks_here : ticks_in (slice_index_or pipes seat None) ≡ tick_number packet + count_by is_tick rest
   ticks_here = ap ticks_in at ∙ ap (count_by is_tick) first ∙ ticks_cons packet rest
 
@@ -185,3 +189,12 @@ module _ (pipes : List (Option Pipe)) (seat : ℕ) (light : IsLight pipes) (pipe
       short = λ other. let few = each_few other in let more = few.packets in
           omega (arith, more, short_taken other, light.short other, ticks_then, ticks_taken, most_for packet published may);
     }
+
+    -- where no tick waits, none does afterwards, and no pipe has more packets
+    pub still_no_ticks : all_ticks pipes ≡ 0 → all_ticks new ≡ 0
+    still_no_ticks none = omega (arith, ticks_then, ticks_taken, none)
+
+    pub no_more : all_ticks pipes ≡ 0 → (other : ℕ) → packets_in (slice_index_or new other None) ≤ packets_in (slice_index_or pipes other None)
+    no_more none other =
+        let few = each_few other in let more = few.packets in
+        omega (arith, more, short_taken other, ticks_taken, none, most_for packet published may)

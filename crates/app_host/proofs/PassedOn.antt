@@ -1,5 +1,5 @@
 -- All deliveries behind a publication.
-use Rattle.std.proofs.Common.{◌≡◌, true, ap, sym, ◌∙◌, subst, ℕ, ◌≤◌, List, length, map, Option, Some, None, Result, Ok, Err}
+use Rattle.std.proofs.Common.{◌≡◌, inl, inr, true, false, refl, ap, sym, ◌∙◌, subst, ℕ, ◌≤◌, Bool, List, length, map, if◌then◌else◌, Option, Some, None, Result, Ok, Err}
 use Rattle.std.specs.List.{concat}
 use Rattle.std.specs.Prelude.{IsOk, OnOk, option_map, slice_index_or, All, Contains}
 use Rattle.std.proofs.lemmas.List.{length-map}
@@ -18,7 +18,8 @@ use Rattle.app_host.specs.Shared.{on_board}
 use Rattle.app_host.specs.Telling.{name_of}
 use Rattle.app_host.specs.Hosted.{Object, Hosted, member_of}
 use Rattle.app_host.specs.Whole.{AreKnown, IsWhole, IsQuiet}
-use Rattle.app_host.specs.Load.{IsLight, load}
+use Rattle.app_host.specs.Load.{is_tick, packets_in, all_ticks, IsLight, load}
+use Rattle.app_host.specs.Party.{Everyone, Hearers, passing, AreKnownIn, IsDetermined}
 use Rattle.app_host.specs.Delivered.{executive_in}
 use Rattle.app_host.specs.Writing.{IsDone, IsCut, Drains, PassesOn}
 use Rattle.app_host.specs.Roster as roster
@@ -26,7 +27,7 @@ use Rattle.app_host.specs.Roster.{roster_of}
 use Rattle.app_host.specs.Response.{Response, handing_on, Responds}
 use Rattle.app_host.proofs.Delivery.{shared_still}
 use Rattle.app_host.proofs.Frames.{StaysAt, seated_still}
-use Rattle.app_host.proofs.FirstPublished.{offered_at, offered_keeps, light_first, load_first}
+use Rattle.app_host.proofs.FirstPublished.{offered_at, offered_keeps, light_first, load_first, none_is_tick, who_waits_hears}
 use Rattle.app_host.proofs.Rosters.{same_roster}
 use Rattle.app_host.proofs.Responding.{responds_from}
 
@@ -86,6 +87,18 @@ module _ (law : TablesAreFound) (old mid : Hosted) (packet : List ℕ) (whole : 
   among_mid : (new : Hosted) → All (Contains mid.stock) new.stock → All (Contains old.stock) new.stock
   among_mid new among = subst (λ (spares : List Object). All (Contains spares) new.stock) stock among
 
+  -- the deliveries are determined where those who take part are known
+  determined_for : (is_one : Bool) → is_tick packet ≡ is_one → AreKnownIn (if is_one then Everyone else Hearers packet) old → IsDetermined mid
+  determined_for true tick known = inl (known_mid known)
+  determined_for false other known = inr (record {
+    no_ticks = ap all_ticks pipes_then ∙ none_is_tick packet (seen old.services.bus) quiet other;
+    known = λ seat waits. rw seats
+        (who_waits_hears packet (seen old.services.bus) quiet seat (known seat) (subst (λ (pipes : List (Option Pipe)). 1 ≤ packets_in (slice_index_or pipes seat None)) pipes_then waits));
+  })
+
+  determined_mid : AreKnownIn (passing packet) old → IsDetermined mid
+  determined_mid asked = determined_for (is_tick packet) refl asked
+
   pub passes_on : (new : Hosted) (before now : Sink) (result : Result ℕ WriteFault) → Drains mid new before now result → PassesOn packet old new before now result
   passes_on new before now (Ok total) all = record {
     whole = all.whole;
@@ -94,10 +107,10 @@ module _ (law : TablesAreFound) (old mid : Hosted) (packet : List ℕ) (whole : 
     is_closed = all.is_closed ∙ closed;
     calls = all.calls;
     fine = all.fine;
-    known = λ known everyone. all.known (known_mid known) (known_mid everyone);
-    exact = λ known. subst (λ (p : Moment × Executive (List ℕ)). IsDone (delivery_stations on_board p.0 0 520 p.1) (drained on_board p.0 520 p.1) (last_calls on_board p.0 (delivery_stations on_board p.0 0 520 p.1)) new before.gained now.gained)
-        (λ i. (moment i, executive_mid i)) (all.exact (known_mid known));
-    count = λ known. all.count (known_mid known) ∙ ap (λ (p : Moment × Executive (List ℕ)). length (concat (drained on_board p.0 520 p.1).1)) (λ i. (moment i, executive_mid i));
+    known = λ known asked. all.known (known_mid known) (determined_mid asked);
+    exact = λ asked. subst (λ (p : Moment × Executive (List ℕ)). IsDone (delivery_stations on_board p.0 0 520 p.1) (drained on_board p.0 520 p.1) (last_calls on_board p.0 (delivery_stations on_board p.0 0 520 p.1)) new before.gained now.gained)
+        (λ i. (moment i, executive_mid i)) (all.exact (determined_mid asked));
+    count = λ asked. all.count (determined_mid asked) ∙ ap (λ (p : Moment × Executive (List ℕ)). length (concat (drained on_board p.0 520 p.1).1)) (λ i. (moment i, executive_mid i));
   }
   passes_on new before now (Err fault) part = record {
     whole = part.whole;
@@ -105,9 +118,9 @@ module _ (law : TablesAreFound) (old mid : Hosted) (packet : List ℕ) (whole : 
     is_closed = part.is_closed;
     calls = part.calls;
     failed = part.failed;
-    known = λ known everyone. part.known (known_mid known) (known_mid everyone);
-    exact = λ known. subst (λ (p : Moment × Executive (List ℕ)). IsCut (delivery_stations on_board p.0 0 520 p.1) (drained on_board p.0 520 p.1) fault.sent new before.gained now.gained)
-        (λ i. (moment i, executive_mid i)) (part.exact (known_mid known));
+    known = λ known asked. part.known (known_mid known) (determined_mid asked);
+    exact = λ asked. subst (λ (p : Moment × Executive (List ℕ)). IsCut (delivery_stations on_board p.0 0 520 p.1) (drained on_board p.0 520 p.1) fault.sent new before.gained now.gained)
+        (λ i. (moment i, executive_mid i)) (part.exact (determined_mid asked));
   }
 
 -- what was answered, where it is not refused

@@ -1,5 +1,5 @@
 -- A step, by what is handled in it.
-use Rattle.std.proofs.Common.{◌≡◌, refl, ap, sym, ◌∙◌, subst, ℕ, ◌==◌, true, false, List, ◌∷◌, [], length, map, if◌then◌else◌, Option, Some, None, Result, Ok, Err}
+use Rattle.std.proofs.Common.{◌≡◌, inl, inr, refl, ap, sym, ◌∙◌, subst, ℕ, ◌==◌, true, false, List, ◌∷◌, [], length, map, if◌then◌else◌, Option, Some, None, Result, Ok, Err}
 use Rattle.std.specs.Prelude.{option_map, All, Contains}
 use Rattle.std.specs.Option.{option_map_or}
 use Rattle.std.specs.List.{concat}
@@ -22,7 +22,7 @@ use Rattle.app_host.specs.declared.error.WriteFault.{WriteFault}
 use Rattle.app_host.specs.Shared.{on_board, shared, at_moment}
 use Rattle.app_host.specs.Hosted.{Object, Hosted, member_of, in_numbers}
 use Rattle.app_host.specs.Whole.{AreKnown, IsWhole, IsQuiet}
-use Rattle.app_host.specs.Party.{Party, Everyone, Only, nobody, party_by, IsKnownOnSeat, IsKnownSpare, AreKnownIn}
+use Rattle.app_host.specs.Party.{Party, Everyone, Hearers, Waiting, Only, nobody, passing, party_by, IsKnownOnSeat, IsKnownSpare, AreKnownIn}
 use Rattle.app_host.specs.Delivered.{executive_in}
 use Rattle.app_host.specs.Writing.{IsDone, IsCut, Handles, PassesOn}
 use Rattle.app_host.specs.Told.{TellsAlone, Files, ObeysEvents, ObeysTables}
@@ -66,8 +66,14 @@ module _ (moment : Moment) (input : Input (List ℕ)) (old begun : Hosted) (bega
   known_begun : AreKnown old → AreKnown begun
   known_begun known = λ seat. rw began.seats (known seat)
 
+  pipes_begun : seen begun.services.bus ≡ seen old.services.bus
+  pipes_begun = ap (λ (s : Services). seen s.bus) began.services
+
   asked_begun : (party : Party) → AreKnownIn party old → AreKnownIn party begun
   asked_begun Everyone known = known_begun known
+  asked_begun (Hearers packet) known = λ seat. rw (pipes_begun, began.seats) (known seat)
+  asked_begun Waiting (inl known) = inl (known_begun known)
+  asked_begun Waiting (inr waiting) = inr (record { no_ticks = rw pipes_begun waiting.no_ticks; known = λ seat. rw (pipes_begun, began.seats) (waiting.known seat) })
   asked_begun (Only leaving coming) known = (
     subst (λ (seats : List (Option Object)). IsKnownOnSeat leaving seats) (sym began.seats) known.0,
     subst (λ (stock : List Object). IsKnownSpare coming stock) (sym began.stock) known.1,
@@ -200,7 +206,7 @@ module _ (old new : Hosted) (before now : Sink) (result : Result ℕ WriteFault)
         else if mid == table_services_mid then written_once tables_step
         else if mid == executive_services_mid then order_stations on_board moment packet e (executive_service_now on_board moment packet e)
         else passing_stations on_board moment packet e in
-        Handles (if mid == event_services_mid then nobody else if mid == executive_services_mid then party else Everyone) stations (if mid == event_services_mid then events_step
+        Handles (if mid == event_services_mid then nobody else if mid == table_services_mid then Everyone else if mid == executive_services_mid then party else passing packet) stations (if mid == event_services_mid then events_step
         else if mid == table_services_mid then tables_step
         else if mid == executive_services_mid then orders_step
         else passed_on on_board moment packet e) (last_calls on_board moment stations) old new before now result

@@ -6,6 +6,7 @@ use Rattle.lc_model.specs.Services.Bus.{seen}
 use Rattle.app_host.specs.Shared.{on_board}
 use Rattle.app_host.specs.Hosted.{Hosted, executive_of}
 use Rattle.app_host.specs.Whole.{AreSeated, AreKnown}
+use Rattle.app_host.specs.Party.{IsDetermined}
 use Rattle.app_host.specs.Load.{IsLight, load}
 use Rattle.app_host.specs.Roster.{roster_of, ComesTo}
 
@@ -30,4 +31,5 @@ pub record HasDelivered (seat : ℕ) (old new : Hosted) : Type 0 where
   pub fits : length new.services.outgoing ≤ 65536
   pub own : ComesTo (roster_of old) old new
   pub known : AreKnown old → AreKnown new
-  pub exact : AreKnown old → Becomes new (delivered_at on_board old.services.moment seat (executive_in old))
+  pub determined : IsDetermined old → IsDetermined new
+  pub exact : IsDetermined old → Becomes new (delivered_at on_board old.services.moment seat (executive_in old))

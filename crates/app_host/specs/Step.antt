@@ -7,7 +7,7 @@ use Rattle.lc_model.specs.declared.record.Body.{Body}
 use Rattle.lc_model.specs.declared.record.Body.TheVariants as body
 use Rattle.lc_model.specs.declared.record.Moment.{Moment}
 use Rattle.lc_model.specs.Device.{Sink}
-use Rattle.lc_model.specs.Packet.{stream_fault, function_code, payload, message_id, event_services_mid, executive_services_mid}
+use Rattle.lc_model.specs.Packet.{stream_fault, function_code, payload, message_id, event_services_mid, table_services_mid, executive_services_mid}
 use Rattle.lc_model.specs.Command.{app_command}
 use Rattle.lc_model.specs.Host.React.{Input, Packet, Tick, File}
 use Rattle.lc_model.specs.Host.Stream.{name_size}
@@ -18,7 +18,7 @@ use Rattle.app_host.specs.declared.error.WriteFault.{WriteFault}
 use Rattle.app_host.specs.Shared.{on_board, at_moment}
 use Rattle.app_host.specs.Hosted.{Hosted, in_numbers}
 use Rattle.app_host.specs.Whole.{AreKnown, IsWhole, IsQuiet}
-use Rattle.app_host.specs.Party.{Party, Everyone, nobody, party_by, AreKnownIn}
+use Rattle.app_host.specs.Party.{Party, Everyone, nobody, passing, party_by, AreKnownIn}
 use Rattle.app_host.specs.Delivered.{executive_in}
 use Rattle.app_host.specs.Writing.{Handles}
 
@@ -36,13 +36,15 @@ IsNamed (body.Packet bytes) = ⊤
 IsNamed body.Tick = ⊤
 IsNamed (body.File name bytes) = length name.now ≤ name_size
 
--- who may take part in a good packet: no application in a command to the event services, those of an order, and else every one
+-- who may take part in a good packet: no application in a command to the event services, every one in a command to the table
+-- services, which go by names, those of an order, and else those that hear it
 abbrev pub routed_party : List ℕ → Party
 routed_party packet =
     let mid : ℕ = message_id packet in
     if mid == event_services_mid then nobody
+    else if mid == table_services_mid then Everyone
     else if mid == executive_services_mid then party_by (app_command (function_code packet) (payload packet))
-    else Everyone
+    else passing packet
 
 -- in any record
 abbrev pub party_of : Input (List ℕ) → Party

@@ -10,7 +10,7 @@ use Rattle.app_host.specs.declared.error.WriteFault.{WriteFault}
 use Rattle.app_host.specs.Shared.{on_board}
 use Rattle.app_host.specs.Hosted.{Hosted}
 use Rattle.app_host.specs.Whole.{AreSeated, AreKnown, IsWhole, IsQuiet}
-use Rattle.app_host.specs.Party.{Party, Everyone, AreKnownIn}
+use Rattle.app_host.specs.Party.{Party, Waiting, passing, AreKnownIn}
 use Rattle.app_host.specs.Delivered.{executive_in}
 
 -- ---- one write
@@ -98,10 +98,10 @@ Handles party stations step last old new before now (Err fault) = HandlesPart pa
 abbrev pub Drains : Hosted → Hosted → Sink → Sink → Result ℕ WriteFault → Type 0
 Drains old new before now result =
     let stations : List (Station (List ℕ)) = delivery_stations on_board old.services.moment 0 most_deliveries (executive_in old) in
-    Handles Everyone stations (drained on_board old.services.moment most_deliveries (executive_in old)) (last_calls on_board old.services.moment stations) old new before now result
+    Handles Waiting stations (drained on_board old.services.moment most_deliveries (executive_in old)) (last_calls on_board old.services.moment stations) old new before now result
 
 -- a packet is published, and all deliveries are made
 abbrev pub PassesOn : List ℕ → Hosted → Hosted → Sink → Sink → Result ℕ WriteFault → Type 0
 PassesOn packet old new before now result =
     let stations : List (Station (List ℕ)) = passing_stations on_board old.services.moment packet (executive_in old) in
-    Handles Everyone stations (passed_on on_board old.services.moment packet (executive_in old)) (last_calls on_board old.services.moment stations) old new before now result
+    Handles (passing packet) stations (passed_on on_board old.services.moment packet (executive_in old)) (last_calls on_board old.services.moment stations) old new before now result

@@ -123,6 +123,41 @@ fn add(stock: &mut Vec<Box<dyn App>>, app: Box<dyn App>) -> Result<(), AllocErro
     Ok(())
 }
 
+/// Whether so many that are watched were dropped once each, those that started were retired as often, and no more had been
+/// dropped before the last retirement than before the close.
+fn have_left(tally: &Tally, watched: u32, dropped: u32) -> bool {
+    tally.drops() == watched
+        && tally.retirements() == tally.starts()
+        && tally.drops_before_retirement() <= dropped
+}
+
+/// A host with this stock plays the script, and is closed. The number of the first line that does not hold; 0, where want of
+/// memory took one of the stock; the number of lines, where the objects have not left as they are to; else none. Out of memory
+/// is the only error.
+fn perform(
+    alloc: Global,
+    stock: Vec<Box<dyn App>>,
+    tally: &Tally,
+    watched: u32,
+    script: &[Line<'_>],
+) -> Result<Option<usize>, AllocError>
+    requires { AreSpares (map (object state called held) stock.items) }
+{
+    let spares = stock.len();
+    let mut host = match begin(alloc, stock) {
+        Ok(host) => host,
+        Err((_, stock)) if stock.len() == spares => return Err(AllocError),
+        Err(_) => return Ok(Some(0)),
+    };
+    let first = follow(alloc, &mut host, tally, script)?;
+    let dropped = tally.drops();
+    end(host);
+    if first.is_none() && !have_left(tally, watched, dropped) {
+        return Ok(Some(script.len()));
+    }
+    Ok(first)
+}
+
 /// A host with these spares plays the script, and is closed. The number of the first line that does not hold; the number of
 /// lines, where one that is watched was not dropped once, one that started was not retired as often, or the close dropped one
 /// before another had retired; else none. Out of memory is the only error.
@@ -154,19 +189,5 @@ pub fn plays(
             }
         }
     }
-    let mut host = match begin(alloc, stock) {
-        Ok(host) => host,
-        Err((_, stock)) if stock.len() == spares.len() => return Err(AllocError),
-        Err(_) => return Ok(Some(0)),
-    };
-    let first = follow(alloc, &mut host, &tally, script)?;
-    let dropped = tally.drops();
-    end(host);
-    let all_left = tally.drops() == watched
-        && tally.retirements() == tally.starts()
-        && tally.drops_before_retirement() <= dropped;
-    if first.is_none() && !all_left {
-        return Ok(Some(script.len()));
-    }
-    Ok(first)
+    perform(alloc, stock, &tally, watched, script)
 }
