@@ -1,10 +1,12 @@
 -- What there is when the object of a seat had its packet.
-use Rattle.std.proofs.Common.{◌≡◌, ◌≢◌, inl, inr, refl, ap, ap₂, sym, ◌∙◌, subst, ℕ, ◌+◌, ◌<◌, ◌≤◌, ◌==◌, Bool, true, false, List, [], ◌∷◌, ◌++◌, length, map, filter, arith, if◌then◌else◌, Option, Some, None}
+use Rattle.std.proofs.Common.{◌≡◌, ◌≢◌, refl, ap, ap₂, sym, ◌∙◌, subst, ℕ, ◌+◌, ◌<◌, ◌≤◌, ◌==◌, Bool, true, false, List, [], ◌∷◌, ◌++◌, length, map, filter, arith, if◌then◌else◌, Option, Some, None}
 use Rattle.std.specs.Prelude.{IfSome, option_map, unwrap_or, slice_index_or, slice_set}
 use Rattle.std.specs.Option.{option_map_or}
-use Rattle.std.proofs.lemmas.List.{get_or-set_same, length-map, map-set, set-set}
+use Rattle.std.specs.List.{AllByRecursion}
+use Rattle.std.proofs.lemmas.List.{get_or-set_same, get_or-set_other, length-map, map-set, set-set}
 use Rattle.lc_model.specs.declared.record.Moment.{Moment}
-use Rattle.lc_model.specs.Packet.{message_id, tick_mid, counter_mid}
+use Rattle.lc_model.specs.Packet.{message_id, tick_mid, sample_mid, lc_housekeeping_request_mid, counter_mid}
+use Rattle.lc_model.specs.Host.Schedule.{entries_at}
 use Rattle.lc_model.specs.Kept.Summary.{AppState, LcState, SchState, CounterState, Other}
 use Rattle.lc_model.specs.Kept.Next.{next_tick, next_count}
 use Rattle.lc_model.specs.Kept.Call.{ServicesNow, Called, silent, sch_told, counter_told, sch_subscriptions, counter_subscriptions, next_on_packet}
@@ -20,13 +22,16 @@ use Rattle.app_host.specs.Calls.{Leaves}
 use Rattle.app_host.specs.Hosted.{Object, Hosted, object_at, member_of}
 use Rattle.app_host.specs.Objects.{HasAnswered}
 use Rattle.app_host.specs.Whole.{IsRunning, AreSeated, IsKnown, AreKnown}
-use Rattle.app_host.specs.Party.{AreKnownWhoWait, IsDetermined}
-use Rattle.app_host.specs.Load.{packets_in, all_ticks, load, IsLight}
+use Rattle.app_host.specs.Party.{AreKnownHearers, IsDetermined}
+use Rattle.app_host.specs.Load.{is_tick, packets_in, load, IsLight}
 use Rattle.app_host.specs.Delivered.{executive_in, Becomes, HasDelivered}
 use Rattle.app_host.proofs.Found.{shown_in}
 use Rattle.app_host.proofs.Rosters.{same_roster, names_still}
 use Rattle.app_host.proofs.Frames.{fact_at_set, others_stay, seated_still, seated_with, alone_still}
-use Rattle.app_host.proofs.Loads.{waits_here, falls, still_light, still_no_ticks, no_more}
+use Rattle.app_host.proofs.Loads.{waits_here, tick_waits, falls, still_light, no_new_ticks, no_more}
+use Rattle.app_host.proofs.Rules as model
+use Rattle.app_host.proofs.Published.{heard_at}
+use Rattle.app_host.proofs.Heard.{IsScheduled, IfHeard, entries_scheduled, heard_anyway, heard_behind, heard_then}
 use Rattle.app_host.proofs.Delivery.{HasFirst, first_packet, behind, pipe_is, waits, bus_then, shared_still, stays_taken}
 
 -- ---- an object of this profile answers
@@ -35,19 +40,20 @@ record Answers (call : Option (Called (List ℕ))) : Type 0 where
   called : Called (List ℕ)
   is : call ≡ Some called
   known : called.state ≢ Other
+  scheduled : AllByRecursion IsScheduled called.published
 
 answers : (moment : Moment) (state : AppState) (packet : List ℕ) (services : ServicesNow (List ℕ)) → state ≢ Other → Answers (next_on_packet on_board moment state packet services)
-answers moment (LcState own) packet services known = record { called = _; is = refl; known = λ e. cc }
+answers moment (LcState own) packet services known = record { called = _; is = refl; known = λ e. cc; scheduled = tt }
 answers moment (SchState schedule slot) packet services known = by_test (message_id packet == tick_mid)
   where
     by_test : (b : Bool) → Answers (Some (if b then sch_told (next_tick schedule slot) schedule services else silent (SchState schedule slot) sch_subscriptions [] services))
-    by_test true = record { called = _; is = refl; known = λ e. cc }
-    by_test false = record { called = _; is = refl; known = λ e. cc }
+    by_test true = record { called = _; is = refl; known = λ e. cc; scheduled = entries_scheduled (entries_at schedule slot) }
+    by_test false = record { called = _; is = refl; known = λ e. cc; scheduled = tt }
 answers moment (CounterState count) packet services known = by_test (message_id packet == counter_mid)
   where
     by_test : (b : Bool) → Answers (Some (if b then counter_told moment (next_count packet count) services else silent (CounterState count) counter_subscriptions [] services))
-    by_test true = record { called = _; is = refl; known = λ e. cc }
-    by_test false = record { called = _; is = refl; known = λ e. cc }
+    by_test true = record { called = _; is = refl; known = λ e. cc; scheduled = tt }
+    by_test false = record { called = _; is = refl; known = λ e. cc; scheduled = tt }
 answers moment Other packet services known = absurd (known refl)
 
 -- the member of a seat
@@ -130,11 +136,11 @@ module _ (law : TablesAreFound) (h new : Hosted) (now : Services) (seat : ℕ) (
   abbrev IsHereKnown : Option Object → Type 0
   IsHereKnown place = IfSome place IsKnown
 
-  -- the object is known, where it is determined what the deliveries lead to
+  -- it is known, where it is determined what the deliveries lead to
   known_here : IsDetermined h → o.state ≢ Other
-  known_here (inl all) = subst IsHereKnown at (all seat)
-  known_here (inr waiting) =
-      subst IsHereKnown at (waiting.known seat (waits_here (seen before.bus) seat light (seen_pipe has.queue) (first_packet before.bus seat has) (behind before.bus seat has) (pipe_is before.bus seat has) (waits before.bus seat has) below))
+  known_here determined =
+      subst IsHereKnown at
+      (determined.waiting seat (waits_here (seen before.bus) seat light (seen_pipe has.queue) (first_packet before.bus seat has) (behind before.bus seat has) (pipe_is before.bus seat has) (waits before.bus seat has) below))
 
   module _ (known : o.state ≢ Other) where
     answer : Answers (next_on_packet on_board before.moment o.state packet (shared before))
@@ -160,7 +166,10 @@ module _ (law : TablesAreFound) (h new : Hosted) (now : Services) (seat : ℕ) (
         ap (λ (pipes : List (Option Pipe)). waiting_in (slice_index_or pipes seat None)) pipes_now
         ∙ ap waiting_in (get_or-set_same (seen before.bus) seat (Some (record { subscriptions = has.queue.subscriptions; waiting = behind before.bus seat has })) None (rw (length-map before.bus (option_map seen_pipe)) has.below))
 
-    pipes_are : seen new.services.bus ≡ all_published_to (slice_set (seen before.bus) seat (Some (record { subscriptions = answer.called.mids; waiting = behind before.bus seat has }))) answer.called.published
+    abbrev own_place : Option Pipe
+    own_place = Some (record { subscriptions = answer.called.mids; waiting = behind before.bus seat has })
+
+    pipes_are : seen new.services.bus ≡ all_published_to (slice_set (seen before.bus) seat own_place) answer.called.published
     pipes_are =
         leaves.pipes
         ∙ ap₂ (λ (pipes : List (Option Pipe)) waiting. all_published_to (slice_set pipes seat (Some (record { subscriptions = answer.called.mids; waiting = waiting }))) answer.called.published) pipes_now own_waiting
@@ -185,26 +194,51 @@ module _ (law : TablesAreFound) (h new : Hosted) (now : Services) (seat : ℕ) (
     exact_then : Becomes new (delivered_at on_board before.moment seat e)
     exact_then = subst (Becomes new) (sym step_is) becomes_so
 
+    -- the pipe of another seat
+    heard_elsewhere : (other : ℕ) → other ≢ seat → slice_index_or (seen new.services.bus) other None ≡ option_map (model.hearing answer.called.published) (slice_index_or (seen before.bus) other None)
+    heard_elsewhere other another =
+        ap (λ (pipes : List (Option Pipe)). slice_index_or pipes other None) pipes_are
+        ∙ heard_at (slice_set (seen before.bus) seat own_place) answer.called.published other
+        ∙ ap (option_map (model.hearing answer.called.published)) (get_or-set_other (seen before.bus) seat other own_place None another)
+
+    module _ (determined : IsDetermined h) where
+      -- where something waits for another one
+      known_elsewhere : (other : ℕ) → other ≢ seat → 1 ≤ packets_in (slice_index_or (seen new.services.bus) other None) → IsHereKnown (object_at other h.seats)
+      known_elsewhere other another some = by_tick (is_tick (first_packet before.bus seat has)) refl
+        where
+          by_tick : (b : Bool) → is_tick (first_packet before.bus seat has) ≡ b → IsHereKnown (object_at other h.seats)
+          by_tick true tick =
+              heard_then (IsHereKnown (object_at other h.seats)) answer.called.published answer.scheduled (slice_index_or (seen before.bus) other None) (determined.waiting other)
+              (let both = determined.scheduled (tick_waits (seen before.bus) seat light (seen_pipe has.queue) (first_packet before.bus seat has) (behind before.bus seat has) (pipe_is before.bus seat has) (waits before.bus seat has) below tick) in
+              (both.0 other, (both.1.0 other, tt)))
+              (subst (λ place. 1 ≤ packets_in place) (heard_elsewhere other another) some)
+          by_tick false none =
+              determined.waiting other
+              (let fewer = no_more (seen before.bus) seat light (seen_pipe has.queue) (first_packet before.bus seat has) (behind before.bus seat has) (pipe_is before.bus seat has) (waits before.bus seat has) below
+              (seen new.services.bus) answered.rules.published as_eight may heard own none other in omega (arith, some, fewer))
+
+      -- who hears a message id is known still
+      hearers_then : (mid : ℕ) → AreKnownHearers h mid → AreKnownHearers new mid
+      hearers_then mid hearers = λ other. rw seats
+          (fact_at_set (λ i (x : Option Object). IfHeard (IsHereKnown x) mid (slice_index_or (seen new.services.bus) i None)) h.seats seat other (Some o') None (omega (arith, below, whole.eight))
+          (heard_anyway (IsHereKnown (Some o')) mid (slice_index_or (seen new.services.bus) seat None) still_here)
+          (λ i another. rw (heard_elsewhere i another) (heard_behind (IsHereKnown (object_at i h.seats)) mid answer.called.published (slice_index_or (seen before.bus) i None) (hearers i))))
+
+      determined_so : IsDetermined new
+      determined_so = record {
+        waiting = λ other. rw seats
+            (fact_at_set (λ i (x : Option Object). 1 ≤ packets_in (slice_index_or (seen new.services.bus) i None) → IsHereKnown x) h.seats seat other (Some o') None (omega (arith, below, whole.eight))
+            (λ some. still_here) known_elsewhere);
+        scheduled = λ some.
+            let fewer = no_new_ticks (seen before.bus) seat light (seen_pipe has.queue) (first_packet before.bus seat has) (behind before.bus seat has) (pipe_is before.bus seat has) (waits before.bus seat has) below
+            (seen new.services.bus) answered.rules.published as_eight may heard own in
+            let both = determined.scheduled (omega (arith, some, fewer)) in
+            (hearers_then sample_mid both.0, (hearers_then lc_housekeeping_request_mid both.1.0, tt));
+      }
+
   known_then : AreKnown h → AreKnown new
   known_then known = λ other. rw seats
-      (fact_at_set (λ i (x : Option Object). IsHereKnown x) h.seats seat other (Some o') None (omega (arith, below, whole.eight)) (still_here (known_here (inl known))) (λ i another. known i))
-
-  determined_then : IsDetermined h → IsDetermined new
-  determined_then (inl all) = inl (known_then all)
-  determined_then (inr waiting) = inr (record {
-    no_ticks =
-        still_no_ticks (seen before.bus) seat light (seen_pipe has.queue) (first_packet before.bus seat has) (behind before.bus seat has) (pipe_is before.bus seat has) (waits before.bus seat has) below
-        (seen new.services.bus) answered.rules.published as_eight may heard own waiting.no_ticks;
-    known = λ other. rw seats
-        (fact_at_set (λ i (x : Option Object). 1 ≤ packets_in (slice_index_or (seen new.services.bus) i None) → IsHereKnown x) h.seats seat other (Some o') None (omega (arith, below, whole.eight))
-        (λ some. still_here (known_here (inr waiting)))
-        (λ i another. λ some. waiting.known i (let fewer = fewer_then waiting.no_ticks i in omega (arith, some, fewer))));
-  })
-    where
-      fewer_then : all_ticks (seen before.bus) ≡ 0 → (i : ℕ) → packets_in (slice_index_or (seen new.services.bus) i None) ≤ packets_in (slice_index_or (seen before.bus) i None)
-      fewer_then none =
-          no_more (seen before.bus) seat light (seen_pipe has.queue) (first_packet before.bus seat has) (behind before.bus seat has) (pipe_is before.bus seat has) (waits before.bus seat has) below
-          (seen new.services.bus) answered.rules.published as_eight may heard own none
+      (fact_at_set (λ i (x : Option Object). IsHereKnown x) h.seats seat other (Some o') None (omega (arith, below, whole.eight)) (still_here (subst IsHereKnown at (known seat))) (λ i another. known i))
 
   pub has_delivered : new.is_closed ≡ h.is_closed → new.calls ≡ h.calls + 1 → HasDelivered seat h new
   has_delivered closed calls = record {
@@ -222,6 +256,6 @@ module _ (law : TablesAreFound) (h new : Hosted) (now : Services) (seat : ℕ) (
       roster = same_roster h new stock (names_still h new seat o o' at answered.name seats);
     };
     known = known_then;
-    determined = determined_then;
+    determined = λ determined. determined_so (known_here determined) determined;
     exact = λ determined. exact_then (known_here determined);
   }

@@ -1,11 +1,12 @@
 -- The loop of the deliveries.
-use Rattle.std.proofs.Common.{◌≡◌, true, false, refl, ap, sym, ◌∙◌, subst, ℕ, ◌+◌, ◌*◌, ◌<◌, ◌≤◌, inl, inr, List, [], ◌++◌, length, take, map, arith, length-append, if◌then◌else◌, Option, Some, None, Result, Ok, Err}
-use Rattle.std.specs.Prelude.{option_map, slice_index_or, IsErrAnd}
+use Rattle.std.proofs.Common.{◌≡◌, true, false, refl, ap, sym, ◌∙◌, subst, ℕ, ◌+◌, ◌*◌, ◌<◌, ◌≤◌, inl, List, [], ◌++◌, length, take, map, arith, length-append, if◌then◌else◌, Option, Some, None, Result, Ok, Err}
+use Rattle.std.specs.Prelude.{option_map, IsErrAnd}
 use Rattle.std.specs.Io.KnownBytes.{Appends}
 use Rattle.std.proofs.lemmas.List.{append-nil}
 use Rattle.lc_model.specs.declared.record.Moment.{Moment}
 use Rattle.lc_model.specs.Device.{Sink}
-use Rattle.lc_model.specs.Kept.Executive.{Written, ready_seat, delivered_at, drained}
+use Rattle.lc_model.specs.Packet.{sample_mid, lc_housekeeping_request_mid}
+use Rattle.lc_model.specs.Kept.Executive.{Pipe, Written, ready_seat, delivered_at, drained}
 use Rattle.lc_model.specs.Kept.Stations.{Station, delivery_stations, last_calls}
 use Rattle.lc_model.specs.Services.Bus.{seen}
 use Rattle.app_host.specs.declared.services.Services.{Services}
@@ -13,8 +14,8 @@ use Rattle.app_host.specs.declared.error.WriteFault.{WriteFault}
 use Rattle.app_host.specs.Shared.{on_board, shared}
 use Rattle.app_host.specs.Hosted.{Hosted, member_of}
 use Rattle.app_host.specs.Whole.{IsWhole, AreKnown}
-use Rattle.app_host.specs.Party.{Party, Waiting, nobody, IsDetermined}
-use Rattle.app_host.specs.Load.{packets_in, all_ticks, IsLight, load}
+use Rattle.app_host.specs.Party.{Party, Waiting, nobody, AreKnownHearers, IsDetermined}
+use Rattle.app_host.specs.Load.{all_ticks, IsLight, load}
 use Rattle.app_host.specs.Delivered.{executive_in, Becomes, HasDelivered}
 use Rattle.app_host.specs.Writing.{written_off, IsFlushed, IsAllSent, IsPartSent, IsCut, HandlesAll, HandlesPart, Handles}
 use Rattle.lc_model.proofs.Facts.{test_less}
@@ -81,14 +82,19 @@ module _ (given later : Hosted) (flushed : IsFlushed given later) where
   pub still_known : AreKnown given → AreKnown later
   still_known known = λ seat. rw flushed.seats (known seat)
 
+  pipes_later : seen later.services.bus ≡ seen given.services.bus
+  pipes_later = ap (λ (s : Services). seen s.bus) flushed.services
+
+  still_hearers : (mid : ℕ) → AreKnownHearers given mid → AreKnownHearers later mid
+  still_hearers mid known = λ seat. rw (pipes_later, flushed.seats) (known seat)
+
   pub still_determined : IsDetermined given → IsDetermined later
-  still_determined (inl known) = inl (still_known known)
-  still_determined (inr waiting) = inr (record {
-    no_ticks = ap (λ (s : Services). all_ticks (seen s.bus)) flushed.services ∙ waiting.no_ticks;
-    known = λ seat some.
-        let still : packets_in (slice_index_or (seen later.services.bus) seat None) ≡ packets_in (slice_index_or (seen given.services.bus) seat None) = ap (λ (s : Services). packets_in (slice_index_or (seen s.bus) seat None)) flushed.services in
-        rw flushed.seats (waiting.known seat (omega (arith, some, still)));
-  })
+  still_determined determined = record {
+    waiting = λ seat. rw (pipes_later, flushed.seats) (determined.waiting seat);
+    scheduled = λ some.
+        let both = determined.scheduled (subst (λ (pipes : List (Option Pipe)). 1 ≤ all_ticks pipes) pipes_later some) in
+        (still_hearers sample_mid both.0, (still_hearers lc_housekeeping_request_mid both.1.0, tt));
+  }
 
 module _ (first now given later : Hosted) (sent seat : ℕ) (before mid after : Sink) (far : Draining first now sent before mid) (ready : ready_seat (seen now.services.bus) ≡ Some seat)
     (delivered : HasDelivered seat now given) (flushed : IsFlushed given later) where

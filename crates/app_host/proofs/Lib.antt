@@ -8,6 +8,7 @@ pub mod Frames
 pub mod Loads
 pub mod Fresh
 pub mod Delivery
+pub mod Heard
 pub mod Answered
 pub mod Flushed
 pub mod Course

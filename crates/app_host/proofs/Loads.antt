@@ -131,6 +131,10 @@ module _ (pipes : List (Option Pipe)) (seat : ℕ) (light : IsLight pipes) (pipe
   ticks_taken : all_ticks taken + tick_number packet ≡ all_ticks pipes
   ticks_taken = omega (arith, sum_by-set ticks_in pipes seat shorter None inside, ticks_here)
 
+  -- a tick that waits here is counted
+  pub tick_waits : is_tick packet ≡ true → 1 ≤ all_ticks pipes
+  tick_waits is = let one : tick_number packet ≡ 1 = ap (λ (b : Bool). if b then 1 else 0) is in omega (arith, ticks_taken, one)
+
   load_taken : load taken + 1 + 64 * tick_number packet ≡ load pipes
   load_taken = omega (arith, sum_by-set weight_of pipes seat shorter None inside, one_less, ticks_here)
 
@@ -190,11 +194,12 @@ module _ (pipes : List (Option Pipe)) (seat : ℕ) (light : IsLight pipes) (pipe
           omega (arith, more, short_taken other, light.short other, ticks_then, ticks_taken, most_for packet published may);
     }
 
-    -- where no tick waits, none does afterwards, and no pipe has more packets
-    pub still_no_ticks : all_ticks pipes ≡ 0 → all_ticks new ≡ 0
-    still_no_ticks none = omega (arith, ticks_then, ticks_taken, none)
+    -- no tick is new, and where the packet is none no pipe has more packets
+    pub no_new_ticks : all_ticks new ≤ all_ticks pipes
+    no_new_ticks = omega (arith, ticks_then, ticks_taken)
 
-    pub no_more : all_ticks pipes ≡ 0 → (other : ℕ) → packets_in (slice_index_or new other None) ≤ packets_in (slice_index_or pipes other None)
+    pub no_more : is_tick packet ≡ false → (other : ℕ) → packets_in (slice_index_or new other None) ≤ packets_in (slice_index_or pipes other None)
     no_more none other =
         let few = each_few other in let more = few.packets in
-        omega (arith, more, short_taken other, ticks_taken, none, most_for packet published may)
+        let zero : tick_number packet ≡ 0 = ap (λ (b : Bool). if b then 1 else 0) none in
+        omega (arith, more, short_taken other, zero, most_for packet published may)

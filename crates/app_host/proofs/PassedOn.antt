@@ -1,10 +1,11 @@
 -- All deliveries behind a publication.
-use Rattle.std.proofs.Common.{◌≡◌, inl, inr, true, false, refl, ap, sym, ◌∙◌, subst, ℕ, ◌≤◌, Bool, List, length, map, if◌then◌else◌, Option, Some, None, Result, Ok, Err}
-use Rattle.std.specs.List.{concat}
-use Rattle.std.specs.Prelude.{IsOk, OnOk, option_map, slice_index_or, All, Contains}
+use Rattle.std.proofs.Common.{◌≡◌, true, false, refl, ap, sym, ◌∙◌, subst, ℕ, ◌≤◌, Bool, List, [], ◌∷◌, length, map, arith, if◌then◌else◌, Option, Some, None, Result, Ok, Err}
+use Rattle.std.specs.List.{AllByRecursion, concat}
+use Rattle.std.specs.Prelude.{IfSome, IsOk, OnOk, option_map, slice_index_or, All, Contains}
 use Rattle.std.proofs.lemmas.List.{length-map}
 use Rattle.lc_model.specs.declared.record.Moment.{Moment}
 use Rattle.lc_model.specs.Device.{Sink}
+use Rattle.lc_model.specs.Packet.{message_id, tick_mid, sample_mid, lc_housekeeping_request_mid}
 use Rattle.lc_model.specs.Kept.Executive.{Pipe, Executive, ready_seat, published_to, drained}
 use Rattle.lc_model.specs.Kept.Stations.{delivery_stations, last_calls}
 use Rattle.lc_model.specs.Laws.TablesByName.{TablesAreFound}
@@ -16,10 +17,10 @@ use Rattle.packet_bus.specs.declared.error.BusError.{BusError}
 use Rattle.app_host.specs.declared.error.WriteFault.{WriteFault}
 use Rattle.app_host.specs.Shared.{on_board}
 use Rattle.app_host.specs.Telling.{name_of}
-use Rattle.app_host.specs.Hosted.{Object, Hosted, member_of}
-use Rattle.app_host.specs.Whole.{AreKnown, IsWhole, IsQuiet}
+use Rattle.app_host.specs.Hosted.{Object, Hosted, object_at, member_of}
+use Rattle.app_host.specs.Whole.{IsKnown, AreKnown, IsWhole, IsQuiet}
 use Rattle.app_host.specs.Load.{is_tick, packets_in, all_ticks, IsLight, load}
-use Rattle.app_host.specs.Party.{Everyone, Hearers, passing, AreKnownIn, IsDetermined}
+use Rattle.app_host.specs.Party.{scheduled_mids, passing, AreKnownHearers, AreKnownIn, IsDetermined}
 use Rattle.app_host.specs.Delivered.{executive_in}
 use Rattle.app_host.specs.Writing.{IsDone, IsCut, Drains, PassesOn}
 use Rattle.app_host.specs.Roster as roster
@@ -28,6 +29,7 @@ use Rattle.app_host.specs.Response.{Response, handing_on, Responds}
 use Rattle.app_host.proofs.Delivery.{shared_still}
 use Rattle.app_host.proofs.Frames.{StaysAt, seated_still}
 use Rattle.app_host.proofs.FirstPublished.{offered_at, offered_keeps, light_first, load_first, none_is_tick, who_waits_hears}
+use Rattle.app_host.proofs.Heard.{heard_offered}
 use Rattle.app_host.proofs.Rosters.{same_roster}
 use Rattle.app_host.proofs.Responding.{responds_from}
 
@@ -88,16 +90,24 @@ module _ (law : TablesAreFound) (old mid : Hosted) (packet : List ℕ) (whole : 
   among_mid new among = subst (λ (spares : List Object). All (Contains spares) new.stock) stock among
 
   -- the deliveries are determined where those who take part are known
-  determined_for : (is_one : Bool) → is_tick packet ≡ is_one → AreKnownIn (if is_one then Everyone else Hearers packet) old → IsDetermined mid
-  determined_for true tick known = inl (known_mid known)
-  determined_for false other known = inr (record {
-    no_ticks = ap all_ticks pipes_then ∙ none_is_tick packet (seen old.services.bus) quiet other;
-    known = λ seat waits. rw seats
-        (who_waits_hears packet (seen old.services.bus) quiet seat (known seat) (subst (λ (pipes : List (Option Pipe)). 1 ≤ packets_in (slice_index_or pipes seat None)) pipes_then waits));
-  })
+  own_hearers : (b : Bool) → is_tick packet ≡ b → AllByRecursion (AreKnownHearers old) (if b then tick_mid ∷ scheduled_mids else message_id packet ∷ []) → AreKnownHearers old (message_id packet)
+  own_hearers true is asked = let same : tick_mid ≡ message_id packet = grind (arith, is) in subst (AreKnownHearers old) same asked.0
+  own_hearers false is asked = asked.0
+
+  hearers_mid : (mid_heard : ℕ) → AreKnownHearers old mid_heard → AreKnownHearers mid mid_heard
+  hearers_mid mid_heard known = λ seat. rw (pipes_then, offered_at packet (seen old.services.bus) seat, seats) (heard_offered (IfSome (object_at seat old.seats) IsKnown) mid_heard packet (slice_index_or (seen old.services.bus) seat None) (known seat))
+
+  scheduled_mid : (b : Bool) → is_tick packet ≡ b → AllByRecursion (AreKnownHearers old) (if b then tick_mid ∷ scheduled_mids else message_id packet ∷ []) → 1 ≤ all_ticks (seen mid.services.bus) →
+      AllByRecursion (AreKnownHearers mid) scheduled_mids
+  scheduled_mid true is asked some = (hearers_mid sample_mid asked.1.0, (hearers_mid lc_housekeeping_request_mid asked.1.1.0, tt))
+  scheduled_mid false is asked some = absurd (let none : all_ticks (seen mid.services.bus) ≡ 0 = ap all_ticks pipes_then ∙ none_is_tick packet (seen old.services.bus) quiet is in omega (arith, some, none))
 
   determined_mid : AreKnownIn (passing packet) old → IsDetermined mid
-  determined_mid asked = determined_for (is_tick packet) refl asked
+  determined_mid asked = record {
+    waiting = λ seat some. rw seats
+        (who_waits_hears packet (seen old.services.bus) quiet seat (own_hearers (is_tick packet) refl asked seat) (subst (λ (pipes : List (Option Pipe)). 1 ≤ packets_in (slice_index_or pipes seat None)) pipes_then some));
+    scheduled = scheduled_mid (is_tick packet) refl asked;
+  }
 
   pub passes_on : (new : Hosted) (before now : Sink) (result : Result ℕ WriteFault) → Drains mid new before now result → PassesOn packet old new before now result
   passes_on new before now (Ok total) all = record {

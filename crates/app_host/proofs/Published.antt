@@ -95,7 +95,7 @@ heard_then : (place : Option Pipe) (packet : List ℕ) (packets : List (List ℕ
 heard_then None packet packets = refl
 heard_then (Some pipe) packet packets = ap Some (heard_first pipe packet packets)
 
-heard_at : (pipes : List (Option Pipe)) (packets : List (List ℕ)) (seat : ℕ) →
+pub heard_at : (pipes : List (Option Pipe)) (packets : List (List ℕ)) (seat : ℕ) →
     slice_index_or (all_published_to pipes packets) seat None ≡ option_map (hearing packets) (slice_index_or pipes seat None)
 unfolding all_published_to
 heard_at pipes [] seat = nothing_heard (slice_index_or pipes seat None)

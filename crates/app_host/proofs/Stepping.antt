@@ -1,8 +1,8 @@
 -- A step, by what is handled in it.
-use Rattle.std.proofs.Common.{◌≡◌, inl, inr, refl, ap, sym, ◌∙◌, subst, ℕ, ◌==◌, true, false, List, ◌∷◌, [], length, map, if◌then◌else◌, Option, Some, None, Result, Ok, Err}
+use Rattle.std.proofs.Common.{◌≡◌, ◌≢◌, refl, ap, sym, ◌∙◌, subst, ℕ, ◌≤◌, ◌==◌, true, false, List, ◌∷◌, [], length, map, if◌then◌else◌, Option, Some, None, Result, Ok, Err}
 use Rattle.std.specs.Prelude.{option_map, All, Contains}
 use Rattle.std.specs.Option.{option_map_or}
-use Rattle.std.specs.List.{concat}
+use Rattle.std.specs.List.{AllByRecursion, concat}
 use Rattle.lc_model.specs.declared.record.Moment.{Moment}
 use Rattle.lc_model.specs.Device.{Sink}
 use Rattle.lc_model.specs.Name.{Name}
@@ -14,15 +14,16 @@ use Rattle.lc_model.specs.Events.Request.{event_services, table_services, execut
 use Rattle.lc_model.specs.Host.React.{Input, Packet, File, stored}
 use Rattle.lc_model.specs.Laws.TablesByName.{TablesAreFound}
 use Rattle.lc_model.specs.Services.Bus.{seen}
-use Rattle.lc_model.specs.Services.Tables.{IsTableService}
-use Rattle.lc_model.specs.Kept.Executive.{Executive, Written, ready_seat, told_by_host, filed_now, step_by, routed_now, answered_now, with_services, event_service_now, table_service_now, executive_service_now, passed_on}
+use Rattle.lc_model.specs.Services.Tables.{IsTableService, tables_at}
+use Rattle.lc_model.specs.Kept.Executive.{Pipe, Executive, Written, ready_seat, told_by_host, filed_now, step_by, routed_now, answered_now, with_services, event_service_now, table_service_now, executive_service_now, passed_on}
 use Rattle.lc_model.specs.Kept.Stations.{Station, Host, stop_at, written_once, order_stations, routed_stations, passing_stations, stations_of, last_calls, host_after, host_step}
 use Rattle.app_host.specs.declared.services.Services.{Services}
 use Rattle.app_host.specs.declared.error.WriteFault.{WriteFault}
 use Rattle.app_host.specs.Shared.{on_board, shared, at_moment}
 use Rattle.app_host.specs.Hosted.{Object, Hosted, member_of, in_numbers}
 use Rattle.app_host.specs.Whole.{AreKnown, IsWhole, IsQuiet}
-use Rattle.app_host.specs.Party.{Party, Everyone, Hearers, Waiting, Only, nobody, passing, party_by, IsKnownOnSeat, IsKnownSpare, AreKnownIn}
+use Rattle.app_host.specs.Load.{all_ticks}
+use Rattle.app_host.specs.Party.{Party, Hearers, Waiting, Holders, Only, nobody, scheduled_mids, passing, party_by, AreKnownHearers, IsKnownOnSeat, IsKnownSpare, AreKnownIn}
 use Rattle.app_host.specs.Delivered.{executive_in}
 use Rattle.app_host.specs.Writing.{IsDone, IsCut, Handles, PassesOn}
 use Rattle.app_host.specs.Told.{TellsAlone, Files, ObeysEvents, ObeysTables}
@@ -69,11 +70,18 @@ module _ (moment : Moment) (input : Input (List ℕ)) (old begun : Hosted) (bega
   pipes_begun : seen begun.services.bus ≡ seen old.services.bus
   pipes_begun = ap (λ (s : Services). seen s.bus) began.services
 
+  hearers_begun : (mids : List ℕ) → AllByRecursion (AreKnownHearers old) mids → AllByRecursion (AreKnownHearers begun) mids
+  hearers_begun [] known = tt
+  hearers_begun (mid ∷ mids) known = ((λ seat. rw (pipes_begun, began.seats) (known.0 seat)), hearers_begun mids known.1)
+
   asked_begun : (party : Party) → AreKnownIn party old → AreKnownIn party begun
-  asked_begun Everyone known = known_begun known
-  asked_begun (Hearers packet) known = λ seat. rw (pipes_begun, began.seats) (known seat)
-  asked_begun Waiting (inl known) = inl (known_begun known)
-  asked_begun Waiting (inr waiting) = inr (record { no_ticks = rw pipes_begun waiting.no_ticks; known = λ seat. rw (pipes_begun, began.seats) (waiting.known seat) })
+  asked_begun (Hearers mids) known = hearers_begun mids known
+  asked_begun Waiting determined = record {
+    waiting = λ seat. rw (pipes_begun, began.seats) (determined.waiting seat);
+    scheduled = λ some. hearers_begun scheduled_mids (determined.scheduled (subst (λ (pipes : List (Option Pipe)). 1 ≤ all_ticks pipes) pipes_begun some));
+  }
+  asked_begun Holders known = λ seat some. rw began.seats
+      (known seat (subst (λ (s : Services). tables_at seat s.tables.places ≢ []) began.services some))
   asked_begun (Only leaving coming) known = (
     subst (λ (seats : List (Option Object)). IsKnownOnSeat leaving seats) (sym began.seats) known.0,
     subst (λ (stock : List Object). IsKnownSpare coming stock) (sym began.stock) known.1,
@@ -206,7 +214,7 @@ module _ (old new : Hosted) (before now : Sink) (result : Result ℕ WriteFault)
         else if mid == table_services_mid then written_once tables_step
         else if mid == executive_services_mid then order_stations on_board moment packet e (executive_service_now on_board moment packet e)
         else passing_stations on_board moment packet e in
-        Handles (if mid == event_services_mid then nobody else if mid == table_services_mid then Everyone else if mid == executive_services_mid then party else passing packet) stations (if mid == event_services_mid then events_step
+        Handles (if mid == event_services_mid then nobody else if mid == table_services_mid then Holders else if mid == executive_services_mid then party else passing packet) stations (if mid == event_services_mid then events_step
         else if mid == table_services_mid then tables_step
         else if mid == executive_services_mid then orders_step
         else passed_on on_board moment packet e) (last_calls on_board moment stations) old new before now result
@@ -219,7 +227,7 @@ module _ (old new : Hosted) (before now : Sink) (result : Result ℕ WriteFault)
       for_events is obeys = routed_so (subst ByMid (sym is) (once nobody events_step obeys))
 
       pub for_tables : message_id packet ≡ table_services_mid → ObeysTables packet old new before now result → Takes (Packet packet) old new before now result
-      for_tables is obeys = routed_so (subst ByMid (sym is) (once Everyone tables_step obeys))
+      for_tables is obeys = routed_so (subst ByMid (sym is) (once Holders tables_step obeys))
 
       pub for_orders : message_id packet ≡ executive_services_mid → ObeysOrders packet old new before now result → Takes (Packet packet) old new before now result
       for_orders is obeys = routed_so (subst ByMid (sym is)

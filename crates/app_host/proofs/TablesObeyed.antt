@@ -22,7 +22,7 @@ use Rattle.app_host.specs.declared.error.WriteFault.{WriteFault}
 use Rattle.app_host.specs.Shared.{on_board, shared}
 use Rattle.app_host.specs.Hosted.{Hosted, member_of}
 use Rattle.app_host.specs.Whole.{AreKnown, IsWhole}
-use Rattle.app_host.specs.Party.{Everyone, nobody}
+use Rattle.app_host.specs.Party.{Holders, nobody, AreKnownHolders}
 use Rattle.app_host.specs.Delivered.{executive_in}
 use Rattle.app_host.specs.Writing.{IsDone, IsCut, Handles}
 use Rattle.app_host.specs.ObeyedTables.{tables_by}
@@ -70,9 +70,9 @@ kept_by law (Err refusal) before after is = cc
 
 -- ---- a step that is known under a premise
 
--- where this step is that one if all objects on the seats are known
-exactly : (old new : Hosted) (this that : Written (List ℕ)) → (AreKnown old → this ≡ that) → (before now : Sink) (result : Result ℕ WriteFault) →
-    Handles nobody (written_once this) this 0 old new before now result → Handles Everyone (written_once that) that 0 old new before now result
+-- where this step is that one if all objects that have tables are known
+exactly : (old new : Hosted) (this that : Written (List ℕ)) → (AreKnownHolders old → this ≡ that) → (before now : Sink) (result : Result ℕ WriteFault) →
+    Handles nobody (written_once this) this 0 old new before now result → Handles Holders (written_once that) that 0 old new before now result
 exactly old new this that same before now (Ok total) all = record {
   whole = all.whole;
   quiet = all.quiet;
@@ -80,7 +80,7 @@ exactly old new this that same before now (Ok total) all = record {
   is_closed = all.is_closed;
   calls = all.calls;
   fine = all.fine;
-  known = λ known everyone. all.known known (tt, tt);
+  known = λ known holders. all.known known (tt, tt);
   exact = λ known. subst (λ (w : Written (List ℕ)). IsDone (written_once w) w 0 new before.gained now.gained) (same known) (all.exact (tt, tt));
   count = λ known. all.count (tt, tt) ∙ ap (λ (w : Written (List ℕ)). length (concat w.1)) (same known);
 }
@@ -90,7 +90,7 @@ exactly old new this that same before now (Err fault) part = record {
   is_closed = part.is_closed;
   calls = part.calls;
   failed = part.failed;
-  known = λ known everyone. part.known known (tt, tt);
+  known = λ known holders. part.known known (tt, tt);
   exact = λ known. subst (λ (w : Written (List ℕ)). IsCut (written_once w) w fault.sent new before.gained now.gained) (same known) (part.exact (tt, tt));
 }
 
@@ -127,7 +127,7 @@ module _ (old mid : Hosted) (whole : IsWhole old) (alone : TablesAlone old mid) 
     abbrev answer : Result TableService Refusal
     answer = tables_by (table_command (function_code packet) (payload packet)) old.services.tables
 
-    step_so : AreKnown old → this_step ≡ answered_now on_board old.services.moment table_services packet e (with_services e (left_by old.services answer))
+    step_so : AreKnownHolders old → this_step ≡ answered_now on_board old.services.moment table_services packet e (with_services e (left_by old.services answer))
     step_so known = ap (λ r. answered_now on_board old.services.moment table_services packet e (with_services e r)) (obeyed_so moves loads old.services sound (known_tables old whole.seated known) packet)
 
     -- it is obeyed

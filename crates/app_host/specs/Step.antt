@@ -1,5 +1,5 @@
 -- What one record leads to.
-use Rattle.std.specs.Prelude.{◌≡◌, ℕ, ◌≤◌, ◌==◌, ⊤, true, false, List, length, take, All, Contains, if◌then◌else◌, Option, Some, None, Result, Ok, Err}
+use Rattle.std.specs.Prelude.{◌≡◌, ℕ, ◌≤◌, ◌==◌, ⊤, true, false, List, ◌∷◌, length, take, All, Contains, if◌then◌else◌, Option, Some, None, Result, Ok, Err}
 use Rattle.std.specs.Option.{option_map_or}
 use Rattle.std.specs.List.{concat}
 use Rattle.std.specs.Io.KnownBytes.{Appends}
@@ -7,7 +7,7 @@ use Rattle.lc_model.specs.declared.record.Body.{Body}
 use Rattle.lc_model.specs.declared.record.Body.TheVariants as body
 use Rattle.lc_model.specs.declared.record.Moment.{Moment}
 use Rattle.lc_model.specs.Device.{Sink}
-use Rattle.lc_model.specs.Packet.{stream_fault, function_code, payload, message_id, event_services_mid, table_services_mid, executive_services_mid}
+use Rattle.lc_model.specs.Packet.{stream_fault, function_code, payload, message_id, event_services_mid, table_services_mid, executive_services_mid, tick_mid}
 use Rattle.lc_model.specs.Command.{app_command}
 use Rattle.lc_model.specs.Host.React.{Input, Packet, Tick, File}
 use Rattle.lc_model.specs.Host.Stream.{name_size}
@@ -18,7 +18,7 @@ use Rattle.app_host.specs.declared.error.WriteFault.{WriteFault}
 use Rattle.app_host.specs.Shared.{on_board, at_moment}
 use Rattle.app_host.specs.Hosted.{Hosted, in_numbers}
 use Rattle.app_host.specs.Whole.{AreKnown, IsWhole, IsQuiet}
-use Rattle.app_host.specs.Party.{Party, Everyone, nobody, passing, party_by, AreKnownIn}
+use Rattle.app_host.specs.Party.{Party, Hearers, Holders, nobody, scheduled_mids, passing, party_by, AreKnownIn}
 use Rattle.app_host.specs.Delivered.{executive_in}
 use Rattle.app_host.specs.Writing.{Handles}
 
@@ -36,20 +36,20 @@ IsNamed (body.Packet bytes) = ⊤
 IsNamed body.Tick = ⊤
 IsNamed (body.File name bytes) = length name.now ≤ name_size
 
--- who may take part in a good packet: no application in a command to the event services, every one in a command to the table
+-- who may take part in a good packet: no application in a command to the event services, those that have tables in one to the table
 -- services, which go by names, those of an order, and else those that hear it
 abbrev pub routed_party : List ℕ → Party
 routed_party packet =
     let mid : ℕ = message_id packet in
     if mid == event_services_mid then nobody
-    else if mid == table_services_mid then Everyone
+    else if mid == table_services_mid then Holders
     else if mid == executive_services_mid then party_by (app_command (function_code packet) (payload packet))
     else passing packet
 
 -- in any record
 abbrev pub party_of : Input (List ℕ) → Party
 party_of (Packet bytes) = option_map_or (λ reason. nobody) (stream_fault bytes) (routed_party bytes)
-party_of Tick = Everyone
+party_of Tick = Hearers (tick_mid ∷ scheduled_mids)
 party_of (File name size meaning) = nobody
 
 -- ---- inside a step

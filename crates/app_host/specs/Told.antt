@@ -13,7 +13,7 @@ use Rattle.app_host.specs.declared.error.WriteFault.{WriteFault}
 use Rattle.app_host.specs.Shared.{on_board}
 use Rattle.app_host.specs.Hosted.{Hosted}
 use Rattle.app_host.specs.Whole.{AreSeated}
-use Rattle.app_host.specs.Party.{Everyone, nobody}
+use Rattle.app_host.specs.Party.{Holders, nobody}
 use Rattle.app_host.specs.Delivered.{executive_in}
 use Rattle.app_host.specs.Writing.{Handles}
 use Rattle.app_host.specs.Response.{asked_by_host}
@@ -60,4 +60,4 @@ abbrev pub ObeysTables : List ℕ → Hosted → Hosted → Sink → Sink → Re
 ObeysTables packet old new before now result =
     let e : Executive (List ℕ) = executive_in old in
     let step : Written (List ℕ) = answered_now on_board old.services.moment table_services packet e (with_services e (table_service_now on_board packet e.services)) in
-    Handles Everyone (written_once step) step 0 old new before now result
+    Handles Holders (written_once step) step 0 old new before now result
