@@ -19,11 +19,15 @@ start = 24 ∷ 6 ∷ 192 ∷ 0 ∷ 0 ∷ 21 ∷ 1 ∷ 0 ∷ 67 ∷ 79 ∷ 85 ∷
 abbrev pub count : List ℕ
 count = 24 ∷ 193 ∷ 192 ∷ 0 ∷ 0 ∷ 1 ∷ 1 ∷ 0 ∷ []
 
+-- what the command calls for
+abbrev pub counted_from : Executive (List ℕ) → List ℕ
+counted_from e = concat (step_by on_board now e (Packet count)).1
+
 -- what both call for
 abbrev pub written_from : Executive (List ℕ) → List ℕ
 written_from e =
     let begun : Written (List ℕ) = step_by on_board now e (Packet start) in
-    concat begun.1 ++ concat (step_by on_board now begun.0 (Packet count)).1
+    concat begun.1 ++ counted_from begun.0
 
 -- the same of a host that begins with a counter and another application in stock
 abbrev pub written_beside : Member → List ℕ

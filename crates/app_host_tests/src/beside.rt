@@ -1,15 +1,16 @@
-//! An application of this profile beside one of any other kind that lies in stock.
+//! An application of this profile beside one of any other kind, in stock or on a seat.
 
 ghost use Rattle.std.specs.Prelude.{◌≡◌, ◌∷◌, [], false, map, IfOk, None, OnOk, Some};
 ghost use Rattle.std.specs.Io.KnownBytes.{Appends};
 ghost use Rattle.lc_model.specs.Name.{counter_name};
+ghost use Rattle.lc_model.specs.Packet.{counter_mid};
 ghost use Rattle.lc_model.specs.Kept.Summary.{CounterState};
 ghost use Rattle.app_host.specs.Delivered.{executive_in};
 ghost use Rattle.app_host.specs.Hosted.{object, member_of, shown};
 ghost use Rattle.app_host.specs.Step.{IsBetween};
-ghost use Rattle.app_host.specs.Party.{IsKnownSpare};
+ghost use Rattle.app_host.specs.Party.{AreKnownHearers, IsKnownSpare};
 ghost use Rattle.app_host.specs.Whole.{AreKnown, AreSpares};
-ghost use Rattle.app_host_tests.specs.Beside.{written_beside, written_from};
+ghost use Rattle.app_host_tests.specs.Beside.{counted_from, written_beside, written_from};
 
 use app_host::{App, Host, WriteFault};
 use lc_model::{Body, ByteSink, Moment, Record};
@@ -47,6 +48,22 @@ fn stock_of(
     Ok(stock)
 }
 
+/// The host gives a command to the counter. What is written is what that calls for in the host in numbers, whatever other
+/// applications are on its seats. Condition: those that hear the command are of this profile.
+pub fn counts_among<W: ByteSink>(host: &mut Host, out: &mut W) -> Result<(), WriteFault>
+    requires between { IsBetween (shown (λ b. (⟦<dyn App as App>⟧ b.vtable).state b.value) (λ b. (⟦<dyn App as App>⟧ b.vtable).called b.value) (λ b. (⟦<dyn App as App>⟧ b.vtable).held b.value) host.old) }
+    requires open { (shown (λ b. (⟦<dyn App as App>⟧ b.vtable).state b.value) (λ b. (⟦<dyn App as App>⟧ b.vtable).called b.value) (λ b. (⟦<dyn App as App>⟧ b.vtable).held b.value) host.old).is_closed ≡ false }
+    requires hearers { AreKnownHearers (shown (λ b. (⟦<dyn App as App>⟧ b.vtable).state b.value) (λ b. (⟦<dyn App as App>⟧ b.vtable).called b.value) (λ b. (⟦<dyn App as App>⟧ b.vtable).held b.value) host.old) counter_mid }
+    ensures between { IsBetween (shown (λ b. (⟦<dyn App as App>⟧ b.vtable).state b.value) (λ b. (⟦<dyn App as App>⟧ b.vtable).called b.value) (λ b. (⟦<dyn App as App>⟧ b.vtable).held b.value) host.new) }
+    ensures written { OnOk result (Appends (W.sink out.old).gained (W.sink out.new).gained (counted_from (executive_in (shown (λ b. (⟦<dyn App as App>⟧ b.vtable).state b.value) (λ b. (⟦<dyn App as App>⟧ b.vtable).called b.value) (λ b. (⟦<dyn App as App>⟧ b.vtable).held b.value) host.old)))) }
+{
+    let count = Record {
+        moment: NOW,
+        body: Body::Packet(COUNT),
+    };
+    host.step(&count, out)
+}
+
 /// The host starts the counter and gives it a command. What is written is what both records call for in the host in numbers.
 /// Conditions: the objects on the seats are of this profile, and so is the first spare that goes by the counter's name.
 fn count<W: ByteSink>(host: &mut Host, out: &mut W) -> Result<(), WriteFault>
@@ -62,11 +79,7 @@ fn count<W: ByteSink>(host: &mut Host, out: &mut W) -> Result<(), WriteFault>
         body: Body::Packet(START),
     };
     host.step(&start, out)?;
-    let count = Record {
-        moment: NOW,
-        body: Body::Packet(COUNT),
-    };
-    host.step(&count, out)
+    counts_among(host, out)
 }
 
 /// A host with a counter and an application of any kind in stock starts the counter, gives it a command, and is closed. It writes

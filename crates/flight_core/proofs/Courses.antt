@@ -1,7 +1,7 @@
 -- A run between two steps, and how it ends.
-use Rattle.std.proofs.Common.{◌≡◌, refl, sym, ◌∙◌, ap, subst, ℕ, ◌+◌, ◌*◌, ◌<◌, ◌≤◌, Bool, true, false, cond, List, [], ◌∷◌, ◌++◌, length, take, get_or, Option, Some, None, arith, append_assoc, length-append}
-use Rattle.std.specs.Prelude.{All, Contains, find, IfSome}
-use Rattle.std.specs.List.{concat}
+use Rattle.std.proofs.Common.{◌≡◌, refl, sym, ◌∙◌, ap, subst, ℕ, ◌+◌, ◌*◌, ◌<◌, ◌≤◌, ◌==◌, Bool, true, false, cond, List, [], ◌∷◌, ◌++◌, length, take, get_or, Option, Some, None, arith, append_assoc, length-append}
+use Rattle.std.specs.Prelude.{All, Contains, find, slice_index_or, IfSome, IsTrue}
+use Rattle.std.specs.List.{list_any, AllByRecursion, concat}
 use Rattle.std.specs.Io.KnownBytes.{Appends, Consumes}
 use Rattle.std.proofs.KnownBytes.{Appends-nil, Appends-trans, Consumes-nil, Consumes-trans}
 use Rattle.std.proofs.lemmas.List.{take-append-le}
@@ -15,15 +15,16 @@ use Rattle.lc_model.specs.Tables.InForce.{layouts}
 use Rattle.lc_model.specs.Tables.Interpretation.{FileMeanings}
 use Rattle.lc_model.specs.Host.Run.{input_of}
 use Rattle.lc_model.specs.Host.Stream.{StreamEntry, all_kinds, front}
-use Rattle.lc_model.specs.Kept.Executive.{Executive, Written, step_by, written_from}
+use Rattle.lc_model.specs.Kept.Executive.{Pipe, Executive, Written, step_by, written_from}
 use Rattle.lc_model.specs.Kept.Stations as model
 use Rattle.lc_model.specs.Kept.Stations.{host_step}
+use Rattle.lc_model.specs.Services.Bus.{seen}
 use Rattle.host_laws.specs.Statements.{AreBytes, executive_after, RunsGoOn}
 use Rattle.host_laws.specs.Writes.{OpenHostsTake}
 use Rattle.app_host.specs.Shared.{on_board}
 use Rattle.app_host.specs.Hosted.{Object, Hosted, object_at}
 use Rattle.app_host.specs.Whole.{IsKnown}
-use Rattle.app_host.specs.Party.{Party, Everyone, Only, IsKnownOnSeat, IsKnownSpare, AreKnownIn}
+use Rattle.app_host.specs.Party.{Party, Hearers, Waiting, Holders, Only, scheduled_mids, AreKnownHearers, IsKnownOnSeat, IsKnownSpare, AreKnownIn}
 use Rattle.app_host.specs.Delivered.{executive_in}
 use Rattle.app_host.specs.Step.{IsBetween, party_of, called_for, StepsSo}
 use Rattle.flight_core.specs.Cutting.{IsHandedOut, Begins, Comes, Goes}
@@ -75,8 +76,18 @@ seat_known (Some name) seats all = λ seat. by_place (object_at seat seats) (all
     by_place None known = tt
     by_place (Some o) known = λ named. known
 
+heard_by_known : (mid : ℕ) (pipe : Option Pipe) (place : Option Object) → IfSome place IsKnown → IfSome pipe (λ (p : Pipe). IsTrue (list_any (λ own. mid == own) p.subscriptions) → IfSome place IsKnown)
+heard_by_known mid None place known = tt
+heard_by_known mid (Some pipe) place known = λ subscribed. known
+
+hearers_known : (mids : List ℕ) (h : Hosted) → ((seat : ℕ) → IfSome (object_at seat h.seats) IsKnown) → AllByRecursion (AreKnownHearers h) mids
+hearers_known [] h all = tt
+hearers_known (mid ∷ mids) h all = ((λ seat. heard_by_known mid (slice_index_or (seen h.services.bus) seat None) (object_at seat h.seats) (all seat)), hearers_known mids h all)
+
 pub party_known : (party : Party) (h : Hosted) → AreAllKnown h → AreKnownIn party h
-party_known Everyone h all = all.seated
+party_known (Hearers mids) h all = hearers_known mids h all.seated
+party_known Waiting h all = record { waiting = λ seat some. all.seated seat; scheduled = λ some. hearers_known scheduled_mids h all.seated }
+party_known Holders h all = λ seat some. all.seated seat
 party_known (Only leaving coming) h all = (seat_known leaving h.seats all.seated, spare_known coming h.stock all.spares)
 
 -- and where none is new, all are
