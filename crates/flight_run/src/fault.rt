@@ -2,6 +2,7 @@
 
 ghost use Rattle.std.specs.Prelude.{◌≡◌};
 ghost use Rattle.flight_run.specs.Status.{status_of};
+ghost use Rattle.flight_run.specs.declared.fault.Fault.TheVariants.{Memory};
 
 use flight_core::{RunError, WordsError};
 use rpn_compiler::CompileError;
@@ -26,12 +27,16 @@ pub enum Fault<'a> {
 }
 
 impl From<AllocError> for Fault<'_> {
+    ghost from_gives = { λ _ e. e ≡ Memory };
+
     fn from(_error: AllocError) -> Self {
         Fault::Memory
     }
 }
 
 impl<T: Drop> From<AllocFailed<T>> for Fault<'_> {
+    ghost from_gives = { λ _ e. e ≡ Memory };
+
     fn from(_error: AllocFailed<T>) -> Self {
         Fault::Memory
     }

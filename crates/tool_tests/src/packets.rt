@@ -1,7 +1,7 @@
 //! The lines of packets.
 
 use crate::claims::same;
-use packet_listing::list_packets;
+use packet_listing::{Line, list_packets};
 use std::process::Abort;
 
 /// The packets are listed so.
@@ -109,6 +109,86 @@ fn what_the_host_does_not_write_is_named_by_its_number(rt: HostRuntime) {
         &rt,
         packets,
         "1 - packet 0x0883 of 8 bytes\n2 - packet 0x0808 of 7 bytes\n",
+    );
+}
+
+#[test]
+fn a_sender_and_a_text_fill_their_fields(rt: HostRuntime) {
+    let mut packet = event(&rt, b"LC\0X", 0xE9, 1, b"bus \x071");
+    for (place, byte) in packet.iter_mut().skip(12).zip(b"ABCDEFGHIJKLMNOPQRST") {
+        *place = *byte;
+    }
+    for place in packet.iter_mut().skip(44).take(122) {
+        *place = b'x';
+    }
+    let line =
+        "1 100.50000 ABCDEFGHIJKLMNOPQRST 1001 debug: xxxxxxxxxxxxxxxxxxxxxxxxxxxxxxxxxxxxxxxxxxxxxxxxxxxxxxxxxxxxxxxxxxxxxxxxxxxxxxxxxxxxxxxxxxxxxxxxxxxxxxxxxxxxxxxxxxxxxxxxxx\n";
+    are_listed(&rt, packet.as_slice(), line);
+}
+
+#[test]
+fn bytes_at_the_ends_of_what_is_printed(rt: HostRuntime) {
+    let packet = event(&rt, b"LC\0X", 0xE9, 1, b"\x1F ~\x7F\x80\xFF");
+    are_listed(
+        &rt,
+        packet.as_slice(),
+        "1 100.50000 LC 1001 debug: . ~...\n",
+    );
+}
+
+#[test]
+fn seconds_have_four_bytes(rt: HostRuntime) {
+    let mut packet = event(&rt, b"LC\0X", 0xE9, 1, b"stored");
+    for (place, byte) in packet.iter_mut().skip(6).zip(&[1, 1, 0, 0]) {
+        *place = *byte;
+    }
+    are_listed(
+        &rt,
+        packet.as_slice(),
+        "1 16842752.50000 LC 1001 debug: stored\n",
+    );
+}
+
+#[test]
+fn modes_and_results_without_a_name_are_numbers(rt: HostRuntime) {
+    let front = &[
+        0x08, 0xA7, 0xC0, 0, 0, 185, 0, 0, 0, 7, 0, 0, 1, 0x11, 0, 2, 0x1F, 0xF5,
+    ];
+    let packet = filled(&rt, front, 192);
+    are_listed(
+        &rt,
+        packet.as_slice(),
+        "1 7.00000 LC housekeeping: state 273, 2 rules: 0 active result 15, 1 state 15 result 5\n",
+    );
+}
+
+#[test]
+fn a_line_of_a_packet_without_a_message_id(rt: HostRuntime) {
+    let packets = &[0x0F, 0xAB, 0xC0, 0, 0, 0, 1];
+    are_listed(&rt, packets, "1 - packet 0x0FAB of 7 bytes\n");
+    let rows: &[(&[u8], &str)] = &[
+        (&[], "3 - packet of 0 bytes"),
+        (&[8], "3 - packet of 1 bytes"),
+        (&[8, 0xA], "3 - packet 0x080A of 2 bytes"),
+    ];
+    for (packet, expected) in rows {
+        let line = format!(in rt.alloc(); "{}", Line { number: 3, packet });
+        let line = line.expect(&rt, "memory for a line");
+        same(&rt, *packet, line.as_str(), *expected);
+    }
+}
+
+#[test]
+fn a_cut_is_behind_the_last_whole_packet(rt: HostRuntime) {
+    let packets = &[
+        0x18, 0xA9, 0xC0, 0, 0, 5, 4, 0x88, 0, 7, 0, 0, //
+        0x18, 0xA9, 0xC0, 1, 0, 5, 4, 0x88, 0, 7, 0, 0, //
+        0x18, 0xA9, 0xC0,
+    ];
+    are_listed(
+        &rt,
+        packets,
+        "1 - sequence request 7, count 0\n2 - sequence request 7, count 1\ncut behind packet 2: 3 bytes are no whole packet\n",
     );
 }
 

@@ -3,6 +3,7 @@
 mod bus;
 mod cuts;
 mod fields;
+mod messages;
 mod parts;
 mod shared;
 mod statements;

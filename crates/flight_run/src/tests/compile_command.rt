@@ -32,6 +32,23 @@ fn a_text_is_compiled_into_its_two_files(rt: HostRuntime) {
 }
 
 #[test]
+fn watchpoints_and_rules_are_counted_apart(rt: HostRuntime) {
+    let folder = Folder::new(&rt, "counts");
+    let text = b"packet P = mid 0x0883 length 16;\nfield V = P u16be at 12;\nrule LOW active fails 1 sequence 7 event error 1001 \"low\" when V < 2400 or V > 9000;\n";
+    let rules = folder.file(&rt, "rules", text);
+    let [wdt, adt] = [folder.path(&rt, "wdt"), folder.path(&rt, "adt")];
+    let words = [
+        "flight_run",
+        "compile",
+        rules.as_str(),
+        wdt.as_str(),
+        adt.as_str(),
+    ];
+    says(&rt, &words, 0, "compiled: 2 watchpoints, 1 rules\n");
+    folder.remove(&rt);
+}
+
+#[test]
 fn a_refused_text_makes_no_file(rt: HostRuntime) {
     let folder = Folder::new(&rt, "refused");
     let rules = folder.file(&rt, "rules", b"packet");
