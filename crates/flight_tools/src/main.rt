@@ -1,66 +1,14 @@
 //! The second program: what a flight team looks at. Tables, streams, packets and runs as text, and streams from scripts.
 #![tactic(auto)]
 
-mod fault;
-mod files;
-mod listing;
-mod report;
-mod scenario;
-mod words;
-
-use crate::fault::Fault;
-use crate::words::{Plan, read_words};
 use std::alloc::{AllocError, Global};
 use std::env::{self, Env};
-use std::fs::Files;
-use std::io::{Eprint, ErrorKind, IsTerminal, Print};
+use std::io::{ErrorKind, IsTerminal};
 use std::process::ExitCode;
+use tool_commands::{Fault, fail, main_on};
 
 /// What is said where words can't be had from the system.
 const COMMAND_LINE: &str = "command line";
-
-/// Does what the words say, the program's name first, and answers the exit status. A listing goes to standard output, with what
-/// it finds wrong with its file; what ends the program with another status than 0 to standard error. Where a person watches
-/// standard error, a report tells there how far it is.
-pub fn main_on<R: Files + Print + Eprint + AllocGlobal>(
-    rt: &R,
-    words: &[&str],
-    is_watched: bool,
-) -> u8 {
-    match obey(rt, words, is_watched) {
-        Ok(()) => 0,
-        Err(fault) => fail(rt, &fault),
-    }
-}
-
-/// Does what the words say.
-fn obey<'a, R: Files + Print + Eprint + AllocGlobal>(
-    rt: &R,
-    words: &'a [&'a str],
-    is_watched: bool,
-) -> Result<(), Fault<'a>> {
-    match read_words(rt.alloc(), words)? {
-        Plan::Table { file } => listing::table(rt, file),
-        Plan::Stream { file, whole } => listing::stream(rt, file, whole),
-        Plan::Packets { file } => listing::packets(rt, file),
-        Plan::Scenario { script, stream } => scenario::make_stream(rt, script, stream),
-        Plan::Report {
-            schedule,
-            stream,
-            page,
-            rules,
-        } => report::make_page(rt, schedule, stream, page, rules.as_slice(), is_watched),
-    }
-}
-
-/// Says what the fault is, and answers the status. Help goes to standard output.
-fn fail<R: Print + Eprint>(rt: &R, fault: &Fault<'_>) -> u8 {
-    let _said = match fault {
-        Fault::Words(error) => error.print(rt),
-        fault => eprint!(rt; "{fault}"),
-    };
-    fault.status()
-}
 
 /// The words of the command line. What isn't text is no word.
 fn words_of<R: Env + AllocGlobal>(rt: &R) -> Result<Vec<String>, Fault<'static>> {

@@ -106,6 +106,35 @@ fn each_result_stands_behind_its_records(rt: HostRuntime) {
     says(&rt, page.as_slice(), RULE);
 }
 
+/// A failing sample, the request for housekeeping, a stop, and a tick.
+fn stopped(alloc: Global) -> Result<Stream, AllocError> {
+    let mut stream = Stream::new(alloc);
+    stream.begin()?;
+    stream.fail()?;
+    stream.ask()?;
+    stream.command(0x1806, 2, b"LC", 20)?;
+    stream.record(2, &[])?;
+    Ok(stream)
+}
+
+const STOPPED: &[(&str, usize)] = &[
+    (
+        "<title>rule 0 LOW: fail, records 5 to 6, seconds 104 to 105</title>",
+        1,
+    ),
+    (
+        "<title>Limit Checker active, records 3 to 6, seconds 102 to 105</title>",
+        1,
+    ),
+];
+
+#[test]
+fn one_that_has_stopped_is_not_shown_as_it_stood(rt: HostRuntime) {
+    let stream = stopped(rt.alloc()).expect(&rt, "memory for a stream");
+    let page = page_of(&rt, &[text("low.rules", LOW)], stream.as_slice());
+    says(&rt, page.as_slice(), STOPPED);
+}
+
 /// The rule is disabled, turned off for good, the Limit Checker made passive, and stopped; then a tick.
 fn turned_off(alloc: Global) -> Result<Stream, AllocError> {
     let mut stream = Stream::new(alloc);

@@ -1,6 +1,6 @@
 //! Scripts with the streams that they say, streams with the scripts that say them again, and lines at fault.
 
-mod bus;
+pub mod bus;
 mod cuts;
 mod fields;
 mod messages;

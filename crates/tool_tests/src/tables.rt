@@ -3,4 +3,4 @@
 mod conditions;
 mod faults;
 mod files;
-mod shared;
+pub mod shared;

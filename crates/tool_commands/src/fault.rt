@@ -1,6 +1,8 @@
 //! What ends the program with another status than 0, and the line that says so.
 
-ghost use Rattle.flight_tools.specs.Status.{HasStatus};
+ghost use Rattle.std.specs.Prelude.{◌≡◌};
+ghost use Rattle.tool_commands.specs.Status.{HasStatus};
+ghost use Rattle.tool_commands.specs.declared.fault.Fault.TheVariants.{Memory};
 
 use clap::Error;
 use clap::error::ErrorKind;
@@ -30,12 +32,16 @@ pub enum Fault<'a> {
 }
 
 impl From<AllocError> for Fault<'_> {
+    ghost from_gives = { λ _ e. e ≡ Memory };
+
     fn from(_error: AllocError) -> Self {
         Fault::Memory
     }
 }
 
 impl<T: Drop> From<AllocFailed<T>> for Fault<'_> {
+    ghost from_gives = { λ _ e. e ≡ Memory };
+
     fn from(_error: AllocFailed<T>) -> Self {
         Fault::Memory
     }

@@ -1,7 +1,7 @@
 -- The exit status that goes with each fault. This project's own.
 use Rattle.std.specs.Prelude.{◌≡◌, ◌⊎◌, ℕ}
-use Rattle.flight_tools.specs.declared.fault.Fault.{Fault}
-use Rattle.flight_tools.specs.declared.fault.Fault.TheVariants.{Words, Table, Script, Schedule, Report, File, Memory}
+use Rattle.tool_commands.specs.declared.fault.Fault.{Fault}
+use Rattle.tool_commands.specs.declared.fault.Fault.TheVariants.{Words, Table, Script, Schedule, Report, File, Memory}
 
 -- words that are no command, or the help that was asked for; what has a fault or is refused; files; memory
 abbrev pub HasStatus : Fault → ℕ → Type 0
