@@ -19,6 +19,9 @@ const PACKETS: &[u8] = &[
     0x18, 0xA9, 0xC0, 1, 0, 5, 4, 0x88, 0, 7, 0, 0, 0x18,
 ];
 
+/// A file that takes no bytes.
+const FULL: &str = "/dev/full";
+
 /// A schedule, and one that is refused.
 const SCHEDULE: &[u8] = b"slots 1\n0 sample 0 175 age\n";
 
@@ -131,15 +134,29 @@ fn a_script_becomes_a_stream_or_is_named(rt: HostRuntime) {
     folder.remove(&rt);
 }
 
+/// The page of the stream with these texts.
+fn page_of<R: Abort + AllocGlobal>(rt: &R, sources: &[Source<'_>]) -> Vec<u8> {
+    let schedule = parse_schedule(rt.alloc(), SCHEDULE).expect(rt, "a schedule");
+    let mut page = Vec::new(rt.alloc());
+    let answer = write_page(
+        rt.alloc(),
+        &schedule,
+        STREAM,
+        sources,
+        &mut page,
+        &mut Silent,
+    );
+    same(rt, "a page", answer.is_ok(), true);
+    page
+}
+
 #[test]
 fn a_report_is_the_page_of_its_files_in_their_order(rt: HostRuntime) {
     let folder = Folder::new(&rt, "report");
     let schedule = folder.file(&rt, "schedule", SCHEDULE);
     let stream = folder.file(&rt, "stream", STREAM);
-    let [first, second] = [
-        folder.file(&rt, "first", TEXT),
-        folder.file(&rt, "second", OTHER),
-    ];
+    let first = folder.file(&rt, "first", TEXT);
+    let second = folder.file(&rt, "second", OTHER);
     let page = folder.path(&rt, "page");
     let words = [
         "flight_tools",
@@ -151,7 +168,6 @@ fn a_report_is_the_page_of_its_files_in_their_order(rt: HostRuntime) {
         second.as_str(),
     ];
     ends(&rt, &words, 0, "", &[]);
-    let slots = parse_schedule(rt.alloc(), SCHEDULE).expect(&rt, "a schedule");
     let sources = [
         Source {
             name: first.as_str(),
@@ -162,16 +178,7 @@ fn a_report_is_the_page_of_its_files_in_their_order(rt: HostRuntime) {
             text: OTHER,
         },
     ];
-    let mut expected = Vec::new(rt.alloc());
-    write_page(
-        rt.alloc(),
-        &slots,
-        STREAM,
-        &sources,
-        &mut expected,
-        &mut Silent,
-    )
-    .expect(&rt, "a page");
+    let expected = page_of(&rt, &sources);
     let is_same = read(&rt, page.as_str()).as_slice() == expected.as_slice();
     same(&rt, "the page", is_same, true);
     folder.remove(&rt);
@@ -213,48 +220,52 @@ fn a_report_names_what_is_refused(rt: HostRuntime) {
     folder.remove(&rt);
 }
 
+/// A report of these files ends so, since one can't be used.
+fn no_report<R: Abort + Files + Eprint + AllocGlobal>(
+    rt: &R,
+    schedule: &str,
+    stream: &str,
+    rules: &str,
+    name: &str,
+) {
+    let words = ["flight_tools", "report", schedule, stream, FULL, rules];
+    cannot_use(rt, &words, name);
+}
+
 #[test]
-fn files_that_cannot_be_used_are_named(rt: HostRuntime) {
+fn files_that_cannot_be_read_are_named(rt: HostRuntime) {
     let folder = Folder::new(&rt, "files");
-    let schedule = folder.file(&rt, "schedule", SCHEDULE);
-    let script = folder.file(&rt, "script", b"tick\n");
-    let rules = folder.file(&rt, "rules", TEXT);
-    let stream = folder.file(&rt, "stream", STREAM);
     let none = folder.path(&rt, "none");
-    for command in ["table", "stream", "packets"] {
-        cannot_use(
-            &rt,
-            &["flight_tools", command, none.as_str()],
-            none.as_str(),
-        );
-    }
-    let full = "/dev/full";
-    let words = ["flight_tools", "scenario", script.as_str(), full];
-    cannot_use(&rt, &words, full);
-    for named in [
-        [none.as_str(), stream.as_str(), full, rules.as_str()],
-        [schedule.as_str(), none.as_str(), full, rules.as_str()],
-        [schedule.as_str(), stream.as_str(), full, none.as_str()],
-    ] {
-        let words = [
-            "flight_tools",
-            "report",
-            named[0],
-            named[1],
-            named[2],
-            named[3],
-        ];
-        cannot_use(&rt, &words, none.as_str());
-    }
-    let words = [
-        "flight_tools",
-        "report",
-        schedule.as_str(),
-        stream.as_str(),
-        full,
-        rules.as_str(),
-    ];
-    cannot_use(&rt, &words, full);
+    let none = none.as_str();
+    cannot_use(&rt, &["flight_tools", "table", none], none);
+    cannot_use(&rt, &["flight_tools", "stream", none], none);
+    cannot_use(&rt, &["flight_tools", "packets", none], none);
+    cannot_use(&rt, &["flight_tools", "scenario", none, FULL], none);
+    folder.remove(&rt);
+}
+
+#[test]
+fn files_that_cannot_be_written_are_named(rt: HostRuntime) {
+    let folder = Folder::new(&rt, "full");
+    let script = folder.file(&rt, "script", b"tick\n");
+    let words = ["flight_tools", "scenario", script.as_str(), FULL];
+    cannot_use(&rt, &words, FULL);
+    folder.remove(&rt);
+}
+
+#[test]
+fn a_report_names_the_first_file_that_it_cannot_use(rt: HostRuntime) {
+    let folder = Folder::new(&rt, "unusable");
+    let schedule = folder.file(&rt, "schedule", SCHEDULE);
+    let stream = folder.file(&rt, "stream", STREAM);
+    let rules = folder.file(&rt, "rules", TEXT);
+    let none = folder.path(&rt, "none");
+    let (schedule, stream) = (schedule.as_str(), stream.as_str());
+    let (rules, none) = (rules.as_str(), none.as_str());
+    no_report(&rt, none, stream, rules, none);
+    no_report(&rt, schedule, none, rules, none);
+    no_report(&rt, schedule, stream, none, none);
+    no_report(&rt, schedule, stream, rules, FULL);
     folder.remove(&rt);
 }
 
