@@ -34,7 +34,8 @@ fn a_text_is_compiled_into_its_two_files(rt: HostRuntime) {
 #[test]
 fn watchpoints_and_rules_are_counted_apart(rt: HostRuntime) {
     let folder = Folder::new(&rt, "counts");
-    let text = b"packet P = mid 0x0883 length 16;\nfield V = P u16be at 12;\nrule LOW active fails 1 sequence 7 event error 1001 \"low\" when V < 2400 or V > 9000;\n";
+    let text =
+        b"packet P = mid 0x0883 length 16;\nfield V = P u16be at 12;\nrule LOW active fails 1 sequence 7 event error 1001 \"low\" when V < 2400 or V > 9000;\n";
     let rules = folder.file(&rt, "rules", text);
     let [wdt, adt] = [folder.path(&rt, "wdt"), folder.path(&rt, "adt")];
     let words = [
