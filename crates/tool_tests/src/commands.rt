@@ -48,12 +48,7 @@ fn ends<R: Abort + Files + Eprint + AllocGlobal>(
         Ok(()) => same(rt, words, (0, ""), (status, line)),
         Err(fault) => {
             let said = format!(in rt.alloc(); "{fault}").expect(rt, "memory for a line");
-            same(
-                rt,
-                words[1],
-                (fault.status(), said.as_str()),
-                (status, line),
-            );
+            same(rt, words, (fault.status(), said.as_str()), (status, line));
         }
     }
     same(rt, words, out.as_slice(), listing);
