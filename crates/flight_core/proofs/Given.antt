@@ -1,10 +1,15 @@
--- What a plan holds of what words give.
-use Rattle.std.proofs.Common.{◌≡◌, subst, Option, Some, None, List, length, ◌≤◌}
-use Rattle.std.specs.Prelude.{IsSomeAnd}
-use Rattle.clap.specs.Words.{Row, Text}
+-- What a plan holds of what words give, and which words are none.
+use Rattle.std.proofs.Common.{◌≡◌, ◌∙◌, ◌⊎◌, ap, sym, subst, inl, inr, true≢false, Option, Some, None, Result, Ok, Err, List, [], length, ◌≤◌}
+use Rattle.std.specs.Prelude.{IfOk, IsErrAnd, IsOk, IsSomeAnd, MatchResult, is_ok, is_some}
+use Rattle.clap.specs.Words.{FailsBy, IsAmong, Kinds, Row, Text, kind_of}
+use Rattle.clap.specs.declared.error.Error.{Error}
+use Rattle.clap.specs.declared.error.kind.ErrorKind.TheVariants.{OutOfMemory}
+use Rattle.clap.specs.declared.parser.matches.ArgMatches.{ArgMatches}
+use Rattle.flight_core.specs.declared.words.WordsError.{WordsError}
+use Rattle.flight_core.specs.declared.words.WordsError.TheVariants.{Usage}
 use Rattle.flight_core.specs.declared.words.Plan.{Plan}
 use Rattle.flight_core.specs.declared.words.Plan.TheVariants.{Stored, Compile, Run}
-use Rattle.flight_core.specs.Words.{HoldsRows, HoldsWords, given}
+use Rattle.flight_core.specs.Words.{HoldsRows, HoldsWords, IsWhole, given}
 
 -- a plan that holds what a command is given holds what the words give
 pub holds : (words : List Text) (found : Option (Text × List Row)) → found ≡ given words → (plan : Plan) → IsSomeAnd found (λ command. HoldsRows command plan) → HoldsWords words plan
@@ -15,3 +20,28 @@ holds words found is Stored some = stored found some
     stored (Some command) some = absurd some
 holds words found is (Compile rules wdt adt) some = subst (λ o. IsSomeAnd o (λ command. HoldsRows command (Compile rules wdt adt))) is some
 holds words found is (Run schedule stream out rules) some = subst (λ o. IsSomeAnd o (λ command. HoldsRows command (Run schedule stream out rules))) is some
+
+-- and a command whose rows a plan holds has what it needs
+pub whole : (found : Option (Text × List Row)) (plan : Plan) → IsSomeAnd found (λ command. HoldsRows command plan) → IsSomeAnd found IsWhole
+whole None plan some = absurd some
+whole (Some command) Stored some = absurd some
+whole (Some command) (Compile rules wdt adt) some = inl (some.0, ap is_some some.1, ap is_some some.2, ap is_some some.3)
+whole (Some command) (Run schedule stream out rules) some = inr (some.0, ap is_some some.1, ap is_some some.2, ap is_some some.3, ap is_some some.4)
+
+pub whole_of : (found : Option (Text × List Row)) (told : Result Plan WordsError) → IsOk told → IfOk told (λ plan. IsSomeAnd found (λ command. HoldsRows command plan)) → IsSomeAnd found IsWhole
+whole_of found (Ok plan) is_ok some = whole found plan some
+whole_of found (Err error) is_ok some = absurd (true≢false (sym is_ok))
+
+-- where a refusal is no want of memory something is wrong with the words
+pub not_taken : (kinds : Kinds) (tried : Result ArgMatches Error) (told : Result ArgMatches WordsError) (error : WordsError) → FailsBy kinds tried
+    → MatchResult tried (λ found. told ≡ Ok found) (λ cause. IsErrAnd told (λ said. said ≡ Usage → kind_of cause ≡ OutOfMemory → ⊥))
+    → told ≡ Err error → error ≡ Usage → kinds ≡ [] → ⊥
+not_taken kinds (Ok found) told error fails says is usage none = true≢false (ap is_ok (sym says ∙ is))
+not_taken kinds (Err cause) told error fails says is usage none = wrong fails
+  where
+    refuses : error ≡ Usage → kind_of cause ≡ OutOfMemory → ⊥
+    refuses = subst (λ r. IsErrAnd r (λ said. said ≡ Usage → kind_of cause ≡ OutOfMemory → ⊥)) is says
+
+    wrong : (kind_of cause ≡ OutOfMemory) ⊎ IsAmong (kind_of cause) kinds → ⊥
+    wrong (inl memory) = refuses usage memory
+    wrong (inr among) = subst (IsAmong (kind_of cause)) none among

@@ -1,7 +1,7 @@
 -- What the words of a command line give. The two commands and their words are this project's own; how words are read is
 -- `clap`'s.
-use Rattle.std.specs.Prelude.{◌≡◌, ◌≤◌, List, length, map, codes, true, Some, Option, IsSomeAnd}
-use Rattle.clap.specs.Words.{App, Row, Rule, Text, all_of, first_of, new_app, new_rule, subcommand_of, with_rule, with_subcommand}
+use Rattle.std.specs.Prelude.{◌≡◌, ◌≤◌, ◌⊎◌, List, [], ◌∷◌, length, map, codes, true, Some, Option, IsSome, IsSomeAnd}
+use Rattle.clap.specs.Words.{App, Row, Rule, Text, all_of, fault_of, first_of, new_app, new_rule, subcommand_of, with_rule, with_subcommand}
 use Rattle.clap.specs.declared.builder.action.ArgAction.TheVariants.{Append}
 use Rattle.flight_core.specs.declared.words.Plan.{Plan}
 use Rattle.flight_core.specs.declared.words.Plan.TheVariants.{Stored, Compile, Run}
@@ -44,3 +44,32 @@ HoldsRows command (Run schedule stream out rules) = (command.0 ≡ codes "run")
 abbrev pub HoldsWords : List Text → Plan → Type 0
 HoldsWords words Stored = length words ≤ 1
 HoldsWords words plan = IsSomeAnd (given words) (λ command. HoldsRows command plan)
+
+-- a command has what it needs
+abbrev pub IsWhole : Text × List Row → Type 0
+IsWhole command = ((command.0 ≡ codes "compile")
+    × IsSome (first_of (codes "RULES") command.1) × IsSome (first_of (codes "WDT") command.1) × IsSome (first_of (codes "ADT") command.1))
+    ⊎ ((command.0 ≡ codes "run")
+    × IsSome (first_of (codes "schedule") command.1) × IsSome (first_of (codes "stream") command.1) × IsSome (first_of (codes "out") command.1)
+    × IsSome (all_of (codes "RULES") command.1))
+
+-- nothing is wrong with the words, and the command that they give has what it needs
+abbrev pub GiveAPlan : List Text → Type 0
+GiveAPlan words = (fault_of command_line words ≡ []) × IsSomeAnd (given words) IsWhole
+
+-- a command line of each command
+abbrev pub compiling : List Text
+compiling = codes "flight_run" ∷ codes "compile" ∷ codes "rules.txt" ∷ codes "wdt.tbl" ∷ codes "adt.tbl" ∷ []
+
+abbrev pub running : List Text
+running = codes "flight_run" ∷ codes "run" ∷ codes "--schedule" ∷ codes "schedule.txt" ∷ codes "--stream" ∷ codes "bus.stream" ∷ codes "--out" ∷ codes "packets"
+    ∷ codes "rules.txt" ∷ codes "other.txt" ∷ []
+
+-- options behind the files, and with `=`
+abbrev pub running_otherwise : List Text
+running_otherwise = codes "flight_run" ∷ codes "run" ∷ codes "rules.txt" ∷ codes "other.txt" ∷ codes "--out=packets" ∷ codes "--stream=bus.stream"
+    ∷ codes "--schedule=schedule.txt" ∷ []
+
+-- without its last file
+abbrev pub lacking : List Text
+lacking = codes "flight_run" ∷ codes "compile" ∷ codes "rules.txt" ∷ codes "wdt.tbl" ∷ []

@@ -1,6 +1,8 @@
-//! However a stream is cut into pieces, the records that are taken off it are those of the whole.
+//! However a stream is cut into pieces, the records that are taken off it are those of the whole; and command lines that the
+//! program takes.
 
 ghost use Rattle.flight_core.specs.Cutting.{Begins, Comes, EndsBadly, EndsCut, EndsWhole, EveryCutting, Goes};
+ghost use Rattle.flight_core.specs.Words.{GiveAPlan, compiling, lacking, running, running_otherwise};
 
 /// Bytes come and records are handed out, one after the other: whatever follows, the records of it all are those handed out,
 /// and then those of what is held and what follows.
@@ -21,4 +23,12 @@ pub fn the_rest_says_the_end()
 /// So it is over every list of calls.
 pub fn every_cutting_has_the_records_of_the_whole()
     ensures { EveryCutting }
+{}
+
+/// Both commands of the program can be said, options before their files or behind them, and not with a file too few.
+pub fn words_give_plans()
+    ensures compiling { GiveAPlan compiling }
+    ensures running { GiveAPlan running }
+    ensures running_otherwise { GiveAPlan running_otherwise }
+    ensures lacking { GiveAPlan lacking → ⊥ }
 {}

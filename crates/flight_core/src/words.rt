@@ -1,10 +1,11 @@
 //! The words of a command line (this project's own), read by `clap`.
 
-ghost use Rattle.std.specs.Prelude.{◌≡◌, ◌≤◌, false, length, map, codes, IfOk, IsSomeAnd, Ok, Some};
-ghost use Rattle.clap.specs.Words.{all_of, app_of, first_of, found_of, rows_of, rule_of, subcommand_rows_of};
+ghost use Rattle.std.specs.Prelude.{◌≡◌, ◌≤◌, ◌<◌, false, length, map, codes, Err, IfOk, IsOk, IsSomeAnd, None, Ok, OnErr, Some};
+ghost use Rattle.clap.specs.Words.{all_of, app_of, first_of, found_of, kind_of, rows_of, rule_of, subcommand_rows_of};
+ghost use Rattle.clap.specs.declared.error.kind.ErrorKind.TheVariants.{OutOfMemory};
 ghost use Rattle.flight_core.specs.declared.words.Plan.TheVariants.{Stored};
-ghost use Rattle.flight_core.specs.declared.words.WordsError.TheVariants.{Memory};
-ghost use Rattle.flight_core.specs.Words.{HoldsRows, HoldsWords, command_line, file, files, option};
+ghost use Rattle.flight_core.specs.declared.words.WordsError.TheVariants.{Memory, Usage};
+ghost use Rattle.flight_core.specs.Words.{GiveAPlan, HoldsRows, HoldsWords, IsWhole, command_line, file, files, option};
 
 use clap::error::ErrorKind;
 use clap::{Arg, ArgAction, ArgMatches, Command, Error};
@@ -51,7 +52,9 @@ impl From<AllocError> for WordsError {
 }
 
 /// What is wrong with the words, or that there was no memory.
-fn refusal(error: Error) -> WordsError {
+fn refusal(error: Error) -> WordsError
+    ensures { result ≡ Usage → kind_of error ≡ OutOfMemory → ⊥ }
+{
     match error.kind() {
         ErrorKind::OutOfMemory => WordsError::Memory,
         _ => WordsError::Usage,
@@ -110,6 +113,8 @@ fn all_words<'a>(alloc: Global) -> Result<Command<'a>, AllocError>
 pub fn read_words<'a>(alloc: Global, words: &'a [&'a str]) -> Result<Plan<'a>, WordsError>
     ensures stored { length words.entry.now ≤ 1 → result ≡ Ok Stored }
     ensures holds { IfOk result (λ plan. HoldsWords (map (λ word. word.now) words.entry.now) plan) }
+    ensures accepts { 1 < length words.entry.now → IsOk result → GiveAPlan (map (λ word. word.now) words.entry.now) }
+    ensures refuses { result ≡ Err Usage → GiveAPlan (map (λ word. word.now) words.entry.now) → ⊥ }
 {
     if words.len() <= 1 {
         return Ok(Plan::Stored);
@@ -122,7 +127,8 @@ pub fn read_words<'a>(alloc: Global, words: &'a [&'a str]) -> Result<Plan<'a>, W
 
 /// The plan of the command that was found.
 fn given_plan<'a>(alloc: Global, matches: &ArgMatches<'a>) -> Result<Plan<'a>, WordsError>
-    ensures { IfOk result (λ plan. IsSomeAnd (subcommand_rows_of matches.now) (λ command. HoldsRows command plan)) }
+    ensures holds { IfOk result (λ plan. IsSomeAnd (subcommand_rows_of matches.now) (λ command. HoldsRows command plan)) }
+    ensures refused { result ≡ Err Usage → IsSomeAnd (subcommand_rows_of matches.now) IsWhole → ⊥ }
 {
     match matches.subcommand() {
         Some(("compile", found)) => compile_plan(found),
@@ -133,7 +139,8 @@ fn given_plan<'a>(alloc: Global, matches: &ArgMatches<'a>) -> Result<Plan<'a>, W
 
 /// The file of a name.
 fn file_of<'a>(found: &ArgMatches<'a>, name: &str) -> Result<&'a str, WordsError>
-    ensures { IfOk result (λ word. first_of name.now (rows_of (found_of found.now)) ≡ Some word.now) }
+    ensures some { IfOk result (λ word. first_of name.now (rows_of (found_of found.now)) ≡ Some word.now) }
+    ensures none { OnErr result (first_of name.now (rows_of (found_of found.now)) ≡ None) }
 {
     found.get_str(name).ok_or(WordsError::Usage)
 }
@@ -144,14 +151,16 @@ fn files_of<'a>(
     found: &ArgMatches<'a>,
     name: &str,
 ) -> Result<Vec<&'a str>, WordsError>
-    ensures { IfOk result (λ words. all_of name.now (rows_of (found_of found.now)) ≡ Some (map (λ word. word.now) words.items)) }
+    ensures some { IfOk result (λ words. all_of name.now (rows_of (found_of found.now)) ≡ Some (map (λ word. word.now) words.items)) }
+    ensures none { result ≡ Err Usage → all_of name.now (rows_of (found_of found.now)) ≡ None }
 {
     let words = found.get_strs(name).ok_or(WordsError::Usage)?;
     Ok(Vec::from_slice(alloc, words)?)
 }
 
 fn compile_plan<'a>(found: &ArgMatches<'a>) -> Result<Plan<'a>, WordsError>
-    ensures { IfOk result (HoldsRows (codes "compile", rows_of (found_of found.now))) }
+    ensures holds { IfOk result (HoldsRows (codes "compile", rows_of (found_of found.now))) }
+    ensures refused { OnErr result (IsWhole (codes "compile", rows_of (found_of found.now)) → ⊥) }
 {
     Ok(Plan::Compile {
         rules: file_of(found, "RULES")?,
@@ -161,7 +170,8 @@ fn compile_plan<'a>(found: &ArgMatches<'a>) -> Result<Plan<'a>, WordsError>
 }
 
 fn run_plan<'a>(alloc: Global, found: &ArgMatches<'a>) -> Result<Plan<'a>, WordsError>
-    ensures { IfOk result (HoldsRows (codes "run", rows_of (found_of found.now))) }
+    ensures holds { IfOk result (HoldsRows (codes "run", rows_of (found_of found.now))) }
+    ensures refused { result ≡ Err Usage → IsWhole (codes "run", rows_of (found_of found.now)) → ⊥ }
 {
     Ok(Plan::Run {
         schedule: file_of(found, "schedule")?,

@@ -7,3 +7,8 @@ pub returns : goal.returns
 returns c =
     let read = c.get_strs.ensures ∙ raw_values-rows (found_of c.args.found.now) c.args.name.now in
     search (rules, read)
+
+pub returns-in_err-words-clause-none : goal.returns-in_err-words-clause-none
+returns-in_err-words-clause-none c =
+    let read = c.get_strs.ensures ∙ raw_values-rows (found_of c.args.found.now) c.args.name.now in
+    search (rules, read)

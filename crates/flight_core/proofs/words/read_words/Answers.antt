@@ -1,9 +1,10 @@
-use Rattle.std.proofs.Common.{rules, ◌≡◌, ◌∙◌, ap, subst, map, Ok}
+use Rattle.std.proofs.Common.{rules, ◌≡◌, ◌∙◌, ap, sym, subst, map, [], Ok, Err}
 use Rattle.std.proofs.lemmas.Result.{IfOk-weaker}
-use Rattle.std.specs.Prelude.{IfOk}
-use Rattle.clap.specs.Words.{HasMatchesOf, app_of, is_simple, subcommand_of, subcommand_rows_of}
-use Rattle.flight_core.specs.Words.{command_line, given}
-use Rattle.flight_core.proofs.Given.{holds}
+use Rattle.std.specs.Prelude.{IfOk, IsSomeAnd}
+use Rattle.clap.specs.Words.{FailsBy, HasMatchesOf, app_of, fault_of, is_simple, is_simple_and_free, subcommand_of, subcommand_rows_of}
+use Rattle.flight_core.specs.declared.words.WordsError.TheVariants.{Usage}
+use Rattle.flight_core.specs.Words.{IsWhole, command_line, given}
+use Rattle.flight_core.proofs.Given.{holds, not_taken, whole_of}
 use Rattle.flight_core.proofs.words.read_words.Goals as goal
 
 pub returns-clause-holds : goal.returns-clause-holds
@@ -14,4 +15,37 @@ returns-clause-holds c =
     let has : HasMatchesOf (app_of c.in_ok-all_words.field-0) words c.in_ok-matches.matches =
     subst (λ r. IfOk r (HasMatchesOf (app_of c.in_ok-all_words.field-0) words)) found c.try_get_matches_from.ensures.matches in
     let rows : subcommand_rows_of c.in_ok-matches.matches ≡ given words = (has (ap is_simple app_is)).1 ∙ ap (λ app. subcommand_of app words) app_is in
-    IfOk-weaker c.given_plan.result _ _ (λ plan some. holds words (subcommand_rows_of c.in_ok-matches.matches) rows plan some) c.given_plan.ensures
+    IfOk-weaker c.given_plan.result _ _ (λ plan some. holds words (subcommand_rows_of c.in_ok-matches.matches) rows plan some) c.given_plan.ensures.holds
+
+pub returns-clause-accepts : goal.returns-clause-accepts
+returns-clause-accepts c = λ _ is_ok.
+    let app_is : app_of c.in_ok-all_words.field-0 ≡ command_line = c.in_ok-all_words.ensures in
+    let found : c.try_get_matches_from.result ≡ Ok c.in_ok-matches.matches = search rules in
+    let words = map (λ word. word.now) c.args.words.now in
+    let has : HasMatchesOf (app_of c.in_ok-all_words.field-0) words c.in_ok-matches.matches =
+    subst (λ r. IfOk r (HasMatchesOf (app_of c.in_ok-all_words.field-0) words)) found c.try_get_matches_from.ensures.matches in
+    let rows : subcommand_rows_of c.in_ok-matches.matches ≡ given words = (has (ap is_simple app_is)).1 ∙ ap (λ app. subcommand_of app words) app_is in
+    let none : fault_of (app_of c.in_ok-all_words.field-0) words ≡ [] =
+    subst (FailsBy (fault_of (app_of c.in_ok-all_words.field-0) words)) found (c.try_get_matches_from.ensures.kinds (ap is_simple_and_free app_is)) in (
+      subst (λ app. fault_of app words ≡ []) app_is none,
+      subst (λ o. IsSomeAnd o IsWhole) rows (whole_of (subcommand_rows_of c.in_ok-matches.matches) c.given_plan.result is_ok c.given_plan.ensures.holds),
+    )
+
+pub returns-clause-refuses : goal.returns-clause-refuses
+returns-clause-refuses c = λ refused gives.
+    let app_is : app_of c.in_ok-all_words.field-0 ≡ command_line = c.in_ok-all_words.ensures in
+    let found : c.try_get_matches_from.result ≡ Ok c.in_ok-matches.matches = search rules in
+    let words = map (λ word. word.now) c.args.words.now in
+    let has : HasMatchesOf (app_of c.in_ok-all_words.field-0) words c.in_ok-matches.matches =
+    subst (λ r. IfOk r (HasMatchesOf (app_of c.in_ok-all_words.field-0) words)) found c.try_get_matches_from.ensures.matches in
+    let rows : subcommand_rows_of c.in_ok-matches.matches ≡ given words = (has (ap is_simple app_is)).1 ∙ ap (λ app. subcommand_of app words) app_is in
+    c.given_plan.ensures.refused refused (subst (λ o. IsSomeAnd o IsWhole) (sym rows) gives.1)
+
+pub returns-in_err-matches-clause-refuses : goal.returns-in_err-matches-clause-refuses
+returns-in_err-matches-clause-refuses c = λ refused gives.
+    let app_is : app_of c.in_ok-all_words.field-0 ≡ command_line = c.in_ok-all_words.ensures in
+    let words = map (λ word. word.now) c.args.words.now in
+    let told : c.map_err.result ≡ Err c.in_err-matches.field-0.0 = search rules in
+    let usage : c.in_err-matches.field-0.0 ≡ Usage = search (rules, refused) in
+    not_taken (fault_of (app_of c.in_ok-all_words.field-0) words) c.try_get_matches_from.result c.map_err.result c.in_err-matches.field-0.0
+    (c.try_get_matches_from.ensures.kinds (ap is_simple_and_free app_is)) c.map_err.ensures.cases told usage (ap (λ app. fault_of app words) app_is ∙ gives.0)
