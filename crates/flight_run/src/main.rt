@@ -2,6 +2,9 @@
 //! low-volts rule in memory.
 #![tactic(auto)]
 
+ghost use Rattle.std.specs.Prelude.{◌≡◌, ◌⊎◌};
+ghost use Rattle.flight_run.specs.Status.{status_of};
+
 mod compiling;
 mod done;
 mod fault;
@@ -49,7 +52,9 @@ fn obey<'a, R: Files + AllocGlobal>(rt: &R, words: &'a [&'a str]) -> Result<Done
 }
 
 /// Says on standard output what was done, and answers the status.
-fn finish<R: Print + Eprint>(rt: &R, done: &Done) -> u8 {
+fn finish<R: Print + Eprint>(rt: &R, done: &Done) -> u8
+    ensures { (result ≡ 0) ⊎ (result ≡ 3) }
+{
     match print!(rt; "{done}") {
         Ok(()) => 0,
         Err(_) => fail(rt, &Fault::File(STANDARD_OUTPUT)),
@@ -57,7 +62,9 @@ fn finish<R: Print + Eprint>(rt: &R, done: &Done) -> u8 {
 }
 
 /// Says on standard error what the fault is, and answers the status.
-fn fail<R: Eprint>(rt: &R, fault: &Fault<'_>) -> u8 {
+fn fail<R: Eprint>(rt: &R, fault: &Fault<'_>) -> u8
+    ensures { result ≡ status_of fault.now }
+{
     let _said = eprintln!(rt; "{fault}");
     fault.status()
 }
