@@ -1,6 +1,7 @@
 //! Event packets (cFE user's guide, event services), 168 bytes.
 
-ghost use Rattle.std.specs.Prelude.{◌≡◌, length};
+ghost use Rattle.std.specs.Prelude.{◌≡◌, length, Some};
+ghost use Rattle.packet_listing.specs.Words.{type_word};
 
 use crate::text::{Field, time_of};
 use lc_model::u16_at;
@@ -26,6 +27,8 @@ pub fn say_event<W: Write>(packet: &[u8], f: &mut Formatter<W>) -> fmt::Result
 struct EventType(u16);
 
 impl Display for EventType {
+    ghost output = { λ kind. Some (type_word kind.0) };
+
     fn fmt<W: Write>(&self, f: &mut Formatter<W>) -> fmt::Result {
         match self.0 {
             1 => write!(f, "debug"),

@@ -1,6 +1,7 @@
 //! Housekeeping packets of the Limit Checker, 192 bytes.
 
-ghost use Rattle.std.specs.Prelude.{◌≡◌, length};
+ghost use Rattle.std.specs.Prelude.{◌≡◌, length, Some};
+ghost use Rattle.packet_listing.specs.Words.{result_word, state_word};
 
 use crate::text::time_of;
 use lc_model::u16_at;
@@ -32,6 +33,8 @@ pub fn say_housekeeping<W: Write>(packet: &[u8], f: &mut Formatter<W>) -> fmt::R
 struct State(u16);
 
 impl Display for State {
+    ghost output = { λ state. Some (state_word state.0) };
+
     fn fmt<W: Write>(&self, f: &mut Formatter<W>) -> fmt::Result {
         match self.0 {
             1 => write!(f, "active"),
@@ -48,6 +51,8 @@ impl Display for State {
 struct Outcome(u8);
 
 impl Display for Outcome {
+    ghost output = { λ outcome. Some (result_word outcome.0) };
+
     fn fmt<W: Write>(&self, f: &mut Formatter<W>) -> fmt::Result {
         match self.0 {
             0 => write!(f, "none"),

@@ -1,6 +1,8 @@
 //! Times and names of packets, as text.
 
-ghost use Rattle.std.specs.Prelude.{◌≤◌, length};
+ghost use Rattle.std.specs.Prelude.{◌≡◌, ◌≤◌, length, Some};
+ghost use Rattle.lc_model.specs.Bytes.{u16_at as part_at, u32_at as seconds_at};
+ghost use Rattle.packet_listing.specs.Words.{time_text};
 
 use lc_model::{u16_at, u32_at};
 use std::fmt::{self, Display, Formatter, Write};
@@ -27,6 +29,7 @@ pub struct Time {
 /// The time of telemetry that has its headers.
 pub fn time_of(packet: &[u8]) -> Time
     requires { TELEMETRY_HEADERS ≤ length packet.now }
+    ensures { (result.seconds ≡ seconds_at packet.now 6) × (result.subseconds ≡ part_at packet.now 10) }
 {
     Time {
         seconds: u32_at(packet, 6),
@@ -35,6 +38,8 @@ pub fn time_of(packet: &[u8]) -> Time
 }
 
 impl Display for Time {
+    ghost output = { λ time. Some (time_text time.seconds time.subseconds) };
+
     fn fmt<W: Write>(&self, f: &mut Formatter<W>) -> fmt::Result {
         let part = u64::from(self.subseconds) * u64::from(SAID) / u64::from(SUBSECONDS);
         write!(f, "{}.{part:05}", self.seconds)
