@@ -46,8 +46,8 @@ HoldsWords words Stored = length words ≤ 1
 HoldsWords words plan = IsSomeAnd (given words) (λ command. HoldsRows command plan)
 
 -- a command has what it needs
-abbrev pub IsWhole : Text × List Row → Type 0
-IsWhole command = ((command.0 ≡ codes "compile")
+abbrev pub HasWhatItNeeds : Text × List Row → Type 0
+HasWhatItNeeds command = ((command.0 ≡ codes "compile")
     × IsSome (first_of (codes "RULES") command.1) × IsSome (first_of (codes "WDT") command.1) × IsSome (first_of (codes "ADT") command.1))
     ⊎ ((command.0 ≡ codes "run")
     × IsSome (first_of (codes "schedule") command.1) × IsSome (first_of (codes "stream") command.1) × IsSome (first_of (codes "out") command.1)
@@ -55,21 +55,21 @@ IsWhole command = ((command.0 ≡ codes "compile")
 
 -- nothing is wrong with the words, and the command that they give has what it needs
 abbrev pub GiveAPlan : List Text → Type 0
-GiveAPlan words = (fault_of command_line words ≡ []) × IsSomeAnd (given words) IsWhole
+GiveAPlan words = (fault_of command_line words ≡ []) × IsSomeAnd (given words) HasWhatItNeeds
 
 -- a command line of each command
-abbrev pub compiling : List Text
-compiling = codes "flight_run" ∷ codes "compile" ∷ codes "rules.txt" ∷ codes "wdt.tbl" ∷ codes "adt.tbl" ∷ []
+abbrev pub compile_words : List Text
+compile_words = codes "flight_run" ∷ codes "compile" ∷ codes "rules.txt" ∷ codes "wdt.tbl" ∷ codes "adt.tbl" ∷ []
 
-abbrev pub running : List Text
-running = codes "flight_run" ∷ codes "run" ∷ codes "--schedule" ∷ codes "schedule.txt" ∷ codes "--stream" ∷ codes "bus.stream" ∷ codes "--out" ∷ codes "packets"
+abbrev pub run_words : List Text
+run_words = codes "flight_run" ∷ codes "run" ∷ codes "--schedule" ∷ codes "schedule.txt" ∷ codes "--stream" ∷ codes "bus.stream" ∷ codes "--out" ∷ codes "packets"
     ∷ codes "rules.txt" ∷ codes "other.txt" ∷ []
 
 -- options behind the files, and with `=`
-abbrev pub running_otherwise : List Text
-running_otherwise = codes "flight_run" ∷ codes "run" ∷ codes "rules.txt" ∷ codes "other.txt" ∷ codes "--out=packets" ∷ codes "--stream=bus.stream"
+abbrev pub run_words_otherwise : List Text
+run_words_otherwise = codes "flight_run" ∷ codes "run" ∷ codes "rules.txt" ∷ codes "other.txt" ∷ codes "--out=packets" ∷ codes "--stream=bus.stream"
     ∷ codes "--schedule=schedule.txt" ∷ []
 
 -- without its last file
-abbrev pub lacking : List Text
-lacking = codes "flight_run" ∷ codes "compile" ∷ codes "rules.txt" ∷ codes "wdt.tbl" ∷ []
+abbrev pub words_lacking_a_file : List Text
+words_lacking_a_file = codes "flight_run" ∷ codes "compile" ∷ codes "rules.txt" ∷ codes "wdt.tbl" ∷ []

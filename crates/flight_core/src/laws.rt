@@ -2,7 +2,7 @@
 //! program takes.
 
 ghost use Rattle.flight_core.specs.Cutting.{Begins, Comes, EndsBadly, EndsCut, EndsWhole, EveryCutting, Goes};
-ghost use Rattle.flight_core.specs.Words.{GiveAPlan, compiling, lacking, running, running_otherwise};
+ghost use Rattle.flight_core.specs.Words.{GiveAPlan, compile_words, words_lacking_a_file, run_words, run_words_otherwise};
 
 /// Bytes come and records are handed out, one after the other: whatever follows, the records of it all are those handed out,
 /// and then those of what is held and what follows.
@@ -27,8 +27,8 @@ pub fn every_cutting_has_the_records_of_the_whole()
 
 /// Both commands of the program can be said, options before their files or behind them, and not with a file too few.
 pub fn words_give_plans()
-    ensures compiling { GiveAPlan compiling }
-    ensures running { GiveAPlan running }
-    ensures running_otherwise { GiveAPlan running_otherwise }
-    ensures lacking { GiveAPlan lacking → ⊥ }
+    ensures compile_words { GiveAPlan compile_words }
+    ensures run_words { GiveAPlan run_words }
+    ensures run_words_otherwise { GiveAPlan run_words_otherwise }
+    ensures words_lacking_a_file { GiveAPlan words_lacking_a_file → ⊥ }
 {}

@@ -5,7 +5,7 @@ ghost use Rattle.clap.specs.Words.{all_of, app_of, first_of, found_of, kind_of, 
 ghost use Rattle.clap.specs.declared.error.kind.ErrorKind.TheVariants.{OutOfMemory};
 ghost use Rattle.flight_core.specs.declared.words.Plan.TheVariants.{Stored};
 ghost use Rattle.flight_core.specs.declared.words.WordsError.TheVariants.{Memory, Usage};
-ghost use Rattle.flight_core.specs.Words.{GiveAPlan, HoldsRows, HoldsWords, IsWhole, command_line, file, files, option};
+ghost use Rattle.flight_core.specs.Words.{GiveAPlan, HasWhatItNeeds, HoldsRows, HoldsWords, command_line, file, files, option};
 
 use clap::error::ErrorKind;
 use clap::{Arg, ArgAction, ArgMatches, Command, Error};
@@ -128,7 +128,7 @@ pub fn read_words<'a>(alloc: Global, words: &'a [&'a str]) -> Result<Plan<'a>, W
 /// The plan of the command that was found.
 fn given_plan<'a>(alloc: Global, matches: &ArgMatches<'a>) -> Result<Plan<'a>, WordsError>
     ensures holds { IfOk result (λ plan. IsSomeAnd (subcommand_rows_of matches.now) (λ command. HoldsRows command plan)) }
-    ensures refused { result ≡ Err Usage → IsSomeAnd (subcommand_rows_of matches.now) IsWhole → ⊥ }
+    ensures refused { result ≡ Err Usage → IsSomeAnd (subcommand_rows_of matches.now) HasWhatItNeeds → ⊥ }
 {
     match matches.subcommand() {
         Some(("compile", found)) => compile_plan(found),
@@ -160,7 +160,7 @@ fn files_of<'a>(
 
 fn compile_plan<'a>(found: &ArgMatches<'a>) -> Result<Plan<'a>, WordsError>
     ensures holds { IfOk result (HoldsRows (codes "compile", rows_of (found_of found.now))) }
-    ensures refused { OnErr result (IsWhole (codes "compile", rows_of (found_of found.now)) → ⊥) }
+    ensures refused { OnErr result (HasWhatItNeeds (codes "compile", rows_of (found_of found.now)) → ⊥) }
 {
     Ok(Plan::Compile {
         rules: file_of(found, "RULES")?,
@@ -171,7 +171,7 @@ fn compile_plan<'a>(found: &ArgMatches<'a>) -> Result<Plan<'a>, WordsError>
 
 fn run_plan<'a>(alloc: Global, found: &ArgMatches<'a>) -> Result<Plan<'a>, WordsError>
     ensures holds { IfOk result (HoldsRows (codes "run", rows_of (found_of found.now))) }
-    ensures refused { result ≡ Err Usage → IsWhole (codes "run", rows_of (found_of found.now)) → ⊥ }
+    ensures refused { result ≡ Err Usage → HasWhatItNeeds (codes "run", rows_of (found_of found.now)) → ⊥ }
 {
     Ok(Plan::Run {
         schedule: file_of(found, "schedule")?,

@@ -1,7 +1,7 @@
 //! Times and names of packets, as text.
 
 ghost use Rattle.std.specs.Prelude.{◌≡◌, ◌≤◌, length, Some};
-ghost use Rattle.lc_model.specs.Bytes.{u16_at as part_at, u32_at as seconds_at};
+ghost use Rattle.lc_model.specs.Bytes.{u16_at, u32_at};
 ghost use Rattle.packet_listing.specs.Words.{time_text};
 
 use lc_model::{u16_at, u32_at};
@@ -29,7 +29,7 @@ pub struct Time {
 /// The time of telemetry that has its headers.
 pub fn time_of(packet: &[u8]) -> Time
     requires { TELEMETRY_HEADERS ≤ length packet.now }
-    ensures { (result.seconds ≡ seconds_at packet.now 6) × (result.subseconds ≡ part_at packet.now 10) }
+    ensures { (result.seconds ≡ u32_at packet.now 6) × (result.subseconds ≡ u16_at packet.now 10) }
 {
     Time {
         seconds: u32_at(packet, 6),
