@@ -7,3 +7,4 @@ pub mod Front
 pub mod Step
 pub mod Laws
 pub mod Reason
+pub mod WordGroups

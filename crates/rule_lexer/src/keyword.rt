@@ -5,6 +5,7 @@ ghost use Rattle.std.specs.List.{list_any};
 ghost use Rattle.lc_model.specs.Text.Token.{is_word};
 ghost use Rattle.lc_model.specs.Text.Class.{field_type, state, event_kind, other_words};
 ghost use Rattle.rule_lexer.specs.Token.{IsKind};
+ghost use Rattle.rule_lexer.specs.WordGroups.{item_words, field_words, rule_words, operator_words};
 
 use crate::token::TokenKind;
 use lc_model::{ApMode, EventKind, FieldType};
@@ -53,29 +54,71 @@ fn event_kind(word: &[u8]) -> Option<EventKind>
     }
 }
 
-/// The kind of a reserved word that stands for no value.
-fn plain_word(word: &[u8]) -> Option<TokenKind>
-    ensures { MatchOption result (IsFalse (list_any (bytes_eq word.now) other_words)) (λ kind. IsKind kind word.now) }
+/// A word that begins an item.
+fn item_word(word: &[u8]) -> Option<TokenKind>
+    ensures { MatchOption result (IsFalse (list_any (bytes_eq word.now) item_words)) (λ kind. IsKind kind word.now) }
 {
     match word {
         b"packet" => Some(TokenKind::Packet),
         b"field" => Some(TokenKind::Field),
         b"rule" => Some(TokenKind::Rule),
+        _ => None,
+    }
+}
+
+/// A word of a packet or a field.
+fn field_word(word: &[u8]) -> Option<TokenKind>
+    ensures { MatchOption result (IsFalse (list_any (bytes_eq word.now) field_words)) (λ kind. IsKind kind word.now) }
+{
+    match word {
         b"mid" => Some(TokenKind::Mid),
         b"length" => Some(TokenKind::Length),
         b"at" => Some(TokenKind::At),
         b"mask" => Some(TokenKind::Mask),
         b"stale" => Some(TokenKind::Stale),
+        _ => None,
+    }
+}
+
+/// A word of a rule.
+fn rule_word(word: &[u8]) -> Option<TokenKind>
+    ensures { MatchOption result (IsFalse (list_any (bytes_eq word.now) rule_words)) (λ kind. IsKind kind word.now) }
+{
+    match word {
         b"fails" => Some(TokenKind::Fails),
         b"sequence" => Some(TokenKind::Sequence),
         b"event" => Some(TokenKind::Event),
         b"report" => Some(TokenKind::Report),
         b"when" => Some(TokenKind::When),
+        _ => None,
+    }
+}
+
+/// An operator of a condition.
+fn operator_word(word: &[u8]) -> Option<TokenKind>
+    ensures { MatchOption result (IsFalse (list_any (bytes_eq word.now) operator_words)) (λ kind. IsKind kind word.now) }
+{
+    match word {
         b"or" => Some(TokenKind::Or),
         b"xor" => Some(TokenKind::Xor),
         b"and" => Some(TokenKind::And),
         b"not" => Some(TokenKind::Not),
         _ => None,
+    }
+}
+
+/// The kind of a reserved word that stands for no value.
+fn plain_word(word: &[u8]) -> Option<TokenKind>
+    ensures { MatchOption result (IsFalse (list_any (bytes_eq word.now) other_words)) (λ kind. IsKind kind word.now) }
+{
+    if let Some(kind) = item_word(word) {
+        Some(kind)
+    } else if let Some(kind) = field_word(word) {
+        Some(kind)
+    } else if let Some(kind) = rule_word(word) {
+        Some(kind)
+    } else {
+        operator_word(word)
     }
 }
 
