@@ -1,0 +1,98 @@
+"""What an edit is: a file of `must-fail/` or `edits/` of a crate, which puts a wrong body in the place of a right one.
+
+Its lines: `file: src/NAME.rt`, then pairs of `old: TEXT` and `new: TEXT`, where the old text stands in that file once; and
+`refused-by: FUNCTION CLAUSE`, the function that the check must refuse and the clause that must refuse it. FUNCTION is the
+module and the name, as `scanner::take`. CLAUSE is one of
+
+    ensures LABEL     a labelled clause of the function (`ensures` alone where it has no label)
+    requires CALL     what a function that it calls asks for
+    loop NAME         the invariant of a loop
+    GOAL              any other goal, by the checker's name for it (an overflow, an index, an invariant of a type)
+"""
+import os
+import re
+
+from repository import ROOT
+
+FUNCTION = re.compile(r"\s*(?:pub(?:\([a-z]+\))?\s+)?(?:const\s+)?(?:unsafe\s+)?fn\s+([a-z_0-9]+)")
+FOLDERS = ("must-fail", "edits")
+
+
+class Bad(Exception):
+    """An edit that can't be read or applied."""
+
+
+def module_of(path):
+    """The module of a file of src/, as `texts::host`; nothing for the root file."""
+    inner = path.removeprefix("src/").removesuffix(".rt").replace("/", "::")
+    return "" if inner in ("lib", "main") else inner
+
+
+def function_at(path, text, line):
+    """The function in which a line (from 0) of a source stands, with its module, or None outside all functions."""
+    if not path.startswith("src/"):
+        return None
+    lines = text.split("\n")
+    inside = max(len(lines[line]) - len(lines[line].lstrip()), 1)
+    for number in range(line, -1, -1):
+        found = FUNCTION.match(lines[number])
+        if found and (number == line or len(lines[number]) - len(lines[number].lstrip()) < inside):
+            return "::".join(filter(None, (module_of(path), found[1])))
+    return None
+
+
+class Edit:
+    """One edit, read from its file."""
+
+    def __init__(self, crate, path):
+        self.crate, self.path = crate, path
+        self.name = os.path.basename(path).removesuffix(".edit")
+        self.is_kept_in_gate = os.path.basename(os.path.dirname(path)) == "must-fail"
+        self.pairs, self.refused_by = [], None
+        file = old = None
+        with open(path, encoding="utf-8") as it:
+            for line in it.read().split("\n"):
+                if line.startswith("file: "):
+                    file = line[len("file: ") :].strip()
+                elif line.startswith("old: "):
+                    old = line[len("old: ") :]
+                elif line.startswith("new:"):
+                    if file is None or old is None:
+                        raise Bad("a 'new:' line stands before any 'file:' or 'old:' line")
+                    self.pairs.append((file, old, line[len("new:") :].removeprefix(" ")))
+                    old = None
+                elif line.startswith("refused-by: "):
+                    if self.refused_by:
+                        raise Bad("it has two 'refused-by:' lines")
+                    function, _, clause = line[len("refused-by: ") :].strip().partition(" ")
+                    self.refused_by = (function, clause)
+        if not self.pairs:
+            raise Bad("it has no 'old:' and 'new:' pair")
+
+    def applied(self, texts):
+        """The texts of the files that it changes, changed, over those given (by path, or else read from the crate's folder)."""
+        made = {}
+        for path, old, new in self.pairs:
+            text = made.get(path, texts(path))
+            if text.count(old) != 1:
+                raise Bad(f"an 'old:' text stands in {path} {text.count(old)} times, and not once")
+            made[path] = text.replace(old, new)
+        return made
+
+    def functions(self, texts):
+        """The functions that it changes; None among them for what stands outside all functions."""
+        found = set()
+        for path, old, _ in self.pairs:
+            text = texts(path)
+            found.add(function_at(path, text, text[: text.find(old)].count("\n")))
+        return found
+
+
+def edits_of(crate, root=ROOT):
+    """The files of a crate's edits."""
+    found = []
+    for folder in FOLDERS:
+        at = f"{root}/crates/{crate}/{folder}"
+        if os.path.isdir(at):
+            found += [f"{at}/{it}" for it in sorted(os.listdir(at)) if it.endswith(".edit")]
+    return found
