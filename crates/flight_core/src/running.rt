@@ -3,7 +3,6 @@
 ghost use Rattle.std.specs.Prelude.{◌≡◌, ◌≤◌, false, length, map, IfErr};
 ghost use Rattle.lc_model.specs.Host.Outcome.{devices};
 ghost use Rattle.lc_model.specs.Host.Promise.{IsRun};
-ghost use Rattle.app_host.specs.Hosted.{object};
 ghost use Rattle.app_host.specs.Whole.{AreSpares};
 ghost use Rattle.flight_core.specs.Brought.{AreWhole};
 ghost use Rattle.flight_core.specs.Compiled.{NamesTheNumber, sources_of};
@@ -35,13 +34,13 @@ fn run_compiled<R: ByteSource, W: ByteSink>(
     reads: u64,
 ) -> Result<Report, RunError>
     requires files { AreWhole pairs.now }
-    requires spares { AreSpares (map (object state called held) stock.items) }
+    requires spares { AreSpares (map meaning stock.items) }
     requires unread { (R.source reader.old).reads ≡ 0 }
     requires readable { (R.source reader.old).failed ≡ false }
     requires writable { (W.sink writer.old).failed ≡ false }
     requires most { reads ≤ MOST_READS }
-    ensures run { AreOfProfile (map (object state called held) stock.items) →
-        RunsSo pairs.now (members_of (map (object state called held) stock.items)) (length pairs.now) reads (devices (R.source reader.old) (R.source reader.new) (W.sink writer.old) (W.sink writer.new)) result }
+    ensures run { AreOfProfile (map meaning stock.items) →
+        RunsSo pairs.now (members_of (map meaning stock.items)) (length pairs.now) reads (devices (R.source reader.old) (R.source reader.new) (W.sink writer.old) (W.sink writer.new)) result }
     ensures judged { RefusesNone (devices (R.source reader.old) (R.source reader.new) (W.sink writer.old) (W.sink writer.new)) result }
     ensures bounded { (R.source reader.new).reads ≤ reads }
 {
@@ -75,14 +74,14 @@ pub fn run_within<R: ByteSource, W: ByteSink>(
     writer: &mut W,
     reads: u64,
 ) -> Result<Report, RunError>
-    requires spares { AreSpares (map (object state called held) stock.items) }
+    requires spares { AreSpares (map meaning stock.items) }
     requires unread { (R.source reader.old).reads ≡ 0 }
     requires readable { (R.source reader.old).failed ≡ false }
     requires writable { (W.sink writer.old).failed ≡ false }
     requires most { reads ≤ MOST_READS }
 
     // All that a run promises: the fields of `Promises` and of `PromisesOfProfile`, each with its comment there.
-    ensures promises { let objects = map (object state called held) stock.items in
+    ensures promises { let objects = map meaning stock.items in
         let mission = mission_of texts.now schedule.now objects reads in
         let before_and_after = devices (R.source reader.old) (R.source reader.new) (W.sink writer.old) (W.sink writer.new) in
         Promises (IsOfProfile schedule.now objects) mission before_and_after result }
@@ -101,13 +100,13 @@ fn begin<R: ByteSource, W: ByteSink>(
     writer: &mut W,
     reads: u64,
 ) -> Result<Report, RunError>
-    requires spares { AreSpares (map (object state called held) stock.items) }
+    requires spares { AreSpares (map meaning stock.items) }
     requires unread { (R.source reader.old).reads ≡ 0 }
     requires readable { (R.source reader.old).failed ≡ false }
     requires writable { (W.sink writer.old).failed ≡ false }
     requires most { reads ≤ MOST_READS }
-    ensures run { IsOfProfile schedule.now (map (object state called held) stock.items) →
-        IsRun (mission_of texts.now schedule.now (map (object state called held) stock.items) reads) (devices (R.source reader.old) (R.source reader.new) (W.sink writer.old) (W.sink writer.new)) (ending_of result) }
+    ensures run { IsOfProfile schedule.now (map meaning stock.items) →
+        IsRun (mission_of texts.now schedule.now (map meaning stock.items) reads) (devices (R.source reader.old) (R.source reader.new) (W.sink writer.old) (W.sink writer.new)) (ending_of result) }
     ensures refuses { RefusesUnfitAlone (sources_of texts.now) (devices (R.source reader.old) (R.source reader.new) (W.sink writer.old) (W.sink writer.new)) (ending_of result) }
     ensures named { IfErr result (NamesTheNumber (sources_of texts.now)) }
     ensures bounded { (R.source reader.new).reads ≤ reads }
@@ -140,13 +139,13 @@ pub fn run<R: ByteSource, W: ByteSink>(
     reader: &mut R,
     writer: &mut W,
 ) -> Result<Report, RunError>
-    requires spares { AreSpares (map (object state called held) stock.items) }
+    requires spares { AreSpares (map meaning stock.items) }
     requires unread { (R.source reader.old).reads ≡ 0 }
     requires readable { (R.source reader.old).failed ≡ false }
     requires writable { (W.sink writer.old).failed ≡ false }
 
     // All that a run promises: the fields of `Promises` and of `PromisesOfProfile`, each with its comment there.
-    ensures promises { let objects = map (object state called held) stock.items in
+    ensures promises { let objects = map meaning stock.items in
         let mission = mission_of texts.now schedule.now objects MOST_READS in
         let before_and_after = devices (R.source reader.old) (R.source reader.new) (W.sink writer.old) (W.sink writer.new) in
         Promises (IsOfProfile schedule.now objects) mission before_and_after result }
