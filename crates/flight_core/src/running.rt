@@ -40,7 +40,8 @@ fn run_compiled<R: ByteSource, W: ByteSink>(
     requires writable { (W.sink writer.old).failed ≡ false }
     requires most { reads ≤ MOST_READS }
     ensures run { AreOfProfile (map meaning stock.items) →
-        RunsSo pairs.now (members_of (map meaning stock.items)) (length pairs.now) reads (devices (R.source reader.old) (R.source reader.new) (W.sink writer.old) (W.sink writer.new)) result }
+        RunsSo pairs.now (members_of (map meaning stock.items)) (length pairs.now) reads
+        (devices (R.source reader.old) (R.source reader.new) (W.sink writer.old) (W.sink writer.new)) result }
     ensures judged { RefusesNone (devices (R.source reader.old) (R.source reader.new) (W.sink writer.old) (W.sink writer.new)) result }
     ensures bounded { (R.source reader.new).reads ≤ reads }
 {
@@ -83,7 +84,8 @@ pub fn run_within<R: ByteSource, W: ByteSink>(
     // All that a run promises: the fields of `Promises` and of `PromisesOfProfile`, each with its comment there.
     ensures promises { let objects = map meaning stock.items in
         let mission = mission_of texts.now schedule.now objects reads in
-        let before_and_after = devices (R.source reader.old) (R.source reader.new) (W.sink writer.old) (W.sink writer.new) in
+        let before_and_after = devices (R.source reader.old) (R.source reader.new)
+        (W.sink writer.old) (W.sink writer.new) in
         Promises (IsOfProfile schedule.now objects) mission before_and_after result }
 {
     runs_keep_their_promises();
@@ -106,8 +108,10 @@ fn begin<R: ByteSource, W: ByteSink>(
     requires writable { (W.sink writer.old).failed ≡ false }
     requires most { reads ≤ MOST_READS }
     ensures run { IsOfProfile schedule.now (map meaning stock.items) →
-        IsRun (mission_of texts.now schedule.now (map meaning stock.items) reads) (devices (R.source reader.old) (R.source reader.new) (W.sink writer.old) (W.sink writer.new)) (ending_of result) }
-    ensures refuses { RefusesUnfitAlone (sources_of texts.now) (devices (R.source reader.old) (R.source reader.new) (W.sink writer.old) (W.sink writer.new)) (ending_of result) }
+        IsRun (mission_of texts.now schedule.now (map meaning stock.items) reads)
+        (devices (R.source reader.old) (R.source reader.new) (W.sink writer.old) (W.sink writer.new)) (ending_of result) }
+    ensures refuses { RefusesUnfitAlone (sources_of texts.now)
+        (devices (R.source reader.old) (R.source reader.new) (W.sink writer.old) (W.sink writer.new)) (ending_of result) }
     ensures named { IfErr result (NamesTheNumber (sources_of texts.now)) }
     ensures bounded { (R.source reader.new).reads ≤ reads }
 {
@@ -147,7 +151,8 @@ pub fn run<R: ByteSource, W: ByteSink>(
     // All that a run promises: the fields of `Promises` and of `PromisesOfProfile`, each with its comment there.
     ensures promises { let objects = map meaning stock.items in
         let mission = mission_of texts.now schedule.now objects MOST_READS in
-        let before_and_after = devices (R.source reader.old) (R.source reader.new) (W.sink writer.old) (W.sink writer.new) in
+        let before_and_after = devices (R.source reader.old) (R.source reader.new)
+        (W.sink writer.old) (W.sink writer.new) in
         Promises (IsOfProfile schedule.now objects) mission before_and_after result }
 {
     run_within(alloc, texts, schedule, stock, reader, writer, MOST_READS)

@@ -26,7 +26,8 @@ fn fly<R: ByteSource, W: ByteSink>(
     requires readable { (R.source reader.old).failed ≡ false }
     requires writable { (W.sink writer.old).failed ≡ false }
     ensures promises { IfOk result (λ answer.
-        let before_and_after = devices (R.source reader.old) (R.source reader.new) (W.sink writer.old) (W.sink writer.new) in
+        let before_and_after = devices (R.source reader.old) (R.source reader.new)
+        (W.sink writer.old) (W.sink writer.new) in
         Promises ⊤ (own_mission texts.now schedule.now) before_and_after answer) }
     ensures unread { OnErr result (R.source reader.new ≡ R.source reader.old) }
     ensures unwritten { OnErr result (W.sink writer.new ≡ W.sink writer.old) }
@@ -69,7 +70,8 @@ pub fn launch<R: ByteSource, W: ByteSink>(
     requires writable { (W.sink writer.old).failed ≡ false }
 
     // All that a run of this stock promises: the fields of `Promises` and of `PromisesOfProfile`.
-    ensures promises { let before_and_after = devices (R.source reader.old) (R.source reader.new) (W.sink writer.old) (W.sink writer.new) in
+    ensures promises { let before_and_after = devices (R.source reader.old) (R.source reader.new)
+        (W.sink writer.old) (W.sink writer.new) in
         Promises ⊤ (own_mission texts.now schedule.now) before_and_after result }
 {
     runs_keep_their_promises();
