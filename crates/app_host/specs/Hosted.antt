@@ -9,17 +9,8 @@ use Rattle.lc_model.specs.Kept.Stations as model
 use Rattle.lc_model.specs.Services.Bus.{seen}
 use Rattle.app_host.specs.declared.services.Services.{Services}
 use Rattle.app_host.specs.declared.host.Host.{Host}
+pub use Rattle.app_host.specs.Object.{Object}
 use Rattle.app_host.specs.Shared.{shared}
-
--- an object: its name, what it is by now, and the seat that it holds
-pub record Object : Type 0 where
-  pub called : Name
-  pub state : AppState
-  pub held : Option ℕ
-
--- an object by its meanings
-abbrev pub object : {B : Type 0} → (B → AppState) → (B → Name) → (B → Option ℕ) → B → Object
-object state called held b = record { called = called b; state = state b; held = held b }
 
 -- no object
 abbrev pub no_object : Object
@@ -42,10 +33,10 @@ pub record Hosted : Type 0 where
   pub calls : ℕ
 
 -- a host by the meanings of its objects
-abbrev pub shown : {X : Type 0} {D : X → Type 0} → (DynBox X Global D → AppState) → (DynBox X Global D → Name) → (DynBox X Global D → Option ℕ) → Host X D → Hosted
-shown state called held h = record {
-  stock = map (object state called held) h.stock.items;
-  seats = map (option_map (object state called held)) h.seats;
+abbrev pub shown : {X : Type 0} {D : X → Type 0} → (DynBox X Global D → Object) → Host X D → Hosted
+shown meaning h = record {
+  stock = map meaning h.stock.items;
+  seats = map (option_map meaning) h.seats;
   services = h.services;
   is_closed = h.closed;
   calls = h.calls;

@@ -4,6 +4,7 @@ pub mod Calls
 pub mod Seating
 pub mod Statements
 pub mod Error
+pub mod Object
 pub mod Hosted
 pub mod Objects
 pub mod Whole

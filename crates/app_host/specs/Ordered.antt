@@ -22,7 +22,7 @@ use Rattle.app_host.specs.declared.error.HostError.{HostError}
 use Rattle.app_host.specs.declared.error.WriteFault.{WriteFault}
 use Rattle.app_host.specs.Error.{error_code}
 use Rattle.app_host.specs.Shared.{on_board}
-use Rattle.app_host.specs.Hosted.{Object, object, Hosted, object_at, spare_in, member_of}
+use Rattle.app_host.specs.Hosted.{Object, Hosted, object_at, spare_in, member_of}
 use Rattle.app_host.specs.Whole.{AreSeated, AreSpares, IsKnown, AreKnown, IsWhole, IsQuiet}
 use Rattle.app_host.specs.Party.{Party, party_by, AreKnownIn}
 use Rattle.app_host.specs.Delivered.{executive_in, Becomes}
@@ -40,10 +40,10 @@ pub data Next : Type 0 where
   Same : (o : Object) (seat : ℕ) → Next
 
 -- by the meanings of its object
-abbrev pub next_of : {X : Type 0} {D : X → Type 0} → (DynBox X Global D → AppState) → (DynBox X Global D → Name) → (DynBox X Global D → Option ℕ) → Successor X D → Next
-next_of state called held successor.Nobody = Nobody
-next_of state called held (successor.Spare place seat) = Spare place seat
-next_of state called held (successor.Same app seat) = Same (object state called held app) seat
+abbrev pub next_of : {X : Type 0} {D : X → Type 0} → (DynBox X Global D → Object) → Successor X D → Next
+next_of meaning successor.Nobody = Nobody
+next_of meaning (successor.Spare place seat) = Spare place seat
+next_of meaning (successor.Same app seat) = Same (meaning app) seat
 
 -- an object that holds no seat may begin on this one, which is free: no seat has its name
 pub record MayBegin (seat : ℕ) (h : Hosted) (o : Object) : Type 0 where
@@ -152,16 +152,16 @@ pub record IsPrepared (party : Party) (wanted : Result (Written (List ℕ)) Refu
   pub exact : AreKnownIn party old → LeadsTo wanted new next
 
 -- one of the two, by the answer
-abbrev pub Prepares : {X : Type 0} {D : X → Type 0} → (DynBox X Global D → AppState) → (DynBox X Global D → Name) → (DynBox X Global D → Option ℕ) →
+abbrev pub Prepares : {X : Type 0} {D : X → Type 0} → (DynBox X Global D → Object) →
     Party → Result (Written (List ℕ)) Refusal → Hosted → Hosted → Result (Successor X D) HostError → Type 0
-Prepares state called held party wanted old new (Ok next) = IsPrepared party wanted old new (next_of state called held next)
-Prepares state called held party wanted old new (Err error) = (wanted ≡ Err (refusal_of error)) × (new ≡ old)
+Prepares meaning party wanted old new (Ok next) = IsPrepared party wanted old new (next_of meaning next)
+Prepares meaning party wanted old new (Err error) = (wanted ≡ Err (refusal_of error)) × (new ≡ old)
 
 -- the same of a command that is refused for its code or its length, too
-abbrev pub Takes : {X : Type 0} {D : X → Type 0} → (DynBox X Global D → AppState) → (DynBox X Global D → Name) → (DynBox X Global D → Option ℕ) →
+abbrev pub Takes : {X : Type 0} {D : X → Type 0} → (DynBox X Global D → Object) →
     Party → Result (Written (List ℕ)) Refusal → Hosted → Hosted → Result (Successor X D) Refusal → Type 0
-Takes state called held party wanted old new (Ok next) = IsPrepared party wanted old new (next_of state called held next)
-Takes state called held party wanted old new (Err numbers) = (wanted ≡ Err numbers) × (new ≡ old)
+Takes meaning party wanted old new (Ok next) = IsPrepared party wanted old new (next_of meaning next)
+Takes meaning party wanted old new (Err numbers) = (wanted ≡ Err numbers) × (new ≡ old)
 
 -- ---- the same of who is where, whatever the applications are
 
@@ -174,16 +174,16 @@ pub record HasMadeWay (wanted : Result Succession Refusal) (old new : Hosted) (n
   pub gone : IfSome succession.leaves (λ seat. HasGone seat old.seats old.services)
 
 -- one of the two, by the answer
-abbrev pub MakesWay : {X : Type 0} {D : X → Type 0} → (DynBox X Global D → AppState) → (DynBox X Global D → Name) → (DynBox X Global D → Option ℕ) →
+abbrev pub MakesWay : {X : Type 0} {D : X → Type 0} → (DynBox X Global D → Object) →
     Result Succession Refusal → Hosted → Hosted → Result (Successor X D) HostError → Type 0
-MakesWay state called held wanted old new (Ok next) = HasMadeWay wanted old new (next_of state called held next)
-MakesWay state called held wanted old new (Err error) = (wanted ≡ Err (refusal_of error)) × (new ≡ old)
+MakesWay meaning wanted old new (Ok next) = HasMadeWay wanted old new (next_of meaning next)
+MakesWay meaning wanted old new (Err error) = (wanted ≡ Err (refusal_of error)) × (new ≡ old)
 
 -- the same of a command that is refused for its code or its length, too
-abbrev pub MakesWayFor : {X : Type 0} {D : X → Type 0} → (DynBox X Global D → AppState) → (DynBox X Global D → Name) → (DynBox X Global D → Option ℕ) →
+abbrev pub MakesWayFor : {X : Type 0} {D : X → Type 0} → (DynBox X Global D → Object) →
     Result Succession Refusal → Hosted → Hosted → Result (Successor X D) Refusal → Type 0
-MakesWayFor state called held wanted old new (Ok next) = HasMadeWay wanted old new (next_of state called held next)
-MakesWayFor state called held wanted old new (Err numbers) = (wanted ≡ Err numbers) × (new ≡ old)
+MakesWayFor meaning wanted old new (Ok next) = HasMadeWay wanted old new (next_of meaning next)
+MakesWayFor meaning wanted old new (Err numbers) = (wanted ≡ Err numbers) × (new ≡ old)
 
 -- ---- what is written
 

@@ -19,11 +19,11 @@ impl Host {
     /// The object of a seat answers the first packet of its pipe. Condition: that is the least seat with a packet. Answers the
     /// next such seat.
     pub(crate) fn deliver(&mut self, seat: Seat) -> Option<Seat>
-        requires whole { IsWhole (shown state called held self.old) }
+        requires whole { IsWhole (shown meaning self.old) }
         requires light { IsLight (seen self.old.services.bus) }
         requires few { self.old.calls + load (seen self.old.services.bus) ≤ 520 }
         requires ready { ready_seat (seen self.old.services.bus) ≡ Some seat }
-        ensures delivered { HasDelivered seat (shown state called held self.old) (shown state called held self.new) }
+        ensures delivered { HasDelivered seat (shown meaning self.old) (shown meaning self.new) }
         ensures next { result ≡ ready_seat (seen self.new.services.bus) }
     {
         table_services_go_by_names();
@@ -48,10 +48,10 @@ impl Host {
     /// What waits to be written is written, behind so many bytes of this step; answers how many these are then. Where the write
     /// fails the host is closed.
     pub(crate) fn flush<W: ByteSink>(&mut self, out: &mut W, sent: u64) -> Result<u64, WriteFault>
-        requires seated { AreSeated (shown state called held self.old).seats (shown state called held self.old).services }
+        requires seated { AreSeated (shown meaning self.old).seats (shown meaning self.old).services }
         requires room { sent + length self.old.services.outgoing ≤ 1000000000000 }
-        ensures flushed { IsFlushed (shown state called held self.old) (shown state called held self.new) }
-        ensures sent { IsSent sent (shown state called held self.old) (shown state called held self.new) (W.sink out.old) (W.sink out.new) result }
+        ensures flushed { IsFlushed (shown meaning self.old) (shown meaning self.new) }
+        ensures sent { IsSent sent (shown meaning self.old) (shown meaning self.new) (W.sink out.old) (W.sink out.new) result }
     {
         table_services_go_by_names();
         self.services.tables.is_service();

@@ -14,9 +14,9 @@ use lc_model::laws::table_services::table_services_go_by_names;
 impl Host {
     /// The object of a seat retires, if there is one, and is handed on.
     pub(crate) fn vacate(&mut self, seat: Seat) -> Option<Box<dyn App>>
-        requires seated { AreSeated (shown state called held self.old).seats (shown state called held self.old).services }
+        requires seated { AreSeated (shown meaning self.old).seats (shown meaning self.old).services }
         requires idle { self.old.services.outgoing ≡ [] }
-        ensures { HasVacated seat (shown state called held self.old) (shown state called held self.new) }
+        ensures { HasVacated seat (shown meaning self.old) (shown meaning self.new) }
     {
         table_services_go_by_names();
         self.services.tables.is_service();
@@ -27,7 +27,7 @@ impl Host {
 
     /// All that run retire, seat by seat, and then all objects are dropped.
     pub fn close(mut self)
-        requires whole { IsWhole (shown state called held self) }
+        requires whole { IsWhole (shown meaning self) }
     {
         let mut retired: [Option<Box<dyn App>>; Seat::COUNT] = [
             None, None, None, None, None, None, None, None,
@@ -41,8 +41,8 @@ impl Host {
 
     /// What waits to be written is let go.
     fn let_go(&mut self)
-        requires seated { AreSeated (shown state called held self.old).seats (shown state called held self.old).services }
-        ensures seated { AreSeated (shown state called held self.new).seats (shown state called held self.new).services }
+        requires seated { AreSeated (shown meaning self.old).seats (shown meaning self.old).services }
+        ensures seated { AreSeated (shown meaning self.new).seats (shown meaning self.new).services }
         ensures idle { self.new.services.outgoing ≡ [] }
     {
         table_services_go_by_names();

@@ -106,12 +106,12 @@ impl Host {
         packet: &[u8],
         out: &mut W,
     ) -> Result<u64, WriteFault>
-        requires whole { IsWhole (shown state called held self.old) }
-        requires quiet { IsQuiet (shown state called held self.old) }
+        requires whole { IsWhole (shown meaning self.old) }
+        requires quiet { IsQuiet (shown meaning self.old) }
         requires none_yet { self.old.calls ≡ 0 }
         requires headers { 8 ≤ length packet.now }
-        ensures handled { ObeysEvents packet.now (shown state called held self.old) (shown state called held self.new) (W.sink out.old) (W.sink out.new) result }
-        ensures own { Responds self.old.services.moment (obeying_events packet.now (shown state called held self.old) (events_by (event_command (function_code packet.now) (payload packet.now)) self.old.services.events)) (shown state called held self.old) (shown state called held self.new) (W.sink out.old).gained (W.sink out.new).gained result }
+        ensures handled { ObeysEvents packet.now (shown meaning self.old) (shown meaning self.new) (W.sink out.old) (W.sink out.new) result }
+        ensures own { Responds self.old.services.moment (obeying_events packet.now (shown meaning self.old) (events_by (event_command (function_code packet.now) (payload packet.now)) self.old.services.events)) (shown meaning self.old) (shown meaning self.new) (W.sink out.old).gained (W.sink out.new).gained result }
     {
         event_services_go_by_names();
         table_services_go_by_names();

@@ -5,7 +5,7 @@ ghost use Rattle.lc_model.specs.Kept.Executive as model;
 ghost use Rattle.lc_model.specs.Kept.Executive.{is_called};
 ghost use Rattle.lc_model.specs.Kept.Stations.{first_host};
 ghost use Rattle.app_host.specs.declared.error.HostError.TheVariants.{Memory};
-ghost use Rattle.app_host.specs.Hosted.{Object, object, shown, member_of, in_numbers};
+ghost use Rattle.app_host.specs.Hosted.{Object, shown, member_of, in_numbers};
 ghost use Rattle.app_host.specs.Whole.{AreSpares, IsWhole, IsQuiet};
 
 use crate::app::App;
@@ -37,10 +37,10 @@ impl Host {
         alloc: Global,
         stock: Vec<Box<dyn App>>,
     ) -> Result<Host, (HostError, Vec<Box<dyn App>>)>
-        requires spares { AreSpares (map (object state called held) stock.items) }
-        ensures whole { IfOk result (λ host. IsWhole (shown state called held host)) }
-        ensures quiet { IfOk result (λ host. IsQuiet (shown state called held host)) }
-        ensures first { IfOk result (λ host. in_numbers (shown state called held host) ≡ first_host (map member_of (map (object state called held) stock.items))) }
+        requires spares { AreSpares (map meaning stock.items) }
+        ensures whole { IfOk result (λ host. IsWhole (shown meaning host)) }
+        ensures quiet { IfOk result (λ host. IsQuiet (shown meaning host)) }
+        ensures first { IfOk result (λ host. in_numbers (shown meaning host) ≡ first_host (map member_of (map meaning stock.items))) }
         ensures stock_back { IfErr result (λ refused. refused.1 ≡ stock) }
         ensures memory { IfErr result (λ refused. refused.0 ≡ Memory) }
     {
@@ -59,21 +59,21 @@ impl Host {
 
     /// Whether an application of the name runs.
     pub fn running(&self, name: &[u8]) -> bool
-        ensures { result ≡ is_some (model.seat_of name.now (in_numbers (shown state called held self.now)).executive.seats) }
+        ensures { result ≡ is_some (model.seat_of name.now (in_numbers (shown meaning self.now)).executive.seats) }
     {
         seat_of(&self.seats, name).is_some()
     }
 
     /// How many spares of the name there are.
     pub fn spares(&self, name: &[u8]) -> usize
-        ensures { result ≡ count_by (is_called name.now) (in_numbers (shown state called held self.now)).executive.stock }
+        ensures { result ≡ count_by (is_called name.now) (in_numbers (shown meaning self.now)).executive.stock }
     {
         spares_of(self.stock.as_slice(), name)
     }
 
     /// The calls of `on_packet` in the last `step` that began on an open host; 0 before the first.
     pub fn calls(&self) -> u32
-        ensures { result ≡ (in_numbers (shown state called held self.now)).calls }
+        ensures { result ≡ (in_numbers (shown meaning self.now)).calls }
     {
         self.calls
     }

@@ -4,7 +4,7 @@ ghost use Rattle.std.specs.Prelude.{◌≡◌, ◌<◌, count_by, is_none, lengt
 ghost use Rattle.std.specs.List.{position_from};
 ghost use Rattle.lc_model.specs.Kept.Executive.{is_called, is_seated};
 ghost use Rattle.app_host.specs.Calls.{IsObject};
-ghost use Rattle.app_host.specs.Hosted.{Object, object, object_at, spare_in, member_of};
+ghost use Rattle.app_host.specs.Hosted.{Object, object_at, spare_in, member_of};
 ghost use Rattle.app_host.specs.Objects.{IfBoth, MayStartOn, HasStarted, MayAnswer, HasAnswered, MayRetire, HasRetired};
 
 use crate::app::App;
@@ -14,8 +14,8 @@ use lc_model::Seat;
 
 /// The object takes a free seat.
 pub(crate) fn start(app: &mut Box<dyn App>, seat: Seat, services: &mut Services)
-    requires { MayStartOn seat services.old (object state called held app.old) }
-    ensures { HasStarted seat services.old services.new (object state called held app.old) (object state called held app.new) }
+    requires { MayStartOn seat services.old (meaning app.old) }
+    ensures { HasStarted seat services.old services.new (meaning app.old) (meaning app.new) }
 {
     objects_are_at_home();
     app.start(seat, services);
@@ -23,8 +23,8 @@ pub(crate) fn start(app: &mut Box<dyn App>, seat: Seat, services: &mut Services)
 
 /// The object of a seat answers a packet.
 pub(crate) fn give(app: &mut Box<dyn App>, seat: Seat, services: &mut Services, packet: &[u8])
-    requires { MayAnswer seat packet.now services.old (object state called held app.old) }
-    ensures { HasAnswered seat packet.now services.old services.new (object state called held app.old) (object state called held app.new) }
+    requires { MayAnswer seat packet.now services.old (meaning app.old) }
+    ensures { HasAnswered seat packet.now services.old services.new (meaning app.old) (meaning app.new) }
 {
     objects_are_at_home();
     app.on_packet(services, packet);
@@ -32,23 +32,23 @@ pub(crate) fn give(app: &mut Box<dyn App>, seat: Seat, services: &mut Services, 
 
 /// The object of a seat gives it back.
 pub(crate) fn retire(app: &mut Box<dyn App>, seat: Seat, services: &mut Services)
-    requires { MayRetire seat services.old (object state called held app.old) }
-    ensures { HasRetired seat services.old services.new (object state called held app.old) (object state called held app.new) }
+    requires { MayRetire seat services.old (meaning app.old) }
+    ensures { HasRetired seat services.old services.new (meaning app.old) (meaning app.new) }
 {
     app.retire(services);
 }
 
 /// Whether the object goes by the name.
 fn is_called(app: &Box<dyn App>, name: &[u8]) -> bool
-    ensures called { result ≡ is_called name.now (member_of (object state called held app.now)) }
-    ensures kind { IsObject (object state called held app.now).state (object state called held app.now).called }
+    ensures called { result ≡ is_called name.now (member_of (meaning app.now)) }
+    ensures kind { IsObject (meaning app.now).state (meaning app.now).called }
 {
     name == app.name()
 }
 
 /// Whether there is an object that goes by the name.
 fn is_seated(place: &Option<Box<dyn App>>, name: &[u8]) -> bool
-    ensures { result ≡ is_seated name.now (option_map member_of (option_map (object state called held) place.now)) }
+    ensures { result ≡ is_seated name.now (option_map member_of (option_map meaning place.now)) }
 {
     match place {
         Some(app) => is_called(app, name),
@@ -58,7 +58,7 @@ fn is_seated(place: &Option<Box<dyn App>>, name: &[u8]) -> bool
 
 /// Whether there is no object.
 fn is_free(place: &Option<Box<dyn App>>) -> bool
-    ensures { result ≡ is_none (option_map member_of (option_map (object state called held) place.now)) }
+    ensures { result ≡ is_none (option_map member_of (option_map meaning place.now)) }
 {
     match place {
         Some(_) => false,
@@ -68,8 +68,8 @@ fn is_free(place: &Option<Box<dyn App>>) -> bool
 
 /// The first spare of a name.
 pub(crate) fn spare_of(stock: &[Box<dyn App>], name: &[u8]) -> Option<usize>
-    ensures first { result ≡ position_from (λ o. is_called name.now (member_of o)) 0 (map (object state called held) stock.now) }
-    ensures kind { IfSome result (λ i. IsObject (spare_in (map (object state called held) stock.now) i).state (spare_in (map (object state called held) stock.now) i).called) }
+    ensures first { result ≡ position_from (λ o. is_called name.now (member_of o)) 0 (map meaning stock.now) }
+    ensures kind { IfSome result (λ i. IsObject (spare_in (map meaning stock.now) i).state (spare_in (map meaning stock.now) i).called) }
 {
     for (i, app) in stock.iter().enumerate() {
         if is_called(app, name) {
@@ -81,7 +81,7 @@ pub(crate) fn spare_of(stock: &[Box<dyn App>], name: &[u8]) -> Option<usize>
 
 /// How many spares have a name.
 pub(crate) fn spares_of(stock: &[Box<dyn App>], name: &[u8]) -> usize
-    ensures { result ≡ count_by (λ o. is_called name.now (member_of o)) (map (object state called held) stock.now) }
+    ensures { result ≡ count_by (λ o. is_called name.now (member_of o)) (map meaning stock.now) }
 {
     let mut count = 0;
     for app in stock {
@@ -94,7 +94,7 @@ pub(crate) fn spares_of(stock: &[Box<dyn App>], name: &[u8]) -> usize
 
 /// The seat of a name.
 pub(crate) fn seat_of(seats: &[Option<Box<dyn App>>], name: &[u8]) -> Option<usize>
-    ensures { result ≡ position_from (λ o. is_seated name.now (option_map member_of o)) 0 (map (option_map (object state called held)) seats.now) }
+    ensures { result ≡ position_from (λ o. is_seated name.now (option_map member_of o)) 0 (map (option_map meaning) seats.now) }
 {
     for (k, place) in seats.iter().enumerate() {
         if is_seated(place, name) {
@@ -106,7 +106,7 @@ pub(crate) fn seat_of(seats: &[Option<Box<dyn App>>], name: &[u8]) -> Option<usi
 
 /// The least free seat.
 pub(crate) fn free_seat(seats: &[Option<Box<dyn App>>]) -> Option<usize>
-    ensures { result ≡ position_from (λ o. is_none (option_map member_of o)) 0 (map (option_map (object state called held)) seats.now) }
+    ensures { result ≡ position_from (λ o. is_none (option_map member_of o)) 0 (map (option_map meaning) seats.now) }
 {
     for (k, place) in seats.iter().enumerate() {
         if is_free(place) {

@@ -74,26 +74,26 @@ fn seat_numbered(number: Option<usize>) -> Option<Seat>
 impl Host {
     /// The seat of an application that runs.
     fn runs_at(&self, name: &[u8]) -> Option<Seat>
-        requires seated { AreSeated (shown state called held self.now).seats (shown state called held self.now).services }
-        ensures kept { result ≡ kept.seat_of name.now (executive_in (shown state called held self.now)).seats }
-        ensures own { result ≡ seat_in name.now (roster_of (shown state called held self.now)) }
+        requires seated { AreSeated (shown meaning self.now).seats (shown meaning self.now).services }
+        ensures kept { result ≡ kept.seat_of name.now (executive_in (shown meaning self.now)).seats }
+        ensures own { result ≡ seat_in name.now (roster_of (shown meaning self.now)) }
     {
         seat_numbered(seat_of(&self.seats, name))
     }
 
     /// The least free seat.
     fn free(&self) -> Option<Seat>
-        requires seated { AreSeated (shown state called held self.now).seats (shown state called held self.now).services }
-        ensures kept { result ≡ kept.free_seat (executive_in (shown state called held self.now)).seats }
-        ensures own { result ≡ free_in (roster_of (shown state called held self.now)) }
+        requires seated { AreSeated (shown meaning self.now).seats (shown meaning self.now).services }
+        ensures kept { result ≡ kept.free_seat (executive_in (shown meaning self.now)).seats }
+        ensures own { result ≡ free_in (roster_of (shown meaning self.now)) }
     {
         seat_numbered(free_seat(&self.seats))
     }
 
     /// The first spare of a name.
     fn first_spare(&self, name: &[u8]) -> Option<usize>
-        ensures kept { result ≡ kept.spare_of name.now (executive_in (shown state called held self.now)).stock }
-        ensures own { result ≡ first_spare_in name.now (roster_of (shown state called held self.now)) }
+        ensures kept { result ≡ kept.spare_of name.now (executive_in (shown meaning self.now)).stock }
+        ensures own { result ≡ first_spare_in name.now (roster_of (shown meaning self.now)) }
     {
         spare_of(self.stock.as_slice(), name)
     }
@@ -101,9 +101,9 @@ impl Host {
     /// The first spare of a name is to take the least free seat. It is refused where an application of the name runs, where
     /// there is no spare, and where no seat is free, in this order.
     fn prepare_start(&self, name: &[u8]) -> Result<Successor, HostError>
-        requires whole { IsWhole (shown state called held self.now) }
-        ensures prepared { Prepares state called held (ordered Start name.now) (outcome_of Start name.now (shown state called held self.now)) (shown state called held self.now) (shown state called held self.now) result }
-        ensures own { MakesWay state called held (ordered_by Start name.now (roster_of (shown state called held self.now))) (shown state called held self.now) (shown state called held self.now) result }
+        requires whole { IsWhole (shown meaning self.now) }
+        ensures prepared { Prepares meaning (ordered Start name.now) (outcome_of Start name.now (shown meaning self.now)) (shown meaning self.now) (shown meaning self.now) result }
+        ensures own { MakesWay meaning (ordered_by Start name.now (roster_of (shown meaning self.now))) (shown meaning self.now) (shown meaning self.now) result }
     {
         if self.runs_at(name).is_some() {
             return Err(HostError::AlreadyRunning);
@@ -119,9 +119,9 @@ impl Host {
 
     /// The application of the name gives its seat back and is dropped. It is refused where none runs.
     fn prepare_stop(&mut self, name: &[u8]) -> Result<Successor, HostError>
-        requires whole { IsWhole (shown state called held self.old) }
-        ensures prepared { Prepares state called held (ordered Stop name.now) (outcome_of Stop name.now (shown state called held self.old)) (shown state called held self.old) (shown state called held self.new) result }
-        ensures own { MakesWay state called held (ordered_by Stop name.now (roster_of (shown state called held self.old))) (shown state called held self.old) (shown state called held self.new) result }
+        requires whole { IsWhole (shown meaning self.old) }
+        ensures prepared { Prepares meaning (ordered Stop name.now) (outcome_of Stop name.now (shown meaning self.old)) (shown meaning self.old) (shown meaning self.new) result }
+        ensures own { MakesWay meaning (ordered_by Stop name.now (roster_of (shown meaning self.old))) (shown meaning self.old) (shown meaning self.new) result }
     {
         match self.runs_at(name) {
             None => Err(HostError::NoSuchApp),
@@ -134,9 +134,9 @@ impl Host {
 
     /// The application of the name gives its seat back, and is to take it again. It is refused where none runs.
     fn prepare_restart(&mut self, name: &[u8]) -> Result<Successor, HostError>
-        requires whole { IsWhole (shown state called held self.old) }
-        ensures prepared { Prepares state called held (ordered Restart name.now) (outcome_of Restart name.now (shown state called held self.old)) (shown state called held self.old) (shown state called held self.new) result }
-        ensures own { MakesWay state called held (ordered_by Restart name.now (roster_of (shown state called held self.old))) (shown state called held self.old) (shown state called held self.new) result }
+        requires whole { IsWhole (shown meaning self.old) }
+        ensures prepared { Prepares meaning (ordered Restart name.now) (outcome_of Restart name.now (shown meaning self.old)) (shown meaning self.old) (shown meaning self.new) result }
+        ensures own { MakesWay meaning (ordered_by Restart name.now (roster_of (shown meaning self.old))) (shown meaning self.old) (shown meaning self.new) result }
     {
         match self.runs_at(name) {
             None => Err(HostError::NoSuchApp),
@@ -147,9 +147,9 @@ impl Host {
     /// The application of the name gives its seat back and is dropped; the first spare of the name is to take the seat. It is
     /// refused where none runs, and then where there is no spare.
     fn prepare_reload(&mut self, name: &[u8]) -> Result<Successor, HostError>
-        requires whole { IsWhole (shown state called held self.old) }
-        ensures prepared { Prepares state called held (ordered Reload name.now) (outcome_of Reload name.now (shown state called held self.old)) (shown state called held self.old) (shown state called held self.new) result }
-        ensures own { MakesWay state called held (ordered_by Reload name.now (roster_of (shown state called held self.old))) (shown state called held self.old) (shown state called held self.new) result }
+        requires whole { IsWhole (shown meaning self.old) }
+        ensures prepared { Prepares meaning (ordered Reload name.now) (outcome_of Reload name.now (shown meaning self.old)) (shown meaning self.old) (shown meaning self.new) result }
+        ensures own { MakesWay meaning (ordered_by Reload name.now (roster_of (shown meaning self.old))) (shown meaning self.old) (shown meaning self.new) result }
     {
         let Some(seat) = self.runs_at(name) else {
             return Err(HostError::NoSuchApp);
@@ -165,9 +165,9 @@ impl Host {
 
     /// The order is begun: who is to leave a seat has left it. Answers who takes it next, or why the order is refused.
     fn prepare(&mut self, order: Order, name: &[u8]) -> Result<Successor, HostError>
-        requires whole { IsWhole (shown state called held self.old) }
-        ensures prepared { Prepares state called held (ordered (order_of order) name.now) (outcome_of (order_of order) name.now (shown state called held self.old)) (shown state called held self.old) (shown state called held self.new) result }
-        ensures own { MakesWay state called held (ordered_by (order_of order) name.now (roster_of (shown state called held self.old))) (shown state called held self.old) (shown state called held self.new) result }
+        requires whole { IsWhole (shown meaning self.old) }
+        ensures prepared { Prepares meaning (ordered (order_of order) name.now) (outcome_of (order_of order) name.now (shown meaning self.old)) (shown meaning self.old) (shown meaning self.new) result }
+        ensures own { MakesWay meaning (ordered_by (order_of order) name.now (roster_of (shown meaning self.old))) (shown meaning self.old) (shown meaning self.new) result }
     {
         match order {
             Order::Start => self.prepare_start(name),
@@ -179,10 +179,10 @@ impl Host {
 
     /// The same for a command, which may be refused as none.
     fn take_order(&mut self, packet: &[u8]) -> Result<Successor, Numbers>
-        requires whole { IsWhole (shown state called held self.old) }
+        requires whole { IsWhole (shown meaning self.old) }
         requires headers { 8 ≤ length packet.now }
-        ensures prepared { Takes state called held (party_by (app_command (function_code packet.now) (payload packet.now))) (executive_service_now on_board self.old.services.moment packet.now (executive_in (shown state called held self.old))) (shown state called held self.old) (shown state called held self.new) result }
-        ensures own { MakesWayFor state called held (succession_by packet.now (roster_of (shown state called held self.old))) (shown state called held self.old) (shown state called held self.new) result }
+        ensures prepared { Takes meaning (party_by (app_command (function_code packet.now) (payload packet.now))) (executive_service_now on_board self.old.services.moment packet.now (executive_in (shown meaning self.old))) (shown meaning self.old) (shown meaning self.new) result }
+        ensures own { MakesWayFor meaning (succession_by packet.now (roster_of (shown meaning self.old))) (shown meaning self.old) (shown meaning self.new) result }
     {
         let (order, name) = read_order(packet)?;
         match self.prepare(order, name) {
@@ -193,12 +193,12 @@ impl Host {
 
     /// What waits is written, the next one takes its seat, and what it asks for is written. Answers how many bytes these are.
     fn come_in<W: ByteSink>(&mut self, next: Successor, out: &mut W) -> Result<u64, WriteFault>
-        requires seated { AreSeated (shown state called held self.old).seats (shown state called held self.old).services }
-        requires spares { AreSpares (shown state called held self.old).stock }
+        requires seated { AreSeated (shown meaning self.old).seats (shown meaning self.old).services }
+        requires spares { AreSpares (shown meaning self.old).stock }
         requires fits { length self.old.services.outgoing ≤ 65536 }
-        requires may { MayFollow (shown state called held self.old) (next_of state called held next) }
-        ensures comes { ComesIn (next_of state called held next) (shown state called held self.old) (shown state called held self.new) (W.sink out.old) (W.sink out.new) result }
-        ensures own { Enters (next_of state called held next) (shown state called held self.old) (shown state called held self.new) (W.sink out.old).gained (W.sink out.new).gained result }
+        requires may { MayFollow (shown meaning self.old) (next_of meaning next) }
+        ensures comes { ComesIn (next_of meaning next) (shown meaning self.old) (shown meaning self.new) (W.sink out.old) (W.sink out.new) result }
+        ensures own { Enters (next_of meaning next) (shown meaning self.old) (shown meaning self.new) (W.sink out.old).gained (W.sink out.new).gained result }
     {
         let sent = self.flush(out, 0)?;
         self.bring_in(next);
@@ -213,12 +213,12 @@ impl Host {
         packet: &[u8],
         out: &mut W,
     ) -> Result<u64, WriteFault>
-        requires whole { IsWhole (shown state called held self.old) }
-        requires quiet { IsQuiet (shown state called held self.old) }
+        requires whole { IsWhole (shown meaning self.old) }
+        requires quiet { IsQuiet (shown meaning self.old) }
         requires none_yet { self.old.calls ≡ 0 }
         requires headers { 8 ≤ length packet.now }
-        ensures handled { ObeysOrders packet.now (shown state called held self.old) (shown state called held self.new) (W.sink out.old) (W.sink out.new) result }
-        ensures own { Responds self.old.services.moment (obeying_orders packet.now (shown state called held self.old) (succession_by packet.now (roster_of (shown state called held self.old)))) (shown state called held self.old) (shown state called held self.new) (W.sink out.old).gained (W.sink out.new).gained result }
+        ensures handled { ObeysOrders packet.now (shown meaning self.old) (shown meaning self.new) (W.sink out.old) (W.sink out.new) result }
+        ensures own { Responds self.old.services.moment (obeying_orders packet.now (shown meaning self.old) (succession_by packet.now (roster_of (shown meaning self.old)))) (shown meaning self.old) (shown meaning self.new) (W.sink out.old).gained (W.sink out.new).gained result }
     {
         match self.take_order(packet) {
             Ok(next) => {

@@ -1,7 +1,7 @@
 //! One call of the object of a seat.
 
 ghost use Rattle.std.specs.Prelude.{◌≡◌, ◌<◌, map, option_map, slice_set, IfSome, None};
-ghost use Rattle.app_host.specs.Hosted.{Object, object, object_at};
+ghost use Rattle.app_host.specs.Hosted.{Object, object_at};
 ghost use Rattle.app_host.specs.Left.{LeftBy};
 ghost use Rattle.app_host.specs.Objects.{IfBoth, MayAnswer, HasAnswered, MayRetire};
 
@@ -12,8 +12,8 @@ use lc_model::Seat;
 
 /// The object of a place answers a packet.
 fn give_in(place: &mut Option<Box<dyn App>>, seat: Seat, services: &mut Services, packet: &[u8])
-    requires { IfSome (option_map (object state called held) place.old) (MayAnswer seat packet.now services.old) }
-    ensures { IfBoth (option_map (object state called held) place.old) (option_map (object state called held) place.new) (HasAnswered seat packet.now services.old services.new) }
+    requires { IfSome (option_map meaning place.old) (MayAnswer seat packet.now services.old) }
+    ensures { IfBoth (option_map meaning place.old) (option_map meaning place.new) (HasAnswered seat packet.now services.old services.new) }
 {
     if let Some(app) = place {
         give(app, seat, services, packet);
@@ -27,9 +27,9 @@ pub(crate) fn give_at(
     services: &mut Services,
     packet: &[u8],
 )
-    requires { IfSome (object_at seat (map (option_map (object state called held)) seats.old)) (MayAnswer seat packet.now services.old) }
-    ensures answered { IfBoth (object_at seat (map (option_map (object state called held)) seats.old)) (object_at seat (map (option_map (object state called held)) seats.new)) (HasAnswered seat packet.now services.old services.new) }
-    ensures others { map (option_map (object state called held)) seats.new ≡ slice_set (map (option_map (object state called held)) seats.old) seat (object_at seat (map (option_map (object state called held)) seats.new)) }
+    requires { IfSome (object_at seat (map (option_map meaning) seats.old)) (MayAnswer seat packet.now services.old) }
+    ensures answered { IfBoth (object_at seat (map (option_map meaning) seats.old)) (object_at seat (map (option_map meaning) seats.new)) (HasAnswered seat packet.now services.old services.new) }
+    ensures others { map (option_map meaning) seats.new ≡ slice_set (map (option_map meaning) seats.old) seat (object_at seat (map (option_map meaning) seats.new)) }
 {
     give_in(&mut seats[seat.index()], seat, services, packet);
 }
@@ -40,9 +40,9 @@ fn retire_in(
     seat: Seat,
     services: &mut Services,
 ) -> Option<Box<dyn App>>
-    requires { IfSome (option_map (object state called held) place.old) (MayRetire seat services.old) }
+    requires { IfSome (option_map meaning place.old) (MayRetire seat services.old) }
     ensures gone { place.new ≡ None }
-    ensures left { LeftBy seat services.old services.new (option_map (object state called held) place.old) }
+    ensures left { LeftBy seat services.old services.new (option_map meaning place.old) }
 {
     let mut app = place.take()?;
     retire(&mut app, seat, services);
@@ -55,10 +55,10 @@ pub(crate) fn retire_at(
     seat: Seat,
     services: &mut Services,
 ) -> Option<Box<dyn App>>
-    requires { IfSome (object_at seat (map (option_map (object state called held)) seats.old)) (MayRetire seat services.old) }
-    ensures gone { map (option_map (object state called held)) seats.new ≡ slice_set (map (option_map (object state called held)) seats.old) seat None }
+    requires { IfSome (object_at seat (map (option_map meaning) seats.old)) (MayRetire seat services.old) }
+    ensures gone { map (option_map meaning) seats.new ≡ slice_set (map (option_map meaning) seats.old) seat None }
     ensures below { seat < 8 }
-    ensures left { LeftBy seat services.old services.new (object_at seat (map (option_map (object state called held)) seats.old)) }
+    ensures left { LeftBy seat services.old services.new (object_at seat (map (option_map meaning) seats.old)) }
 {
     retire_in(&mut seats[seat.index()], seat, services)
 }

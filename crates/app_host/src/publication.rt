@@ -25,13 +25,13 @@ impl Host {
     /// The object of a seat answers this packet, without the bus. Conditions: no packet waits, and that seat alone hears this one.
     /// Answers the next seat with a packet.
     fn hand_over(&mut self, seat: Seat, packet: &[u8]) -> Option<Seat>
-        requires whole { IsWhole (shown state called held self.old) }
-        requires quiet { IsQuiet (shown state called held self.old) }
+        requires whole { IsWhole (shown meaning self.old) }
+        requires quiet { IsQuiet (shown meaning self.old) }
         requires none_yet { self.old.calls ≡ 0 }
         requires good { header_fault packet.now ≡ None }
         requires only { only_hearer packet.now self.old.services.bus ≡ Some seat }
         requires eight { length self.old.services.bus ≡ 8 }
-        ensures delivered { HasDelivered seat (with_packet packet.now (shown state called held self.old)) (shown state called held self.new) }
+        ensures delivered { HasDelivered seat (with_packet packet.now (shown meaning self.old)) (shown meaning self.new) }
         ensures next { result ≡ ready_seat (seen self.new.services.bus) }
     {
         table_services_go_by_names();
@@ -50,12 +50,12 @@ impl Host {
         packet: &[u8],
         out: &mut W,
     ) -> Result<u64, WriteFault>
-        requires whole { IsWhole (shown state called held self.old) }
-        requires quiet { IsQuiet (shown state called held self.old) }
+        requires whole { IsWhole (shown meaning self.old) }
+        requires quiet { IsQuiet (shown meaning self.old) }
         requires none_yet { self.old.calls ≡ 0 }
         requires good { header_fault packet.now ≡ None }
-        ensures handled { PassesOn packet.now (shown state called held self.old) (shown state called held self.new) (W.sink out.old) (W.sink out.new) result }
-        ensures own { Responds self.old.services.moment (handing_on (shown state called held self.old)) (shown state called held self.old) (shown state called held self.new) (W.sink out.old).gained (W.sink out.new).gained result }
+        ensures handled { PassesOn packet.now (shown meaning self.old) (shown meaning self.new) (W.sink out.old) (W.sink out.new) result }
+        ensures own { Responds self.old.services.moment (handing_on (shown meaning self.old)) (shown meaning self.old) (shown meaning self.new) (W.sink out.old).gained (W.sink out.new).gained result }
     {
         table_services_go_by_names();
         self.services.tables.is_service();
@@ -80,11 +80,11 @@ impl Host {
 
     /// A tick is published, and all packets are delivered.
     pub(crate) fn tick<W: ByteSink>(&mut self, out: &mut W) -> Result<u64, WriteFault>
-        requires whole { IsWhole (shown state called held self.old) }
-        requires quiet { IsQuiet (shown state called held self.old) }
+        requires whole { IsWhole (shown meaning self.old) }
+        requires quiet { IsQuiet (shown meaning self.old) }
         requires none_yet { self.old.calls ≡ 0 }
-        ensures handled { PassesOn tick_packet (shown state called held self.old) (shown state called held self.new) (W.sink out.old) (W.sink out.new) result }
-        ensures own { Responds self.old.services.moment (handing_on (shown state called held self.old)) (shown state called held self.old) (shown state called held self.new) (W.sink out.old).gained (W.sink out.new).gained result }
+        ensures handled { PassesOn tick_packet (shown meaning self.old) (shown meaning self.new) (W.sink out.old) (W.sink out.new) result }
+        ensures own { Responds self.old.services.moment (handing_on (shown meaning self.old)) (shown meaning self.old) (shown meaning self.new) (W.sink out.old).gained (W.sink out.new).gained result }
     {
         self.pass_on(&TICK, out)
     }

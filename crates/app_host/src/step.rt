@@ -20,12 +20,12 @@ impl Host {
     /// write stands, and the host is closed. A closed host answers `sent: 0` and does nothing. It asks for no memory.
     /// Condition: a file's name has at most 40 bytes.
     pub fn step<W: ByteSink>(&mut self, entry: &Record<'_>, out: &mut W) -> Result<(), WriteFault>
-        requires between { IsBetween (shown state called held self.old) }
+        requires between { IsBetween (shown meaning self.old) }
         requires named { IsNamed entry.now.body }
-        ensures between { IsBetween (shown state called held self.new) }
-        ensures closed { (shown state called held self.old).is_closed ≡ true → IsTurnedAway (shown state called held self.old) (shown state called held self.new) (W.sink out.old) (W.sink out.new) result }
-        ensures open { (shown state called held self.old).is_closed ≡ false → Steps entry.now.moment (input_by entry.now.body) (shown state called held self.old) (shown state called held self.new) (W.sink out.old) (W.sink out.new) result }
-        ensures own { (shown state called held self.old).is_closed ≡ false → Responds entry.now.moment (response_to entry.now.body (shown state called held self.old)) (shown state called held self.old) (shown state called held self.new) (W.sink out.old).gained (W.sink out.new).gained result }
+        ensures between { IsBetween (shown meaning self.new) }
+        ensures closed { (shown meaning self.old).is_closed ≡ true → IsTurnedAway (shown meaning self.old) (shown meaning self.new) (W.sink out.old) (W.sink out.new) result }
+        ensures open { (shown meaning self.old).is_closed ≡ false → Steps entry.now.moment (input_by entry.now.body) (shown meaning self.old) (shown meaning self.new) (W.sink out.old) (W.sink out.new) result }
+        ensures own { (shown meaning self.old).is_closed ≡ false → Responds entry.now.moment (response_to entry.now.body (shown meaning self.old)) (shown meaning self.old) (shown meaning self.new) (W.sink out.old).gained (W.sink out.new).gained result }
     {
         match self.step_counted(entry, out) {
             Ok(_total) => Ok(()),
@@ -39,13 +39,13 @@ impl Host {
         entry: &Record<'_>,
         out: &mut W,
     ) -> Result<u64, WriteFault>
-        requires between { IsBetween (shown state called held self.old) }
+        requires between { IsBetween (shown meaning self.old) }
         requires named { IsNamed entry.now.body }
-        ensures between { IsBetween (shown state called held self.new) }
-        ensures closed { (shown state called held self.old).is_closed ≡ true → IsTurnedAway (shown state called held self.old) (shown state called held self.new) (W.sink out.old) (W.sink out.new) (without_count result) }
-        ensures open { (shown state called held self.old).is_closed ≡ false → Steps entry.now.moment (input_by entry.now.body) (shown state called held self.old) (shown state called held self.new) (W.sink out.old) (W.sink out.new) (without_count result) }
-        ensures own { (shown state called held self.old).is_closed ≡ false → Responds entry.now.moment (response_to entry.now.body (shown state called held self.old)) (shown state called held self.old) (shown state called held self.new) (W.sink out.old).gained (W.sink out.new).gained result }
-        ensures count { (shown state called held self.old).is_closed ≡ false → Counts entry.now.moment (input_by entry.now.body) (shown state called held self.old) result }
+        ensures between { IsBetween (shown meaning self.new) }
+        ensures closed { (shown meaning self.old).is_closed ≡ true → IsTurnedAway (shown meaning self.old) (shown meaning self.new) (W.sink out.old) (W.sink out.new) (without_count result) }
+        ensures open { (shown meaning self.old).is_closed ≡ false → Steps entry.now.moment (input_by entry.now.body) (shown meaning self.old) (shown meaning self.new) (W.sink out.old) (W.sink out.new) (without_count result) }
+        ensures own { (shown meaning self.old).is_closed ≡ false → Responds entry.now.moment (response_to entry.now.body (shown meaning self.old)) (shown meaning self.old) (shown meaning self.new) (W.sink out.old).gained (W.sink out.new).gained result }
+        ensures count { (shown meaning self.old).is_closed ≡ false → Counts entry.now.moment (input_by entry.now.body) (shown meaning self.old) result }
     {
         if self.closed {
             return Err(WriteFault { sent: 0 });
@@ -56,8 +56,8 @@ impl Host {
 
     /// A step begins, at this moment: no call was made in it.
     fn begin_step(&mut self, moment: Moment)
-        requires whole { IsWhole (shown state called held self.old) }
-        ensures { HasBegun moment (shown state called held self.old) (shown state called held self.new) }
+        requires whole { IsWhole (shown meaning self.old) }
+        ensures { HasBegun moment (shown meaning self.old) (shown meaning self.new) }
     {
         table_services_go_by_names();
         self.services.tables.is_service();
@@ -67,12 +67,12 @@ impl Host {
 
     /// What a record brings is handled.
     fn handle<W: ByteSink>(&mut self, body: &Body<'_>, out: &mut W) -> Result<u64, WriteFault>
-        requires whole { IsWhole (shown state called held self.old) }
-        requires quiet { IsQuiet (shown state called held self.old) }
+        requires whole { IsWhole (shown meaning self.old) }
+        requires quiet { IsQuiet (shown meaning self.old) }
         requires none_yet { self.old.calls ≡ 0 }
         requires named { IsNamed body.now }
-        ensures handled { Takes (input_by body.now) (shown state called held self.old) (shown state called held self.new) (W.sink out.old) (W.sink out.new) result }
-        ensures own { Responds self.old.services.moment (response_to body.now (shown state called held self.old)) (shown state called held self.old) (shown state called held self.new) (W.sink out.old).gained (W.sink out.new).gained result }
+        ensures handled { Takes (input_by body.now) (shown meaning self.old) (shown meaning self.new) (W.sink out.old) (W.sink out.new) result }
+        ensures own { Responds self.old.services.moment (response_to body.now (shown meaning self.old)) (shown meaning self.old) (shown meaning self.new) (W.sink out.old).gained (W.sink out.new).gained result }
     {
         match *body {
             Body::Packet(bytes) => self.take_packet(bytes, out),
@@ -83,11 +83,11 @@ impl Host {
 
     /// A packet is refused, obeyed as a command to a service, or passed on to the applications.
     fn take_packet<W: ByteSink>(&mut self, packet: &[u8], out: &mut W) -> Result<u64, WriteFault>
-        requires whole { IsWhole (shown state called held self.old) }
-        requires quiet { IsQuiet (shown state called held self.old) }
+        requires whole { IsWhole (shown meaning self.old) }
+        requires quiet { IsQuiet (shown meaning self.old) }
         requires none_yet { self.old.calls ≡ 0 }
-        ensures handled { Takes (Packet packet.now) (shown state called held self.old) (shown state called held self.new) (W.sink out.old) (W.sink out.new) result }
-        ensures own { Responds self.old.services.moment (response_to_packet packet.now (shown state called held self.old)) (shown state called held self.old) (shown state called held self.new) (W.sink out.old).gained (W.sink out.new).gained result }
+        ensures handled { Takes (Packet packet.now) (shown meaning self.old) (shown meaning self.new) (W.sink out.old) (W.sink out.new) result }
+        ensures own { Responds self.old.services.moment (response_to_packet packet.now (shown meaning self.old)) (shown meaning self.old) (shown meaning self.new) (W.sink out.old).gained (W.sink out.new).gained result }
     {
         match stream_fault(packet) {
             Some(reason) => self.refuse_packet(reason, out),
@@ -97,13 +97,13 @@ impl Host {
 
     /// A packet is obeyed as a command to a service, or passed on to the applications. Condition: a stream may bring it.
     fn route<W: ByteSink>(&mut self, packet: &[u8], out: &mut W) -> Result<u64, WriteFault>
-        requires whole { IsWhole (shown state called held self.old) }
-        requires quiet { IsQuiet (shown state called held self.old) }
+        requires whole { IsWhole (shown meaning self.old) }
+        requires quiet { IsQuiet (shown meaning self.old) }
         requires none_yet { self.old.calls ≡ 0 }
         requires good { stream_fault packet.now ≡ None }
         requires headers { 8 ≤ length packet.now }
-        ensures handled { Takes (Packet packet.now) (shown state called held self.old) (shown state called held self.new) (W.sink out.old) (W.sink out.new) result }
-        ensures own { Responds self.old.services.moment (routed_to packet.now (shown state called held self.old)) (shown state called held self.old) (shown state called held self.new) (W.sink out.old).gained (W.sink out.new).gained result }
+        ensures handled { Takes (Packet packet.now) (shown meaning self.old) (shown meaning self.new) (W.sink out.old) (W.sink out.new) result }
+        ensures own { Responds self.old.services.moment (routed_to packet.now (shown meaning self.old)) (shown meaning self.old) (shown meaning self.new) (W.sink out.old).gained (W.sink out.new).gained result }
     {
         match message_id(packet) {
             mids::EVENT_SERVICES => self.obey_events(packet, out),

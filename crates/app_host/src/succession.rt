@@ -2,7 +2,7 @@
 
 ghost use Rattle.std.specs.Prelude.{◌≡◌, map, option_map, slice_set, IfSome, IsSomeAnd, IsSome, None, []};
 ghost use Rattle.app_host.specs.Calls.{IsObject};
-ghost use Rattle.app_host.specs.Hosted.{Object, object, object_at, shown};
+ghost use Rattle.app_host.specs.Hosted.{Object, object_at, shown};
 ghost use Rattle.app_host.specs.Objects.{MayStartOn, HasStarted, MayRetire, HasRetired};
 ghost use Rattle.app_host.specs.Whole.{AreSeated, AreSpares};
 ghost use Rattle.app_host.specs.Ordered.{MayBegin, MayFollow, HasBegun, HasFollowed, HasWithdrawn, next_of};
@@ -26,7 +26,7 @@ pub(crate) enum Successor {
 
 /// What every object is.
 fn is_object(app: &Box<dyn App>)
-    ensures { IsObject (object state called held app.now).state (object state called held app.now).called }
+    ensures { IsObject (meaning app.now).state (meaning app.now).called }
 {
     app.name();
 }
@@ -37,9 +37,9 @@ fn withdraw_in(
     seat: Seat,
     services: &mut Services,
 ) -> Box<dyn App>
-    requires { IsSomeAnd (option_map (object state called held) place.old) (MayRetire seat services.old) }
+    requires { IsSomeAnd (option_map meaning place.old) (MayRetire seat services.old) }
     ensures gone { place.new ≡ None }
-    ensures left { IfSome (option_map (object state called held) place.old) (λ o. HasRetired seat services.old services.new o (object state called held result)) }
+    ensures left { IfSome (option_map meaning place.old) (λ o. HasRetired seat services.old services.new o (meaning result)) }
 {
     let mut app = place.take().unwrap();
     retire(&mut app, seat, services);
@@ -52,9 +52,9 @@ fn withdraw_at(
     seat: Seat,
     services: &mut Services,
 ) -> Box<dyn App>
-    requires { IsSomeAnd (object_at seat (map (option_map (object state called held)) seats.old)) (MayRetire seat services.old) }
-    ensures gone { map (option_map (object state called held)) seats.new ≡ slice_set (map (option_map (object state called held)) seats.old) seat None }
-    ensures left { IfSome (object_at seat (map (option_map (object state called held)) seats.old)) (λ o. HasRetired seat services.old services.new o (object state called held result)) }
+    requires { IsSomeAnd (object_at seat (map (option_map meaning) seats.old)) (MayRetire seat services.old) }
+    ensures gone { map (option_map meaning) seats.new ≡ slice_set (map (option_map meaning) seats.old) seat None }
+    ensures left { IfSome (object_at seat (map (option_map meaning) seats.old)) (λ o. HasRetired seat services.old services.new o (meaning result)) }
 {
     withdraw_in(&mut seats[seat.index()], seat, services)
 }
@@ -66,8 +66,8 @@ fn begin_in(
     services: &mut Services,
     app: Box<dyn App>,
 )
-    requires { MayStartOn seat services.old (object state called held app) }
-    ensures { IsSomeAnd (option_map (object state called held) place.new) (HasStarted seat services.old services.new (object state called held app)) }
+    requires { MayStartOn seat services.old (meaning app) }
+    ensures { IsSomeAnd (option_map meaning place.new) (HasStarted seat services.old services.new (meaning app)) }
 {
     let mut app = app;
     start(&mut app, seat, services);
@@ -81,9 +81,9 @@ fn begin_at(
     services: &mut Services,
     app: Box<dyn App>,
 )
-    requires { MayStartOn seat services.old (object state called held app) }
-    ensures started { IsSomeAnd (object_at seat (map (option_map (object state called held)) seats.new)) (HasStarted seat services.old services.new (object state called held app)) }
-    ensures others { map (option_map (object state called held)) seats.new ≡ slice_set (map (option_map (object state called held)) seats.old) seat (object_at seat (map (option_map (object state called held)) seats.new)) }
+    requires { MayStartOn seat services.old (meaning app) }
+    ensures started { IsSomeAnd (object_at seat (map (option_map meaning) seats.new)) (HasStarted seat services.old services.new (meaning app)) }
+    ensures others { map (option_map meaning) seats.new ≡ slice_set (map (option_map meaning) seats.old) seat (object_at seat (map (option_map meaning) seats.new)) }
 {
     begin_in(&mut seats[seat.index()], seat, services, app);
 }
@@ -91,10 +91,10 @@ fn begin_at(
 impl Host {
     /// The object of a seat gives it back. Condition: there is one.
     pub(crate) fn withdraw(&mut self, seat: Seat) -> Box<dyn App>
-        requires seated { AreSeated (shown state called held self.old).seats (shown state called held self.old).services }
+        requires seated { AreSeated (shown meaning self.old).seats (shown meaning self.old).services }
         requires idle { self.old.services.outgoing ≡ [] }
-        requires there { IsSome (object_at seat (shown state called held self.old).seats) }
-        ensures { HasWithdrawn seat (shown state called held self.old) (shown state called held self.new) (object state called held result) }
+        requires there { IsSome (object_at seat (shown meaning self.old).seats) }
+        ensures { HasWithdrawn seat (shown meaning self.old) (shown meaning self.new) (meaning result) }
     {
         table_services_go_by_names();
         self.services.tables.is_service();
@@ -105,10 +105,10 @@ impl Host {
 
     /// An object begins on a seat that is free. Conditions: it holds no seat, and no seat has its name.
     fn begin(&mut self, seat: Seat, app: Box<dyn App>)
-        requires seated { AreSeated (shown state called held self.old).seats (shown state called held self.old).services }
+        requires seated { AreSeated (shown meaning self.old).seats (shown meaning self.old).services }
         requires idle { self.old.services.outgoing ≡ [] }
-        requires may { MayBegin seat (shown state called held self.old) (object state called held app) }
-        ensures { HasBegun seat (object state called held app) (shown state called held self.old) (shown state called held self.new) }
+        requires may { MayBegin seat (shown meaning self.old) (meaning app) }
+        ensures { HasBegun seat (meaning app) (shown meaning self.old) (shown meaning self.new) }
     {
         table_services_go_by_names();
         is_object(&app);
@@ -119,11 +119,11 @@ impl Host {
 
     /// The next one takes its seat; a spare leaves the stock for it.
     pub(crate) fn bring_in(&mut self, next: Successor)
-        requires seated { AreSeated (shown state called held self.old).seats (shown state called held self.old).services }
-        requires spares { AreSpares (shown state called held self.old).stock }
+        requires seated { AreSeated (shown meaning self.old).seats (shown meaning self.old).services }
+        requires spares { AreSpares (shown meaning self.old).stock }
         requires idle { self.old.services.outgoing ≡ [] }
-        requires may { MayFollow (shown state called held self.old) (next_of state called held next) }
-        ensures { HasFollowed (next_of state called held next) (shown state called held self.old) (shown state called held self.new) }
+        requires may { MayFollow (shown meaning self.old) (next_of meaning next) }
+        ensures { HasFollowed (next_of meaning next) (shown meaning self.old) (shown meaning self.new) }
     {
         match next {
             Successor::Nobody => {}

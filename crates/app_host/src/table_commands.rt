@@ -103,12 +103,12 @@ impl Host {
         packet: &[u8],
         out: &mut W,
     ) -> Result<u64, WriteFault>
-        requires whole { IsWhole (shown state called held self.old) }
-        requires quiet { IsQuiet (shown state called held self.old) }
+        requires whole { IsWhole (shown meaning self.old) }
+        requires quiet { IsQuiet (shown meaning self.old) }
         requires none_yet { self.old.calls ≡ 0 }
         requires headers { 8 ≤ length packet.now }
-        ensures handled { ObeysTables packet.now (shown state called held self.old) (shown state called held self.new) (W.sink out.old) (W.sink out.new) result }
-        ensures own { Responds self.old.services.moment (obeying_tables packet.now (shown state called held self.old) (tables_by (table_command (function_code packet.now) (payload packet.now)) self.old.services.tables)) (shown state called held self.old) (shown state called held self.new) (W.sink out.old).gained (W.sink out.new).gained result }
+        ensures handled { ObeysTables packet.now (shown meaning self.old) (shown meaning self.new) (W.sink out.old) (W.sink out.new) result }
+        ensures own { Responds self.old.services.moment (obeying_tables packet.now (shown meaning self.old) (tables_by (table_command (function_code packet.now) (payload packet.now)) self.old.services.tables)) (shown meaning self.old) (shown meaning self.new) (W.sink out.old).gained (W.sink out.new).gained result }
     {
         table_services_go_by_names();
         table_commands_go_by_names();

@@ -13,12 +13,12 @@ use lc_model::{Seat, mids};
 
 /// The application starts on seat 0 of new services.
 pub fn begin<A: App>(app: &mut A, services: &mut Services)
-    requires spare { A.held app.old ≡ None }
+    requires spare { (A.meaning app.old).held ≡ None }
     requires bus { services.old.bus ≡ no_pipes }
     requires events { services.old.events ≡ first_events }
     requires tables { services.old.tables ≡ first_tables }
     requires idle { services.old.outgoing ≡ [] }
-    ensures { IsSomeAnd (A.held app.new) (λ seat. IsAtHome (A.state app.new) (A.called app.new) seat services.new) }
+    ensures { IsSomeAnd (A.meaning app.new).held (λ seat. IsAtHome (A.meaning app.new).state (A.meaning app.new).called seat services.new) }
 {
     objects_are_at_home();
     let _name = app.name();
@@ -27,8 +27,8 @@ pub fn begin<A: App>(app: &mut A, services: &mut Services)
 
 /// The application has a packet, and what it sends waits to be written. Bytes that are no packet, and ticks, are not given.
 pub fn give<A: App>(app: &mut A, services: &mut Services, packet: &[u8])
-    requires { IsSomeAnd (A.held app.old) (λ seat. IsAtHome (A.state app.old) (A.called app.old) seat services.old) }
-    ensures { IsSomeAnd (A.held app.new) (λ seat. IsAtHome (A.state app.new) (A.called app.new) seat services.new) }
+    requires { IsSomeAnd (A.meaning app.old).held (λ seat. IsAtHome (A.meaning app.old).state (A.meaning app.old).called seat services.old) }
+    ensures { IsSomeAnd (A.meaning app.new).held (λ seat. IsAtHome (A.meaning app.new).state (A.meaning app.new).called seat services.new) }
 {
     objects_are_at_home();
     services.outgoing.clear();
@@ -40,8 +40,8 @@ pub fn give<A: App>(app: &mut A, services: &mut Services, packet: &[u8])
 
 /// The application has the same packet so many times, and what it sends of the last waits to be written.
 pub fn give_often<A: App>(app: &mut A, services: &mut Services, packet: &[u8], times: u32)
-    requires { IsSomeAnd (A.held app.old) (λ seat. IsAtHome (A.state app.old) (A.called app.old) seat services.old) }
-    ensures { IsSomeAnd (A.held app.new) (λ seat. IsAtHome (A.state app.new) (A.called app.new) seat services.new) }
+    requires { IsSomeAnd (A.meaning app.old).held (λ seat. IsAtHome (A.meaning app.old).state (A.meaning app.old).called seat services.old) }
+    ensures { IsSomeAnd (A.meaning app.new).held (λ seat. IsAtHome (A.meaning app.new).state (A.meaning app.new).called seat services.new) }
 {
     for _ in 0..times {
         give(app, services, packet);
@@ -50,8 +50,8 @@ pub fn give_often<A: App>(app: &mut A, services: &mut Services, packet: &[u8], t
 
 /// The application retires.
 pub fn end<A: App>(app: &mut A, services: &mut Services)
-    requires { IsSomeAnd (A.held app.old) (λ seat. IsAtHome (A.state app.old) (A.called app.old) seat services.old) }
-    ensures { A.held app.new ≡ None }
+    requires { IsSomeAnd (A.meaning app.old).held (λ seat. IsAtHome (A.meaning app.old).state (A.meaning app.old).called seat services.old) }
+    ensures { (A.meaning app.new).held ≡ None }
 {
     services.outgoing.clear();
     app.retire(services);

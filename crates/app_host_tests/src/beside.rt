@@ -6,7 +6,7 @@ ghost use Rattle.lc_model.specs.Name.{counter_name};
 ghost use Rattle.lc_model.specs.Packet.{counter_mid};
 ghost use Rattle.lc_model.specs.Kept.Summary.{CounterState};
 ghost use Rattle.app_host.specs.Delivered.{executive_in};
-ghost use Rattle.app_host.specs.Hosted.{object, member_of, shown};
+ghost use Rattle.app_host.specs.Hosted.{member_of, shown};
 ghost use Rattle.app_host.specs.Step.{IsBetween};
 ghost use Rattle.app_host.specs.Party.{AreKnownHearers, IsKnownSpare};
 ghost use Rattle.app_host.specs.Whole.{AreKnown, AreSpares};
@@ -37,10 +37,10 @@ fn stock_of(
     counter: Box<dyn App>,
     other: Box<dyn App>,
 ) -> Result<Vec<Box<dyn App>>, AllocError>
-    requires counter { held counter ≡ None }
-    requires other { held other ≡ None }
-    ensures spares { IfOk result (λ stock. AreSpares (map (object state called held) stock.items)) }
-    ensures items { IfOk result (λ stock. map (object state called held) stock.items ≡ object state called held counter ∷ object state called held other ∷ []) }
+    requires counter { (meaning counter).held ≡ None }
+    requires other { (meaning other).held ≡ None }
+    ensures spares { IfOk result (λ stock. AreSpares (map meaning stock.items)) }
+    ensures items { IfOk result (λ stock. map meaning stock.items ≡ meaning counter ∷ meaning other ∷ []) }
 {
     let mut stock: Vec<Box<dyn App>> = Vec::new(alloc);
     stock.push(counter)?;
@@ -51,11 +51,11 @@ fn stock_of(
 /// The host gives a command to the counter. What is written is what that calls for in the host in numbers, whatever other
 /// applications are on its seats. Condition: those that hear the command are of this profile.
 pub fn counts_among<W: ByteSink>(host: &mut Host, out: &mut W) -> Result<(), WriteFault>
-    requires between { IsBetween (shown (λ b. (⟦<dyn App as App>⟧ b.vtable).state b.value) (λ b. (⟦<dyn App as App>⟧ b.vtable).called b.value) (λ b. (⟦<dyn App as App>⟧ b.vtable).held b.value) host.old) }
-    requires open { (shown (λ b. (⟦<dyn App as App>⟧ b.vtable).state b.value) (λ b. (⟦<dyn App as App>⟧ b.vtable).called b.value) (λ b. (⟦<dyn App as App>⟧ b.vtable).held b.value) host.old).is_closed ≡ false }
-    requires hearers { AreKnownHearers (shown (λ b. (⟦<dyn App as App>⟧ b.vtable).state b.value) (λ b. (⟦<dyn App as App>⟧ b.vtable).called b.value) (λ b. (⟦<dyn App as App>⟧ b.vtable).held b.value) host.old) counter_mid }
-    ensures between { IsBetween (shown (λ b. (⟦<dyn App as App>⟧ b.vtable).state b.value) (λ b. (⟦<dyn App as App>⟧ b.vtable).called b.value) (λ b. (⟦<dyn App as App>⟧ b.vtable).held b.value) host.new) }
-    ensures written { OnOk result (Appends (W.sink out.old).gained (W.sink out.new).gained (counted_from (executive_in (shown (λ b. (⟦<dyn App as App>⟧ b.vtable).state b.value) (λ b. (⟦<dyn App as App>⟧ b.vtable).called b.value) (λ b. (⟦<dyn App as App>⟧ b.vtable).held b.value) host.old)))) }
+    requires between { IsBetween (shown (λ b. (⟦<dyn App as App>⟧ b.vtable).meaning b.value) host.old) }
+    requires open { (shown (λ b. (⟦<dyn App as App>⟧ b.vtable).meaning b.value) host.old).is_closed ≡ false }
+    requires hearers { AreKnownHearers (shown (λ b. (⟦<dyn App as App>⟧ b.vtable).meaning b.value) host.old) counter_mid }
+    ensures between { IsBetween (shown (λ b. (⟦<dyn App as App>⟧ b.vtable).meaning b.value) host.new) }
+    ensures written { OnOk result (Appends (W.sink out.old).gained (W.sink out.new).gained (counted_from (executive_in (shown (λ b. (⟦<dyn App as App>⟧ b.vtable).meaning b.value) host.old)))) }
 {
     let count = Record {
         moment: NOW,
@@ -67,12 +67,12 @@ pub fn counts_among<W: ByteSink>(host: &mut Host, out: &mut W) -> Result<(), Wri
 /// The host starts the counter and gives it a command. What is written is what both records call for in the host in numbers.
 /// Conditions: the objects on the seats are of this profile, and so is the first spare that goes by the counter's name.
 fn count<W: ByteSink>(host: &mut Host, out: &mut W) -> Result<(), WriteFault>
-    requires between { IsBetween (shown (λ b. (⟦<dyn App as App>⟧ b.vtable).state b.value) (λ b. (⟦<dyn App as App>⟧ b.vtable).called b.value) (λ b. (⟦<dyn App as App>⟧ b.vtable).held b.value) host.old) }
-    requires open { (shown (λ b. (⟦<dyn App as App>⟧ b.vtable).state b.value) (λ b. (⟦<dyn App as App>⟧ b.vtable).called b.value) (λ b. (⟦<dyn App as App>⟧ b.vtable).held b.value) host.old).is_closed ≡ false }
-    requires known { AreKnown (shown (λ b. (⟦<dyn App as App>⟧ b.vtable).state b.value) (λ b. (⟦<dyn App as App>⟧ b.vtable).called b.value) (λ b. (⟦<dyn App as App>⟧ b.vtable).held b.value) host.old) }
-    requires spare { IsKnownSpare (Some counter_name) (shown (λ b. (⟦<dyn App as App>⟧ b.vtable).state b.value) (λ b. (⟦<dyn App as App>⟧ b.vtable).called b.value) (λ b. (⟦<dyn App as App>⟧ b.vtable).held b.value) host.old).stock }
-    ensures between { IsBetween (shown (λ b. (⟦<dyn App as App>⟧ b.vtable).state b.value) (λ b. (⟦<dyn App as App>⟧ b.vtable).called b.value) (λ b. (⟦<dyn App as App>⟧ b.vtable).held b.value) host.new) }
-    ensures written { OnOk result (Appends (W.sink out.old).gained (W.sink out.new).gained (written_from (executive_in (shown (λ b. (⟦<dyn App as App>⟧ b.vtable).state b.value) (λ b. (⟦<dyn App as App>⟧ b.vtable).called b.value) (λ b. (⟦<dyn App as App>⟧ b.vtable).held b.value) host.old)))) }
+    requires between { IsBetween (shown (λ b. (⟦<dyn App as App>⟧ b.vtable).meaning b.value) host.old) }
+    requires open { (shown (λ b. (⟦<dyn App as App>⟧ b.vtable).meaning b.value) host.old).is_closed ≡ false }
+    requires known { AreKnown (shown (λ b. (⟦<dyn App as App>⟧ b.vtable).meaning b.value) host.old) }
+    requires spare { IsKnownSpare (Some counter_name) (shown (λ b. (⟦<dyn App as App>⟧ b.vtable).meaning b.value) host.old).stock }
+    ensures between { IsBetween (shown (λ b. (⟦<dyn App as App>⟧ b.vtable).meaning b.value) host.new) }
+    ensures written { OnOk result (Appends (W.sink out.old).gained (W.sink out.new).gained (written_from (executive_in (shown (λ b. (⟦<dyn App as App>⟧ b.vtable).meaning b.value) host.old)))) }
 {
     let start = Record {
         moment: NOW,
@@ -91,11 +91,11 @@ pub fn counts_beside<W: ByteSink>(
     other: Box<dyn App>,
     out: &mut W,
 ) -> Result<Result<(), WriteFault>, AllocError>
-    requires named { called counter ≡ counter_name }
-    requires counts { state counter ≡ CounterState 0 }
-    requires counter { held counter ≡ None }
-    requires other { held other ≡ None }
-    ensures { IfOk result (λ answer. OnOk answer (Appends (W.sink out.old).gained (W.sink out.new).gained (written_beside (member_of (object state called held other))))) }
+    requires named { (meaning counter).called ≡ counter_name }
+    requires counts { (meaning counter).state ≡ CounterState 0 }
+    requires counter { (meaning counter).held ≡ None }
+    requires other { (meaning other).held ≡ None }
+    ensures { IfOk result (λ answer. OnOk answer (Appends (W.sink out.old).gained (W.sink out.new).gained (written_beside (member_of (meaning other))))) }
 {
     let stock = stock_of(alloc, counter, other)?;
     match Host::new(alloc, stock) {

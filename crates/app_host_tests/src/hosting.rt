@@ -1,7 +1,7 @@
 //! A host of the tests and its records.
 
 ghost use Rattle.std.specs.Prelude.{◌≡◌, map, IfOk};
-ghost use Rattle.app_host.specs.Hosted.{object, shown};
+ghost use Rattle.app_host.specs.Hosted.{shown};
 ghost use Rattle.app_host.specs.Whole.{AreSpares};
 ghost use Rattle.app_host.specs.Step.{IsNamed, IsBetween};
 
@@ -20,24 +20,24 @@ pub fn begin(
     alloc: Global,
     stock: Vec<Box<dyn App>>,
 ) -> Result<Host, (HostError, Vec<Box<dyn App>>)>
-    requires { AreSpares (map (object state called held) stock.items) }
-    ensures { IfOk result (λ host. IsBetween (shown state called held host)) }
+    requires { AreSpares (map meaning stock.items) }
+    ensures { IfOk result (λ host. IsBetween (shown meaning host)) }
 {
     Host::new(alloc, stock)
 }
 
 /// The host handles a record. Condition: a file's name has at most 40 bytes.
 pub fn step<W: ByteSink>(host: &mut Host, body: Body<'_>, out: &mut W) -> Result<(), WriteFault>
-    requires between { IsBetween (shown (λ b. (⟦<dyn App as App>⟧ b.vtable).state b.value) (λ b. (⟦<dyn App as App>⟧ b.vtable).called b.value) (λ b. (⟦<dyn App as App>⟧ b.vtable).held b.value) host.old) }
+    requires between { IsBetween (shown (λ b. (⟦<dyn App as App>⟧ b.vtable).meaning b.value) host.old) }
     requires named { IsNamed body }
-    ensures between { IsBetween (shown (λ b. (⟦<dyn App as App>⟧ b.vtable).state b.value) (λ b. (⟦<dyn App as App>⟧ b.vtable).called b.value) (λ b. (⟦<dyn App as App>⟧ b.vtable).held b.value) host.new) }
+    ensures between { IsBetween (shown (λ b. (⟦<dyn App as App>⟧ b.vtable).meaning b.value) host.new) }
 {
     host.step(&Record { moment: NOW, body }, out)
 }
 
 /// All that run retire, and all objects are dropped.
 pub fn end(host: Host)
-    requires { IsBetween (shown (λ b. (⟦<dyn App as App>⟧ b.vtable).state b.value) (λ b. (⟦<dyn App as App>⟧ b.vtable).called b.value) (λ b. (⟦<dyn App as App>⟧ b.vtable).held b.value) host) }
+    requires { IsBetween (shown (λ b. (⟦<dyn App as App>⟧ b.vtable).meaning b.value) host) }
 {
     host.close();
 }

@@ -64,11 +64,7 @@ impl Named {
 impl App for Named {
     ghost use Rattle.lc_model.specs.Kept.Summary.{Other};
 
-    ghost state = { λ n. Other };
-
-    ghost called = { λ n. n.name };
-
-    ghost held = { λ n. n.seat };
+    ghost meaning = { λ n. record { called = n.name; state = Other; held = n.seat } };
 
     fn name(&self) -> &[u8] {
         &self.name

@@ -1,7 +1,7 @@
 //! A host plays a script.
 
 ghost use Rattle.std.specs.Prelude.{◌≡◌, map, OnOk, None};
-ghost use Rattle.app_host.specs.Hosted.{object, shown};
+ghost use Rattle.app_host.specs.Hosted.{shown};
 ghost use Rattle.app_host.specs.Whole.{AreSpares};
 ghost use Rattle.app_host.specs.Step.{IsBetween};
 
@@ -26,8 +26,8 @@ fn give<W: ByteSink>(
     given: Given<'_>,
     out: &mut W,
 ) -> Result<Result<(), WriteFault>, AllocError>
-    requires { IsBetween (shown (λ b. (⟦<dyn App as App>⟧ b.vtable).state b.value) (λ b. (⟦<dyn App as App>⟧ b.vtable).called b.value) (λ b. (⟦<dyn App as App>⟧ b.vtable).held b.value) host.old) }
-    ensures { IsBetween (shown (λ b. (⟦<dyn App as App>⟧ b.vtable).state b.value) (λ b. (⟦<dyn App as App>⟧ b.vtable).called b.value) (λ b. (⟦<dyn App as App>⟧ b.vtable).held b.value) host.new) }
+    requires { IsBetween (shown (λ b. (⟦<dyn App as App>⟧ b.vtable).meaning b.value) host.old) }
+    ensures { IsBetween (shown (λ b. (⟦<dyn App as App>⟧ b.vtable).meaning b.value) host.new) }
 {
     match given {
         Given::Tick => Ok(step(host, Body::Tick, out)),
@@ -60,8 +60,8 @@ fn has_failed(answer: Result<(), WriteFault>, sent: u64) -> bool {
 
 /// Whether a record leads to what its line says.
 fn leads_to(alloc: Global, host: &mut Host, line: Line<'_>) -> Result<bool, AllocError>
-    requires { IsBetween (shown (λ b. (⟦<dyn App as App>⟧ b.vtable).state b.value) (λ b. (⟦<dyn App as App>⟧ b.vtable).called b.value) (λ b. (⟦<dyn App as App>⟧ b.vtable).held b.value) host.old) }
-    ensures { IsBetween (shown (λ b. (⟦<dyn App as App>⟧ b.vtable).state b.value) (λ b. (⟦<dyn App as App>⟧ b.vtable).called b.value) (λ b. (⟦<dyn App as App>⟧ b.vtable).held b.value) host.new) }
+    requires { IsBetween (shown (λ b. (⟦<dyn App as App>⟧ b.vtable).meaning b.value) host.old) }
+    ensures { IsBetween (shown (λ b. (⟦<dyn App as App>⟧ b.vtable).meaning b.value) host.new) }
 {
     match line {
         Line::Step(given, expected) => {
@@ -102,8 +102,8 @@ fn follow(
     tally: &Tally,
     script: &[Line<'_>],
 ) -> Result<Option<usize>, AllocError>
-    requires { IsBetween (shown (λ b. (⟦<dyn App as App>⟧ b.vtable).state b.value) (λ b. (⟦<dyn App as App>⟧ b.vtable).called b.value) (λ b. (⟦<dyn App as App>⟧ b.vtable).held b.value) host.old) }
-    ensures { IsBetween (shown (λ b. (⟦<dyn App as App>⟧ b.vtable).state b.value) (λ b. (⟦<dyn App as App>⟧ b.vtable).called b.value) (λ b. (⟦<dyn App as App>⟧ b.vtable).held b.value) host.new) }
+    requires { IsBetween (shown (λ b. (⟦<dyn App as App>⟧ b.vtable).meaning b.value) host.old) }
+    ensures { IsBetween (shown (λ b. (⟦<dyn App as App>⟧ b.vtable).meaning b.value) host.new) }
 {
     for (number, line) in script.iter().enumerate() {
         if !leads_to(alloc, host, *line)? || !holds(host, tally, *line) {
@@ -115,9 +115,9 @@ fn follow(
 
 /// One spare more. Condition: it holds no seat.
 fn add(stock: &mut Vec<Box<dyn App>>, app: Box<dyn App>) -> Result<(), AllocError>
-    requires spares { AreSpares (map (object state called held) stock.old.items) }
-    requires spare { held app ≡ None }
-    ensures { OnOk result (AreSpares (map (object state called held) stock.new.items)) }
+    requires spares { AreSpares (map meaning stock.old.items) }
+    requires spare { (meaning app).held ≡ None }
+    ensures { OnOk result (AreSpares (map meaning stock.new.items)) }
 {
     stock.push(app)?;
     Ok(())
@@ -141,7 +141,7 @@ fn perform(
     watched: u32,
     script: &[Line<'_>],
 ) -> Result<Option<usize>, AllocError>
-    requires { AreSpares (map (object state called held) stock.items) }
+    requires { AreSpares (map meaning stock.items) }
 {
     let spares = stock.len();
     let mut host = match begin(alloc, stock) {

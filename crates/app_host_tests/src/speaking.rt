@@ -32,11 +32,7 @@ impl Speaking {
 impl App for Speaking {
     ghost use Rattle.lc_model.specs.Kept.Summary.{Other};
 
-    ghost state = { λ s. Other };
-
-    ghost called = { λ s. s.name };
-
-    ghost held = { λ s. s.seat };
+    ghost meaning = { λ s. record { called = s.name; state = Other; held = s.seat } };
 
     fn name(&self) -> &[u8] {
         &self.name

@@ -22,11 +22,7 @@ impl<A: App> Tracked<A> {
 }
 
 impl<A: App> App for Tracked<A> {
-    ghost state = { λ t. A.state t.app };
-
-    ghost called = { λ t. A.called t.app };
-
-    ghost held = { λ t. A.held t.app };
+    ghost meaning = { λ t. A.meaning t.app };
 
     fn name(&self) -> &[u8] {
         self.app.name()

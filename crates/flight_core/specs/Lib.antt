@@ -16,3 +16,4 @@ pub mod Run
 pub mod Failures
 pub mod Fitting
 pub mod Asides
+pub mod Promises

@@ -42,11 +42,7 @@ impl App for Counter {
     ghost use Rattle.lc_model.specs.Name.{counter_name};
     ghost use Rattle.lc_model.specs.Kept.Summary.{CounterState};
 
-    ghost state = { λ c. CounterState c.count };
-
-    ghost called = { λ c. counter_name };
-
-    ghost held = { λ c. c.seat };
+    ghost meaning = { λ c. record { called = counter_name; state = CounterState c.count; held = c.seat } };
 
     fn name(&self) -> &[u8] {
         NAME

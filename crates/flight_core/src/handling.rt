@@ -22,10 +22,12 @@ pub(crate) fn handle_next<W: ByteSink>(
 ) -> Result<Option<u64>, Halt>
     requires texts { records.old.texts ≡ length pairs.now }
     requires files { AreWhole pairs.now }
-    requires between { IsBetween (shown (λ b. (⟦<dyn App as App>⟧ b.vtable).state b.value) (λ b. (⟦<dyn App as App>⟧ b.vtable).called b.value) (λ b. (⟦<dyn App as App>⟧ b.vtable).held b.value) host.old) }
-    requires open { (shown (λ b. (⟦<dyn App as App>⟧ b.vtable).state b.value) (λ b. (⟦<dyn App as App>⟧ b.vtable).called b.value) (λ b. (⟦<dyn App as App>⟧ b.vtable).held b.value) host.old).is_closed ≡ false }
-    ensures next { HandlesNext (meanings_of pairs.now) records.old records.new (shown (λ b. (⟦<dyn App as App>⟧ b.vtable).state b.value) (λ b. (⟦<dyn App as App>⟧ b.vtable).called b.value) (λ b. (⟦<dyn App as App>⟧ b.vtable).held b.value) host.old) (shown (λ b. (⟦<dyn App as App>⟧ b.vtable).state b.value) (λ b. (⟦<dyn App as App>⟧ b.vtable).called b.value) (λ b. (⟦<dyn App as App>⟧ b.vtable).held b.value) host.new) (W.sink writer.old) (W.sink writer.new) result }
-    ensures between { IsBetween (shown (λ b. (⟦<dyn App as App>⟧ b.vtable).state b.value) (λ b. (⟦<dyn App as App>⟧ b.vtable).called b.value) (λ b. (⟦<dyn App as App>⟧ b.vtable).held b.value) host.new) }
+    requires between { let seen = shown (λ b. (⟦<dyn App as App>⟧ b.vtable).meaning b.value) in IsBetween (seen host.old) }
+    requires open { let seen = shown (λ b. (⟦<dyn App as App>⟧ b.vtable).meaning b.value) in (seen host.old).is_closed ≡ false }
+    ensures next { let seen = shown (λ b. (⟦<dyn App as App>⟧ b.vtable).meaning b.value) in
+        HandlesNext (meanings_of pairs.now) records.old records.new (seen host.old) (seen host.new)
+        (W.sink writer.old) (W.sink writer.new) result }
+    ensures between { let seen = shown (λ b. (⟦<dyn App as App>⟧ b.vtable).meaning b.value) in IsBetween (seen host.new) }
 {
     match records.next() {
         None => Ok(None),

@@ -2,7 +2,11 @@
 //! program takes.
 
 ghost use Rattle.flight_core.specs.Cutting.{Begins, Comes, EndsBadly, EndsCut, EndsWhole, EveryCutting, Goes};
+ghost use Rattle.flight_core.specs.Promises.{RunsKeepTheirPromises};
 ghost use Rattle.flight_core.specs.Words.{GiveAPlan, compile_words, words_lacking_a_file, run_words, run_words_otherwise};
+
+use lc_model::laws::isolation::asides_do_not_count;
+use lc_model::laws::runs::runs_write_what_is_called_for;
 
 /// Bytes come and records are handed out, one after the other: whatever follows, the records of it all are those handed out,
 /// and then those of what is held and what follows.
@@ -32,3 +36,11 @@ pub fn words_give_plans()
     ensures run_words_otherwise { GiveAPlan run_words_otherwise }
     ensures words_lacking_a_file { GiveAPlan words_lacking_a_file → ⊥ }
 {}
+
+/// All that a run of this profile's applications promises follows from how it ends.
+pub fn runs_keep_their_promises()
+    ensures { RunsKeepTheirPromises }
+{
+    runs_write_what_is_called_for();
+    asides_do_not_count();
+}

@@ -1,14 +1,17 @@
 -- A stock that was filled spare by spare has these names, and what is promised of it is promised of them.
 use Rattle.std.proofs.Common.{◌≡◌, refl, ◌∙◌, ap, subst, List, [], ◌∷◌, ◌++◌, map}
 use Rattle.std.specs.Borrow.{Bor}
-use Rattle.std.specs.Prelude.{ℕ}
+use Rattle.std.specs.Prelude.{ℕ, Result, ⊤}
 use Rattle.lc_model.specs.Name.{Name}
-use Rattle.lc_model.specs.Host.Outcome.{Devices, Ending}
-use Rattle.lc_model.specs.Host.Promise.{Mission, IsRun, WritesWhatIsCalledFor}
+use Rattle.lc_model.specs.Host.Outcome.{Devices}
+use Rattle.lc_model.specs.Host.Promise.{Mission}
 use Rattle.lc_model.specs.Host.Schedule.{Schedule}
 use Rattle.lc_model.specs.Kept.Executive.{Member}
 use Rattle.app_host.specs.Hosted.{Object}
+use Rattle.flight_core.specs.declared.error.Report.{Report}
+use Rattle.flight_core.specs.declared.error.RunError.{RunError}
 use Rattle.flight_core.specs.Compiled.{edition, sources_of}
+use Rattle.flight_core.specs.Promises.{Promises}
 use Rattle.flight_core.specs.Run.{members_of}
 use Rattle.flight_stock.specs.Stock.{names_of, own_names, own_mission, most_reads}
 
@@ -32,11 +35,9 @@ eight f l₀ l₁ l₂ l₃ l₄ l₅ l₆ l₇ l₈ a b c d e f' g h e₀ e₁ 
 abbrev mission_with : List (Bor (List ℕ)) → Schedule → List Name → Mission
 mission_with texts schedule stock = record { edition = edition; sources = sources_of texts; schedule = schedule; stock = stock; most_reads = most_reads }
 
-pub is_own_run : (texts : List (Bor (List ℕ))) (schedule : Schedule) (stock : List Name) (d : Devices) (ending : Ending) → stock ≡ own_names →
-    IsRun (record { edition = edition; sources = sources_of texts; schedule = schedule; stock = stock; most_reads = most_reads }) d ending → IsRun (own_mission texts schedule) d ending
-is_own_run texts schedule stock d ending same run = subst (λ names. IsRun (mission_with texts schedule names) d ending) same run
-
-pub writes_own : (texts : List (Bor (List ℕ))) (schedule : Schedule) (stock : List Name) (d : Devices) (ending : Ending) → stock ≡ own_names →
-    WritesWhatIsCalledFor (record { edition = edition; sources = sources_of texts; schedule = schedule; stock = stock; most_reads = most_reads }) d ending →
-    WritesWhatIsCalledFor (own_mission texts schedule) d ending
-writes_own texts schedule stock d ending same writes = subst (λ names. WritesWhatIsCalledFor (mission_with texts schedule names) d ending) same writes
+-- a run of this profile's stock with these names promises all that one of its own does
+pub keeps : {OfProfile : Type 0} → OfProfile → (texts : List (Bor (List ℕ))) (schedule : Schedule) (stock : List Name) (d : Devices) (result : Result Report RunError) →
+    stock ≡ own_names → Promises OfProfile (mission_with texts schedule stock) d result → Promises ⊤ (own_mission texts schedule) d result
+keeps {OfProfile} is texts schedule stock d result same promises =
+    let own = subst (λ names. Promises OfProfile (mission_with texts schedule names) d result) same promises in
+    record { profile = λ nothing. own.profile is; refuses = own.refuses; named = own.named; bounded = own.bounded }

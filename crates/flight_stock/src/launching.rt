@@ -1,14 +1,13 @@
 //! A run with this profile's applications in stock.
 
-ghost use Rattle.std.specs.Prelude.{◌≡◌, ◌≤◌, false, IfErr, IfOk, OnErr};
+ghost use Rattle.std.specs.Prelude.{◌≡◌, false, ⊤, IfOk, OnErr};
 ghost use Rattle.lc_model.specs.Host.Outcome.{devices};
-ghost use Rattle.lc_model.specs.Host.Promise.{IsRun, WritesWhatIsCalledFor};
-ghost use Rattle.flight_core.specs.Compiled.{NamesTheNumber, sources_of};
-ghost use Rattle.flight_core.specs.Ending.{ending_of};
-ghost use Rattle.flight_stock.specs.Stock.{most_reads, own_mission};
+ghost use Rattle.flight_core.specs.Promises.{Promises};
+ghost use Rattle.flight_stock.specs.Stock.{own_mission};
 
 use crate::stock::add;
 use app_host::App;
+use flight_core::laws::runs_keep_their_promises;
 use flight_core::{Counter, Report, RunError, run};
 use lc_model::{ByteSink, ByteSource};
 use limit_checker::LimitChecker;
@@ -26,10 +25,10 @@ fn fly<R: ByteSource, W: ByteSink>(
     requires unread { (R.source reader.old).reads ≡ 0 }
     requires readable { (R.source reader.old).failed ≡ false }
     requires writable { (W.sink writer.old).failed ≡ false }
-    ensures run { IfOk result (λ answer. IsRun (own_mission texts.now schedule.now) (devices (R.source reader.old) (R.source reader.new) (W.sink writer.old) (W.sink writer.new)) (ending_of answer)) }
-    ensures by_texts { IfOk result (λ answer. WritesWhatIsCalledFor (own_mission texts.now schedule.now) (devices (R.source reader.old) (R.source reader.new) (W.sink writer.old) (W.sink writer.new)) (ending_of answer)) }
-    ensures named { IfOk result (λ answer. IfErr answer (NamesTheNumber (sources_of texts.now))) }
-    ensures bounded { IfOk result (λ answer. (R.source reader.new).reads ≤ most_reads) }
+    ensures promises { IfOk result (λ answer.
+        let before_and_after = devices (R.source reader.old) (R.source reader.new)
+        (W.sink writer.old) (W.sink writer.new) in
+        Promises ⊤ (own_mission texts.now schedule.now) before_and_after answer) }
     ensures unread { OnErr result (R.source reader.new ≡ R.source reader.old) }
     ensures unwritten { OnErr result (W.sink writer.new ≡ W.sink writer.old) }
 {
@@ -70,18 +69,12 @@ pub fn launch<R: ByteSource, W: ByteSink>(
     requires readable { (R.source reader.old).failed ≡ false }
     requires writable { (W.sink writer.old).failed ≡ false }
 
-    // How the run ends and what it leaves, for all texts and every stream, whatever fails.
-    ensures run { IsRun (own_mission texts.now schedule.now) (devices (R.source reader.old) (R.source reader.new) (W.sink writer.old) (W.sink writer.new)) (ending_of result) }
-
-    // Where nothing fails: exactly the packets, byte for byte and in order, that the rule texts in force call for.
-    ensures by_texts { WritesWhatIsCalledFor (own_mission texts.now schedule.now) (devices (R.source reader.old) (R.source reader.new) (W.sink writer.old) (W.sink writer.new)) (ending_of result) }
-
-    // Of a number of a refused text that is out of its range: which one it is.
-    ensures named { IfErr result (NamesTheNumber (sources_of texts.now)) }
-
-    // However it ends: at most 2^32 reads were made.
-    ensures bounded { (R.source reader.new).reads ≤ most_reads }
+    // All that a run of this stock promises: the fields of `Promises` and of `PromisesOfProfile`.
+    ensures promises { let before_and_after = devices (R.source reader.old) (R.source reader.new)
+        (W.sink writer.old) (W.sink writer.new) in
+        Promises ⊤ (own_mission texts.now schedule.now) before_and_after result }
 {
+    runs_keep_their_promises();
     match fly(alloc, texts, schedule, reader, writer) {
         Ok(answer) => answer,
         Err(_) => Err(RunError::Memory),

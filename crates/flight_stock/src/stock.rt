@@ -4,7 +4,7 @@ ghost use Rattle.std.specs.Prelude.{◌≡◌, ◌++◌, ◌∷◌, [], map, Non
 ghost use Rattle.lc_model.specs.Tables.HalvesAndBytes.{as_bytes};
 ghost use Rattle.lc_model.specs.Tables.InForce.{layouts};
 ghost use Rattle.host_laws.specs.Keeping.{IsSpare};
-ghost use Rattle.app_host.specs.Hosted.{object, member_of};
+ghost use Rattle.app_host.specs.Hosted.{member_of};
 ghost use Rattle.app_host.specs.Whole.{AreSpares};
 ghost use Rattle.flight_core.specs.Run.{IsOfProfile};
 ghost use Rattle.flight_stock.specs.Stock.{names_of};
@@ -21,14 +21,14 @@ pub fn add(
     name: &[u8],
     app: Box<dyn App>,
 ) -> Result<(), AllocError>
-    requires spares { AreSpares (map (object state called held) stock.old.items) }
-    requires profile { IsOfProfile schedule.now (map (object state called held) stock.old.items) }
-    requires free { held app ≡ None }
-    requires named { called app ≡ name.now }
-    requires kind { IsSpare (as_bytes layouts) schedule.now (member_of (object state called held app)) }
-    ensures spares { OnOk result (AreSpares (map (object state called held) stock.new.items)) }
-    ensures profile { OnOk result (IsOfProfile schedule.now (map (object state called held) stock.new.items)) }
-    ensures names { OnOk result (names_of (map (object state called held) stock.new.items) ≡ names_of (map (object state called held) stock.old.items) ++ name.now ∷ []) }
+    requires spares { AreSpares (map meaning stock.old.items) }
+    requires profile { IsOfProfile schedule.now (map meaning stock.old.items) }
+    requires free { (meaning app).held ≡ None }
+    requires named { (meaning app).called ≡ name.now }
+    requires kind { IsSpare (as_bytes layouts) schedule.now (member_of (meaning app)) }
+    ensures spares { OnOk result (AreSpares (map meaning stock.new.items)) }
+    ensures profile { OnOk result (IsOfProfile schedule.now (map meaning stock.new.items)) }
+    ensures names { OnOk result (names_of (map meaning stock.new.items) ≡ names_of (map meaning stock.old.items) ++ name.now ∷ []) }
 {
     stock.push(app)?;
     Ok(())

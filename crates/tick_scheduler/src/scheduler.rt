@@ -90,11 +90,7 @@ impl App for Scheduler {
     ghost use Rattle.lc_model.specs.Name.{sch_name};
     ghost use Rattle.lc_model.specs.Kept.Summary.{SchState};
 
-    ghost state = { λ s. SchState s.schedule s.slot };
-
-    ghost called = { λ s. sch_name };
-
-    ghost held = { λ s. s.seat };
+    ghost meaning = { λ s. record { called = sch_name; state = SchState s.schedule s.slot; held = s.seat } };
 
     fn name(&self) -> &[u8] {
         self.has_schedule();

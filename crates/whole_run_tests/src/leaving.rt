@@ -32,11 +32,7 @@ impl Watched {
 }
 
 impl App for Watched {
-    ghost state = { λ w. ⟦<Counter as App>⟧.state w.counter };
-
-    ghost called = { λ w. ⟦<Counter as App>⟧.called w.counter };
-
-    ghost held = { λ w. ⟦<Counter as App>⟧.held w.counter };
+    ghost meaning = { λ w. ⟦<Counter as App>⟧.meaning w.counter };
 
     fn name(&self) -> &[u8] {
         self.counter.name()

@@ -1,10 +1,10 @@
 use Rattle.std.proofs.Common.{◌≡◌, map, take, count_by}
 use Rattle.lc_model.specs.Kept.Executive.{is_called}
-use Rattle.app_host.specs.Hosted.{object, member_of}
+use Rattle.app_host.specs.Hosted.{member_of}
 use Rattle.app_host.proofs.objects.spares_of.Given as goal
 
 -- those of the objects so far are counted
 abbrev pub invariant-loop-app : goal.invariant-loop-app
 invariant-loop-app g l =
     l.count
-    ≡ count_by (λ o. is_called l.name (member_of o)) (take l.app-index (map (object (λ b. (goal.App-dyn g (b.vtable, b.value)).state b.value) (λ b. (goal.App-dyn g (b.vtable, b.value)).called b.value) (λ b. (goal.App-dyn g (b.vtable, b.value)).held b.value)) l.stock))
+    ≡ count_by (λ o. is_called l.name (member_of o)) (take l.app-index (map (λ b. (goal.App-dyn g (b.vtable, b.value)).meaning b.value) l.stock))

@@ -7,7 +7,7 @@ use Rattle.app_host.proofs.host.Host.close.Given as goal
 abbrev pub invariant-loop-index : goal.invariant-loop-index
 invariant-loop-index g l = record {
   seated : AreSeated
-      (shown (λ b. (goal.App-dyn g (b.vtable, b.value)).state b.value) (λ b. (goal.App-dyn g (b.vtable, b.value)).called b.value) (λ b. (goal.App-dyn g (b.vtable, b.value)).held b.value) l.self).seats
+      (shown (λ b. (goal.App-dyn g (b.vtable, b.value)).meaning b.value) l.self).seats
       l.self.services;
   idle : l.self.services.outgoing ≡ [];
 }

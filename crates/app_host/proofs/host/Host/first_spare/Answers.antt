@@ -1,4 +1,3 @@
-use Rattle.app_host.specs.Hosted.{object}
 use Rattle.app_host.proofs.Searched.{spare_is}
 use Rattle.std.proofs.Common.{◌∙◌, map}
 use Rattle.app_host.proofs.Rosters.{spare_by_name}
@@ -7,13 +6,13 @@ use Rattle.app_host.proofs.host.Host.first_spare.Goals as goal
 pub returns-clause-kept : goal.returns-clause-kept
 returns-clause-kept g c =
     spare_is
-    (object (λ b. (goal.App-dyn g (b.vtable, b.value)).state b.value) (λ b. (goal.App-dyn g (b.vtable, b.value)).called b.value) (λ b. (goal.App-dyn g (b.vtable, b.value)).held b.value))
+    (λ b. (goal.App-dyn g (b.vtable, b.value)).meaning b.value)
     c.args.name.now c.args.self.now.stock.items _ _ c.as_slice.ensures.value c.spare_of.ensures.first
 
 pub returns-clause-own : goal.returns-clause-own
 returns-clause-own g c =
     (
     spare_is
-    (object (λ b. (goal.App-dyn g (b.vtable, b.value)).state b.value) (λ b. (goal.App-dyn g (b.vtable, b.value)).called b.value) (λ b. (goal.App-dyn g (b.vtable, b.value)).held b.value))
+    (λ b. (goal.App-dyn g (b.vtable, b.value)).meaning b.value)
     c.args.name.now c.args.self.now.stock.items _ _ c.as_slice.ensures.value c.spare_of.ensures.first
-    ) ∙ spare_by_name c.args.name.now (map (object (λ b. (goal.App-dyn g (b.vtable, b.value)).state b.value) (λ b. (goal.App-dyn g (b.vtable, b.value)).called b.value) (λ b. (goal.App-dyn g (b.vtable, b.value)).held b.value)) c.args.self.now.stock.items)
+    ) ∙ spare_by_name c.args.name.now (map (λ b. (goal.App-dyn g (b.vtable, b.value)).meaning b.value) c.args.self.now.stock.items)

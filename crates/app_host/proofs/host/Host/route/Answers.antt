@@ -18,7 +18,7 @@ returns-in-6150-clause-handled g c =
 
 pub returns-in-6145-clause-own : goal.returns-in-6145-clause-own
 returns-in-6145-clause-own g c =
-    routed_events _ (shown (λ b. (goal.App-dyn g (b.vtable, b.value)).state b.value) (λ b. (goal.App-dyn g (b.vtable, b.value)).called b.value) (λ b. (goal.App-dyn g (b.vtable, b.value)).held b.value) c.args.self.now) _ _ _ c.obey_events.result c.args.packet.now (sym c.message_id.ensures ∙ c.in-6145.is) c.obey_events.ensures.own
+    routed_events _ (shown (λ b. (goal.App-dyn g (b.vtable, b.value)).meaning b.value) c.args.self.now) _ _ _ c.obey_events.result c.args.packet.now (sym c.message_id.ensures ∙ c.in-6145.is) c.obey_events.ensures.own
 
 pub returns-in-6148-clause-own : goal.returns-in-6148-clause-own
 returns-in-6148-clause-own g c = routed_tables _ _ _ _ _ c.obey_tables.result c.args.packet.now (sym c.message_id.ensures ∙ c.in-6148.is) c.obey_tables.ensures.own

@@ -1,11 +1,10 @@
 use Rattle.std.proofs.Common.{map}
 use Rattle.std.specs.Prelude.{option_map}
-use Rattle.app_host.specs.Hosted.{object}
 use Rattle.app_host.proofs.Found.{runs_there}
 use Rattle.app_host.proofs.host.Host.running.Goals as goal
 
 pub returns : goal.returns
 returns g c =
     runs_there c.args.name.now
-    (map (option_map (object (λ b. (goal.App-dyn g (b.vtable, b.value)).state b.value) (λ b. (goal.App-dyn g (b.vtable, b.value)).called b.value) (λ b. (goal.App-dyn g (b.vtable, b.value)).held b.value))) c.args.self.now.seats)
+    (map (option_map (λ b. (goal.App-dyn g (b.vtable, b.value)).meaning b.value)) c.args.self.now.seats)
     c.seat_of.result c.is_some.result c.seat_of.ensures c.is_some.ensures

@@ -1,6 +1,5 @@
 use Rattle.std.proofs.Common.{map}
 use Rattle.std.specs.Prelude.{option_map}
-use Rattle.app_host.specs.Hosted.{object}
 use Rattle.app_host.proofs.Searched.{below_eight, seat_is}
 use Rattle.std.proofs.Common.{◌∙◌}
 use Rattle.app_host.proofs.Rosters.{seat_by_name}
@@ -12,13 +11,13 @@ seat_numbered-requires g c = below_eight _ _ _ c.requires.seated.eight c.seat_of
 pub returns-clause-kept : goal.returns-clause-kept
 returns-clause-kept g c =
     seat_is c.args.name.now
-    (map (option_map (object (λ b. (goal.App-dyn g (b.vtable, b.value)).state b.value) (λ b. (goal.App-dyn g (b.vtable, b.value)).called b.value) (λ b. (goal.App-dyn g (b.vtable, b.value)).held b.value))) c.args.self.now.seats)
+    (map (option_map (λ b. (goal.App-dyn g (b.vtable, b.value)).meaning b.value)) c.args.self.now.seats)
     _ _ c.seat_of.ensures c.seat_numbered.ensures
 
 pub returns-clause-own : goal.returns-clause-own
 returns-clause-own g c =
     (
     seat_is c.args.name.now
-    (map (option_map (object (λ b. (goal.App-dyn g (b.vtable, b.value)).state b.value) (λ b. (goal.App-dyn g (b.vtable, b.value)).called b.value) (λ b. (goal.App-dyn g (b.vtable, b.value)).held b.value))) c.args.self.now.seats)
+    (map (option_map (λ b. (goal.App-dyn g (b.vtable, b.value)).meaning b.value)) c.args.self.now.seats)
     _ _ c.seat_of.ensures c.seat_numbered.ensures
-    ) ∙ seat_by_name c.args.name.now (map (option_map (object (λ b. (goal.App-dyn g (b.vtable, b.value)).state b.value) (λ b. (goal.App-dyn g (b.vtable, b.value)).called b.value) (λ b. (goal.App-dyn g (b.vtable, b.value)).held b.value))) c.args.self.now.seats)
+    ) ∙ seat_by_name c.args.name.now (map (option_map (λ b. (goal.App-dyn g (b.vtable, b.value)).meaning b.value)) c.args.self.now.seats)

@@ -1,0 +1,46 @@
+-- What a run promises.
+use Rattle.std.specs.Prelude.{◌≤◌, Result, IfErr}
+use Rattle.lc_model.specs.Host.Outcome.{Devices, Ending}
+use Rattle.lc_model.specs.Host.Promise.{Mission, FollowsTexts, IsRun, WritesWhatBytesCallFor, WritesWhatIsCalledFor, WritesWithFixedTables}
+use Rattle.flight_core.specs.declared.error.Report.{Report}
+use Rattle.flight_core.specs.declared.error.RunError.{RunError}
+use Rattle.flight_core.specs.Asides.{IsNotTouchedByAsides, IsNotTouchedByAsidesInBytes}
+use Rattle.flight_core.specs.Compiled.{NamesTheNumber}
+use Rattle.flight_core.specs.Ending.{ending_of}
+use Rattle.flight_core.specs.Failures.{TellsFailures}
+use Rattle.flight_core.specs.Fitting.{RefusesUnfitAlone}
+
+-- what a run promises with this profile's applications in stock
+pub record PromisesOfProfile (m : Mission) (d : Devices) (ending : Ending) : Type 0 where
+  -- how the run ends and what it leaves, for all texts and every stream, whatever fails
+  pub is_run : IsRun m d ending
+  -- where nothing fails: exactly the packets, byte for byte and in order, that the rule texts in force call for
+  pub by_texts : WritesWhatIsCalledFor m d ending
+  -- without premises on hashes and raw files: what the bytes of files call for
+  pub by_bytes : WritesWhatBytesCallFor m d ending
+  -- with one text whose tables stay
+  pub fixed_tables : WritesWithFixedTables m d ending
+  -- whatever fails: over the bytes that were taken, what the texts call for, or the first bytes of it
+  pub whatever_fails : FollowsTexts m d ending
+  -- a failed read or write is answered where one failed, and nowhere else, with how many bytes the writer took
+  pub failures : TellsFailures m.most_reads d ending
+  -- commands to event services, to the counter and to other applications can't touch the sequence requests: with others,
+  -- or with none, these are the same
+  pub asides : IsNotTouchedByAsides m d ending
+  -- the same without premises on hashes and raw files
+  pub asides_in_bytes : IsNotTouchedByAsidesInBytes m d ending
+
+-- what a run promises, whatever is in stock, and where the stock is of this profile
+pub record Promises (OfProfile : Type 0) (m : Mission) (d : Devices) (result : Result Report RunError) : Type 0 where
+  pub profile : OfProfile → PromisesOfProfile m d (ending_of result)
+  -- memory aside, the first text is refused that says no rules, or too many or too long ones, for the first reason that there
+  -- is, and none for how many operands of a condition wait. Then, and for want of memory, nothing was read and nothing written
+  pub refuses : RefusesUnfitAlone m.sources d (ending_of result)
+  -- of a number of that text that is out of its range: which one it is
+  pub named : IfErr result (NamesTheNumber m.sources)
+  -- however it ends: at most so many reads were made
+  pub bounded : d.source_after.reads ≤ m.most_reads
+
+-- whoever runs a stream as `IsRun` says promises all that
+abbrev pub RunsKeepTheirPromises : Type 0
+RunsKeepTheirPromises = (m : Mission) (d : Devices) (ending : Ending) → IsRun m d ending → PromisesOfProfile m d ending
