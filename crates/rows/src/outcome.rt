@@ -1,5 +1,6 @@
 //! What a run gives, as text.
 
+use crate::effort::effort;
 use crate::row::Row;
 use flight_core::{Report, RunError};
 use flight_stock::launch;
@@ -25,7 +26,18 @@ fn write_ending<W: Write>(
     }
 }
 
-/// Runs a row: a line for how it ended, one for the SHA-256 of what it wrote, and one for each packet.
+/// Writes the effort of the engine with the row's first text.
+fn write_effort<W: Write>(alloc: Global, row: &Row, out: &mut W) -> anyhow::Result<()> {
+    let Some(text) = row.texts.first() else {
+        anyhow::bail!("effort wants a rule text");
+    };
+    let (steps, probes) = effort(alloc, text.as_slice(), row.stream.as_slice())?;
+    writeln!(out, "steps {steps}, probes {probes}")?;
+    Ok(())
+}
+
+/// Runs a row: a line for how it ended, one for the SHA-256 of what it wrote, one for the effort where the row has it, and
+/// one for each packet.
 pub fn outcome(alloc: Global, row: &Row) -> anyhow::Result<Vec<u8>> {
     let schedule = parse_schedule(alloc, row.schedule.as_slice())?;
     let mut texts = Vec::new(alloc);
@@ -40,6 +52,9 @@ pub fn outcome(alloc: Global, row: &Row) -> anyhow::Result<Vec<u8>> {
     write_ending(&ending, packets.len(), &mut text)?;
     let hash = hex::encode(alloc, Sha256::digest(packets.as_slice()).as_slice())?;
     writeln!(text, "sha256 {hash}")?;
+    if row.has_effort {
+        write_effort(alloc, row, &mut text)?;
+    }
     list_packets(packets.as_slice(), &mut text)?;
     Ok(text)
 }

@@ -4,12 +4,13 @@ use crate::files::read;
 use std::str;
 use stream_script::read_script;
 
-/// A row's schedule, its rule texts, and its stream.
+/// A row's schedule, its rule texts and its stream, and whether it has a line of the engine's effort.
 #[derive(Drop)]
 pub struct Row {
     pub schedule: Vec<u8>,
     pub texts: Vec<Vec<u8>>,
     pub stream: Vec<u8>,
+    pub has_effort: bool,
 }
 
 impl Row {
@@ -19,6 +20,7 @@ impl Row {
             schedule: Vec::new(rt.alloc()),
             texts: Vec::new(rt.alloc()),
             stream: Vec::new(rt.alloc()),
+            has_effort: false,
         };
         let text = read(rt, folder, "row.txt")?;
         for line in str::from_utf8(text.as_slice())?.lines() {
@@ -40,6 +42,8 @@ impl Row {
             self.stream = read(rt, ".", file)?;
         } else if let Some(size) = line.strip_prefix("cut ") {
             self.stream.truncate(size.parse()?);
+        } else if line == "effort" {
+            self.has_effort = true;
         } else {
             anyhow::bail!("`{line}` says nothing of a row");
         }
