@@ -6,7 +6,7 @@ ghost use Rattle.rows.specs.declared.judging.Verdict.TheVariants.{AsExpected};
 use std::str;
 
 /// Whether a text is the expected one, or else the first line that isn't, from 1.
-#[derive(Clone, Copy, Debug, PartialEq, Eq)]
+#[derive(Clone, Copy)]
 pub enum Verdict {
     AsExpected,
     Differs(usize),
@@ -14,7 +14,7 @@ pub enum Verdict {
 
 /// Compares two texts. It says that one is as expected exactly where both have the same bytes.
 pub fn judge(found: &[u8], expected: &[u8]) -> Verdict
-    ensures { result ≡ AsExpected ↔ found.now ≡ expected.now }
+    ensures same { result ≡ AsExpected ↔ found.now ≡ expected.now }
 {
     if found == expected {
         return Verdict::AsExpected;
