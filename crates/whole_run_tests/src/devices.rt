@@ -1,119 +1,162 @@
-//! Streams in pieces, streams that end early, and devices that fail.
+//! The two failing samples in pieces, and with a fault in each place: each read and each write fails in turn, the writer ends
+//! behind each byte, and the stream behind each byte.
 
-use crate::flight::{fails, scene_of, text_refused};
-use crate::flying::Devices;
-use crate::rows::{PRELUDE, SEVEN_RECORDS};
-use crate::scene::Given::*;
-use crate::scene::Sent::*;
-use crate::scene::{Half, Row};
-use crate::texts::{LOW, LOW_ALONE};
+use crate::flying::{Answer, Devices, fly};
+use crate::low_volts::LOW_VOLTS;
+use crate::two_failures::{NO_ENTRIES, OUTPUT, STREAM};
+use flight_core::{Report, RunError};
+use lc_model::{Limited, Pieces};
+use std::process::Abort;
+use tick_scheduler::parse_schedule;
 
-/// A piece of a stream, so many bytes of it, the read that fails, the room of the writer, the write that fails, and the most
-/// reads; then how the run ends, and the bytes that are written.
-const PIECES: &[(Devices, (u8, u128), usize)] = &[
-    (Devices(8_192, 255, 0, 852, 0, None), (0, 7), 852),
-    (Devices(1, 255, 0, 852, 0, None), (0, 7), 852),
-    (Devices(7, 255, 0, 852, 0, None), (0, 7), 852),
-    (Devices(100, 255, 0, 852, 0, None), (0, 7), 852),
-];
-
-#[test]
-fn pieces_of_any_size_make_the_same_records(rt: HostRuntime) {
-    fails(
-        &rt,
-        LOW_ALONE,
-        &scene_of(&rt, LOW_ALONE, SEVEN_RECORDS),
-        PIECES,
+/// A run over the stream from and to these devices answers so, and writes the first bytes of its output, so many of them.
+fn ends<R: Abort + AllocGlobal>(rt: &R, devices: Devices, answer: Answer, size: usize) {
+    let Devices(piece, length, read, limit, write, reads) = devices;
+    let schedule = parse_schedule(rt.alloc(), NO_ENTRIES).expect(rt, "a schedule");
+    let mut room = [0; 852];
+    let mut source = Pieces::failing_at(&STREAM[..length.min(STREAM.len())], piece.max(1), read);
+    let mut sink = Limited::failing_at(&mut room, limit.min(852), write);
+    let found = fly(
+        rt.alloc(),
+        &[LOW_VOLTS],
+        &schedule,
+        &mut source,
+        &mut sink,
+        reads,
+    )
+    .expect(rt, "memory for the stock");
+    let expected = &OUTPUT[..size.min(OUTPUT.len())];
+    assert_eq!(rt;
+        (found, sink.bytes()),
+        (answer, expected),
+        "{read} {limit} {write} {length}"
     );
 }
 
-const CUT: &[(Devices, (u8, u128), usize)] = &[
-    (Devices(8_192, 0, 0, 852, 0, None), (0, 0), 0),
-    (Devices(8_192, 1, 0, 852, 0, None), (142, 1), 0),
-    (Devices(8_192, 53, 0, 852, 0, None), (142, 1), 0),
-    (Devices(8_192, 54, 0, 852, 0, None), (0, 1), 168),
-    (Devices(8_192, 55, 0, 852, 0, None), (142, 2), 168),
-    (Devices(8_192, 175, 0, 852, 0, None), (142, 5), 672),
-    (Devices(8_192, 200, 0, 852, 0, None), (142, 5), 672),
-    (Devices(1, 200, 0, 852, 0, None), (142, 5), 672),
-    (Devices(8_192, 201, 0, 852, 0, None), (0, 5), 672),
-    (Devices(8_192, 254, 0, 852, 0, None), (142, 7), 672),
+/// Each of these runs, in turn.
+fn end<R: Abort + AllocGlobal>(rt: &R, rows: &[(Devices, Answer, usize)]) {
+    for (devices, answer, size) in rows {
+        ends(rt, *devices, *answer, *size);
+    }
+}
+
+/// All seven records were handled.
+const ALL: Answer = Ok(Report {
+    records: 7,
+    bytes: 852,
+});
+
+/// None was.
+const NONE: Answer = Ok(Report {
+    records: 0,
+    bytes: 0,
+});
+
+/// The whole stream, in pieces of any size, one read more than there are, and less than so many reads.
+const ROWS: &[(Devices, Answer, usize)] = &[
+    (Devices(8_192, 255, 0, 852, 0, None), ALL, 852),
+    (Devices(1, 255, 0, 852, 0, None), ALL, 852),
+    (Devices(7, 255, 0, 852, 0, None), ALL, 852),
+    (Devices(100, 255, 0, 852, 0, None), ALL, 852),
+    (Devices(1, 255, 257, 852, 0, None), ALL, 852),
+    (
+        Devices(8_192, 255, 2, 852, 0, None),
+        Err(RunError::Read),
+        852,
+    ),
+    (
+        Devices(1, 255, 0, 852, 0, Some(54)),
+        Err(RunError::ReadBound),
+        168,
+    ),
+    (
+        Devices(1, 255, 0, 852, 0, Some(255)),
+        Err(RunError::ReadBound),
+        852,
+    ),
+    (Devices(1, 255, 0, 852, 0, Some(256)), ALL, 852),
+    (
+        Devices(8_192, 255, 0, 852, 0, Some(1)),
+        Err(RunError::ReadBound),
+        852,
+    ),
+    (Devices(8_192, 0, 0, 852, 0, Some(1)), NONE, 0),
+    (
+        Devices(8_192, 0, 0, 852, 0, Some(0)),
+        Err(RunError::ReadBound),
+        0,
+    ),
 ];
 
 #[test]
-fn a_stream_that_ends_inside_a_record_names_it(rt: HostRuntime) {
-    fails(
-        &rt,
-        LOW_ALONE,
-        &scene_of(&rt, LOW_ALONE, SEVEN_RECORDS),
-        CUT,
-    );
+fn pieces_and_reads_make_the_same_records(rt: HostRuntime) {
+    end(&rt, ROWS);
 }
 
-const READS: &[(Devices, (u8, u128), usize)] = &[
-    (Devices(1, 255, 1, 852, 0, None), (143, 0), 0),
-    (Devices(1, 255, 55, 852, 0, None), (143, 0), 168),
-    (Devices(1, 255, 109, 852, 0, None), (143, 0), 336),
-    (Devices(1, 255, 256, 852, 0, None), (143, 0), 852),
-    (Devices(1, 255, 257, 852, 0, None), (0, 7), 852),
-    (Devices(8_192, 255, 2, 852, 0, None), (143, 0), 852),
-    // A bound of reads.
-    (Devices(1, 255, 0, 852, 0, Some(54)), (145, 0), 168),
-    (Devices(1, 255, 0, 852, 0, Some(255)), (145, 0), 852),
-    (Devices(1, 255, 0, 852, 0, Some(256)), (0, 7), 852),
-    (Devices(8_192, 255, 0, 852, 0, Some(1)), (145, 0), 852),
-    (Devices(8_192, 0, 0, 852, 0, Some(1)), (0, 0), 0),
-    (Devices(8_192, 0, 0, 852, 0, Some(0)), (145, 0), 0),
-];
-
-#[test]
-fn what_was_read_before_a_fault_is_handled(rt: HostRuntime) {
-    fails(
-        &rt,
-        LOW_ALONE,
-        &scene_of(&rt, LOW_ALONE, SEVEN_RECORDS),
-        READS,
-    );
+/// How many records end within so many bytes of the stream, and how many bytes these lead to.
+fn behind(bytes: usize) -> (u64, usize) {
+    match bytes {
+        0..=53 => (0, 0),
+        54..=107 => (1, 168),
+        108..=146 => (2, 336),
+        147..=173 => (3, 672),
+        174..=200 => (4, 672),
+        201..=227 => (5, 672),
+        228..=254 => (6, 672),
+        _ => (7, 852),
+    }
 }
 
-const WRITES: &[(Devices, (u8, u128), usize)] = &[
-    (Devices(8_192, 255, 0, 0, 0, None), (144, 0), 0),
-    (Devices(8_192, 255, 0, 100, 0, None), (144, 100), 100),
-    (Devices(8_192, 255, 0, 168, 0, None), (144, 168), 168),
-    (Devices(8_192, 255, 0, 851, 0, None), (144, 851), 851),
-    (Devices(8_192, 255, 0, 852, 1, None), (144, 0), 0),
-    (Devices(8_192, 255, 0, 852, 2, None), (144, 168), 168),
-    (Devices(8_192, 255, 0, 852, 3, None), (144, 336), 336),
-];
-
+/// The read of each byte fails, and so does the one that would tell of the end.
 #[test]
-fn what_was_written_before_a_fault_is_a_front(rt: HostRuntime) {
-    fails(
-        &rt,
-        LOW_ALONE,
-        &scene_of(&rt, LOW_ALONE, SEVEN_RECORDS),
-        WRITES,
-    );
+fn each_read_fails_in_turn(rt: HostRuntime) {
+    for bytes in 0..=255 {
+        let devices = Devices(1, 255, bytes as u64 + 1, 852, 0, None);
+        ends(&rt, devices, Err(RunError::Read), behind(bytes).1);
+    }
 }
 
-/// The watchpoints of a text that isn't there.
-const NO_TEXT: &[Row] = &[(Stores(b"/cf/none", Half::Wdt(1)), &[])];
-
-const AFTERWARDS: &[Row] = &[(Volts(2399), &[Lc(7, b"never")])];
-
-const NO_RECORD: &[(Devices, (u8, u128), usize)] = &[
-    (Devices(8_192, 255, 0, 852, 0, None), (141, 4), 672),
-    (Devices(1, 255, 0, 852, 0, None), (141, 4), 672),
-];
-
+/// Each of the five writes fails.
 #[test]
-fn a_half_of_no_text_ends_the_run(rt: HostRuntime) {
-    let scene = scene_of(&rt, LOW_ALONE, &[PRELUDE, NO_TEXT, AFTERWARDS]);
-    fails(&rt, LOW_ALONE, &scene, NO_RECORD);
+fn each_write_fails_in_turn(rt: HostRuntime) {
+    for write in 1..=5 {
+        let size = (write - 1) * 168;
+        let sent = size as u128;
+        let devices = Devices(1, 255, 0, 852, write as u64, None);
+        ends(&rt, devices, Err(RunError::Write { sent }), size);
+    }
+}
+
+/// The writer takes so many bytes, and then fails.
+#[test]
+fn a_writer_ends_behind_each_byte(rt: HostRuntime) {
+    for size in 0..852 {
+        let sent = size as u128;
+        let devices = Devices(8_192, 255, 0, size, 0, None);
+        ends(&rt, devices, Err(RunError::Write { sent }), size);
+    }
+}
+
+/// How a run over the first bytes of the stream ends, so many of them: with its records, or inside one.
+fn of_front(bytes: usize) -> Answer {
+    let (records, size) = behind(bytes);
+    match bytes {
+        0 | 54 | 108 | 147 | 174 | 201 | 228 | 255 => Ok(Report {
+            records,
+            bytes: size as u128,
+        }),
+        _ => Err(RunError::Truncated {
+            n: records.saturating_add(1),
+        }),
+    }
 }
 
 #[test]
-fn a_text_that_does_not_compile_is_named_before_anything_is_read(rt: HostRuntime) {
-    text_refused(&rt, &[LOW, b"@", b"packet"], (1, Some(1)));
-    text_refused(&rt, &[b"packet", b"@"], (0, Some(11)));
+fn a_stream_ends_behind_each_byte(rt: HostRuntime) {
+    for piece in [1, 8_192] {
+        for bytes in 0..=255 {
+            let devices = Devices(piece, bytes, 0, 852, 0, None);
+            ends(&rt, devices, of_front(bytes), behind(bytes).1);
+        }
+    }
 }

@@ -22,22 +22,11 @@ pub struct Devices(
     pub Option<u32>,
 );
 
-/// How a run ended: 0 and its records, or the error's number (1 for a text, 2 for want of memory) and what it names.
-pub fn ending_of(outcome: &Result<Report, RunError>) -> (u8, u128) {
-    match outcome {
-        Ok(report) => (0, u128::from(report.records)),
-        Err(RunError::BadRecord { n }) => (141, u128::from(*n)),
-        Err(RunError::Truncated { n }) => (142, u128::from(*n)),
-        Err(RunError::Read) => (143, 0),
-        Err(RunError::Write { sent }) => (144, *sent),
-        Err(RunError::ReadBound) => (145, 0),
-        Err(RunError::Compile { text: _, error: _ }) => (1, 0),
-        Err(RunError::Memory) => (2, 0),
-    }
-}
+/// What a run answers.
+pub type Answer = Result<Report, RunError>;
 
-/// Runs these texts with two Limit Checkers, a scheduler and a counter in stock. Out of memory for
-/// these is the outer error. At most so many reads are made, or as many as `run` makes. Conditions: nothing was read or failed yet.
+/// Runs these texts with two Limit Checkers, a scheduler and a counter in stock. Out of memory for these is the outer error. At
+/// most so many reads are made, or as many as `run` makes. Conditions: nothing was read or failed yet.
 pub fn fly(
     alloc: Global,
     texts: &[&[u8]],
@@ -45,7 +34,7 @@ pub fn fly(
     source: &mut Pieces<'_>,
     sink: &mut Limited<'_>,
     reads: Option<u32>,
-) -> Result<Result<Report, RunError>, AllocError>
+) -> Result<Answer, AllocError>
     requires unread { source.old.reads ≡ 0 }
     requires readable { source.old.failed ≡ false }
     requires writable { sink.old.failed ≡ false }

@@ -2,20 +2,14 @@
 //!
 //! `rt try --test --fail-alloc N`, for N from 1 on, refuses the Nth allocation of each test's process. In
 //! `want_of_memory_touches_nothing` the schedule's comes first, then those of the stock, then those of the run; where one is
-//! refused, nothing is read or written, and the line that the test prints says in which of the three. Of every other test the
-//! scene or the stock wants memory first, and it fails then.
+//! refused, nothing is read or written, and the line that the test prints says in which of the three.
 
 use crate::low_volts::run_low_volts;
-use crate::texts::NO_ENTRIES;
+use crate::two_failures::{NO_ENTRIES, STREAM};
 use flight_core::{Report, RunError};
 use lc_model::{ByteSource, Limited, Pieces};
 use std::process::Abort;
 use tick_scheduler::parse_schedule;
-
-/// Both default files, the start of the Limit Checker, and twice 2,399 volts and a sample. It is a constant, so that nothing
-/// but the schedule, the stock and the run allocates.
-const TWO_FAILING_SAMPLES: &[u8] =
-    b"\x04\0\0\0d\0\0\0\0\0+/cf/lc_def_wdt.tbl\0\0\0\0\0\0\0\0\0\0\0\0\0\0\0\0\0\0\0\0\0\0\x01\0\0\x04\0\0\0d\0\0\0\0\0+/cf/lc_def_adt.tbl\0\0\0\0\0\0\0\0\0\0\0\0\0\0\0\0\0\0\0\0\0\0\x02\0\0\x01\0\0\0d\0\0\0\0\0\x1C\x18\x06\xC0\0\0\x15\x01:LC\0\0\0\0\0\0\0\0\0\0\0\0\0\0\0\0\0\0\x01\0\0\0d\0\0\0\0\0\x10\x08\x83\xC0\0\0\x09\0\0\0\0\0\0\x09_\0\0\x01\0\0\0d\0\0\0\0\0\x10\x18\xA6\xC0\0\0\x09\0\x88\xFF\xFF\xFF\xFF\0\0\0\0\x01\0\0\0d\0\0\0\0\0\x10\x08\x83\xC0\0\0\x09\0\0\0\0\0\0\x09_\0\0\x01\0\0\0d\0\0\0\0\0\x10\x18\xA6\xC0\0\0\x09\0\x88\xFF\xFF\xFF\xFF\0\0\0\0";
 
 /// Nothing was read, and nothing written.
 fn is_untouched<R: Abort>(rt: &R, reader: &Pieces<'_>, writer: &Limited<'_>) {
@@ -29,7 +23,7 @@ fn is_untouched<R: Abort>(rt: &R, reader: &Pieces<'_>, writer: &Limited<'_>) {
 #[test]
 fn want_of_memory_touches_nothing(rt: HostRuntime) {
     let mut room = [0; 852];
-    let mut reader = Pieces::new(TWO_FAILING_SAMPLES, 99);
+    let mut reader = Pieces::new(STREAM, 99);
     let mut writer = Limited::new(&mut room, 852);
     let Ok(schedule) = parse_schedule(rt.alloc(), NO_ENTRIES) else {
         let _ = println!(rt; "no memory for the schedule");

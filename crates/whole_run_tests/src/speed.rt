@@ -1,22 +1,41 @@
 //! What a packet of telemetry costs the host and the application `LC`: `valgrind --tool=callgrind` on this test, over
 //! `on_packet`, which is called through its object's table and so stays a function of its own.
 
-use crate::flight::runs;
-use crate::rows::PRELUDE;
-use crate::scene::Given::*;
-use crate::scene::Row;
-use crate::texts::{LOW_ALONE, NO_ENTRIES};
+use crate::flying::fly;
+use crate::low_volts::LOW_VOLTS;
+use crate::two_failures::{NO_ENTRIES, STREAM};
+use flight_core::Report;
+use lc_model::{Limited, Pieces};
+use tick_scheduler::parse_schedule;
 
-/// Packets that no rule is sampled between.
-const FINE: Row = (Volts(2400), &[]);
-
-const TEN: &[Row] = &[FINE, FINE, FINE, FINE, FINE, FINE, FINE, FINE, FINE, FINE];
+/// A packet of 2,400 volts, at which no rule is sampled.
+const FINE: &[u8] = b"\x01\0\0\0d\0\0\0\0\0\x10\x08\x83\xC0\0\0\x09\0\0\0\0\0\0\x09\x60\0\0";
 
 #[test]
 fn a_hundred_thousand_packets(rt: HostRuntime) {
-    let mut parts = vec![in rt.alloc(); PRELUDE].expect(&rt, "memory for parts");
-    for _ in 0..10_000 {
-        parts.push(TEN).expect(&rt, "memory for parts");
+    let schedule = parse_schedule(rt.alloc(), NO_ENTRIES).expect(&rt, "a schedule");
+    // Both files, and the start of the Limit Checker.
+    let mut stream = Vec::from_slice(rt.alloc(), &STREAM[..147]).expect(&rt, "memory for a stream");
+    for _ in 0..100_000 {
+        stream
+            .extend_from_slice(FINE)
+            .expect(&rt, "memory for a stream");
     }
-    runs(&rt, LOW_ALONE, NO_ENTRIES, parts.as_slice());
+    let mut source = Pieces::new(stream.as_slice(), 8_192);
+    let mut room = [0; 672];
+    let mut sink = Limited::new(&mut room, 672);
+    let answer = fly(
+        rt.alloc(),
+        &[LOW_VOLTS],
+        &schedule,
+        &mut source,
+        &mut sink,
+        None,
+    )
+    .expect(&rt, "memory for the stock");
+    let report = Report {
+        records: 100_003,
+        bytes: 672,
+    };
+    assert_eq!(rt; answer, Ok(report), "the answer");
 }
