@@ -7,13 +7,10 @@ use crate::shared::same;
 use event_service::{Events, PACKET_SIZE};
 use flight_core::{Found, Records};
 use lc_model::{EventKind, Moment, Seat};
-use packet_bus::Bus;
+use packet_bus::{Bus, build_telemetry};
 use std::alloc::{AllocError, Global};
 use std::process::Abort;
 use tick_scheduler::parse_schedule;
-
-/// Sixteen bytes of telemetry of message id 0x0883.
-const TELEMETRY: &[u8] = &[0x08, 0x83, 0xC0, 0, 0, 9, 0, 0, 0, 1, 0, 2, 7, 7, 7, 7];
 
 /// Publishes a packet.
 #[inline(never)]
@@ -30,27 +27,35 @@ fn take(bus: &mut Bus, seat: Seat, buffer: &mut [u8; 2048]) -> usize {
     }
 }
 
-/// The packet so often, published to one subscriber and received. Answers how many bytes came.
-#[inline(never)]
-fn rounds(bus: &mut Bus, seat: Seat, packet: &[u8], times: u32) -> usize {
+/// For each seat and each size of a payload a hundred thousand rounds: one packet, published to one subscriber and received.
+fn rounds<R: Abort + AllocGlobal>(rt: &R, rows: &[(u8, usize)]) {
+    let mut bus = Bus::new(rt.alloc()).expect(rt, "memory for a bus");
+    let mut packet = [0; 2048];
     let mut buffer = [0; 2048];
-    let mut bytes = 0usize;
-    for _ in 0..times {
-        if give(bus, packet) {
-            bytes = bytes.wrapping_add(take(bus, seat, &mut buffer));
+    let payload = [7; 2036];
+    let moment = Moment {
+        seconds: 1,
+        subseconds: 2,
+    };
+    for (seat, size) in rows {
+        let seat = Seat::new(*seat % 8);
+        let mid = 0x0880 | seat.index() as u16;
+        let length = build_telemetry(mid, 0, moment, &payload[..*size % 2036], &mut packet);
+        same(rt, "a pipe", bus.add_pipe(seat), Ok(()));
+        same(rt, "its id", bus.subscribe(seat, mid), Ok(()));
+        let mut bytes = 0usize;
+        for _ in 0..100_000 {
+            if give(&mut bus, &packet[..length]) {
+                bytes = bytes.wrapping_add(take(&mut bus, seat, &mut buffer));
+            }
         }
+        same(rt, "bytes in all", bytes, length.wrapping_mul(100_000));
     }
-    bytes
 }
 
 #[test]
 fn a_hundred_thousand_rounds(rt: HostRuntime) {
-    let mut bus = Bus::new(rt.alloc()).expect(&rt, "memory for a bus");
-    let seat = Seat::new(3);
-    same(&rt, "a pipe", bus.add_pipe(seat), Ok(()));
-    same(&rt, "its id", bus.subscribe(seat, 0x0883), Ok(()));
-    let bytes = rounds(&mut bus, seat, TELEMETRY, 100_000);
-    same(&rt, "bytes", bytes, 1_600_000);
+    rounds(&rt, &[(3, 4)]);
 }
 
 /// Sends an event and writes its bytes, as the host does; whether it is sent.
@@ -128,7 +133,7 @@ fn stream_of(alloc: Global, count: u32) -> Result<Vec<u8>, AllocError> {
     let mut stream = Vec::new(alloc);
     for _ in 0..count {
         stream.extend_from_slice(&[1, 0, 0, 0, 100, 0, 9, 0, 0, 0, 16])?;
-        stream.extend_from_slice(TELEMETRY)?;
+        stream.extend_from_slice(&[0; 16])?;
     }
     Ok(stream)
 }
