@@ -1,4 +1,3 @@
 mod Besides
-mod Homes
 mod Names
 mod Spoken

@@ -22,11 +22,10 @@ pub const HEARD: u16 = 0x18D0;
 const PUBLISHED: &[u8] = &[0x18, 0xD0, 0xC0, 0, 0, 1, 0, 0];
 
 /// An application whose name is one letter. Of each tick and of each packet of 0x18D0 it writes its letter, and at a tick it
-/// publishes eight packets of 0x18D0 first, if it is told to.
-#[derive(Debug, Drop)]
+/// publishes eight packets of 0x18D0 first.
+#[derive(Drop)]
 pub struct Named {
     name: [u8; 1],
-    publishes: bool,
     seat: Option<Seat>,
     ghost one: { length name ≡ 1 },
     ghost letter: { 65 ≤ slice_index_or name 0 0 },
@@ -34,17 +33,16 @@ pub struct Named {
 
 impl Named {
     /// The application whose name is the letter of this number, from `A` on. It holds no seat.
-    pub fn new(number: u8, publishes: bool) -> Named
+    pub fn new(number: u8) -> Named
         ensures { result.seat ≡ None }
     {
         Named {
             name: [b'A' + number % 26],
-            publishes,
             seat: None,
         }
     }
 
-    /// Publishes eight packets at a tick, if it is told to, and nothing else. Answers how many. Condition: room for as many in
+    /// Publishes eight packets at a tick, and nothing else. Answers how many. Condition: room for as many in
     /// each pipe.
     fn publish(&self, services: &mut Services, packet: &[u8]) -> usize
         requires headers { 2 ≤ length packet.now }
@@ -53,7 +51,7 @@ impl Named {
         ensures may { MayPublish packet.now (replicate result heard) }
     {
         publishing_is_by_the_rules();
-        if !self.publishes || message_id(packet) != mids::TICK {
+        if message_id(packet) != mids::TICK {
             return 0;
         }
         publish_eight(services);

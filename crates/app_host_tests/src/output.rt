@@ -6,11 +6,6 @@ use lc_model::{mids, u16_at};
 /// The bytes of an event packet.
 const EVENT_SIZE: usize = 168;
 
-/// Event types.
-const INFORMATION: u16 = 2;
-
-const ERROR: u16 = 3;
-
 /// The bytes in front of the first zero byte.
 fn text_in(field: &[u8]) -> &[u8] {
     let size = field
@@ -20,38 +15,26 @@ fn text_in(field: &[u8]) -> &[u8] {
     field.get(..size).unwrap_or(field)
 }
 
-/// Whether these bytes begin with a whole event packet: message id 0x0808, then at byte 12 who tells, at 32 the id, at 34 the
-/// type, and at 44 the text.
-fn is_event(bytes: &[u8], sender: &[u8], id: u16, kind: u16, text: &[u8]) -> bool {
+/// Whether these bytes begin with a whole event packet: message id 0x0808, then at byte 12 who tells, at 32 the id, and at 44 the
+/// text.
+fn is_event(bytes: &[u8], sender: &[u8], id: u16, text: &[u8]) -> bool {
     if bytes.len() < EVENT_SIZE {
         return false;
     }
     u16_at(bytes, 0) == mids::EVENT
         && text_in(&bytes[12..32]) == sender
         && u16_at(bytes, 32) == id
-        && u16_at(bytes, 34) == kind
         && text_in(&bytes[44..EVENT_SIZE]) == text
-}
-
-/// Whether these bytes begin with this, and how many bytes it has.
-fn begins(bytes: &[u8], said: Said<'_>) -> (bool, usize) {
-    match said {
-        Said::Done(id, text) => (is_event(bytes, b"HOST", id, INFORMATION, text), EVENT_SIZE),
-        Said::Refused(id, text) => (is_event(bytes, b"HOST", id, ERROR, text), EVENT_SIZE),
-        Said::Count(text) => (
-            is_event(bytes, b"COUNTER", 1, INFORMATION, text),
-            EVENT_SIZE,
-        ),
-        Said::Here(name) => (is_event(bytes, name, 1, INFORMATION, b"here"), EVENT_SIZE),
-        Said::Letters(letters) => (bytes.starts_with(letters), letters.len()),
-    }
 }
 
 /// Whether these bytes are all that was expected, one behind the other.
 pub fn says(bytes: &[u8], expected: &[Said<'_>]) -> bool {
     let mut rest = bytes;
     for said in expected {
-        let (there, size) = begins(rest, *said);
+        let (there, size) = match *said {
+            Said::Event(sender, id, text) => (is_event(rest, sender, id, text), EVENT_SIZE),
+            Said::Letters(letters) => (rest.starts_with(letters), letters.len()),
+        };
         if !there || size > rest.len() {
             return false;
         }

@@ -9,7 +9,7 @@ use lc_model::{EventKind, Seat};
 
 /// An application whose name is one letter. It tells of its start in an event, and writes its letter for each packet of 0x18D0,
 /// and as it retires.
-#[derive(Debug, Drop)]
+#[derive(Drop)]
 pub struct Speaking {
     name: [u8; 1],
     seat: Option<Seat>,

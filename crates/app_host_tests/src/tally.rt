@@ -4,13 +4,11 @@ use std::alloc::{AllocError, Global};
 use std::cell::Cell;
 use std::rc::Rc;
 
-/// The starts and retirements of objects, the packets that they had, and those that were dropped, all in all and before the last
-/// retirement.
+/// The starts and retirements of objects, and those that were dropped, all in all and before the last retirement.
 #[derive(Drop)]
 struct Numbers {
     starts: Cell<u32>,
     retirements: Cell<u32>,
-    packets: Cell<u32>,
     drops: Cell<u32>,
     drops_before_retirement: Cell<u32>,
 }
@@ -29,7 +27,6 @@ impl Tally {
             Numbers {
                 starts: Cell::new(0),
                 retirements: Cell::new(0),
-                packets: Cell::new(0),
                 drops: Cell::new(0),
                 drops_before_retirement: Cell::new(0),
             },
@@ -44,43 +41,32 @@ impl Tally {
         })
     }
 
-    pub fn starts(&self) -> u32 {
-        self.counts.starts.get()
-    }
-
-    pub fn retirements(&self) -> u32 {
-        self.counts.retirements.get()
-    }
-
-    pub fn packets(&self) -> u32 {
-        self.counts.packets.get()
-    }
-
     pub fn drops(&self) -> u32 {
         self.counts.drops.get()
     }
 
-    /// How many were dropped before the last retirement.
-    pub fn drops_before_retirement(&self) -> u32 {
-        self.counts.drops_before_retirement.get()
+    /// Whether so many were dropped once each, those that started were retired as often, and no more had been dropped before the
+    /// last retirement than before the close.
+    pub fn have_left(&self, spares: usize, dropped: u32) -> bool {
+        self.drops() as usize == spares
+            && self.counts.retirements.get() == self.counts.starts.get()
+            && self.counts.drops_before_retirement.get() <= dropped
     }
 
     pub fn count_start(&self) {
-        self.counts.starts.set(self.starts().saturating_add(1));
+        add_one(&self.counts.starts);
     }
 
     pub fn count_retirement(&self) {
-        self.counts
-            .retirements
-            .set(self.retirements().saturating_add(1));
+        add_one(&self.counts.retirements);
         self.counts.drops_before_retirement.set(self.drops());
     }
 
-    pub fn count_packet(&self) {
-        self.counts.packets.set(self.packets().saturating_add(1));
-    }
-
     pub fn count_drop(&self) {
-        self.counts.drops.set(self.drops().saturating_add(1));
+        add_one(&self.counts.drops);
     }
+}
+
+fn add_one(count: &Cell<u32>) {
+    count.set(count.get().saturating_add(1));
 }

@@ -6,7 +6,7 @@ use crate::tally::Tally;
 use app_host::{App, Services};
 use lc_model::Seat;
 
-/// An application whose starts, packets, retirements and drop are tallied.
+/// An application whose starts, retirements and drop are tallied.
 pub struct Tracked<A: App> {
     app: A,
     tally: Tally,
@@ -34,7 +34,6 @@ impl<A: App> App for Tracked<A> {
     }
 
     fn on_packet(&mut self, services: &mut Services, packet: &[u8]) {
-        self.tally.count_packet();
         self.app.on_packet(services, packet);
     }
 

@@ -1,60 +1,65 @@
-//! The two files of the low-volts text, byte for byte, and what other files lead to.
+//! Table files, byte for byte, and what they are opened to.
 
-mod faults;
-mod memory;
-mod readers;
-mod unsound;
-mod written;
-
-use crate::images::put;
-use crate::shared::{holds, same};
-use crate::values::{low_volts_adt, low_volts_wdt};
-use lc_model::Kind;
-use std::alloc::Global;
+use crate::images::{ACTIONPOINT, WATCHPOINT, image};
+use crate::shared::{have, same};
+use crate::values::{adt_file, wdt_file};
 use std::process::Abort;
-use table_file::{AdtVersion, FileError, TableFile, open, wrap};
+use table_file::{AdtVersion, open};
 
-/// The file of the text's watchpoints, if there is memory.
-fn made_wdt_file(alloc: Global) -> Result<Vec<u8>, FileError> {
-    let image = low_volts_wdt(alloc)?;
-    wrap(alloc, Kind::Wdt, &image)
+/// The headers, from the cFE's magic word on; they differ in the image's length and the table's name.
+const HEADERS: &[(usize, &[u8])] = &[
+    (
+        0,
+        b"cFE1\x00\x00\x00\x08\x00\x00\x00\x40\x00\x00\x00\x42\x00\x00\x00\x01",
+    ),
+    (20, &[0; 52]),
+    (85, &[0; 31]),
+];
+
+/// The file has these headers, and this image behind them, and opens to it.
+fn is_file<R: Abort>(rt: &R, file: &[u8], name: &[u8], length_and_name: &[u8], image: &[u8]) {
+    have(rt, file, HEADERS);
+    have(rt, file, &[(72, length_and_name)]);
+    same(rt, name, file.get(116..), Some(image));
+    let opened = open(file).expect(rt, "refused");
+    same(rt, name, (opened.name(), opened.image()), (name, image));
 }
 
-/// The file of its actionpoints, if there is memory.
-fn made_adt_file(alloc: Global, version: AdtVersion) -> Result<Vec<u8>, FileError> {
-    let image = low_volts_adt(alloc, version)?;
-    wrap(alloc, Kind::Adt, &image)
+#[test]
+fn of_watchpoints(rt: HostRuntime) {
+    let file = wdt_file(rt.alloc()).expect(&rt, "out of memory");
+    let image = image(rt.alloc(), 1, 1, &WATCHPOINT, 24).expect(&rt, "out of memory");
+    is_file(
+        &rt,
+        &file,
+        b"LC.LC_WDT",
+        b"\x00\x00\x10\xA8LC.LC_WDT",
+        &image,
+    );
 }
 
-fn wdt_file<R: Abort + AllocGlobal>(rt: &R) -> Vec<u8> {
-    made_wdt_file(rt.alloc()).expect(rt, "out of memory")
+#[test]
+fn of_actionpoints(rt: HostRuntime) {
+    let file = adt_file(rt.alloc(), AdtVersion::One).expect(&rt, "out of memory");
+    let image = image(rt.alloc(), 1, 2, &ACTIONPOINT, 86).expect(&rt, "out of memory");
+    is_file(
+        &rt,
+        &file,
+        b"LC.LC_ADT",
+        b"\x00\x00\x3B\x48LC.LC_ADT",
+        &image,
+    );
 }
 
-fn adt_file<R: Abort + AllocGlobal>(rt: &R, version: AdtVersion) -> Vec<u8> {
-    made_adt_file(rt.alloc(), version).expect(rt, "out of memory")
-}
-
-/// The file, which has no fault.
-fn opened<'a, R: Abort>(rt: &R, file: &'a [u8]) -> TableFile<'a> {
-    open(file).expect(rt, "refused")
-}
-
-/// The file with other bytes at some places.
-fn changed<R: Abort + AllocGlobal>(rt: &R, file: &[u8], changes: &[(usize, u8)]) -> Vec<u8> {
-    let mut copy = Vec::from_slice(rt.alloc(), file).expect(rt, "out of memory");
-    for (place, byte) in changes {
-        put(&mut copy, *place, &[*byte]);
-    }
-    copy
-}
-
-/// The bytes at a place are these.
-fn has<R: Abort>(rt: &R, bytes: &[u8], at: usize, expected: &[u8]) {
-    let there = bytes.get(at..).unwrap_or_default();
-    holds(rt, ("bytes at", at), there.starts_with(expected));
-}
-
-/// The file has this fault.
-fn refused<R: Abort>(rt: &R, bytes: &[u8], fault: FileError) {
-    same(rt, "fault", open(bytes).err(), Some(fault));
+#[test]
+fn of_actionpoints_of_version_2(rt: HostRuntime) {
+    let file = adt_file(rt.alloc(), AdtVersion::Two).expect(&rt, "out of memory");
+    let image = image(rt.alloc(), 2, 2, &ACTIONPOINT, 110).expect(&rt, "out of memory");
+    is_file(
+        &rt,
+        &file,
+        b"LC.LC_ADT",
+        b"\x00\x00\x4B\xC8LC.LC_ADT",
+        &image,
+    );
 }

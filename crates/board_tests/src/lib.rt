@@ -1,21 +1,31 @@
-//! The tests of the crates that fly (`table_file`, `table_validator`, `limit_engine`), and of the sources and sinks of
-//! `lc_model` below them.
+//! The tests of the crates that fly, and of the sources and sinks of `lc_model` below them, by public calls alone.
 //!
-//! They stand here, by public calls alone, since the gate proves a crate with tests twice, and the crates above wait for it.
-//! Expected values come from the formats and the Limit Checker's guide, never from what the crates answer. The values that
-//! the encoders are given are no tests, and are proved to fit.
+//! What a contract says exactly isn't tested again. What is here comes from outside (files, packets and records byte by byte,
+//! from the formats and the guides), or no contract says it: that a call that takes memory succeeds, what `Memory` is answered
+//! for, what errors read like, and what calls cost.
 #![tactic(auto)]
 
 #[cfg(test)]
 mod devices;
 #[cfg(test)]
+mod engine;
+#[cfg(test)]
 mod files;
 #[cfg(test)]
 mod images;
 #[cfg(test)]
+mod memory;
+#[cfg(test)]
+mod messages;
+#[cfg(test)]
+mod packets;
+#[cfg(test)]
+mod records;
+#[cfg(test)]
 mod shared;
 #[cfg(test)]
-mod validity;
-pub mod values;
+mod speed;
 #[cfg(test)]
-mod watching;
+mod values;
+#[cfg(test)]
+mod words;

@@ -15,7 +15,11 @@ pub fn same<R: Abort, W: Copy + Debug, T: Copy + Debug + PartialEq>(
     assert_eq!(rt; found, expected, "of {of:?}");
 }
 
-/// It is so.
-pub fn holds<R: Abort, W: Copy + Debug>(rt: &R, of: W, is_so: bool) {
-    assert!(rt; is_so, "of {of:?}");
+/// From each place on the bytes are these.
+pub fn have<R: Abort>(rt: &R, bytes: &[u8], parts: &[(usize, &[u8])]) {
+    for &(place, expected) in parts {
+        let there = bytes.get(place..).unwrap_or_default();
+        let front = there.get(..expected.len());
+        same(rt, ("the bytes at", place), front, Some(expected));
+    }
 }

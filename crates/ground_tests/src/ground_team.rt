@@ -1,17 +1,13 @@
 //! A ground team makes table files from a rule text, and judges files before they go up.
 
 use crate::judging::{Unfit, judge};
+use crate::shared::LOW_VOLTS;
 use lc_model::Kind;
 use rpn_compiler::compile;
 use std::process::Abort;
 use std::test::Fail;
 use table_file::FileError;
 use table_validator::{FaultCode, TableFault, WHOLE_IMAGE};
-
-/// One rule: two samples in a row with a voltage below 2,400 request command sequence 7.
-const TEXT: &str = "packet P = mid 0x0883 length 16; \
-    field V = P u16be at 12 stale 2; \
-    rule LOW active fails 2 sequence 7 event error 1001 \"low volts\" when V < 2400;";
 
 /// Where the low byte of the first word of the first actionpoint stands: behind both headers, the preamble and 46 bytes.
 const FIRST_WORD: usize = 116 + 40 + 46 + 1;
@@ -31,7 +27,7 @@ fn is_refused<R: Abort>(rt: &R, kind: Kind, file: &[u8], code: FaultCode, entry:
 
 #[test]
 fn both_files_of_a_text_may_go_up(rt: HostRuntime) -> Result<(), Fail> {
-    let pair = compile(rt.alloc(), TEXT.as_bytes())?;
+    let pair = compile(rt.alloc(), LOW_VOLTS.as_bytes())?;
     may_go_up(&rt, Kind::Wdt, pair.wdt.as_slice());
     may_go_up(&rt, Kind::Adt, pair.adt.as_slice());
     // Each as the other's table: the image has another size.
@@ -55,7 +51,7 @@ fn so_may_the_files_of_the_empty_text(rt: HostRuntime) -> Result<(), Fail> {
 
 #[test]
 fn files_that_are_damaged(rt: HostRuntime) -> Result<(), Fail> {
-    let mut adt = compile(rt.alloc(), TEXT.as_bytes())?.adt;
+    let mut adt = compile(rt.alloc(), LOW_VOLTS.as_bytes())?.adt;
     if adt.len() > FIRST_WORD {
         adt[FIRST_WORD] = 1;
     }

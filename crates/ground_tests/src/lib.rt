@@ -1,24 +1,20 @@
-//! The tests of the crates on the ground: rule texts, and what the lexer, the parser, the checker, the sharing of watchpoints
-//! and the compiler make of them; and what a ground team does with the files.
+//! The tests of the crates on the ground, by public calls alone; and what a ground team does with the files that come of a text.
 //!
-//! They stand here, by public calls alone, since the gate proves a crate with tests twice, and the crates above wait for it.
-//! Expected values come from the rules of the language and the formats of the tables, never from what the crates answer.
+//! What a contract says exactly isn't tested again. What is here comes from outside (a text's tokens, and its files byte for
+//! byte, with its SHA-256), or no contract says it: that a call that takes memory succeeds, what `Memory` is answered for, and
+//! what errors read like.
 #![tactic(auto)]
 
 #[cfg(test)]
-mod checker;
-#[cfg(test)]
-mod compiler;
+mod files;
 #[cfg(test)]
 mod ground_team;
 pub mod judging;
 #[cfg(test)]
-mod lexer;
+mod memory;
 #[cfg(test)]
 mod messages;
 #[cfg(test)]
-mod parser;
-#[cfg(test)]
 mod shared;
 #[cfg(test)]
-mod sharing;
+mod tokens;

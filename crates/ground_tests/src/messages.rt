@@ -1,9 +1,10 @@
 //! What a person reads of each error.
 
-use crate::shared::{accepted, same};
+use crate::shared::same;
 use field_checker::{CheckError, RuleNumber};
 use rpn_compiler::CompileError;
 use rule_lexer::LexReason;
+use rule_parser::{ParseError, Sign, What, Word};
 use std::fmt::{Debug, Display};
 use std::process::Abort;
 use table_file::FileError;
@@ -13,7 +14,7 @@ use watch_sharing::ShareError;
 /// Each error is written so.
 fn all_read<R: Abort + AllocGlobal, E: Copy + Debug + Display>(rt: &R, rows: &[(E, &str)]) {
     for &(error, expected) in rows {
-        let written = accepted(rt, error, format!(in rt.alloc(); "{error}"));
+        let written = format!(in rt.alloc(); "{error}").expect(rt, "memory for a sentence");
         same(rt, error, written.as_str(), expected);
     }
 }
@@ -51,6 +52,61 @@ fn of_texts(rt: HostRuntime) {
             "the byte at 9 may not stand in a string",
         ),
         (LexReason::TextTooLong, "the text has over 65,536 bytes"),
+    ];
+    all_read(&rt, rows);
+}
+
+/// What is wanted is named, at its place.
+#[test]
+fn of_items(rt: HostRuntime) {
+    let rows = &[
+        (
+            ParseError::Expected {
+                at: 7,
+                what: What::Item,
+            },
+            "expected `packet`, `field` or `rule` at 7",
+        ),
+        (
+            ParseError::Expected {
+                at: 7,
+                what: What::Name,
+            },
+            "expected a name at 7",
+        ),
+        (
+            ParseError::Expected {
+                at: 7,
+                what: What::Operand,
+            },
+            "expected a name, `not` or `(` at 7",
+        ),
+        (
+            ParseError::Expected {
+                at: 7,
+                what: What::Word(Word::When),
+            },
+            "expected `when` at 7",
+        ),
+        (
+            ParseError::Expected {
+                at: 7,
+                what: What::Sign(Sign::Semicolon),
+            },
+            "expected `;` at 7",
+        ),
+        (
+            ParseError::Expected {
+                at: 7,
+                what: What::Sign(Sign::Close),
+            },
+            "expected `)` at 7",
+        ),
+        (
+            ParseError::TooNested { at: 7 },
+            "over 64 parentheses and operators in one condition, at 7",
+        ),
+        (ParseError::Memory, "out of memory"),
     ];
     all_read(&rt, rows);
 }

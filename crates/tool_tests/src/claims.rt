@@ -4,7 +4,7 @@ use std::fmt::Debug;
 use std::process::Abort;
 
 /// What was found is what was expected.
-pub fn same<R: Abort, W: Debug + Drop, T: Debug + PartialEq + Drop>(
+pub fn same<R: Abort, W: Copy + Debug, T: Copy + Debug + PartialEq>(
     rt: &R,
     of: W,
     found: T,
