@@ -11,7 +11,7 @@ use std::alloc::{AllocError, Global};
 use tick_scheduler::parse_schedule;
 
 /// One rule: two samples in a row with a voltage below 2,400 request command sequence 7.
-pub const TEXT: &[u8] = b"packet P = mid 0x0883 length 16; \
+const TEXT: &[u8] = b"packet P = mid 0x0883 length 16; \
     field V = P u16be at 12 stale 2; \
     rule LOW active fails 2 sequence 7 event error 1001 \"low volts\" when V < 2400;";
 
@@ -22,7 +22,7 @@ const SCHEDULE: &[u8] = b"slots 1\n";
 const MOMENT: [u8; 6] = [0, 0, 0, 100, 0, 0];
 
 /// Telemetry with message id 0x0883 and a voltage of 2,399.
-pub const LOW: [u8; 16] = [
+const LOW: [u8; 16] = [
     0x08, 0x83, 0xC0, 0, 0, 9, 0, 0, 0, 0, 0, 0, 0x09, 0x5F, 0, 0,
 ];
 
@@ -32,7 +32,7 @@ const SAMPLE: [u8; 16] = [
 ];
 
 /// The command that starts the Limit Checker.
-pub const START: [u8; 28] = [
+const START: [u8; 28] = [
     0x18, 0x06, 0xC0, 0, 0, 21, 1, 0, b'L', b'C', 0, 0, 0, 0, 0, 0, 0, 0, 0, 0, 0, 0, 0, 0, 0, 0,
     0, 0,
 ];
@@ -41,7 +41,7 @@ pub const START: [u8; 28] = [
 const ROOM: usize = 1_024;
 
 /// Adds a record of at most 255 bytes of body.
-pub fn push(stream: &mut Vec<u8>, kind: u8, body: &[u8]) -> Result<(), AllocError> {
+fn push(stream: &mut Vec<u8>, kind: u8, body: &[u8]) -> Result<(), AllocError> {
     stream.push(kind)?;
     stream.extend_from_slice(&MOMENT)?;
     stream.extend_from_slice(&[0, 0, 0])?;
@@ -58,7 +58,7 @@ fn push_half(stream: &mut Vec<u8>, name: &[u8; 18], half: u8) -> Result<(), Allo
 }
 
 /// Both halves of the text are stored, and the Limit Checker is started.
-pub fn beginning(alloc: Global) -> Result<Vec<u8>, AllocError> {
+fn beginning(alloc: Global) -> Result<Vec<u8>, AllocError> {
     let mut stream = Vec::new(alloc);
     push_half(&mut stream, b"/cf/lc_def_wdt.tbl", 1)?;
     push_half(&mut stream, b"/cf/lc_def_adt.tbl", 2)?;
@@ -67,7 +67,7 @@ pub fn beginning(alloc: Global) -> Result<Vec<u8>, AllocError> {
 }
 
 /// The same, and two failing samples.
-pub fn two_failing_samples(alloc: Global) -> Result<Vec<u8>, AllocError> {
+fn two_failing_samples(alloc: Global) -> Result<Vec<u8>, AllocError> {
     let mut stream = beginning(alloc)?;
     for _ in 0..2 {
         push(&mut stream, 1, &LOW)?;
