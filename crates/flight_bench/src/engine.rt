@@ -1,57 +1,29 @@
-//! How fast the Limit Checker's engine is: packets of telemetry over few and many message ids, and samples of full tables.
+//! The calls of the Limit Checker's engine: packets of telemetry, and samples of all rules.
 
 ghost use Rattle.std.specs.Prelude.{◌≡◌};
 ghost use Rattle.lc_model.specs.declared.kind.Kind.TheVariants.{Wdt, Adt};
 
-use crate::texts;
+use crate::measuring::{Work, measure};
 use lc_model::{ALL_RULES, Kind, SampleRequest, TABLE_ENTRIES};
 use limit_engine::{Asked, Engine};
 use rpn_compiler::compile;
-use std::alloc::{AllocError, Global};
-use std::time::Instant;
 use table_file::{open, preamble};
 use table_validator::{ValidImage, validate};
 
-/// The first message id of the packets.
-const FIRST_ID: u16 = 0x0900;
+/// How long a packet is.
+const PACKET: usize = 16;
 
-/// The first message id of packets that nobody watches.
-const OTHER_ID: u16 = 0x0A00;
-
-/// A value with which half of the watchpoints of full tables are true.
-const MIDDLE: u16 = 88;
-
-/// How often each row is measured; the least time counts.
-const RUNS: u32 = 15;
-
-/// How often the packets of a row are seen in one measurement, and how often all rules are sampled.
-const ROUNDS: u32 = 1_000;
-
-/// A packet of 16 bytes with a number at byte 12.
-fn packet(mid: u16, value: u16) -> [u8; 16] {
-    let [high_id, low_id] = mid.to_be_bytes();
-    let [high, low] = value.to_be_bytes();
-    [
-        high_id, low_id, 0xC0, 0, 0, 9, 0, 0, 0, 0, 0, 0, high, low, 0, 0,
-    ]
-}
-
-/// The packets of so many message ids.
-fn packets(alloc: Global, first: u16, count: u16) -> Result<Vec<[u8; 16]>, AllocError> {
-    let mut packets = Vec::new(alloc);
-    for number in 0..count {
-        packets.push(packet(first.wrapping_add(number), number))?;
-    }
-    Ok(packets)
-}
+/// How often the packets are seen in one measurement, and how often all rules are sampled.
+const ROUNDS: usize = 1_000;
 
 /// Puts tables in force, where they belong together.
 fn put_in_force(engine: &mut Engine, wdt: &ValidImage<'_>, adt: &ValidImage<'_>)
     requires wdt { wdt.now.kind ≡ Wdt }
     requires adt { adt.now.kind ≡ Adt }
 {
-    let is_match = preamble::hash(wdt.image()) == preamble::hash(adt.image())
-        && preamble::watchpoint_count(wdt.image()) == preamble::watchpoint_count(adt.image());
+    let (watchpoints, actionpoints) = (wdt.image(), adt.image());
+    let is_match = preamble::hash(watchpoints) == preamble::hash(actionpoints)
+        && preamble::watchpoint_count(watchpoints) == preamble::watchpoint_count(actionpoints);
     if is_match {
         engine.adopt(wdt, adt);
     }
@@ -75,154 +47,69 @@ fn see(engine: &mut Engine, packet: &[u8]) {
     engine.telemetry(packet);
 }
 
-/// Gives each packet to the engine, again and again.
-fn see_all(engine: &mut Engine, packets: &[[u8; 16]]) {
-    for _ in 0..ROUNDS {
-        for packet in packets {
-            see(engine, packet);
-        }
+/// Gives each packet to the engine.
+fn see_all(engine: &mut Engine, packets: &[u8]) {
+    for packet in packets.chunks(PACKET) {
+        see(engine, packet);
     }
 }
 
-/// Prints the picoseconds of a packet.
-fn measure_telemetry(
-    rt: &HostRuntime,
-    row: &str,
-    text: &[u8],
-    packets: &[[u8; 16]],
-) -> anyhow::Result<()> {
-    let mut engine = engine_with(rt, text)?;
-    let mut least = u128::MAX;
-    for _ in 0..RUNS {
-        let start = Instant::now(rt)?;
-        see_all(&mut engine, packets);
-        least = least.min(start.elapsed(rt)?.as_nanos());
-    }
-    let seen = u128::from(ROUNDS) * (packets.len() as u128).max(1);
-    println!(rt;
-        "{row}: {} picoseconds a packet",
-        least.saturating_mul(1_000) / seen
-    )?;
-    Ok(())
+/// The engine sees packets, so many.
+#[derive(Drop)]
+struct Seeing<'a> {
+    engine: Engine,
+    packets: &'a [u8],
 }
 
-/// Samples all rules once. Answers how many words that were.
-#[inline(never)]
-fn sample_all(engine: &mut Engine, asked: &mut Vec<Asked>) -> usize {
-    let request = SampleRequest {
-        first: ALL_RULES,
-        last: ALL_RULES,
-        ages: false,
-    };
-    asked.clear();
-    if TABLE_ENTRIES <= asked.capacity() {
-        engine.sample(&request, asked);
-    }
-    engine.steps()
-}
-
-/// Prints the picoseconds of a word.
-fn measure_samples(rt: &HostRuntime, row: &str, text: &[u8], packet: &[u8]) -> anyhow::Result<()> {
-    let mut engine = engine_with(rt, text)?;
-    engine.telemetry(packet);
-    let mut asked = Vec::with_capacity(rt.alloc(), TABLE_ENTRIES)?;
-    let mut words = 0;
-    let mut least = u128::MAX;
-    for _ in 0..RUNS {
-        let start = Instant::now(rt)?;
+impl Work for Seeing<'_> {
+    fn once(&mut self) -> anyhow::Result<usize> {
         for _ in 0..ROUNDS {
-            words = sample_all(&mut engine, &mut asked);
+            see_all(&mut self.engine, self.packets);
         }
-        least = least.min(start.elapsed(rt)?.as_nanos());
+        Ok((self.packets.len() / PACKET).saturating_mul(ROUNDS))
     }
-    let sampled = u128::from(ROUNDS) * (words as u128).max(1);
-    println!(rt;
-        "{row}: {words} words, {} picoseconds a word",
-        least.saturating_mul(1_000) / sampled
-    )?;
-    Ok(())
 }
 
-/// Packets by their message ids: so many from this one on, over so many watched ids with so many watchpoints each.
-struct Row {
-    name: &'static str,
-    ids: u16,
-    each: u16,
-    first: u16,
-    seen: u16,
+pub fn measure_telemetry(rt: &HostRuntime, text: &[u8], packets: &[u8]) -> anyhow::Result<()> {
+    let engine = engine_with(rt, text)?;
+    measure(rt, &mut Seeing { engine, packets })
 }
 
-/// The rows of packets: 176 ids of one watchpoint, 16 of eleven, ten of one, one of one, one of 176; packets of other ids where
-/// one id has all watchpoints, and where 176 have one each.
-const ROWS: [Row; 7] = [
-    Row {
-        name: "ids",
-        ids: 176,
-        each: 1,
-        first: FIRST_ID,
-        seen: 176,
-    },
-    Row {
-        name: "eleven",
-        ids: 16,
-        each: 11,
-        first: FIRST_ID,
-        seen: 16,
-    },
-    Row {
-        name: "ten",
-        ids: 10,
-        each: 1,
-        first: FIRST_ID,
-        seen: 10,
-    },
-    Row {
-        name: "one",
-        ids: 1,
-        each: 1,
-        first: FIRST_ID,
-        seen: 1,
-    },
-    Row {
-        name: "hits",
-        ids: 1,
-        each: 176,
-        first: FIRST_ID,
-        seen: 1,
-    },
-    Row {
-        name: "others",
-        ids: 1,
-        each: 176,
-        first: OTHER_ID,
-        seen: 176,
-    },
-    Row {
-        name: "unwatched",
-        ids: 176,
-        each: 1,
-        first: OTHER_ID,
-        seen: 176,
-    },
-];
-
-/// Prints a row of packets.
-fn measure_row(rt: &HostRuntime, row: &Row) -> anyhow::Result<()> {
-    let text = texts::watched(rt.alloc(), row.ids, row.each)?;
-    let packets = packets(rt.alloc(), row.first, row.seen)?;
-    measure_telemetry(rt, row.name, &text, &packets)
+/// The engine samples: so many words.
+#[derive(Drop)]
+struct Sampling {
+    engine: Engine,
+    asked: Vec<Asked>,
 }
 
-/// The row of this name, or all.
-pub fn measure(rt: &HostRuntime, name: Option<&str>) -> anyhow::Result<()> {
-    for row in &ROWS {
-        if name.is_none() || name == Some(row.name) {
-            measure_row(rt, row)?;
+impl Sampling {
+    /// Samples all rules once.
+    #[inline(never)]
+    fn sample_all(&mut self) {
+        let request = SampleRequest {
+            first: ALL_RULES,
+            last: ALL_RULES,
+            ages: false,
+        };
+        self.asked.clear();
+        if TABLE_ENTRIES <= self.asked.capacity() {
+            self.engine.sample(&request, &mut self.asked);
         }
     }
-    if name.is_none() || name == Some("samples") {
-        let text = texts::full_tables(rt.alloc())?;
-        measure_samples(rt, "samples", &text, &packet(0x0883, MIDDLE))?;
+}
+
+impl Work for Sampling {
+    fn once(&mut self) -> anyhow::Result<usize> {
+        for _ in 0..ROUNDS {
+            self.sample_all();
+        }
+        Ok(self.engine.steps().saturating_mul(ROUNDS))
     }
-    Ok(())
+}
+
+pub fn measure_samples(rt: &HostRuntime, text: &[u8], packets: &[u8]) -> anyhow::Result<()> {
+    let mut engine = engine_with(rt, text)?;
+    see_all(&mut engine, packets);
+    let asked = Vec::with_capacity(rt.alloc(), TABLE_ENTRIES)?;
+    measure(rt, &mut Sampling { engine, asked })
 }

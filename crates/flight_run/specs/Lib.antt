@@ -1,3 +1,4 @@
+pub mod Cause
 pub mod Finished
 pub mod Lines
 pub mod Status

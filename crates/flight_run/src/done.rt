@@ -12,7 +12,7 @@ use std::fmt::{self, Display, Formatter, Write};
 const PRIMARY_HEADER: usize = 6;
 
 /// What was done, with what is said of it.
-#[derive(Debug, Drop)]
+#[derive(Drop)]
 pub enum Done {
     /// The stored run, with the packets that it wrote, one behind the other.
     Stored(Vec<u8>),

@@ -1,6 +1,7 @@
 //! What ends the program with another status than 0, and the line that says so.
 
 ghost use Rattle.std.specs.Prelude.{◌≡◌};
+ghost use Rattle.flight_run.specs.Cause.{fault_of_run, fault_of_schedule, fault_of_text, fault_of_words};
 ghost use Rattle.flight_run.specs.Status.{status_of};
 ghost use Rattle.flight_run.specs.declared.fault.Fault.TheVariants.{Memory};
 
@@ -10,7 +11,7 @@ use std::alloc::{AllocError, AllocFailed};
 use tick_scheduler::ScheduleError;
 
 /// Why the program ended.
-#[derive(Clone, Copy, Debug, PartialEq, Eq)]
+#[derive(Clone, Copy)]
 pub enum Fault<'a> {
     /// A rule text is refused.
     Text(CompileError),
@@ -43,6 +44,8 @@ impl<T: Drop> From<AllocFailed<T>> for Fault<'_> {
 }
 
 impl From<WordsError> for Fault<'_> {
+    ghost from_gives = { λ error fault. fault ≡ fault_of_words error };
+
     fn from(error: WordsError) -> Self {
         match error {
             WordsError::Memory => Fault::Memory,
@@ -52,6 +55,8 @@ impl From<WordsError> for Fault<'_> {
 }
 
 impl From<CompileError> for Fault<'_> {
+    ghost from_gives = { λ error fault. fault ≡ fault_of_text error };
+
     fn from(error: CompileError) -> Self {
         match error {
             CompileError::Memory => Fault::Memory,
@@ -61,6 +66,8 @@ impl From<CompileError> for Fault<'_> {
 }
 
 impl From<ScheduleError> for Fault<'_> {
+    ghost from_gives = { λ error fault. fault ≡ fault_of_schedule error };
+
     fn from(error: ScheduleError) -> Self {
         match error {
             ScheduleError::Memory => Fault::Memory,
@@ -70,6 +77,8 @@ impl From<ScheduleError> for Fault<'_> {
 }
 
 impl From<RunError> for Fault<'_> {
+    ghost from_gives = { λ error fault. fault ≡ fault_of_run error };
+
     fn from(error: RunError) -> Self {
         match error {
             RunError::Memory => Fault::Memory,

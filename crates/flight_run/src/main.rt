@@ -13,8 +13,6 @@ mod flying;
 mod lines;
 mod place;
 mod stored;
-#[cfg(test)]
-mod tests;
 
 use crate::done::Done;
 use crate::fault::Fault;

@@ -10,7 +10,7 @@ use rule_lexer::LexError;
 use rule_parser::ParseError;
 
 /// What a refusal of a rule text is of.
-#[derive(Clone, Copy, Debug, PartialEq, Eq)]
+#[derive(Clone, Copy)]
 pub enum Place {
     /// The whole text.
     Whole,

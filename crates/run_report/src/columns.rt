@@ -4,7 +4,7 @@
 pub const MOST: usize = 400;
 
 /// The columns of so many records.
-#[derive(Clone, Copy, Debug, PartialEq, Eq)]
+#[derive(Clone, Copy)]
 pub struct Columns {
     pub records: usize,
     pub count: usize,

@@ -10,7 +10,7 @@ use std::cell::Cell;
 use tick_scheduler::Schedule;
 
 /// How a stream ended.
-#[derive(Clone, Copy, Debug, PartialEq, Eq)]
+#[derive(Clone, Copy)]
 pub enum Ending {
     /// Behind its last record; there were so many.
     Whole { records: u64 },

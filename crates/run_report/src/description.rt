@@ -10,7 +10,7 @@ use lc_model::{EventKind, mids, u16_at};
 use std::io::{self, Write};
 
 /// What a record brings.
-#[derive(Clone, Copy, Debug, PartialEq, Eq)]
+#[derive(Clone, Copy)]
 pub enum Brings<'a> {
     /// Telemetry, or bytes that are no packet.
     Packet,

@@ -11,7 +11,7 @@ use std::alloc::{AllocError, Global};
 use std::io::{self, Write};
 
 /// What a lane has marks for.
-#[derive(Clone, Copy, Debug, PartialEq, Eq)]
+#[derive(Clone, Copy, PartialEq)]
 pub enum Lane {
     Records,
     Requests,
@@ -20,7 +20,7 @@ pub enum Lane {
 }
 
 /// What is marked in a column: how many there are, and one of them, a record or an entry by its number.
-#[derive(Clone, Copy, Debug, PartialEq, Eq)]
+#[derive(Clone, Copy)]
 pub struct Mark {
     pub count: u32,
     pub shown: usize,

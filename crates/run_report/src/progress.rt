@@ -7,7 +7,7 @@ pub trait Progress {
 }
 
 /// Says nothing.
-#[derive(Clone, Copy, Debug, PartialEq, Eq)]
+#[derive(Clone, Copy)]
 pub struct Silent;
 
 impl Progress for Silent {

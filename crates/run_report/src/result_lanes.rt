@@ -11,7 +11,7 @@ use lc_model::{ApMode, ApResult, LcMode};
 use std::io::{self, Write};
 
 /// What a lane shows.
-#[derive(Clone, Copy, Debug, PartialEq, Eq)]
+#[derive(Clone, Copy)]
 enum Part {
     Mode,
     /// The last result of a rule.
@@ -21,7 +21,7 @@ enum Part {
 }
 
 /// What stands in a column.
-#[derive(Clone, Copy, Debug, PartialEq, Eq)]
+#[derive(Clone, Copy, PartialEq)]
 enum Value {
     /// The Limit Checker doesn't run, or has no such rule.
     Nothing,

@@ -13,7 +13,7 @@ const EVENT_SIZE: usize = 168;
 const BEFORE_RULES: usize = 16;
 
 /// An event.
-#[derive(Clone, Copy, Debug, PartialEq, Eq)]
+#[derive(Clone, Copy)]
 pub struct Event<'a> {
     pub moment: Moment,
     pub sender: &'a [u8],
@@ -23,7 +23,7 @@ pub struct Event<'a> {
 }
 
 /// What a packet is.
-#[derive(Clone, Copy, Debug, PartialEq, Eq)]
+#[derive(Clone, Copy)]
 pub enum Sent<'a> {
     /// A request for the command sequence of this number.
     Request(u16),

@@ -47,7 +47,7 @@ pub enum ScriptError {
 }
 
 /// Why a line adds nothing to a stream.
-#[derive(Clone, Copy, Debug, PartialEq, Eq)]
+#[derive(Clone, Copy)]
 pub(crate) enum Fault {
     Line(Reason),
     Memory,

@@ -12,7 +12,7 @@ use lc_model::u32_at;
 pub(crate) const HEADER: usize = 11;
 
 /// What stands at the front of a stream.
-#[derive(Clone, Copy, Debug, PartialEq, Eq)]
+#[derive(Clone, Copy)]
 pub(crate) enum Front {
     /// Nothing.
     End,

@@ -9,7 +9,7 @@ use crate::error::Reason;
 use crate::word::is;
 
 /// What a record brings.
-#[derive(Clone, Copy, Debug, PartialEq, Eq)]
+#[derive(Clone, Copy)]
 pub enum RecordKind {
     /// The bytes of a packet.
     Packet,

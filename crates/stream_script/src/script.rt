@@ -24,7 +24,7 @@ fn front(bytes: &[u8], size: usize) -> &[u8]
 }
 
 /// The moment of what comes next, and the bytes of the stream. Contracts see both (`Said`).
-#[derive(Debug, Drop)]
+#[derive(Drop)]
 pub(crate) struct Script {
     moment: Moment,
     bytes: Vec<u8>,

@@ -5,7 +5,7 @@ use clap::{Arg, ArgAction, ArgMatches, Command, Error};
 use std::alloc::{AllocError, Global};
 
 /// What the program is to do.
-#[derive(Debug, Drop)]
+#[derive(Drop)]
 pub enum Plan<'a> {
     /// `table FILE`: a table file as text.
     Table {
@@ -34,63 +34,110 @@ pub enum Plan<'a> {
     },
 }
 
+/// What a command takes beside its files.
+#[derive(Clone, Copy)]
+enum More {
+    Nothing,
+    /// Whether a script is wanted.
+    Whole,
+    /// Rule texts, one at least.
+    Rules,
+}
+
+/// A command: its word, what it does, the files that have to be named, with what each is, and what more it takes.
+struct Row {
+    word: &'static str,
+    about: &'static str,
+    files: &'static [(&'static str, &'static str)],
+    more: More,
+}
+
+/// All commands, as the help lists them.
+const ROWS: [Row; 5] = [
+    Row {
+        word: "table",
+        about: "Says what a table file holds",
+        files: &[("FILE", "A file of watchpoints or of actionpoints")],
+        more: More::Nothing,
+    },
+    Row {
+        word: "stream",
+        about: "Says what the records of a stream are",
+        files: &[("FILE", "A stream of records")],
+        more: More::Whole,
+    },
+    Row {
+        word: "packets",
+        about: "Says what the packets are that a run wrote",
+        files: &[("FILE", "The packets, one behind the other")],
+        more: More::Nothing,
+    },
+    Row {
+        word: "scenario",
+        about: "Makes a stream from a script",
+        files: &[
+            ("SCRIPT", "The script, line by line"),
+            ("STREAM", "The stream, which is written"),
+        ],
+        more: More::Nothing,
+    },
+    Row {
+        word: "report",
+        about: "Makes a page of a run, for a browser",
+        files: &[
+            ("SCHEDULE", "The schedule"),
+            ("STREAM", "A stream of records"),
+            ("PAGE", "The page, which is written"),
+        ],
+        more: More::Rules,
+    },
+];
+
 /// A file that has to be named.
 fn file_word<'a>(alloc: Global, name: &'a str, help: &'a str) -> Arg<'a> {
     Arg::new(alloc, name).required(true).help(help)
 }
 
-fn table_words<'a>(alloc: Global) -> Result<Command<'a>, AllocError> {
-    Command::new(alloc, "table")
-        .about("Says what a table file holds")
-        .arg(file_word(alloc, "FILE", "A file of watchpoints or of actionpoints"))
+/// A command with what more it takes.
+fn with_more<'a>(
+    alloc: Global,
+    command: Command<'a>,
+    more: More,
+) -> Result<Command<'a>, AllocError> {
+    match more {
+        More::Nothing => Ok(command),
+        More::Whole => command.arg(
+            Arg::new(alloc, "whole")
+                .long("whole")
+                .action(ArgAction::SetTrue)
+                .help("Writes a script from which scenario makes the same stream"),
+        ),
+        More::Rules => command.arg(
+            file_word(alloc, "RULES", "The rule texts, numbered from 0")
+                .action(ArgAction::Append)
+                .num_args(1..),
+        ),
+    }
 }
 
-fn stream_words<'a>(alloc: Global) -> Result<Command<'a>, AllocError> {
-    let whole = Arg::new(alloc, "whole")
-        .long("whole")
-        .action(ArgAction::SetTrue)
-        .help("Writes a script from which scenario makes the same stream");
-    Command::new(alloc, "stream")
-        .about("Says what the records of a stream are")
-        .arg(whole)?
-        .arg(file_word(alloc, "FILE", "A stream of records"))
-}
-
-fn packets_words<'a>(alloc: Global) -> Result<Command<'a>, AllocError> {
-    Command::new(alloc, "packets")
-        .about("Says what the packets are that a run wrote")
-        .arg(file_word(alloc, "FILE", "The packets, one behind the other"))
-}
-
-fn scenario_words<'a>(alloc: Global) -> Result<Command<'a>, AllocError> {
-    Command::new(alloc, "scenario")
-        .about("Makes a stream from a script")
-        .arg(file_word(alloc, "SCRIPT", "The script, line by line"))?
-        .arg(file_word(alloc, "STREAM", "The stream, which is written"))
-}
-
-fn report_words<'a>(alloc: Global) -> Result<Command<'a>, AllocError> {
-    let rules = file_word(alloc, "RULES", "The rule texts, numbered from 0")
-        .action(ArgAction::Append)
-        .num_args(1..);
-    Command::new(alloc, "report")
-        .about("Makes a page of a run, for a browser")
-        .arg(file_word(alloc, "SCHEDULE", "The schedule"))?
-        .arg(file_word(alloc, "STREAM", "A stream of records"))?
-        .arg(file_word(alloc, "PAGE", "The page, which is written"))?
-        .arg(rules)
+/// A command of the table.
+fn command_of<'a>(alloc: Global, row: &Row) -> Result<Command<'a>, AllocError> {
+    let mut command = Command::new(alloc, row.word).about(row.about);
+    for (name, help) in row.files {
+        command = command.arg(file_word(alloc, name, help))?;
+    }
+    with_more(alloc, command, row.more)
 }
 
 /// All commands.
 fn all_words<'a>(alloc: Global) -> Result<Command<'a>, AllocError> {
-    Command::new(alloc, "flight_tools")
+    let mut words = Command::new(alloc, "flight_tools")
         .about("Tables, streams, packets and runs as text, and streams from scripts")
-        .subcommand_required(true)
-        .subcommand(table_words(alloc)?)?
-        .subcommand(stream_words(alloc)?)?
-        .subcommand(packets_words(alloc)?)?
-        .subcommand(scenario_words(alloc)?)?
-        .subcommand(report_words(alloc)?)
+        .subcommand_required(true);
+    for row in &ROWS {
+        words = words.subcommand(command_of(alloc, row)?)?;
+    }
+    Ok(words)
 }
 
 /// Reads the words of a command line, the program's name first. An option stands anywhere among the files; `--` ends them.
@@ -98,53 +145,57 @@ fn all_words<'a>(alloc: Global) -> Result<Command<'a>, AllocError> {
 /// Errors: what `clap` says of words that are none of the commands; and the help where it is asked for.
 pub fn read_words<'a>(alloc: Global, words: &'a [&'a str]) -> Result<Plan<'a>, Error> {
     let matches = all_words(alloc)?.try_get_matches_from(words)?;
-    given_plan(alloc, &matches)
+    match given_plan(alloc, &matches)? {
+        Some(plan) => Ok(plan),
+        None => {
+            Err(all_words(alloc)?.error(ErrorKind::MissingRequiredArgument, "a word is missing")?)
+        }
+    }
 }
 
-/// The plan of the command that was found.
-fn given_plan<'a>(alloc: Global, matches: &ArgMatches<'a>) -> Result<Plan<'a>, Error> {
+/// The plan of the command that was found, where no word of it is missing.
+fn given_plan<'a>(alloc: Global, matches: &ArgMatches<'a>) -> Result<Option<Plan<'a>>, AllocError> {
     match matches.subcommand() {
-        Some(("table", found)) => Ok(Plan::Table {
-            file: file_of(alloc, found, "FILE")?,
+        Some(("report", found)) => given_report(alloc, found),
+        Some((word, found)) => Ok(given_files(word, found)),
+        None => Ok(None),
+    }
+}
+
+/// The plan of a report.
+fn given_report<'a>(alloc: Global, found: &ArgMatches<'a>) -> Result<Option<Plan<'a>>, AllocError> {
+    match found.get_strs("RULES") {
+        Some(rules) => Ok(report_of(found, Vec::from_slice(alloc, rules)?)),
+        None => Ok(None),
+    }
+}
+
+fn report_of<'a>(found: &ArgMatches<'a>, rules: Vec<&'a str>) -> Option<Plan<'a>> {
+    Some(Plan::Report {
+        schedule: found.get_str("SCHEDULE")?,
+        stream: found.get_str("STREAM")?,
+        page: found.get_str("PAGE")?,
+        rules,
+    })
+}
+
+/// The plan of another command.
+fn given_files<'a>(word: &str, found: &ArgMatches<'a>) -> Option<Plan<'a>> {
+    match word {
+        "table" => Some(Plan::Table {
+            file: found.get_str("FILE")?,
         }),
-        Some(("stream", found)) => Ok(Plan::Stream {
-            file: file_of(alloc, found, "FILE")?,
+        "stream" => Some(Plan::Stream {
+            file: found.get_str("FILE")?,
             whole: found.get_flag("whole"),
         }),
-        Some(("packets", found)) => Ok(Plan::Packets {
-            file: file_of(alloc, found, "FILE")?,
+        "packets" => Some(Plan::Packets {
+            file: found.get_str("FILE")?,
         }),
-        Some(("scenario", found)) => Ok(Plan::Scenario {
-            script: file_of(alloc, found, "SCRIPT")?,
-            stream: file_of(alloc, found, "STREAM")?,
+        "scenario" => Some(Plan::Scenario {
+            script: found.get_str("SCRIPT")?,
+            stream: found.get_str("STREAM")?,
         }),
-        Some(("report", found)) => Ok(Plan::Report {
-            schedule: file_of(alloc, found, "SCHEDULE")?,
-            stream: file_of(alloc, found, "STREAM")?,
-            page: file_of(alloc, found, "PAGE")?,
-            rules: files_of(alloc, found, "RULES")?,
-        }),
-        _ => Err(missing(alloc)?),
-    }
-}
-
-/// What is said where a word is missing.
-fn missing(alloc: Global) -> Result<Error, AllocError> {
-    all_words(alloc)?.error(ErrorKind::MissingRequiredArgument, "a word is missing")
-}
-
-/// The file of a name.
-fn file_of<'a>(alloc: Global, found: &ArgMatches<'a>, name: &str) -> Result<&'a str, Error> {
-    match found.get_str(name) {
-        Some(word) => Ok(word),
-        None => Err(missing(alloc)?),
-    }
-}
-
-/// The files of a name.
-fn files_of<'a>(alloc: Global, found: &ArgMatches<'a>, name: &str) -> Result<Vec<&'a str>, Error> {
-    match found.get_strs(name) {
-        Some(words) => Ok(Vec::from_slice(alloc, words)?),
-        None => Err(missing(alloc)?),
+        _ => None,
     }
 }

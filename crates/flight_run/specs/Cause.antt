@@ -1,0 +1,29 @@
+-- Which fault each refusal is. This project's own.
+use Rattle.rpn_compiler.specs.declared.error.CompileError.{CompileError}
+use Rattle.rpn_compiler.specs.declared.error.CompileError.TheVariants as compile
+use Rattle.tick_scheduler.specs.declared.error.ScheduleError.{ScheduleError}
+use Rattle.tick_scheduler.specs.declared.error.ScheduleError.TheVariants as schedule
+use Rattle.flight_core.specs.declared.error.RunError.{RunError}
+use Rattle.flight_core.specs.declared.error.RunError.TheVariants as run
+use Rattle.flight_core.specs.declared.words.WordsError.{WordsError}
+use Rattle.flight_core.specs.declared.words.WordsError.TheVariants as words
+use Rattle.flight_run.specs.declared.fault.Fault.{Fault}
+use Rattle.flight_run.specs.declared.fault.Fault.TheVariants.{Text, Schedule, Words, Run, Memory}
+
+-- want of memory is one fault, wherever it arose, and a run that stops at a rule text is stopped by the text
+abbrev pub fault_of_words : WordsError → Fault
+fault_of_words words.Memory = Memory
+fault_of_words error = Words error
+
+abbrev pub fault_of_text : CompileError → Fault
+fault_of_text compile.Memory = Memory
+fault_of_text error = Text error
+
+abbrev pub fault_of_schedule : ScheduleError → Fault
+fault_of_schedule schedule.Memory = Memory
+fault_of_schedule error = Schedule error
+
+abbrev pub fault_of_run : RunError → Fault
+fault_of_run run.Memory = Memory
+fault_of_run (run.Compile text error) = Text error
+fault_of_run error = Run error

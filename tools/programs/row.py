@@ -1,0 +1,53 @@
+"""What a row says: the words of a call, the files before it, and all that it prints, writes and answers."""
+
+import hashlib
+from dataclasses import dataclass, field
+
+FOLDER = "a folder"
+
+
+@dataclass(frozen=True)
+class Sized:
+    """A file of so many bytes with this SHA-256."""
+
+    length: int
+    sha256: str
+
+    def is_met(self, found):
+        return len(found) == self.length and hashlib.sha256(found).hexdigest() == self.sha256
+
+    def __str__(self):
+        return f"{self.length} bytes, SHA-256 {self.sha256}"
+
+
+@dataclass(frozen=True)
+class Begins:
+    """A file that begins with these bytes."""
+
+    bytes: bytes
+
+    def is_met(self, found):
+        return found.startswith(self.bytes)
+
+    def __str__(self):
+        return f"bytes that begin with {self.bytes!r}"
+
+
+@dataclass
+class Row:
+    """One call of a program, in a new folder that has the files of `before`.
+
+    A file is its bytes, FOLDER, or, behind the call, Sized or Begins. `after` has the files that the call makes or changes;
+    all others stay as they were, and no further ones come. `first` are calls before, which end with status 0. `prints_to` is a
+    device in the place of standard output.
+    """
+
+    title: str
+    words: list
+    before: dict = field(default_factory=dict)
+    status: int = 0
+    output: bytes = b""
+    error: bytes = b""
+    after: dict = field(default_factory=dict)
+    first: list = field(default_factory=list)
+    prints_to: str = ""

@@ -1,0 +1,174 @@
+"""`flight_tools`: what its commands list and write, what they refuse, and files that they can't use."""
+
+import hashlib
+import os
+
+from records import LOW_VOLTS
+from row import FOLDER, Begins, Row
+
+CRATES = os.path.join(os.path.dirname(os.path.abspath(__file__)), "..", "..", "crates")
+
+
+def read(path):
+    with open(os.path.join(CRATES, path), "rb") as file:
+        return file.read()
+
+
+# The recorded stream of the README, the script that says it, the packets of its run, and their listing.
+BUS_STREAM = read("examples/data/bus.stream")
+BUS_SCRIPT = read("examples/data/bus.scenario")
+BUS_PACKETS = read("flight_tools/data/run.packets")
+BUS_LINES = read("flight_tools/stdout")
+
+# Two sequence requests, and a byte behind them.
+REQUEST = bytes([0x18, 0xA9, 0xC0, 0, 0, 5, 4, 0x88, 0, 7, 0, 0])
+PACKETS = REQUEST + REQUEST + b"\x18"
+
+COMPILED = [["flight_run", "compile", "rules", "wdt", "adt"]]
+
+WDT_LISTING = f"""\
+file: content type 0x63464531 subtype 8 spacecraft 66 processor 1 application 0 seconds 0 subseconds 0
+table: "LC.LC_WDT" description "" reserved 0 offset 0 bytes 4264
+image: kind 1 watchpoints version 1 entries 1 watchpoints 1
+hash: {hashlib.sha256(LOW_VOLTS).hexdigest()}
+w0: u16be at 12 mask 0xFFFF of 0x0883 < 2400 stale 2
+""".encode()
+
+ADT_LISTING = f"""\
+file: content type 0x63464531 subtype 8 spacecraft 66 processor 1 application 0 seconds 0 subseconds 0
+table: "LC.LC_ADT" description "" reserved 0 offset 0 bytes 19400
+image: kind 2 actionpoints version 2 entries 1 watchpoints 1
+hash: {hashlib.sha256(LOW_VOLTS).hexdigest()}
+a0: active fails 2 sequence 7 event error 1001 "low volts" report 0 0 0 when w0
+""".encode()
+
+LISTINGS = [
+    Row("a file of watchpoints", ["flight_tools", "table", "wdt"], {"rules": LOW_VOLTS}, first=COMPILED, output=WDT_LISTING),
+    Row("a file of actionpoints", ["flight_tools", "table", "adt"], {"rules": LOW_VOLTS}, first=COMPILED, output=ADT_LISTING),
+    Row(
+        "a file that is no table",
+        ["flight_tools", "table", "file"],
+        {"file": b"no table"},
+        status=1,
+        output=b"refused 51: the file has under 116 bytes\n",
+    ),
+    Row("packets, and bytes behind them", ["flight_tools", "packets", "file"], {"file": PACKETS}, output=b"""\
+1 - sequence request 7, count 0
+2 - sequence request 7, count 0
+cut behind packet 2: 1 bytes are no whole packet
+"""),
+    Row("the packets of the README's run", ["flight_tools", "packets", "file"], {"file": BUS_PACKETS}, output=BUS_LINES),
+    Row("a stream", ["flight_tools", "stream", "file"], {"file": BUS_STREAM[:65]}, output=b"""\
+1 100 0 half wdt 0 /cf/lc_def_wdt.tbl
+2 is cut short
+"""),
+    Row(
+        "a tick as a script",
+        ["flight_tools", "stream", "--whole", "file"],
+        {"file": bytes([2, 0, 0, 0, 100, 0, 7, 0, 0, 0, 0])},
+        output=b"record 100 7 tick -\n",
+    ),
+    Row(
+        "the README's stream from its script",
+        ["flight_tools", "scenario", "script", "stream"],
+        {"script": BUS_SCRIPT},
+        after={"stream": BUS_STREAM},
+    ),
+    Row(
+        "a script that is refused makes no stream",
+        ["flight_tools", "scenario", "script", "stream"],
+        {"script": b"tick\ntock\n"},
+        status=1,
+        error=b"script: line 2: no statement\n",
+    ),
+]
+
+REPORT = ["flight_tools", "report", "schedule", "stream", "page", "rules"]
+FILES = {"schedule": b"slots 1\n0 sample 0 175 age\n", "stream": BUS_STREAM, "rules": LOW_VOLTS, "empty": b"# no rules\n"}
+PAGE = Begins(b"<!DOCTYPE html>\n")
+
+REPORTS = [
+    Row("a page", REPORT, FILES, after={"page": PAGE}),
+    Row("a page of two texts", [*REPORT, "empty"], FILES, after={"page": PAGE}),
+    Row(
+        "a schedule that is refused makes no page",
+        REPORT,
+        {**FILES, "schedule": b"# none\nslots 0\n"},
+        status=1,
+        error=b"schedule: line 2 is no line of a schedule\n",
+    ),
+    Row(
+        "a text that is refused leaves an empty page",
+        REPORT,
+        {**FILES, "rules": b"packet BUS"},
+        status=1,
+        error=b"text 0: expected `=` at 10\n",
+        after={"page": b""},
+    ),
+]
+
+
+def unusable(title, name, words, files=FILES, **others):
+    return Row(title, ["flight_tools", *words.split()], files, status=3, error=b"cannot use %s\n" % name, **others)
+
+
+UNUSABLE = [
+    *(unusable(f"{command} of a file that isn't there", b"none", f"{command} none") for command in ("table", "stream", "packets")),
+    unusable("a script that isn't there", b"none", "scenario none /dev/full"),
+    unusable("a folder as packets", b"folder", "packets folder", {"folder": FOLDER}),
+    unusable("a stream to a full device", b"/dev/full", "scenario script /dev/full", {"script": b"tick\n"}),
+    unusable("a report without its schedule", b"none", "report none stream /dev/full rules"),
+    unusable("a report without its stream", b"none", "report schedule none /dev/full rules"),
+    unusable("a report without its rules", b"none", "report schedule stream /dev/full none"),
+    unusable("a report without its second rules", b"none", "report schedule stream /dev/full rules none"),
+    unusable("a page to a full device", b"/dev/full", "report schedule stream /dev/full rules"),
+    unusable("a listing to a full device", b"standard output", "stream stream", prints_to="/dev/full"),
+]
+
+HELP = b"""\
+Tables, streams, packets and runs as text, and streams from scripts
+
+Usage: flight_tools <COMMAND>
+
+Commands:
+  table     Says what a table file holds
+  stream    Says what the records of a stream are
+  packets   Says what the packets are that a run wrote
+  scenario  Makes a stream from a script
+  report    Makes a page of a run, for a browser
+  help      Print this message or the help of the given subcommand(s)
+
+Options:
+  -h, --help  Print help
+"""
+
+WORDS = [
+    Row("help is no fault", ["flight_tools", "--help"], output=HELP),
+    Row("no command", ["flight_tools"], status=2, error=b"""\
+error: 'flight_tools' requires a subcommand but one was not provided
+  [subcommands: table, stream, packets, scenario, report, help]
+
+Usage: flight_tools <COMMAND>
+
+For more information, try '--help'.
+"""),
+    Row("a command that there isn't", ["flight_tools", "tables"], status=2, error=b"""\
+error: unrecognized subcommand 'tables'
+
+  tip: a similar subcommand exists: 'table'
+
+Usage: flight_tools <COMMAND>
+
+For more information, try '--help'.
+"""),
+    Row("a command without its file", ["flight_tools", "table"], status=2, error=b"""\
+error: the following required arguments were not provided:
+  <FILE>
+
+Usage: flight_tools table <FILE>
+
+For more information, try '--help'.
+"""),
+]
+
+ROWS = [*LISTINGS, *REPORTS, *UNUSABLE, *WORDS]
