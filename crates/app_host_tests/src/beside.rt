@@ -55,7 +55,8 @@ pub fn counts_among<W: ByteSink>(host: &mut Host, out: &mut W) -> Result<(), Wri
     requires open { (shown (λ b. (⟦<dyn App as App>⟧ b.vtable).meaning b.value) host.old).is_closed ≡ false }
     requires hearers { AreKnownHearers (shown (λ b. (⟦<dyn App as App>⟧ b.vtable).meaning b.value) host.old) counter_mid }
     ensures between { IsBetween (shown (λ b. (⟦<dyn App as App>⟧ b.vtable).meaning b.value) host.new) }
-    ensures written { OnOk result (Appends (W.sink out.old).gained (W.sink out.new).gained (counted_from (executive_in (shown (λ b. (⟦<dyn App as App>⟧ b.vtable).meaning b.value) host.old)))) }
+    ensures written { let seen = shown (λ b. (⟦<dyn App as App>⟧ b.vtable).meaning b.value) in
+        OnOk result (Appends (W.sink out.old).gained (W.sink out.new).gained (counted_from (executive_in (seen host.old)))) }
 {
     let count = Record {
         moment: NOW,
@@ -72,7 +73,8 @@ fn count<W: ByteSink>(host: &mut Host, out: &mut W) -> Result<(), WriteFault>
     requires known { AreKnown (shown (λ b. (⟦<dyn App as App>⟧ b.vtable).meaning b.value) host.old) }
     requires spare { IsKnownSpare (Some counter_name) (shown (λ b. (⟦<dyn App as App>⟧ b.vtable).meaning b.value) host.old).stock }
     ensures between { IsBetween (shown (λ b. (⟦<dyn App as App>⟧ b.vtable).meaning b.value) host.new) }
-    ensures written { OnOk result (Appends (W.sink out.old).gained (W.sink out.new).gained (written_from (executive_in (shown (λ b. (⟦<dyn App as App>⟧ b.vtable).meaning b.value) host.old)))) }
+    ensures written { let seen = shown (λ b. (⟦<dyn App as App>⟧ b.vtable).meaning b.value) in
+        OnOk result (Appends (W.sink out.old).gained (W.sink out.new).gained (written_from (executive_in (seen host.old)))) }
 {
     let start = Record {
         moment: NOW,
