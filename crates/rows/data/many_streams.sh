@@ -7,7 +7,7 @@ set -eu
 folder=$1
 schedule=$2
 shift 2
-program=${FLIGHT_RUN:-crates/flight_run/out/flight_run}
+program=${FLIGHT_RUN:-bin/flight_run}
 find "$folder" -name '*.stream' -print0 | sort -z |
     parallel --null --quote --keep-order --tagstring '{/}' --jobs "${JOBS:-100%}" \
         "$program" run --schedule "$schedule" --stream '{}' --out '{.}.packets' "$@"
