@@ -8,6 +8,9 @@ module and the name, as `scanner::take`. CLAUSE is one of
     requires CALL     what a function that it calls asks for
     loop NAME         the invariant of a loop
     GOAL              any other goal, by the checker's name for it (an overflow, an index, an invariant of a type)
+
+A crate of laws or of examples has no body to edit: its edit makes an example false, FUNCTION is then the file of proofs, as
+`proofs::Examples`, and CLAUSE `example NAME`.
 """
 import os
 import re
