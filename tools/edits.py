@@ -4,7 +4,7 @@ Its lines: `file: src/NAME.rt`, then pairs of `old: TEXT` and `new: TEXT`, where
 `refused-by: FUNCTION CLAUSE`, the function that the check must refuse and the clause that must refuse it. FUNCTION is the
 module and the name, as `scanner::take`. CLAUSE is one of
 
-    ensures LABEL     a labelled clause of the function (`ensures` alone where it has no label)
+    ensures LABEL     a labelled clause of the function (`ensures` alone where the function has no other)
     requires CALL     what a function that it calls asks for
     loop NAME         the invariant of a loop
     GOAL              any other goal, by the checker's name for it (an overflow, an index, an invariant of a type)
