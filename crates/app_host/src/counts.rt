@@ -24,7 +24,8 @@ impl Model for Counts {
 
     ghost view = { λ c. c.counts.items };
 
-    ghost invariant = { λ c. (length c.counts.items ≡ 8192) × All (λ (count : ℕ). count < 16384) c.counts.items };
+    ghost invariant = { λ c. (length c.counts.items ≡ 8192) ×
+        All (λ (count : ℕ). count < 16384) c.counts.items };
 }
 
 impl Counts {
@@ -45,7 +46,8 @@ impl Counts {
         requires { message_id < 8192 }
         ensures count { result ≡ count_among self.old message_id }
         ensures below { result < 16384 }
-        ensures after { self.new ≡ slice_set self.old message_id ((count_among self.old message_id + 1) % 16384) }
+        ensures after { self.new ≡ slice_set self.old message_id
+            ((count_among self.old message_id + 1) % 16384) }
         ensures inside { message_id < length self.old }
     {
         let place = &mut self.counts[usize::from(message_id)];

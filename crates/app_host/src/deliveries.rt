@@ -48,10 +48,12 @@ impl Host {
     /// What waits to be written is written, behind so many bytes of this step; answers how many these are then. Where the write
     /// fails the host is closed.
     pub(crate) fn flush<W: ByteSink>(&mut self, out: &mut W, sent: u64) -> Result<u64, WriteFault>
-        requires seated { AreSeated (shown meaning self.old).seats (shown meaning self.old).services }
+        requires seated { AreSeated (shown meaning self.old).seats
+            (shown meaning self.old).services }
         requires room { sent + length self.old.services.outgoing ≤ 1000000000000 }
         ensures flushed { IsFlushed (shown meaning self.old) (shown meaning self.new) }
-        ensures sent { IsSent sent (shown meaning self.old) (shown meaning self.new) (W.sink out.old) (W.sink out.new) result }
+        ensures sent { IsSent sent (shown meaning self.old) (shown meaning self.new)
+            (W.sink out.old) (W.sink out.new) result }
     {
         table_services_go_by_names();
         self.services.tables.is_service();

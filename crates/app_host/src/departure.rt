@@ -14,7 +14,8 @@ use lc_model::laws::table_services::table_services_go_by_names;
 impl Host {
     /// The object of a seat retires, if there is one, and is handed on.
     pub(crate) fn vacate(&mut self, seat: Seat) -> Option<Box<dyn App>>
-        requires seated { AreSeated (shown meaning self.old).seats (shown meaning self.old).services }
+        requires seated { AreSeated (shown meaning self.old).seats
+            (shown meaning self.old).services }
         requires idle { self.old.services.outgoing ≡ [] }
         ensures { HasVacated seat (shown meaning self.old) (shown meaning self.new) }
     {
@@ -41,8 +42,10 @@ impl Host {
 
     /// What waits to be written is let go.
     fn let_go(&mut self)
-        requires seated { AreSeated (shown meaning self.old).seats (shown meaning self.old).services }
-        ensures seated { AreSeated (shown meaning self.new).seats (shown meaning self.new).services }
+        requires seated { AreSeated (shown meaning self.old).seats
+            (shown meaning self.old).services }
+        ensures seated { AreSeated (shown meaning self.new).seats
+            (shown meaning self.new).services }
         ensures idle { self.new.services.outgoing ≡ [] }
     {
         table_services_go_by_names();

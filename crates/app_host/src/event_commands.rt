@@ -86,7 +86,8 @@ fn set_types(events: &mut Events, payload: &[u8], on: bool) -> Result<(), Number
 /// services refuse it for; then nothing changes.
 pub(crate) fn obey(events: &mut Events, packet: &[u8]) -> Result<(), Numbers>
     requires { 8 ≤ length packet.now }
-    ensures answer { obeyed_by result events.new ≡ events_by (event_command (function_code packet.now) (payload packet.now)) events.old }
+    ensures answer { obeyed_by result events.new ≡
+        events_by (event_command (function_code packet.now) (payload packet.now)) events.old }
     ensures refused { OnErr result (events.new ≡ events.old) }
 {
     let payload = &packet[8..];
@@ -110,8 +111,13 @@ impl Host {
         requires quiet { IsQuiet (shown meaning self.old) }
         requires none_yet { self.old.calls ≡ 0 }
         requires headers { 8 ≤ length packet.now }
-        ensures handled { ObeysEvents packet.now (shown meaning self.old) (shown meaning self.new) (W.sink out.old) (W.sink out.new) result }
-        ensures own { Responds self.old.services.moment (obeying_events packet.now (shown meaning self.old) (events_by (event_command (function_code packet.now) (payload packet.now)) self.old.services.events)) (shown meaning self.old) (shown meaning self.new) (W.sink out.old).gained (W.sink out.new).gained result }
+        ensures handled { ObeysEvents packet.now (shown meaning self.old) (shown meaning self.new)
+            (W.sink out.old) (W.sink out.new) result }
+        ensures own { Responds self.old.services.moment
+            (obeying_events packet.now (shown meaning self.old)
+            (events_by (event_command (function_code packet.now) (payload packet.now))
+            self.old.services.events)) (shown meaning self.old) (shown meaning self.new)
+            (W.sink out.old).gained (W.sink out.new).gained result }
     {
         event_services_go_by_names();
         table_services_go_by_names();

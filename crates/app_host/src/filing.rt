@@ -26,8 +26,12 @@ impl Host {
         requires quiet { IsQuiet (shown meaning self.old) }
         requires none_yet { self.old.calls ≡ 0 }
         requires short { length name.now ≤ 40 }
-        ensures handled { Files name.now bytes.now (shown meaning self.old) (shown meaning self.new) (W.sink out.old) (W.sink out.new) result }
-        ensures own { Responds self.old.services.moment (filing (shown meaning self.old) (file_put name.now bytes.now self.old.services.tables)) (shown meaning self.old) (shown meaning self.new) (W.sink out.old).gained (W.sink out.new).gained result }
+        ensures handled { Files name.now bytes.now (shown meaning self.old) (shown meaning self.new)
+            (W.sink out.old) (W.sink out.new) result }
+        ensures own { Responds self.old.services.moment
+            (filing (shown meaning self.old) (file_put name.now bytes.now self.old.services.tables))
+            (shown meaning self.old) (shown meaning self.new) (W.sink out.old).gained
+            (W.sink out.new).gained result }
     {
         table_services_go_by_names();
         self.services.tables.is_service();

@@ -40,7 +40,9 @@ impl Host {
         requires spares { AreSpares (map meaning stock.items) }
         ensures whole { IfOk result (λ host. IsWhole (shown meaning host)) }
         ensures quiet { IfOk result (λ host. IsQuiet (shown meaning host)) }
-        ensures first { IfOk result (λ host. in_numbers (shown meaning host) ≡ first_host (map member_of (map meaning stock.items))) }
+        ensures first { IfOk result
+            (λ host. in_numbers (shown meaning host) ≡
+            first_host (map member_of (map meaning stock.items))) }
         ensures stock_back { IfErr result (λ refused. refused.1 ≡ stock) }
         ensures memory { IfErr result (λ refused. refused.0 ≡ Memory) }
     {
@@ -59,14 +61,16 @@ impl Host {
 
     /// Whether an application of the name runs.
     pub fn running(&self, name: &[u8]) -> bool
-        ensures { result ≡ is_some (model.seat_of name.now (in_numbers (shown meaning self.now)).executive.seats) }
+        ensures { result ≡
+            is_some (model.seat_of name.now (in_numbers (shown meaning self.now)).executive.seats) }
     {
         seat_of(&self.seats, name).is_some()
     }
 
     /// How many spares of the name there are.
     pub fn spares(&self, name: &[u8]) -> usize
-        ensures { result ≡ count_by (is_called name.now) (in_numbers (shown meaning self.now)).executive.stock }
+        ensures { result ≡ count_by (is_called name.now)
+            (in_numbers (shown meaning self.now)).executive.stock }
     {
         spares_of(self.stock.as_slice(), name)
     }

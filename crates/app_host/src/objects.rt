@@ -24,7 +24,8 @@ pub(crate) fn start(app: &mut Box<dyn App>, seat: Seat, services: &mut Services)
 /// The object of a seat answers a packet.
 pub(crate) fn give(app: &mut Box<dyn App>, seat: Seat, services: &mut Services, packet: &[u8])
     requires { MayAnswer seat packet.now services.old (meaning app.old) }
-    ensures { HasAnswered seat packet.now services.old services.new (meaning app.old) (meaning app.new) }
+    ensures { HasAnswered seat packet.now services.old services.new (meaning app.old)
+        (meaning app.new) }
 {
     objects_are_at_home();
     app.on_packet(services, packet);
@@ -68,8 +69,11 @@ fn is_free(place: &Option<Box<dyn App>>) -> bool
 
 /// The first spare of a name.
 pub(crate) fn spare_of(stock: &[Box<dyn App>], name: &[u8]) -> Option<usize>
-    ensures first { result ≡ position_from (λ o. is_called name.now (member_of o)) 0 (map meaning stock.now) }
-    ensures kind { IfSome result (λ i. IsObject (spare_in (map meaning stock.now) i).state (spare_in (map meaning stock.now) i).called) }
+    ensures first { result ≡ position_from (λ o. is_called name.now (member_of o)) 0
+        (map meaning stock.now) }
+    ensures kind { IfSome result
+        (λ i. IsObject (spare_in (map meaning stock.now) i).state
+        (spare_in (map meaning stock.now) i).called) }
 {
     for (i, app) in stock.iter().enumerate() {
         if is_called(app, name) {
@@ -94,7 +98,8 @@ pub(crate) fn spares_of(stock: &[Box<dyn App>], name: &[u8]) -> usize
 
 /// The seat of a name.
 pub(crate) fn seat_of(seats: &[Option<Box<dyn App>>], name: &[u8]) -> Option<usize>
-    ensures { result ≡ position_from (λ o. is_seated name.now (option_map member_of o)) 0 (map (option_map meaning) seats.now) }
+    ensures { result ≡ position_from (λ o. is_seated name.now (option_map member_of o)) 0
+        (map (option_map meaning) seats.now) }
 {
     for (k, place) in seats.iter().enumerate() {
         if is_seated(place, name) {
@@ -106,7 +111,8 @@ pub(crate) fn seat_of(seats: &[Option<Box<dyn App>>], name: &[u8]) -> Option<usi
 
 /// The least free seat.
 pub(crate) fn free_seat(seats: &[Option<Box<dyn App>>]) -> Option<usize>
-    ensures { result ≡ position_from (λ o. is_none (option_map member_of o)) 0 (map (option_map meaning) seats.now) }
+    ensures { result ≡ position_from (λ o. is_none (option_map member_of o)) 0
+        (map (option_map meaning) seats.now) }
 {
     for (k, place) in seats.iter().enumerate() {
         if is_free(place) {

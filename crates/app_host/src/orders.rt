@@ -35,7 +35,8 @@ pub(crate) enum Order {
 
 /// An order and its application: 20 bytes of a name.
 fn read_name(order: Order, payload: &[u8]) -> Result<(Order, &[u8]), Numbers>
-    ensures read { IfOk result (λ command. named_by order payload.now ≡ Ok (order_of command.0, command.1.now)) }
+    ensures read { IfOk result
+        (λ command. named_by order payload.now ≡ Ok (order_of command.0, command.1.now)) }
     ensures refused { IfErr result (λ numbers. named_by order payload.now ≡ Err numbers) }
 {
     if payload.len() != 20 {
@@ -47,8 +48,11 @@ fn read_name(order: Order, payload: &[u8]) -> Result<(Order, &[u8]), Numbers>
 /// The order of a command. It is refused with 151 for its code, and then with 152 for its length.
 fn read_order(packet: &[u8]) -> Result<(Order, &[u8]), Numbers>
     requires { 8 ≤ length packet.now }
-    ensures read { IfOk result (λ command. app_command (function_code packet.now) (payload packet.now) ≡ Ok (order_of command.0, command.1.now)) }
-    ensures refused { IfErr result (λ numbers. app_command (function_code packet.now) (payload packet.now) ≡ Err numbers) }
+    ensures read { IfOk result
+        (λ command. app_command (function_code packet.now) (payload packet.now) ≡
+        Ok (order_of command.0, command.1.now)) }
+    ensures refused { IfErr result
+        (λ numbers. app_command (function_code packet.now) (payload packet.now) ≡ Err numbers) }
 {
     let payload = &packet[8..];
     match function_code(packet) {
@@ -74,8 +78,10 @@ fn seat_numbered(number: Option<usize>) -> Option<Seat>
 impl Host {
     /// The seat of an application that runs.
     fn runs_at(&self, name: &[u8]) -> Option<Seat>
-        requires seated { AreSeated (shown meaning self.now).seats (shown meaning self.now).services }
-        ensures kept { result ≡ kept.seat_of name.now (executive_in (shown meaning self.now)).seats }
+        requires seated { AreSeated (shown meaning self.now).seats
+            (shown meaning self.now).services }
+        ensures kept { result ≡
+            kept.seat_of name.now (executive_in (shown meaning self.now)).seats }
         ensures own { result ≡ seat_in name.now (roster_of (shown meaning self.now)) }
     {
         seat_numbered(seat_of(&self.seats, name))
@@ -83,7 +89,8 @@ impl Host {
 
     /// The least free seat.
     fn free(&self) -> Option<Seat>
-        requires seated { AreSeated (shown meaning self.now).seats (shown meaning self.now).services }
+        requires seated { AreSeated (shown meaning self.now).seats
+            (shown meaning self.now).services }
         ensures kept { result ≡ kept.free_seat (executive_in (shown meaning self.now)).seats }
         ensures own { result ≡ free_in (roster_of (shown meaning self.now)) }
     {
@@ -92,7 +99,8 @@ impl Host {
 
     /// The first spare of a name.
     fn first_spare(&self, name: &[u8]) -> Option<usize>
-        ensures kept { result ≡ kept.spare_of name.now (executive_in (shown meaning self.now)).stock }
+        ensures kept { result ≡
+            kept.spare_of name.now (executive_in (shown meaning self.now)).stock }
         ensures own { result ≡ first_spare_in name.now (roster_of (shown meaning self.now)) }
     {
         spare_of(self.stock.as_slice(), name)
@@ -102,8 +110,12 @@ impl Host {
     /// there is no spare, and where no seat is free, in this order.
     fn prepare_start(&self, name: &[u8]) -> Result<Successor, HostError>
         requires whole { IsWhole (shown meaning self.now) }
-        ensures prepared { Prepares meaning (ordered Start name.now) (outcome_of Start name.now (shown meaning self.now)) (shown meaning self.now) (shown meaning self.now) result }
-        ensures own { MakesWay meaning (ordered_by Start name.now (roster_of (shown meaning self.now))) (shown meaning self.now) (shown meaning self.now) result }
+        ensures prepared { Prepares meaning (ordered Start name.now)
+            (outcome_of Start name.now (shown meaning self.now)) (shown meaning self.now)
+            (shown meaning self.now) result }
+        ensures own { MakesWay meaning
+            (ordered_by Start name.now (roster_of (shown meaning self.now)))
+            (shown meaning self.now) (shown meaning self.now) result }
     {
         if self.runs_at(name).is_some() {
             return Err(HostError::AlreadyRunning);
@@ -120,8 +132,12 @@ impl Host {
     /// The application of the name gives its seat back and is dropped. It is refused where none runs.
     fn prepare_stop(&mut self, name: &[u8]) -> Result<Successor, HostError>
         requires whole { IsWhole (shown meaning self.old) }
-        ensures prepared { Prepares meaning (ordered Stop name.now) (outcome_of Stop name.now (shown meaning self.old)) (shown meaning self.old) (shown meaning self.new) result }
-        ensures own { MakesWay meaning (ordered_by Stop name.now (roster_of (shown meaning self.old))) (shown meaning self.old) (shown meaning self.new) result }
+        ensures prepared { Prepares meaning (ordered Stop name.now)
+            (outcome_of Stop name.now (shown meaning self.old)) (shown meaning self.old)
+            (shown meaning self.new) result }
+        ensures own { MakesWay meaning
+            (ordered_by Stop name.now (roster_of (shown meaning self.old))) (shown meaning self.old)
+            (shown meaning self.new) result }
     {
         match self.runs_at(name) {
             None => Err(HostError::NoSuchApp),
@@ -135,8 +151,12 @@ impl Host {
     /// The application of the name gives its seat back, and is to take it again. It is refused where none runs.
     fn prepare_restart(&mut self, name: &[u8]) -> Result<Successor, HostError>
         requires whole { IsWhole (shown meaning self.old) }
-        ensures prepared { Prepares meaning (ordered Restart name.now) (outcome_of Restart name.now (shown meaning self.old)) (shown meaning self.old) (shown meaning self.new) result }
-        ensures own { MakesWay meaning (ordered_by Restart name.now (roster_of (shown meaning self.old))) (shown meaning self.old) (shown meaning self.new) result }
+        ensures prepared { Prepares meaning (ordered Restart name.now)
+            (outcome_of Restart name.now (shown meaning self.old)) (shown meaning self.old)
+            (shown meaning self.new) result }
+        ensures own { MakesWay meaning
+            (ordered_by Restart name.now (roster_of (shown meaning self.old)))
+            (shown meaning self.old) (shown meaning self.new) result }
     {
         match self.runs_at(name) {
             None => Err(HostError::NoSuchApp),
@@ -148,8 +168,12 @@ impl Host {
     /// refused where none runs, and then where there is no spare.
     fn prepare_reload(&mut self, name: &[u8]) -> Result<Successor, HostError>
         requires whole { IsWhole (shown meaning self.old) }
-        ensures prepared { Prepares meaning (ordered Reload name.now) (outcome_of Reload name.now (shown meaning self.old)) (shown meaning self.old) (shown meaning self.new) result }
-        ensures own { MakesWay meaning (ordered_by Reload name.now (roster_of (shown meaning self.old))) (shown meaning self.old) (shown meaning self.new) result }
+        ensures prepared { Prepares meaning (ordered Reload name.now)
+            (outcome_of Reload name.now (shown meaning self.old)) (shown meaning self.old)
+            (shown meaning self.new) result }
+        ensures own { MakesWay meaning
+            (ordered_by Reload name.now (roster_of (shown meaning self.old)))
+            (shown meaning self.old) (shown meaning self.new) result }
     {
         let Some(seat) = self.runs_at(name) else {
             return Err(HostError::NoSuchApp);
@@ -166,8 +190,12 @@ impl Host {
     /// The order is begun: who is to leave a seat has left it. Answers who takes it next, or why the order is refused.
     fn prepare(&mut self, order: Order, name: &[u8]) -> Result<Successor, HostError>
         requires whole { IsWhole (shown meaning self.old) }
-        ensures prepared { Prepares meaning (ordered (order_of order) name.now) (outcome_of (order_of order) name.now (shown meaning self.old)) (shown meaning self.old) (shown meaning self.new) result }
-        ensures own { MakesWay meaning (ordered_by (order_of order) name.now (roster_of (shown meaning self.old))) (shown meaning self.old) (shown meaning self.new) result }
+        ensures prepared { Prepares meaning (ordered (order_of order) name.now)
+            (outcome_of (order_of order) name.now (shown meaning self.old)) (shown meaning self.old)
+            (shown meaning self.new) result }
+        ensures own { MakesWay meaning
+            (ordered_by (order_of order) name.now (roster_of (shown meaning self.old)))
+            (shown meaning self.old) (shown meaning self.new) result }
     {
         match order {
             Order::Start => self.prepare_start(name),
@@ -181,8 +209,14 @@ impl Host {
     fn take_order(&mut self, packet: &[u8]) -> Result<Successor, Numbers>
         requires whole { IsWhole (shown meaning self.old) }
         requires headers { 8 ≤ length packet.now }
-        ensures prepared { Takes meaning (party_by (app_command (function_code packet.now) (payload packet.now))) (executive_service_now on_board self.old.services.moment packet.now (executive_in (shown meaning self.old))) (shown meaning self.old) (shown meaning self.new) result }
-        ensures own { MakesWayFor meaning (succession_by packet.now (roster_of (shown meaning self.old))) (shown meaning self.old) (shown meaning self.new) result }
+        ensures prepared { Takes meaning
+            (party_by (app_command (function_code packet.now) (payload packet.now)))
+            (executive_service_now on_board self.old.services.moment packet.now
+            (executive_in (shown meaning self.old))) (shown meaning self.old)
+            (shown meaning self.new) result }
+        ensures own { MakesWayFor meaning
+            (succession_by packet.now (roster_of (shown meaning self.old))) (shown meaning self.old)
+            (shown meaning self.new) result }
     {
         let (order, name) = read_order(packet)?;
         match self.prepare(order, name) {
@@ -193,12 +227,15 @@ impl Host {
 
     /// What waits is written, the next one takes its seat, and what it asks for is written. Answers how many bytes these are.
     fn come_in<W: ByteSink>(&mut self, next: Successor, out: &mut W) -> Result<u64, WriteFault>
-        requires seated { AreSeated (shown meaning self.old).seats (shown meaning self.old).services }
+        requires seated { AreSeated (shown meaning self.old).seats
+            (shown meaning self.old).services }
         requires spares { AreSpares (shown meaning self.old).stock }
         requires fits { length self.old.services.outgoing ≤ 65536 }
         requires may { MayFollow (shown meaning self.old) (next_of meaning next) }
-        ensures comes { ComesIn (next_of meaning next) (shown meaning self.old) (shown meaning self.new) (W.sink out.old) (W.sink out.new) result }
-        ensures own { Enters (next_of meaning next) (shown meaning self.old) (shown meaning self.new) (W.sink out.old).gained (W.sink out.new).gained result }
+        ensures comes { ComesIn (next_of meaning next) (shown meaning self.old)
+            (shown meaning self.new) (W.sink out.old) (W.sink out.new) result }
+        ensures own { Enters (next_of meaning next) (shown meaning self.old)
+            (shown meaning self.new) (W.sink out.old).gained (W.sink out.new).gained result }
     {
         let sent = self.flush(out, 0)?;
         self.bring_in(next);
@@ -217,8 +254,13 @@ impl Host {
         requires quiet { IsQuiet (shown meaning self.old) }
         requires none_yet { self.old.calls ≡ 0 }
         requires headers { 8 ≤ length packet.now }
-        ensures handled { ObeysOrders packet.now (shown meaning self.old) (shown meaning self.new) (W.sink out.old) (W.sink out.new) result }
-        ensures own { Responds self.old.services.moment (obeying_orders packet.now (shown meaning self.old) (succession_by packet.now (roster_of (shown meaning self.old)))) (shown meaning self.old) (shown meaning self.new) (W.sink out.old).gained (W.sink out.new).gained result }
+        ensures handled { ObeysOrders packet.now (shown meaning self.old) (shown meaning self.new)
+            (W.sink out.old) (W.sink out.new) result }
+        ensures own { Responds self.old.services.moment
+            (obeying_orders packet.now (shown meaning self.old)
+            (succession_by packet.now (roster_of (shown meaning self.old))))
+            (shown meaning self.old) (shown meaning self.new) (W.sink out.old).gained
+            (W.sink out.new).gained result }
     {
         match self.take_order(packet) {
             Ok(next) => {

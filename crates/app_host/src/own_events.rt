@@ -17,9 +17,11 @@ use lc_model::{ByteSink, EventKind};
 impl Host {
     /// `HOST` asks for an event; where it is sent its packet waits to be written.
     pub(crate) fn tell(&mut self, id: u16, kind: EventKind, text: &EventText)
-        requires seated { AreSeated (shown meaning self.old).seats (shown meaning self.old).services }
+        requires seated { AreSeated (shown meaning self.old).seats
+            (shown meaning self.old).services }
         requires idle { self.old.services.outgoing ≡ [] }
-        ensures { HasTold (Event host_name id kind text.now) (shown meaning self.old) (shown meaning self.new) }
+        ensures { HasTold (Event host_name id kind text.now) (shown meaning self.old)
+            (shown meaning self.new) }
     {
         table_services_go_by_names();
         self.services.tables.is_service();
@@ -37,8 +39,12 @@ impl Host {
         requires whole { IsWhole (shown meaning self.old) }
         requires quiet { IsQuiet (shown meaning self.old) }
         requires none_yet { self.old.calls ≡ 0 }
-        ensures handled { TellsAlone (Event host_name id kind text.now) (shown meaning self.old) (shown meaning self.new) (W.sink out.old) (W.sink out.new) result }
-        ensures own { Responds self.old.services.moment (only_telling (Event host_name id kind text.now) (shown meaning self.old)) (shown meaning self.old) (shown meaning self.new) (W.sink out.old).gained (W.sink out.new).gained result }
+        ensures handled { TellsAlone (Event host_name id kind text.now) (shown meaning self.old)
+            (shown meaning self.new) (W.sink out.old) (W.sink out.new) result }
+        ensures own { Responds self.old.services.moment
+            (only_telling (Event host_name id kind text.now) (shown meaning self.old))
+            (shown meaning self.old) (shown meaning self.new) (W.sink out.old).gained
+            (W.sink out.new).gained result }
     {
         self.tell(id, kind, text);
         self.flush(out, 0)
@@ -53,8 +59,11 @@ impl Host {
         requires whole { IsWhole (shown meaning self.old) }
         requires quiet { IsQuiet (shown meaning self.old) }
         requires none_yet { self.old.calls ≡ 0 }
-        ensures handled { TellsAlone (bad_packet reason) (shown meaning self.old) (shown meaning self.new) (W.sink out.old) (W.sink out.new) result }
-        ensures own { Responds self.old.services.moment (only_telling (bad_packet reason) (shown meaning self.old)) (shown meaning self.old) (shown meaning self.new) (W.sink out.old).gained (W.sink out.new).gained result }
+        ensures handled { TellsAlone (bad_packet reason) (shown meaning self.old)
+            (shown meaning self.new) (W.sink out.old) (W.sink out.new) result }
+        ensures own { Responds self.old.services.moment
+            (only_telling (bad_packet reason) (shown meaning self.old)) (shown meaning self.old)
+            (shown meaning self.new) (W.sink out.old).gained (W.sink out.new).gained result }
     {
         let text = host::bad_packet(u16::from(reason));
         self.tell_alone(1, EventKind::Error, &text, out)

@@ -13,7 +13,8 @@ use lc_model::Seat;
 /// The object of a place answers a packet.
 fn give_in(place: &mut Option<Box<dyn App>>, seat: Seat, services: &mut Services, packet: &[u8])
     requires { IfSome (option_map meaning place.old) (MayAnswer seat packet.now services.old) }
-    ensures { IfBoth (option_map meaning place.old) (option_map meaning place.new) (HasAnswered seat packet.now services.old services.new) }
+    ensures { IfBoth (option_map meaning place.old) (option_map meaning place.new)
+        (HasAnswered seat packet.now services.old services.new) }
 {
     if let Some(app) = place {
         give(app, seat, services, packet);
@@ -27,9 +28,14 @@ pub(crate) fn give_at(
     services: &mut Services,
     packet: &[u8],
 )
-    requires { IfSome (object_at seat (map (option_map meaning) seats.old)) (MayAnswer seat packet.now services.old) }
-    ensures answered { IfBoth (object_at seat (map (option_map meaning) seats.old)) (object_at seat (map (option_map meaning) seats.new)) (HasAnswered seat packet.now services.old services.new) }
-    ensures others { map (option_map meaning) seats.new ≡ slice_set (map (option_map meaning) seats.old) seat (object_at seat (map (option_map meaning) seats.new)) }
+    requires { IfSome (object_at seat (map (option_map meaning) seats.old))
+        (MayAnswer seat packet.now services.old) }
+    ensures answered { IfBoth (object_at seat (map (option_map meaning) seats.old))
+        (object_at seat (map (option_map meaning) seats.new))
+        (HasAnswered seat packet.now services.old services.new) }
+    ensures others { map (option_map meaning) seats.new ≡
+        slice_set (map (option_map meaning) seats.old) seat
+        (object_at seat (map (option_map meaning) seats.new)) }
 {
     give_in(&mut seats[seat.index()], seat, services, packet);
 }
@@ -55,10 +61,13 @@ pub(crate) fn retire_at(
     seat: Seat,
     services: &mut Services,
 ) -> Option<Box<dyn App>>
-    requires { IfSome (object_at seat (map (option_map meaning) seats.old)) (MayRetire seat services.old) }
-    ensures gone { map (option_map meaning) seats.new ≡ slice_set (map (option_map meaning) seats.old) seat None }
+    requires { IfSome (object_at seat (map (option_map meaning) seats.old))
+        (MayRetire seat services.old) }
+    ensures gone { map (option_map meaning) seats.new ≡
+        slice_set (map (option_map meaning) seats.old) seat None }
     ensures below { seat < 8 }
-    ensures left { LeftBy seat services.old services.new (object_at seat (map (option_map meaning) seats.old)) }
+    ensures left { LeftBy seat services.old services.new
+        (object_at seat (map (option_map meaning) seats.old)) }
 {
     retire_in(&mut seats[seat.index()], seat, services)
 }

@@ -31,7 +31,8 @@ impl Host {
         requires good { header_fault packet.now ≡ None }
         requires only { only_hearer packet.now self.old.services.bus ≡ Some seat }
         requires eight { length self.old.services.bus ≡ 8 }
-        ensures delivered { HasDelivered seat (with_packet packet.now (shown meaning self.old)) (shown meaning self.new) }
+        ensures delivered { HasDelivered seat (with_packet packet.now (shown meaning self.old))
+            (shown meaning self.new) }
         ensures next { result ≡ ready_seat (seen self.new.services.bus) }
     {
         table_services_go_by_names();
@@ -54,8 +55,11 @@ impl Host {
         requires quiet { IsQuiet (shown meaning self.old) }
         requires none_yet { self.old.calls ≡ 0 }
         requires good { header_fault packet.now ≡ None }
-        ensures handled { PassesOn packet.now (shown meaning self.old) (shown meaning self.new) (W.sink out.old) (W.sink out.new) result }
-        ensures own { Responds self.old.services.moment (handing_on (shown meaning self.old)) (shown meaning self.old) (shown meaning self.new) (W.sink out.old).gained (W.sink out.new).gained result }
+        ensures handled { PassesOn packet.now (shown meaning self.old) (shown meaning self.new)
+            (W.sink out.old) (W.sink out.new) result }
+        ensures own { Responds self.old.services.moment (handing_on (shown meaning self.old))
+            (shown meaning self.old) (shown meaning self.new) (W.sink out.old).gained
+            (W.sink out.new).gained result }
     {
         table_services_go_by_names();
         self.services.tables.is_service();
@@ -83,8 +87,11 @@ impl Host {
         requires whole { IsWhole (shown meaning self.old) }
         requires quiet { IsQuiet (shown meaning self.old) }
         requires none_yet { self.old.calls ≡ 0 }
-        ensures handled { PassesOn tick_packet (shown meaning self.old) (shown meaning self.new) (W.sink out.old) (W.sink out.new) result }
-        ensures own { Responds self.old.services.moment (handing_on (shown meaning self.old)) (shown meaning self.old) (shown meaning self.new) (W.sink out.old).gained (W.sink out.new).gained result }
+        ensures handled { PassesOn tick_packet (shown meaning self.old) (shown meaning self.new)
+            (W.sink out.old) (W.sink out.new) result }
+        ensures own { Responds self.old.services.moment (handing_on (shown meaning self.old))
+            (shown meaning self.old) (shown meaning self.new) (W.sink out.old).gained
+            (W.sink out.new).gained result }
     {
         self.pass_on(&TICK, out)
     }

@@ -12,8 +12,16 @@ use packet_bus::Bus;
 /// The seat's pipe hears these message ids and those of these watchpoints, too; what waits in it stays. Condition: the seat has
 /// a pipe, with room for as many subscriptions more.
 pub fn subscribe_to(bus: &mut Bus, seat: Seat, message_ids: &[u16], terms: &[Term])
-    requires { IsSomeAnd (pipe_at seat bus.old) (λ (queue : Queue). length queue.subscriptions + length message_ids.now + length terms.now ≤ 256) }
-    ensures { IfSome (pipe_at seat bus.old) (λ (queue : Queue). bus.new ≡ with_pipe seat bus.old (record queue { subscriptions = with_mids (message_ids.now ++ mids_of terms.now) queue.subscriptions })) }
+    requires { IsSomeAnd (pipe_at seat bus.old)
+        (λ (queue : Queue). length queue.subscriptions + length message_ids.now + length
+        terms.now ≤ 256) }
+    ensures { IfSome (pipe_at seat bus.old)
+        (λ (queue : Queue). bus.new ≡
+        with_pipe seat bus.old
+        (record queue {
+          subscriptions = with_mids (message_ids.now ++ mids_of terms.now)
+              queue.subscriptions;
+        })) }
 {
     subscribe(bus, seat, message_ids);
     watch(bus, seat, terms);
@@ -22,8 +30,12 @@ pub fn subscribe_to(bus: &mut Bus, seat: Seat, message_ids: &[u16], terms: &[Ter
 /// The seat's pipe hears nothing more; what waits in it stays. Condition: the seat has a pipe, which was subscribed to these
 /// message ids and to those of these watchpoints.
 pub fn unsubscribe_from(bus: &mut Bus, seat: Seat, message_ids: &[u16], terms: &[Term])
-    requires { IsSomeAnd (pipe_at seat bus.old) (λ (queue : Queue). queue.subscriptions ≡ with_mids (message_ids.now ++ mids_of terms.now) []) }
-    ensures { IfSome (pipe_at seat bus.old) (λ (queue : Queue). bus.new ≡ with_pipe seat bus.old (record queue { subscriptions = [] })) }
+    requires { IsSomeAnd (pipe_at seat bus.old)
+        (λ (queue : Queue). queue.subscriptions ≡
+        with_mids (message_ids.now ++ mids_of terms.now) []) }
+    ensures { IfSome (pipe_at seat bus.old)
+        (λ (queue : Queue). bus.new ≡
+        with_pipe seat bus.old (record queue { subscriptions = [] })) }
 {
     unsubscribe(bus, seat, message_ids);
     unwatch(bus, seat, terms);
@@ -31,8 +43,12 @@ pub fn unsubscribe_from(bus: &mut Bus, seat: Seat, message_ids: &[u16], terms: &
 
 /// The seat's pipe hears the message ids of these watchpoints, too.
 fn watch(bus: &mut Bus, seat: Seat, terms: &[Term])
-    requires { IsSomeAnd (pipe_at seat bus.old) (λ (queue : Queue). length queue.subscriptions + length terms.now ≤ 256) }
-    ensures { IfSome (pipe_at seat bus.old) (λ (queue : Queue). bus.new ≡ with_pipe seat bus.old (record queue { subscriptions = with_mids (mids_of terms.now) queue.subscriptions })) }
+    requires { IsSomeAnd (pipe_at seat bus.old)
+        (λ (queue : Queue). length queue.subscriptions + length terms.now ≤ 256) }
+    ensures { IfSome (pipe_at seat bus.old)
+        (λ (queue : Queue). bus.new ≡
+        with_pipe seat bus.old
+        (record queue { subscriptions = with_mids (mids_of terms.now) queue.subscriptions })) }
 {
     for term in terms {
         bus.subscribe(seat, term.mid).unwrap();
@@ -42,7 +58,10 @@ fn watch(bus: &mut Bus, seat: Seat, terms: &[Term])
 /// The seat's pipe hears these message ids no more.
 fn unsubscribe(bus: &mut Bus, seat: Seat, message_ids: &[u16])
     requires { IsTrue (is_some (pipe_at seat bus.old)) }
-    ensures { IfSome (pipe_at seat bus.old) (λ (queue : Queue). bus.new ≡ with_pipe seat bus.old (record queue { subscriptions = without_mids message_ids.now queue.subscriptions })) }
+    ensures { IfSome (pipe_at seat bus.old)
+        (λ (queue : Queue). bus.new ≡
+        with_pipe seat bus.old
+        (record queue { subscriptions = without_mids message_ids.now queue.subscriptions })) }
 {
     for message_id in message_ids {
         bus.unsubscribe(seat, *message_id).unwrap();
@@ -52,7 +71,10 @@ fn unsubscribe(bus: &mut Bus, seat: Seat, message_ids: &[u16])
 /// The seat's pipe hears the message ids of these watchpoints no more.
 fn unwatch(bus: &mut Bus, seat: Seat, terms: &[Term])
     requires { IsTrue (is_some (pipe_at seat bus.old)) }
-    ensures { IfSome (pipe_at seat bus.old) (λ (queue : Queue). bus.new ≡ with_pipe seat bus.old (record queue { subscriptions = without_mids (mids_of terms.now) queue.subscriptions })) }
+    ensures { IfSome (pipe_at seat bus.old)
+        (λ (queue : Queue). bus.new ≡
+        with_pipe seat bus.old
+        (record queue { subscriptions = without_mids (mids_of terms.now) queue.subscriptions })) }
 {
     for term in terms {
         bus.unsubscribe(seat, term.mid).unwrap();

@@ -47,8 +47,12 @@ impl Services {
 
 /// The seat's pipe hears these message ids, too. Condition: the seat has a pipe, with room for as many subscriptions more.
 pub fn subscribe(bus: &mut Bus, seat: Seat, message_ids: &[u16])
-    requires { IsSomeAnd (pipe_at seat bus.old) (λ (queue : Queue). length queue.subscriptions + length message_ids.now ≤ 256) }
-    ensures { IfSome (pipe_at seat bus.old) (λ (queue : Queue). bus.new ≡ with_pipe seat bus.old (record queue { subscriptions = with_mids message_ids.now queue.subscriptions })) }
+    requires { IsSomeAnd (pipe_at seat bus.old)
+        (λ (queue : Queue). length queue.subscriptions + length message_ids.now ≤ 256) }
+    ensures { IfSome (pipe_at seat bus.old)
+        (λ (queue : Queue). bus.new ≡
+        with_pipe seat bus.old
+        (record queue { subscriptions = with_mids message_ids.now queue.subscriptions })) }
 {
     for message_id in message_ids {
         bus.subscribe(seat, *message_id).unwrap();

@@ -47,7 +47,8 @@ impl Services {
 /// The headers of the Limit Checker's housekeeping: 192 bytes in all, whole (flags 3), with its time.
 fn housekeeping_header(count: u16, moment: Moment) -> [u8; 12]
     requires { count < 16384 }
-    ensures { result ≡ primary_header lc_housekeeping_mid count 192 ++ u32 moment.seconds ++ u16 moment.subseconds }
+    ensures { result ≡ primary_header lc_housekeeping_mid count 192 ++ u32 moment.seconds ++
+        u16 moment.subseconds }
 {
     let [a, b] = mids::LC_HOUSEKEEPING.to_be_bytes();
     let [c, d] = (0xC000 + count).to_be_bytes();

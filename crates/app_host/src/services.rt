@@ -58,7 +58,9 @@ impl Services {
     pub fn tell(&mut self, from: Option<Seat>, id: u16, kind: EventKind, text: &[u8])
         requires text { length text.now ≤ 121 }
         requires room { length self.old.outgoing + 168 ≤ 65536 }
-        ensures told { IfSome (sender_at from self.old.events) (λ (sender : Sender). Tells from sender.name (Event sender.name id kind text.now ∷ []) self.old self.new) }
+        ensures told { IfSome (sender_at from self.old.events)
+            (λ (sender : Sender). Tells from sender.name (Event sender.name id kind text.now ∷ [])
+            self.old self.new) }
         ensures size { length self.new.outgoing ≤ length self.old.outgoing + 168 }
     {
         self.ask(from, id, kind, text);
@@ -68,10 +70,15 @@ impl Services {
     pub(crate) fn ask(&mut self, from: Option<Seat>, id: u16, kind: EventKind, text: &[u8])
         requires text { length text.now ≤ 121 }
         requires room { length self.old.outgoing + 168 ≤ 65536 }
-        ensures told { IfSome (sender_at from self.old.events) (λ (sender : Sender). Tells from sender.name (Event sender.name id kind text.now ∷ []) self.old self.new) }
+        ensures told { IfSome (sender_at from self.old.events)
+            (λ (sender : Sender). Tells from sender.name (Event sender.name id kind text.now ∷ [])
+            self.old self.new) }
         ensures size { length self.new.outgoing ≤ length self.old.outgoing + 168 }
-        ensures events { self.new.events ≡ (event_asked from self.old.moment id kind text.now self.old.events).0 }
-        ensures outgoing { self.new.outgoing ≡ self.old.outgoing ++ concat (option_to_list (event_asked from self.old.moment id kind text.now self.old.events).1) }
+        ensures events { self.new.events ≡
+            (event_asked from self.old.moment id kind text.now self.old.events).0 }
+        ensures outgoing { self.new.outgoing ≡ self.old.outgoing ++
+            concat (option_to_list
+            (event_asked from self.old.moment id kind text.now self.old.events).1) }
     {
         event_services_go_by_names();
         self.events.is_service();

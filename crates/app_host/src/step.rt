@@ -23,9 +23,16 @@ impl Host {
         requires between { IsBetween (shown meaning self.old) }
         requires named { IsNamed entry.now.body }
         ensures between { IsBetween (shown meaning self.new) }
-        ensures closed { (shown meaning self.old).is_closed ≡ true → IsTurnedAway (shown meaning self.old) (shown meaning self.new) (W.sink out.old) (W.sink out.new) result }
-        ensures open { (shown meaning self.old).is_closed ≡ false → Steps entry.now.moment (input_by entry.now.body) (shown meaning self.old) (shown meaning self.new) (W.sink out.old) (W.sink out.new) result }
-        ensures own { (shown meaning self.old).is_closed ≡ false → Responds entry.now.moment (response_to entry.now.body (shown meaning self.old)) (shown meaning self.old) (shown meaning self.new) (W.sink out.old).gained (W.sink out.new).gained result }
+        ensures closed { (shown meaning self.old).is_closed ≡ true →
+            IsTurnedAway (shown meaning self.old) (shown meaning self.new) (W.sink out.old)
+            (W.sink out.new) result }
+        ensures open { (shown meaning self.old).is_closed ≡ false →
+            Steps entry.now.moment (input_by entry.now.body) (shown meaning self.old)
+            (shown meaning self.new) (W.sink out.old) (W.sink out.new) result }
+        ensures own { (shown meaning self.old).is_closed ≡ false →
+            Responds entry.now.moment (response_to entry.now.body (shown meaning self.old))
+            (shown meaning self.old) (shown meaning self.new) (W.sink out.old).gained
+            (W.sink out.new).gained result }
     {
         match self.step_counted(entry, out) {
             Ok(_total) => Ok(()),
@@ -42,10 +49,18 @@ impl Host {
         requires between { IsBetween (shown meaning self.old) }
         requires named { IsNamed entry.now.body }
         ensures between { IsBetween (shown meaning self.new) }
-        ensures closed { (shown meaning self.old).is_closed ≡ true → IsTurnedAway (shown meaning self.old) (shown meaning self.new) (W.sink out.old) (W.sink out.new) (without_count result) }
-        ensures open { (shown meaning self.old).is_closed ≡ false → Steps entry.now.moment (input_by entry.now.body) (shown meaning self.old) (shown meaning self.new) (W.sink out.old) (W.sink out.new) (without_count result) }
-        ensures own { (shown meaning self.old).is_closed ≡ false → Responds entry.now.moment (response_to entry.now.body (shown meaning self.old)) (shown meaning self.old) (shown meaning self.new) (W.sink out.old).gained (W.sink out.new).gained result }
-        ensures count { (shown meaning self.old).is_closed ≡ false → Counts entry.now.moment (input_by entry.now.body) (shown meaning self.old) result }
+        ensures closed { (shown meaning self.old).is_closed ≡ true →
+            IsTurnedAway (shown meaning self.old) (shown meaning self.new) (W.sink out.old)
+            (W.sink out.new) (without_count result) }
+        ensures open { (shown meaning self.old).is_closed ≡ false →
+            Steps entry.now.moment (input_by entry.now.body) (shown meaning self.old)
+            (shown meaning self.new) (W.sink out.old) (W.sink out.new) (without_count result) }
+        ensures own { (shown meaning self.old).is_closed ≡ false →
+            Responds entry.now.moment (response_to entry.now.body (shown meaning self.old))
+            (shown meaning self.old) (shown meaning self.new) (W.sink out.old).gained
+            (W.sink out.new).gained result }
+        ensures count { (shown meaning self.old).is_closed ≡ false →
+            Counts entry.now.moment (input_by entry.now.body) (shown meaning self.old) result }
     {
         if self.closed {
             return Err(WriteFault { sent: 0 });
@@ -71,8 +86,11 @@ impl Host {
         requires quiet { IsQuiet (shown meaning self.old) }
         requires none_yet { self.old.calls ≡ 0 }
         requires named { IsNamed body.now }
-        ensures handled { Takes (input_by body.now) (shown meaning self.old) (shown meaning self.new) (W.sink out.old) (W.sink out.new) result }
-        ensures own { Responds self.old.services.moment (response_to body.now (shown meaning self.old)) (shown meaning self.old) (shown meaning self.new) (W.sink out.old).gained (W.sink out.new).gained result }
+        ensures handled { Takes (input_by body.now) (shown meaning self.old)
+            (shown meaning self.new) (W.sink out.old) (W.sink out.new) result }
+        ensures own { Responds self.old.services.moment
+            (response_to body.now (shown meaning self.old)) (shown meaning self.old)
+            (shown meaning self.new) (W.sink out.old).gained (W.sink out.new).gained result }
     {
         match *body {
             Body::Packet(bytes) => self.take_packet(bytes, out),
@@ -86,8 +104,11 @@ impl Host {
         requires whole { IsWhole (shown meaning self.old) }
         requires quiet { IsQuiet (shown meaning self.old) }
         requires none_yet { self.old.calls ≡ 0 }
-        ensures handled { Takes (Packet packet.now) (shown meaning self.old) (shown meaning self.new) (W.sink out.old) (W.sink out.new) result }
-        ensures own { Responds self.old.services.moment (response_to_packet packet.now (shown meaning self.old)) (shown meaning self.old) (shown meaning self.new) (W.sink out.old).gained (W.sink out.new).gained result }
+        ensures handled { Takes (Packet packet.now) (shown meaning self.old)
+            (shown meaning self.new) (W.sink out.old) (W.sink out.new) result }
+        ensures own { Responds self.old.services.moment
+            (response_to_packet packet.now (shown meaning self.old)) (shown meaning self.old)
+            (shown meaning self.new) (W.sink out.old).gained (W.sink out.new).gained result }
     {
         match stream_fault(packet) {
             Some(reason) => self.refuse_packet(reason, out),
@@ -102,8 +123,11 @@ impl Host {
         requires none_yet { self.old.calls ≡ 0 }
         requires good { stream_fault packet.now ≡ None }
         requires headers { 8 ≤ length packet.now }
-        ensures handled { Takes (Packet packet.now) (shown meaning self.old) (shown meaning self.new) (W.sink out.old) (W.sink out.new) result }
-        ensures own { Responds self.old.services.moment (routed_to packet.now (shown meaning self.old)) (shown meaning self.old) (shown meaning self.new) (W.sink out.old).gained (W.sink out.new).gained result }
+        ensures handled { Takes (Packet packet.now) (shown meaning self.old)
+            (shown meaning self.new) (W.sink out.old) (W.sink out.new) result }
+        ensures own { Responds self.old.services.moment
+            (routed_to packet.now (shown meaning self.old)) (shown meaning self.old)
+            (shown meaning self.new) (W.sink out.old).gained (W.sink out.new).gained result }
     {
         match message_id(packet) {
             mids::EVENT_SERVICES => self.obey_events(packet, out),

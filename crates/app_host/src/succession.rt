@@ -39,7 +39,8 @@ fn withdraw_in(
 ) -> Box<dyn App>
     requires { IsSomeAnd (option_map meaning place.old) (MayRetire seat services.old) }
     ensures gone { place.new ≡ None }
-    ensures left { IfSome (option_map meaning place.old) (λ o. HasRetired seat services.old services.new o (meaning result)) }
+    ensures left { IfSome (option_map meaning place.old)
+        (λ o. HasRetired seat services.old services.new o (meaning result)) }
 {
     let mut app = place.take().unwrap();
     retire(&mut app, seat, services);
@@ -52,9 +53,12 @@ fn withdraw_at(
     seat: Seat,
     services: &mut Services,
 ) -> Box<dyn App>
-    requires { IsSomeAnd (object_at seat (map (option_map meaning) seats.old)) (MayRetire seat services.old) }
-    ensures gone { map (option_map meaning) seats.new ≡ slice_set (map (option_map meaning) seats.old) seat None }
-    ensures left { IfSome (object_at seat (map (option_map meaning) seats.old)) (λ o. HasRetired seat services.old services.new o (meaning result)) }
+    requires { IsSomeAnd (object_at seat (map (option_map meaning) seats.old))
+        (MayRetire seat services.old) }
+    ensures gone { map (option_map meaning) seats.new ≡
+        slice_set (map (option_map meaning) seats.old) seat None }
+    ensures left { IfSome (object_at seat (map (option_map meaning) seats.old))
+        (λ o. HasRetired seat services.old services.new o (meaning result)) }
 {
     withdraw_in(&mut seats[seat.index()], seat, services)
 }
@@ -67,7 +71,8 @@ fn begin_in(
     app: Box<dyn App>,
 )
     requires { MayStartOn seat services.old (meaning app) }
-    ensures { IsSomeAnd (option_map meaning place.new) (HasStarted seat services.old services.new (meaning app)) }
+    ensures { IsSomeAnd (option_map meaning place.new)
+        (HasStarted seat services.old services.new (meaning app)) }
 {
     let mut app = app;
     start(&mut app, seat, services);
@@ -82,8 +87,11 @@ fn begin_at(
     app: Box<dyn App>,
 )
     requires { MayStartOn seat services.old (meaning app) }
-    ensures started { IsSomeAnd (object_at seat (map (option_map meaning) seats.new)) (HasStarted seat services.old services.new (meaning app)) }
-    ensures others { map (option_map meaning) seats.new ≡ slice_set (map (option_map meaning) seats.old) seat (object_at seat (map (option_map meaning) seats.new)) }
+    ensures started { IsSomeAnd (object_at seat (map (option_map meaning) seats.new))
+        (HasStarted seat services.old services.new (meaning app)) }
+    ensures others { map (option_map meaning) seats.new ≡
+        slice_set (map (option_map meaning) seats.old) seat
+        (object_at seat (map (option_map meaning) seats.new)) }
 {
     begin_in(&mut seats[seat.index()], seat, services, app);
 }
@@ -91,10 +99,12 @@ fn begin_at(
 impl Host {
     /// The object of a seat gives it back. Condition: there is one.
     pub(crate) fn withdraw(&mut self, seat: Seat) -> Box<dyn App>
-        requires seated { AreSeated (shown meaning self.old).seats (shown meaning self.old).services }
+        requires seated { AreSeated (shown meaning self.old).seats
+            (shown meaning self.old).services }
         requires idle { self.old.services.outgoing ≡ [] }
         requires there { IsSome (object_at seat (shown meaning self.old).seats) }
-        ensures { HasWithdrawn seat (shown meaning self.old) (shown meaning self.new) (meaning result) }
+        ensures { HasWithdrawn seat (shown meaning self.old) (shown meaning self.new)
+            (meaning result) }
     {
         table_services_go_by_names();
         self.services.tables.is_service();
@@ -105,7 +115,8 @@ impl Host {
 
     /// An object begins on a seat that is free. Conditions: it holds no seat, and no seat has its name.
     fn begin(&mut self, seat: Seat, app: Box<dyn App>)
-        requires seated { AreSeated (shown meaning self.old).seats (shown meaning self.old).services }
+        requires seated { AreSeated (shown meaning self.old).seats
+            (shown meaning self.old).services }
         requires idle { self.old.services.outgoing ≡ [] }
         requires may { MayBegin seat (shown meaning self.old) (meaning app) }
         ensures { HasBegun seat (meaning app) (shown meaning self.old) (shown meaning self.new) }
@@ -119,11 +130,13 @@ impl Host {
 
     /// The next one takes its seat; a spare leaves the stock for it.
     pub(crate) fn bring_in(&mut self, next: Successor)
-        requires seated { AreSeated (shown meaning self.old).seats (shown meaning self.old).services }
+        requires seated { AreSeated (shown meaning self.old).seats
+            (shown meaning self.old).services }
         requires spares { AreSpares (shown meaning self.old).stock }
         requires idle { self.old.services.outgoing ≡ [] }
         requires may { MayFollow (shown meaning self.old) (next_of meaning next) }
-        ensures { HasFollowed (next_of meaning next) (shown meaning self.old) (shown meaning self.new) }
+        ensures { HasFollowed (next_of meaning next) (shown meaning self.old)
+            (shown meaning self.new) }
     {
         match next {
             Successor::Nobody => {}

@@ -25,7 +25,8 @@ use tbl_service::Tables;
 
 /// A file is loaded: 40 bytes of its name.
 fn load(tables: &mut Tables, payload: &[u8]) -> Result<(), Numbers>
-    ensures answer { obeyed_by result tables.new ≡ tables_by (of_length 40 payload.now (Load (name_in payload.now))) tables.old }
+    ensures answer { obeyed_by result tables.new ≡
+        tables_by (of_length 40 payload.now (Load (name_in payload.now))) tables.old }
     ensures refused { OnErr result (tables.new ≡ tables.old) }
 {
     if payload.len() != 40 {
@@ -39,7 +40,8 @@ fn load(tables: &mut Tables, payload: &[u8]) -> Result<(), Numbers>
 
 /// The image that waits for a table is to be validated: 40 bytes of the table's name.
 fn validate(tables: &mut Tables, payload: &[u8]) -> Result<(), Numbers>
-    ensures answer { obeyed_by result tables.new ≡ tables_by (of_length 40 payload.now (Manage Validate (name_in payload.now))) tables.old }
+    ensures answer { obeyed_by result tables.new ≡
+        tables_by (of_length 40 payload.now (Manage Validate (name_in payload.now))) tables.old }
     ensures refused { OnErr result (tables.new ≡ tables.old) }
 {
     if payload.len() != 40 {
@@ -53,7 +55,8 @@ fn validate(tables: &mut Tables, payload: &[u8]) -> Result<(), Numbers>
 
 /// It is to come into use: 40 bytes of the table's name.
 fn activate(tables: &mut Tables, payload: &[u8]) -> Result<(), Numbers>
-    ensures answer { obeyed_by result tables.new ≡ tables_by (of_length 40 payload.now (Manage Activate (name_in payload.now))) tables.old }
+    ensures answer { obeyed_by result tables.new ≡
+        tables_by (of_length 40 payload.now (Manage Activate (name_in payload.now))) tables.old }
     ensures refused { OnErr result (tables.new ≡ tables.old) }
 {
     if payload.len() != 40 {
@@ -67,7 +70,8 @@ fn activate(tables: &mut Tables, payload: &[u8]) -> Result<(), Numbers>
 
 /// It goes: 40 bytes of the table's name.
 fn abort(tables: &mut Tables, payload: &[u8]) -> Result<(), Numbers>
-    ensures answer { obeyed_by result tables.new ≡ tables_by (of_length 40 payload.now (Manage Abort (name_in payload.now))) tables.old }
+    ensures answer { obeyed_by result tables.new ≡
+        tables_by (of_length 40 payload.now (Manage Abort (name_in payload.now))) tables.old }
     ensures refused { OnErr result (tables.new ≡ tables.old) }
 {
     if payload.len() != 40 {
@@ -83,7 +87,8 @@ fn abort(tables: &mut Tables, payload: &[u8]) -> Result<(), Numbers>
 /// services refuse it for; then nothing changes.
 pub(crate) fn obey(tables: &mut Tables, packet: &[u8]) -> Result<(), Numbers>
     requires { 8 ≤ length packet.now }
-    ensures answer { obeyed_by result tables.new ≡ tables_by (table_command (function_code packet.now) (payload packet.now)) tables.old }
+    ensures answer { obeyed_by result tables.new ≡
+        tables_by (table_command (function_code packet.now) (payload packet.now)) tables.old }
     ensures refused { OnErr result (tables.new ≡ tables.old) }
 {
     let payload = &packet[8..];
@@ -107,8 +112,13 @@ impl Host {
         requires quiet { IsQuiet (shown meaning self.old) }
         requires none_yet { self.old.calls ≡ 0 }
         requires headers { 8 ≤ length packet.now }
-        ensures handled { ObeysTables packet.now (shown meaning self.old) (shown meaning self.new) (W.sink out.old) (W.sink out.new) result }
-        ensures own { Responds self.old.services.moment (obeying_tables packet.now (shown meaning self.old) (tables_by (table_command (function_code packet.now) (payload packet.now)) self.old.services.tables)) (shown meaning self.old) (shown meaning self.new) (W.sink out.old).gained (W.sink out.new).gained result }
+        ensures handled { ObeysTables packet.now (shown meaning self.old) (shown meaning self.new)
+            (W.sink out.old) (W.sink out.new) result }
+        ensures own { Responds self.old.services.moment
+            (obeying_tables packet.now (shown meaning self.old)
+            (tables_by (table_command (function_code packet.now) (payload packet.now))
+            self.old.services.tables)) (shown meaning self.old) (shown meaning self.new)
+            (W.sink out.old).gained (W.sink out.new).gained result }
     {
         table_services_go_by_names();
         table_commands_go_by_names();

@@ -40,7 +40,8 @@ fn stock_of(
     requires counter { (meaning counter).held ≡ None }
     requires other { (meaning other).held ≡ None }
     ensures spares { IfOk result (λ stock. AreSpares (map meaning stock.items)) }
-    ensures items { IfOk result (λ stock. map meaning stock.items ≡ meaning counter ∷ meaning other ∷ []) }
+    ensures items { IfOk result
+        (λ stock. map meaning stock.items ≡ meaning counter ∷ meaning other ∷ []) }
 {
     let mut stock: Vec<Box<dyn App>> = Vec::new(alloc);
     stock.push(counter)?;
@@ -51,12 +52,17 @@ fn stock_of(
 /// The host gives a command to the counter. What is written is what that calls for in the host in numbers, whatever other
 /// applications are on its seats. Condition: those that hear the command are of this profile.
 pub fn counts_among<W: ByteSink>(host: &mut Host, out: &mut W) -> Result<(), WriteFault>
-    requires between { IsBetween (shown (λ b. (⟦<dyn App as App>⟧ b.vtable).meaning b.value) host.old) }
-    requires open { (shown (λ b. (⟦<dyn App as App>⟧ b.vtable).meaning b.value) host.old).is_closed ≡ false }
-    requires hearers { AreKnownHearers (shown (λ b. (⟦<dyn App as App>⟧ b.vtable).meaning b.value) host.old) counter_mid }
-    ensures between { IsBetween (shown (λ b. (⟦<dyn App as App>⟧ b.vtable).meaning b.value) host.new) }
+    requires between { IsBetween
+        (shown (λ b. (⟦<dyn App as App>⟧ b.vtable).meaning b.value) host.old) }
+    requires open { (shown (λ b. (⟦<dyn App as App>⟧ b.vtable).meaning b.value)
+        host.old).is_closed ≡ false }
+    requires hearers { AreKnownHearers
+        (shown (λ b. (⟦<dyn App as App>⟧ b.vtable).meaning b.value) host.old) counter_mid }
+    ensures between { IsBetween
+        (shown (λ b. (⟦<dyn App as App>⟧ b.vtable).meaning b.value) host.new) }
     ensures written { let seen = shown (λ b. (⟦<dyn App as App>⟧ b.vtable).meaning b.value) in
-        OnOk result (Appends (W.sink out.old).gained (W.sink out.new).gained (counted_from (executive_in (seen host.old)))) }
+        OnOk result (Appends (W.sink out.old).gained (W.sink out.new).gained
+        (counted_from (executive_in (seen host.old)))) }
 {
     let count = Record {
         moment: NOW,
@@ -68,13 +74,19 @@ pub fn counts_among<W: ByteSink>(host: &mut Host, out: &mut W) -> Result<(), Wri
 /// The host starts the counter and gives it a command. What is written is what both records call for in the host in numbers.
 /// Conditions: the objects on the seats are of this profile, and so is the first spare that goes by the counter's name.
 fn count<W: ByteSink>(host: &mut Host, out: &mut W) -> Result<(), WriteFault>
-    requires between { IsBetween (shown (λ b. (⟦<dyn App as App>⟧ b.vtable).meaning b.value) host.old) }
-    requires open { (shown (λ b. (⟦<dyn App as App>⟧ b.vtable).meaning b.value) host.old).is_closed ≡ false }
-    requires known { AreKnown (shown (λ b. (⟦<dyn App as App>⟧ b.vtable).meaning b.value) host.old) }
-    requires spare { IsKnownSpare (Some counter_name) (shown (λ b. (⟦<dyn App as App>⟧ b.vtable).meaning b.value) host.old).stock }
-    ensures between { IsBetween (shown (λ b. (⟦<dyn App as App>⟧ b.vtable).meaning b.value) host.new) }
+    requires between { IsBetween
+        (shown (λ b. (⟦<dyn App as App>⟧ b.vtable).meaning b.value) host.old) }
+    requires open { (shown (λ b. (⟦<dyn App as App>⟧ b.vtable).meaning b.value)
+        host.old).is_closed ≡ false }
+    requires known { AreKnown
+        (shown (λ b. (⟦<dyn App as App>⟧ b.vtable).meaning b.value) host.old) }
+    requires spare { IsKnownSpare (Some counter_name)
+        (shown (λ b. (⟦<dyn App as App>⟧ b.vtable).meaning b.value) host.old).stock }
+    ensures between { IsBetween
+        (shown (λ b. (⟦<dyn App as App>⟧ b.vtable).meaning b.value) host.new) }
     ensures written { let seen = shown (λ b. (⟦<dyn App as App>⟧ b.vtable).meaning b.value) in
-        OnOk result (Appends (W.sink out.old).gained (W.sink out.new).gained (written_from (executive_in (seen host.old)))) }
+        OnOk result (Appends (W.sink out.old).gained (W.sink out.new).gained
+        (written_from (executive_in (seen host.old)))) }
 {
     let start = Record {
         moment: NOW,
@@ -97,7 +109,10 @@ pub fn counts_beside<W: ByteSink>(
     requires counts { (meaning counter).state ≡ CounterState 0 }
     requires counter { (meaning counter).held ≡ None }
     requires other { (meaning other).held ≡ None }
-    ensures { IfOk result (λ answer. OnOk answer (Appends (W.sink out.old).gained (W.sink out.new).gained (written_beside (member_of (meaning other))))) }
+    ensures { IfOk result
+        (λ answer. OnOk answer
+        (Appends (W.sink out.old).gained (W.sink out.new).gained
+        (written_beside (member_of (meaning other))))) }
 {
     let stock = stock_of(alloc, counter, other)?;
     match Host::new(alloc, stock) {

@@ -28,9 +28,11 @@ pub fn begin(
 
 /// The host handles a record. Condition: a file's name has at most 40 bytes.
 pub fn step<W: ByteSink>(host: &mut Host, body: Body<'_>, out: &mut W) -> Result<(), WriteFault>
-    requires between { IsBetween (shown (λ b. (⟦<dyn App as App>⟧ b.vtable).meaning b.value) host.old) }
+    requires between { IsBetween
+        (shown (λ b. (⟦<dyn App as App>⟧ b.vtable).meaning b.value) host.old) }
     requires named { IsNamed body }
-    ensures between { IsBetween (shown (λ b. (⟦<dyn App as App>⟧ b.vtable).meaning b.value) host.new) }
+    ensures between { IsBetween
+        (shown (λ b. (⟦<dyn App as App>⟧ b.vtable).meaning b.value) host.new) }
 {
     host.step(&Record { moment: NOW, body }, out)
 }

@@ -44,7 +44,11 @@ impl Model for Sender {
 
     ghost Value = { Kept };
 
-    ghost view = { λ s. record { name = s.name.items; events = record { on = bits_of s.types; filters = s.filters } } };
+    ghost view = { λ s.
+        record {
+          name = s.name.items;
+          events = record { on = bits_of s.types; filters = s.filters };
+        } };
 }
 
 impl Sender {
@@ -80,7 +84,11 @@ impl Sender {
         requires count { sent.old < 16384 }
         requires text { length text.now ≤ 121 }
         ensures packet { result ≡ (asked_by self.old moment id kind text.now sent.old).packet }
-        ensures events { self.new ≡ record { name = self.old.name; events = (asked_by self.old moment id kind text.now sent.old).events } }
+        ensures events { self.new ≡
+            record {
+              name = self.old.name;
+              events = (asked_by self.old moment id kind text.now sent.old).events;
+            } }
         ensures sent { sent.new ≡ (asked_by self.old moment id kind text.now sent.old).sent }
         ensures count { sent.new < 16384 }
     {
@@ -94,7 +102,8 @@ impl Sender {
 
     /// Changes its types or filters.
     pub(crate) fn change(&mut self, change: Change) -> Result<(), EventError>
-        ensures answer { answered result self.new.events ≡ joined_now (item_of change) self.old.events }
+        ensures answer { answered result self.new.events ≡ joined_now (item_of change)
+            self.old.events }
         ensures name { self.new.name ≡ self.old.name }
         ensures refused { OnErr result (self.new ≡ self.old) }
     {

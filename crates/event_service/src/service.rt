@@ -133,7 +133,8 @@ impl Events {
     /// Events of the id are sent from now on where their count, which begins again, and the mask have no bit in common.
     /// Errors: `NotRegistered` for the name, `FilterFull` for a filter of a 17th id.
     pub fn set_filter(&mut self, name: &[u8], id: u16, mask: u16) -> Result<(), EventError>
-        ensures answer { answered result self.new ≡ commanded name.now (FilterSet id mask) self.old }
+        ensures answer { answered result self.new ≡ commanded name.now (FilterSet id mask)
+            self.old }
         ensures refused { OnErr result (self.new ≡ self.old) }
     {
         self.change(name, Change::Filter { id, mask })
@@ -149,7 +150,8 @@ impl Events {
 
     /// Events of these types are sent, or not, from now on; the other types stay as they are. Error: `NotRegistered`.
     pub fn set_types(&mut self, name: &[u8], types: EventTypes, on: bool) -> Result<(), EventError>
-        ensures answer { answered result self.new ≡ commanded name.now (TypesSet (bits_of types) on) self.old }
+        ensures answer { answered result self.new ≡ commanded name.now (TypesSet (bits_of types) on)
+            self.old }
         ensures refused { OnErr result (self.new ≡ self.old) }
     {
         self.change(name, Change::Types { types, on })

@@ -27,7 +27,8 @@ impl Flags for EventTypes {
 
     ghost exact = { ⊤ };
 
-    ghost table = { (codes "DEBUG", 1) ∷ (codes "INFORMATION", 2) ∷ (codes "ERROR", 4) ∷ (codes "CRITICAL", 8) ∷ [] };
+    ghost table = { (codes "DEBUG", 1) ∷ (codes "INFORMATION", 2) ∷ (codes "ERROR", 4) ∷
+        (codes "CRITICAL", 8) ∷ [] };
 
     ghost set_of = { bits_of };
 

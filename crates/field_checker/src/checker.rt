@@ -28,10 +28,15 @@ use std::alloc::Global;
 /// that is a number out of its range, which number is meant; `Memory` where the names or the rules find no room.
 pub fn check(alloc: Global, file: &RuleFile) -> Result<RuleSet, CheckError>
     ensures means { IfOk result (λ set. Means (items_of file.now.items.items) set.rules) }
-    ensures refused { IfErr result (λ error. IsFaultUnlessMemory (first_fault (faults (items_of file.now.items.items))) error) }
+    ensures refused { IfErr result
+        (λ error. IsFaultUnlessMemory (first_fault (faults (items_of file.now.items.items)))
+        error) }
     ensures named { IfErr result (NamesItsNumber (items_of file.now.items.items)) }
-    ensures accepts { (meant : List NamedRule) → Means (items_of file.now.items.items) meant → MatchResult result (λ set. set.rules ≡ meant) (λ error. error ≡ Memory) }
-    ensures refuses { (fault : TextFault) → first_fault (faults (items_of file.now.items.items)) ≡ Some fault → MatchResult result (λ set. ⊥) (λ error. IsFaultUnlessMemory (Some fault) error) }
+    ensures accepts { (meant : List NamedRule) → Means (items_of file.now.items.items) meant →
+        MatchResult result (λ set. set.rules ≡ meant) (λ error. error ≡ Memory) }
+    ensures refuses { (fault : TextFault) →
+        first_fault (faults (items_of file.now.items.items)) ≡ Some fault →
+        MatchResult result (λ set. ⊥) (λ error. IsFaultUnlessMemory (Some fault) error) }
 {
     let names = Names::new(alloc, &file.items)?;
     if let Some(fault) = Faults::of(&names).first {

@@ -36,7 +36,8 @@ impl Faults {
     #[tactic(auto, unfolding(crate::specs::Faults::after))]
     fn meet(&mut self, fault: Fault)
         ensures faults { first_of self.new ≡ after (first_of self.old) (fault_of fault ∷ []) }
-        ensures names { (items : List Item) → NamesItsFault items self.old.first → NamesItsFault items (Some fault) → NamesItsFault items self.new.first }
+        ensures names { (items : List Item) → NamesItsFault items self.old.first →
+            NamesItsFault items (Some fault) → NamesItsFault items self.new.first }
     {
         if self.first.is_none_or(|first| fault.precedes(first)) {
             self.first = Some(fault);
@@ -46,9 +47,12 @@ impl Faults {
     /// Meets this fault, where the test holds.
     #[tactic(auto, unfolding(crate::specs::Faults::after))]
     pub fn refuse_if(&mut self, refused: bool, check: Check, at: usize)
-        ensures faults { first_of self.new ≡ after (first_of self.old) (fault_if refused (number_of_check check) at) }
+        ensures faults { first_of self.new ≡
+            after (first_of self.old) (fault_if refused (number_of_check check) at) }
         ensures names { (items : List Item) → NamesItsFault items self.old.first
-            → (refused ≡ true → NamesItsNumber items (error_of (record { check = check; at = at }))) → NamesItsFault items self.new.first }
+            → (refused ≡ true →
+            NamesItsNumber items (error_of (record { check = check; at = at }))) →
+            NamesItsFault items self.new.first }
     {
         if refused {
             self.meet(Fault { check, at });
@@ -57,9 +61,12 @@ impl Faults {
 
     /// Meets this fault, where the number isn't `low`, `high` or between them.
     pub fn refuse_outside(&mut self, number: Number, low: u32, high: u32, check: Check)
-        ensures faults { first_of self.new ≡ after (first_of self.old) (fault_outside low high (number_of_check check) (number_of number)) }
+        ensures faults { first_of self.new ≡
+            after (first_of self.old)
+            (fault_outside low high (number_of_check check) (number_of number)) }
         ensures names { (items : List Item) → NamesItsFault items self.old.first
-            → ((int_lt number.value (pos low) || int_lt (pos high) number.value) ≡ true → NamesItsNumber items (error_of (record { check = check; at = number.at })))
+            → ((int_lt number.value (pos low) || int_lt (pos high) number.value) ≡ true →
+            NamesItsNumber items (error_of (record { check = check; at = number.at })))
             → NamesItsFault items self.new.first }
     {
         self.refuse_if(is_outside(number, low, high), check, number.at);
@@ -67,9 +74,12 @@ impl Faults {
 
     /// Meets the fault that this number is out of its range.
     pub fn refuse_number(&mut self, number: Number, kind: RuleNumber)
-        ensures faults { first_of self.new ≡ after (first_of self.old) (fault_outside (least_of kind) (most_of kind) 28 (number_of number)) }
+        ensures faults { first_of self.new ≡
+            after (first_of self.old)
+            (fault_outside (least_of kind) (most_of kind) 28 (number_of number)) }
         ensures names { (items : List Item) → NamesItsFault items self.old.first
-            → (is_out_of_range kind (number_of number) ≡ true → StandsOutside items kind number.at) → NamesItsFault items self.new.first }
+            → (is_out_of_range kind (number_of number) ≡ true →
+            StandsOutside items kind number.at) → NamesItsFault items self.new.first }
     {
         let check = Check::NumberRange(kind);
         self.refuse_outside(number, kind.least(), kind.most(), check);

@@ -18,7 +18,8 @@ use rule_parser::{FieldItem, Number, PacketItem};
 
 /// Whether a byte of the field is outside its packet, as far as it's known: its packet may be named by no item.
 fn is_outside(field: &FieldItem, packet: Option<&PacketItem>) -> bool
-    ensures { result ≡ is_outside (field_of field.now) (option_map (λ p. packet_of p.now) packet.entry) }
+    ensures { result ≡ is_outside (field_of field.now)
+        (option_map (λ p. packet_of p.now) packet.entry) }
 {
     let offset = field.offset.value;
     match packet {
@@ -38,8 +39,11 @@ impl Faults {
     /// Meets the fault of a mask, where one is written.
     #[tactic(auto, using(crate::proofs::After::both_met, crate::proofs::After::nothing_met))]
     fn check_mask(&mut self, kind: FieldType, mask: Option<Number>)
-        ensures faults { first_of self.new ≡ after (first_of self.old) (option_map_or (fault_outside 1 (full_mask kind) 26) (option_map number_of mask) []) }
-        ensures names { (items : List model.Item) → NamesItsFault items self.old.first → NamesItsFault items self.new.first }
+        ensures faults { first_of self.new ≡
+            after (first_of self.old)
+            (option_map_or (fault_outside 1 (full_mask kind) 26) (option_map number_of mask) []) }
+        ensures names { (items : List model.Item) → NamesItsFault items self.old.first →
+            NamesItsFault items self.new.first }
     {
         if let Some(mask) = mask {
             self.refuse_outside(mask, 1, kind.full_mask(), Check::MaskRange);
@@ -49,8 +53,12 @@ impl Faults {
     /// Meets the fault of a stale age, where one is written.
     #[tactic(auto, using(crate::proofs::After::both_met, crate::proofs::After::nothing_met))]
     fn check_stale(&mut self, stale: Option<Number>)
-        ensures faults { first_of self.new ≡ after (first_of self.old) (option_map_or (λ (n : model.Number). fault_if (int_lt n.value (pos 0)) 28 n.at) (option_map number_of stale) []) }
-        ensures names { (items : List model.Item) (field : model.FieldItem) → Contains items (model.Field field) → field.stale ≡ option_map number_of stale
+        ensures faults { first_of self.new ≡
+            after (first_of self.old)
+            (option_map_or (λ (n : model.Number). fault_if (int_lt n.value (pos 0)) 28 n.at)
+            (option_map number_of stale) []) }
+        ensures names { (items : List model.Item) (field : model.FieldItem) →
+            Contains items (model.Field field) → field.stale ≡ option_map number_of stale
             → NamesItsFault items self.old.first → NamesItsFault items self.new.first }
     {
         if let Some(age) = stale {
@@ -62,8 +70,12 @@ impl Faults {
     /// Meets the faults of a field's packet, place, mask and stale age.
     #[tactic(auto, using(crate::proofs::After::both_met, crate::proofs::After::nothing_met))]
     pub fn check_field<'a>(&mut self, names: &Names<'_, 'a>, field: &FieldItem<'a>)
-        ensures faults { first_of self.new ≡ after (first_of self.old) (field_faults (items_of names.now.items.now) (field_of field.now)) }
-        ensures names { (items : List model.Item) → Contains items (model.Field (field_of field.now)) → NamesItsFault items self.old.first → NamesItsFault items self.new.first }
+        ensures faults { first_of self.new ≡
+            after (first_of self.old)
+            (field_faults (items_of names.now.items.now) (field_of field.now)) }
+        ensures names { (items : List model.Item) →
+            Contains items (model.Field (field_of field.now)) → NamesItsFault items self.old.first →
+            NamesItsFault items self.new.first }
     {
         let packet = names.packet(field.packet);
         self.refuse_if(packet.is_none(), Check::UnknownName, field.packet.at);

@@ -85,7 +85,9 @@ fn insert<'f, 'a>(
     declared: Declared<'f, 'a>,
 ) -> Result<(), AllocError>
     requires { key.0 ≡ spread key.1.now }
-    ensures { OnOk result ((text : List ℕ) → at_name named.new text ≡ joined (at_name named.old text) (cond (bytes_eq key.entry.1.now text) (Some declared.entry) None)) }
+    ensures { OnOk result ((text : List ℕ) →
+        at_name named.new text ≡ joined (at_name named.old text)
+        (cond (bytes_eq key.entry.1.now text) (Some declared.entry) None)) }
 {
     if let Some(before) = named.insert(key, declared)? {
         named.insert(key, before.with(declared))?;
@@ -100,7 +102,10 @@ fn insert_least<'a>(
     place: usize,
 ) -> Result<(), AllocError>
     requires { key.0 ≡ spread key.1.now }
-    ensures { OnOk result ((text : List ℕ) (at : ℕ) → is_before (at_name map.new text) at ≡ (is_before (at_name map.old text) at || (bytes_eq key.entry.1.now text && nat_lt place at))) }
+    ensures { OnOk result ((text : List ℕ) (at : ℕ) →
+        is_before (at_name map.new text) at ≡
+        (is_before (at_name map.old text) at ||
+        (bytes_eq key.entry.1.now text && nat_lt place at))) }
 {
     if let Some(least) = map.insert(key, place)? {
         map.insert(key, least.min(place))?;
@@ -121,7 +126,8 @@ impl<'f, 'a> Index<'f, 'a> {
 
     /// Takes in what one more item declares.
     pub fn declare(&mut self, item: &'f Item<'a>) -> Result<(), AllocError>
-        ensures { (items : List model.Item) → IsIndexOf self.old items → OnOk result (IsIndexOf self.new (items ++ item_of item.now ∷ [])) }
+        ensures { (items : List model.Item) → IsIndexOf self.old items →
+            OnOk result (IsIndexOf self.new (items ++ item_of item.now ∷ [])) }
     {
         match item {
             Item::Packet(packet) => {

@@ -16,8 +16,11 @@ use rule_parser::Item;
 impl Faults {
     /// Meets the fault of a name that is declared before.
     fn check_name<'a>(&mut self, names: &Names<'_, 'a>, item: &Item<'a>)
-        ensures faults { first_of self.new ≡ after (first_of self.old) (name_faults (items_of names.now.items.now) (item_of item.now)) }
-        ensures names { (items : List model.Item) → NamesItsFault items self.old.first → NamesItsFault items self.new.first }
+        ensures faults { first_of self.new ≡
+            after (first_of self.old)
+            (name_faults (items_of names.now.items.now) (item_of item.now)) }
+        ensures names { (items : List model.Item) → NamesItsFault items self.old.first →
+            NamesItsFault items self.new.first }
     {
         let name = declared_name(item);
         self.refuse_if(
@@ -30,8 +33,11 @@ impl Faults {
     /// Meets the faults of an item.
     #[tactic(auto, using(crate::proofs::After::both_met, crate::proofs::After::nothing_met))]
     fn check_item<'a>(&mut self, names: &Names<'_, 'a>, item: &Item<'a>)
-        ensures faults { first_of self.new ≡ after (first_of self.old) (faults_of (items_of names.now.items.now) (item_of item.now)) }
-        ensures names { (items : List model.Item) → Contains items (item_of item.now) → NamesItsFault items self.old.first → NamesItsFault items self.new.first }
+        ensures faults { first_of self.new ≡
+            after (first_of self.old)
+            (faults_of (items_of names.now.items.now) (item_of item.now)) }
+        ensures names { (items : List model.Item) → Contains items (item_of item.now) →
+            NamesItsFault items self.old.first → NamesItsFault items self.new.first }
     {
         self.check_name(names, item);
         match item {

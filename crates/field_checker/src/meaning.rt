@@ -42,7 +42,8 @@ fn magnitude(number: Number) -> u32
 /// is, 0: never.
 fn watchpoint(field: &FieldItem, packet: &PacketItem, comparison: &Comparison) -> Term
     requires { nat_abs packet.now.mid.value < 2 ^ 16 }
-    ensures { let c = comparison.now in result ≡ term_of (field_of field.now) c.op (number_of c.value) (packet_of packet.now) }
+    ensures { let c = comparison.now in
+        result ≡ term_of (field_of field.now) c.op (number_of c.value) (packet_of packet.now) }
 {
     Term {
         kind: field.kind,
@@ -58,8 +59,10 @@ fn watchpoint(field: &FieldItem, packet: &PacketItem, comparison: &Comparison) -
 /// The watchpoint that a comparison means.
 fn term<'a>(names: &Names<'_, 'a>, comparison: &Comparison<'a>) -> Term
     requires accepted { faults (items_of names.now.items.now) ≡ [] }
-    requires clean { condition_faults (items_of names.now.items.now) (comparison_of comparison.now) ≡ [] }
-    ensures { condition_in (items_of names.now.items.now) (comparison_of comparison.now) ≡ Some (Watch result) }
+    requires clean { condition_faults (items_of names.now.items.now)
+        (comparison_of comparison.now) ≡ [] }
+    ensures { condition_in (items_of names.now.items.now) (comparison_of comparison.now) ≡
+        Some (Watch result) }
 {
     let field = names.field(comparison.field).unwrap();
     let packet = names.packet(field.packet).unwrap();
@@ -76,10 +79,16 @@ fn operands<'a>(
     second: &Expression<'a>,
 ) -> Result<Box<(Cond, Cond)>, AllocError>
     requires accepted { faults (items_of names.now.items.now) ≡ [] }
-    requires first { condition_faults (items_of names.now.items.now) (expression_of first.now) ≡ [] }
-    requires second { condition_faults (items_of names.now.items.now) (expression_of second.now) ≡ [] }
-    ensures first { IfOk result (λ found. condition_in (items_of names.now.items.now) (expression_of first.now) ≡ Some (condition_of found.value.0)) }
-    ensures second { IfOk result (λ found. condition_in (items_of names.now.items.now) (expression_of second.now) ≡ Some (condition_of found.value.1)) }
+    requires first { condition_faults (items_of names.now.items.now)
+        (expression_of first.now) ≡ [] }
+    requires second { condition_faults (items_of names.now.items.now)
+        (expression_of second.now) ≡ [] }
+    ensures first { IfOk result
+        (λ found. condition_in (items_of names.now.items.now) (expression_of first.now) ≡
+        Some (condition_of found.value.0)) }
+    ensures second { IfOk result
+        (λ found. condition_in (items_of names.now.items.now) (expression_of second.now) ≡
+        Some (condition_of found.value.1)) }
 {
     let first = condition(alloc, names, first)?;
     let second = condition(alloc, names, second)?;
@@ -94,8 +103,11 @@ fn condition<'a>(
     expression: &Expression<'a>,
 ) -> Result<Cond, AllocError>
     requires accepted { faults (items_of names.now.items.now) ≡ [] }
-    requires clean { condition_faults (items_of names.now.items.now) (expression_of expression.now) ≡ [] }
-    ensures { IfOk result (λ cond. condition_in (items_of names.now.items.now) (expression_of expression.now) ≡ Some (condition_of cond)) }
+    requires clean { condition_faults (items_of names.now.items.now)
+        (expression_of expression.now) ≡ [] }
+    ensures { IfOk result
+        (λ cond. condition_in (items_of names.now.items.now) (expression_of expression.now) ≡
+        Some (condition_of cond)) }
 {
     match expression {
         Expression::Compare(comparison) => Ok(Cond::Watch(term(names, comparison))),
@@ -112,7 +124,8 @@ fn condition<'a>(
 /// The most reports of each kind, none where they aren't written.
 fn report(item: Option<ReportItem>) -> ReportMaxima
     requires { option_map_or report_faults (option_map report_of item) [] ≡ [] }
-    ensures { result ≡ option_map_or meaning.report_of (option_map report_of item) (record { passive = 0; pass_to_fail = 0; fail_to_pass = 0 }) }
+    ensures { result ≡ option_map_or meaning.report_of (option_map report_of item)
+        (record { passive = 0; pass_to_fail = 0; fail_to_pass = 0 }) }
 {
     match item {
         Some(item) => ReportMaxima {
@@ -132,7 +145,10 @@ fn report(item: Option<ReportItem>) -> ReportMaxima
 fn rule<'a>(alloc: Global, names: &Names<'_, 'a>, item: &RuleItem<'a>) -> Result<Rule, AllocError>
     requires accepted { faults (items_of names.now.items.now) ≡ [] }
     requires clean { rule_faults (items_of names.now.items.now) (rule_of item.now) ≡ [] }
-    ensures { IfOk result (λ rule. option_map (named_rule (rule_of item.now)) (condition_in (items_of names.now.items.now) (expression_of item.now.condition)) ≡ Some (model.rule_of rule)) }
+    ensures { IfOk result
+        (λ rule. option_map (named_rule (rule_of item.now))
+        (condition_in (items_of names.now.items.now) (expression_of item.now.condition)) ≡
+        Some (model.rule_of rule)) }
 {
     Ok(Rule {
         name: owned(alloc, item.name.text)?,
@@ -150,7 +166,9 @@ fn rule<'a>(alloc: Global, names: &Names<'_, 'a>, item: &RuleItem<'a>) -> Result
 /// The rules that items mean of which nothing is refused, in the text's order. It fails only for want of memory.
 pub(crate) fn rules(alloc: Global, names: &Names) -> Result<Vec<Rule>, AllocError>
     requires { faults (items_of names.now.items.now) ≡ [] }
-    ensures { IfOk result (λ rules. rules_in (items_of names.now.items.now) (items_of names.now.items.now) ≡ Some (rules_of rules.items)) }
+    ensures { IfOk result
+        (λ rules. rules_in (items_of names.now.items.now) (items_of names.now.items.now) ≡
+        Some (rules_of rules.items)) }
 {
     let mut rules = Vec::new(alloc);
     for item in names.items {

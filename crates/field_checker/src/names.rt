@@ -35,7 +35,8 @@ impl<'f, 'a> Names<'f, 'a> {
 
     /// What packets and fields declare under the name, where one does.
     fn declared(&self, name: Name<'a>) -> Option<&Declared<'f, 'a>>
-        ensures { option_map (λ d. d.now) result ≡ at_name self.now.index.named name.entry.text.now }
+        ensures { option_map (λ d. d.now) result ≡ at_name self.now.index.named
+            name.entry.text.now }
     {
         self.index.named.get(&key(name.text))
     }
@@ -62,21 +63,25 @@ impl<'f, 'a> Names<'f, 'a> {
 
     /// Whether an item declares the name at a lesser place.
     pub fn is_declared_before(&self, name: Name<'a>) -> bool
-        ensures { result ≡ list_any (λ other. is_earlier (meaning.name_of other) (name_of name.entry)) (items_of self.now.items.now) }
+        ensures { result ≡
+            list_any (λ other. is_earlier (meaning.name_of other) (name_of name.entry))
+            (items_of self.now.items.now) }
     {
         self.is_named_before(name) || self.is_rule_before(name)
     }
 
     /// The first packet of the name.
     pub fn packet(&self, name: Name<'a>) -> Option<&'f PacketItem<'a>>
-        ensures { option_map (λ p. packet_of p.now) result ≡ packet_named (items_of self.now.items.now) (name_of name.entry) }
+        ensures { option_map (λ p. packet_of p.now) result ≡
+            packet_named (items_of self.now.items.now) (name_of name.entry) }
     {
         self.declared(name)?.packet
     }
 
     /// The first field of the name.
     pub fn field(&self, name: Name<'a>) -> Option<&'f FieldItem<'a>>
-        ensures { option_map (λ f. field_of f.now) result ≡ field_named (items_of self.now.items.now) (name_of name.entry) }
+        ensures { option_map (λ f. field_of f.now) result ≡
+            field_named (items_of self.now.items.now) (name_of name.entry) }
     {
         self.declared(name)?.field
     }

@@ -30,8 +30,10 @@ impl Faults {
     /// Meets the faults of a packet's message id and length.
     #[tactic(auto, using(crate::proofs::After::both_met, crate::proofs::After::nothing_met))]
     pub fn check_packet(&mut self, packet: &PacketItem)
-        ensures faults { first_of self.new ≡ after (first_of self.old) (packet_faults (packet_of packet.now)) }
-        ensures names { (items : List model.Item) → NamesItsFault items self.old.first → NamesItsFault items self.new.first }
+        ensures faults { first_of self.new ≡
+            after (first_of self.old) (packet_faults (packet_of packet.now)) }
+        ensures names { (items : List model.Item) → NamesItsFault items self.old.first →
+            NamesItsFault items self.new.first }
     {
         self.refuse_outside(
             packet.mid,

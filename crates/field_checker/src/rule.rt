@@ -18,8 +18,11 @@ impl Faults {
     /// Meets the faults of the maxima of events, where they are written.
     #[tactic(auto, using(crate::proofs::After::both_met, crate::proofs::After::nothing_met))]
     fn check_report(&mut self, report: Option<ReportItem>)
-        ensures faults { first_of self.new ≡ after (first_of self.old) (option_map_or report_faults (option_map report_of report) []) }
-        ensures names { (items : List model.Item) (rule : model.RuleItem) → Contains items (model.Rule rule) → rule.report ≡ option_map report_of report
+        ensures faults { first_of self.new ≡
+            after (first_of self.old)
+            (option_map_or report_faults (option_map report_of report) []) }
+        ensures names { (items : List model.Item) (rule : model.RuleItem) →
+            Contains items (model.Rule rule) → rule.report ≡ option_map report_of report
             → NamesItsFault items self.old.first → NamesItsFault items self.new.first }
     {
         if let Some(report) = report {
@@ -31,8 +34,11 @@ impl Faults {
 
     /// Meets the fault of a comparison: the field that it names, or else its number.
     fn check_comparison<'a>(&mut self, names: &Names<'_, 'a>, comparison: &Comparison<'a>)
-        ensures faults { first_of self.new ≡ after (first_of self.old) (condition_faults (items_of names.now.items.now) (comparison_of comparison.now)) }
-        ensures names { (items : List model.Item) → NamesItsFault items self.old.first → NamesItsFault items self.new.first }
+        ensures faults { first_of self.new ≡
+            after (first_of self.old)
+            (condition_faults (items_of names.now.items.now) (comparison_of comparison.now)) }
+        ensures names { (items : List model.Item) → NamesItsFault items self.old.first →
+            NamesItsFault items self.new.first }
     {
         let value = comparison.value;
         match names.field(comparison.field) {
@@ -47,8 +53,11 @@ impl Faults {
     /// Meets the faults of a condition's comparisons. The recursion is as deep as the condition.
     #[tactic(auto, using(crate::proofs::After::both_met, crate::proofs::After::nothing_met))]
     fn check_condition<'a>(&mut self, names: &Names<'_, 'a>, condition: &Expression<'a>)
-        ensures faults { first_of self.new ≡ after (first_of self.old) (condition_faults (items_of names.now.items.now) (expression_of condition.now)) }
-        ensures names { (items : List model.Item) → NamesItsFault items self.old.first → NamesItsFault items self.new.first }
+        ensures faults { first_of self.new ≡
+            after (first_of self.old)
+            (condition_faults (items_of names.now.items.now) (expression_of condition.now)) }
+        ensures names { (items : List model.Item) → NamesItsFault items self.old.first →
+            NamesItsFault items self.new.first }
     {
         match condition {
             Expression::Compare(comparison) => self.check_comparison(names, comparison),
@@ -63,8 +72,11 @@ impl Faults {
     /// Meets the faults of a rule's numbers and condition.
     #[tactic(auto, using(crate::proofs::After::both_met, crate::proofs::After::nothing_met))]
     pub fn check_rule<'a>(&mut self, names: &Names<'_, 'a>, rule: &RuleItem<'a>)
-        ensures faults { first_of self.new ≡ after (first_of self.old) (rule_faults (items_of names.now.items.now) (rule_of rule.now)) }
-        ensures names { (items : List model.Item) → Contains items (model.Rule (rule_of rule.now)) → NamesItsFault items self.old.first → NamesItsFault items self.new.first }
+        ensures faults { first_of self.new ≡
+            after (first_of self.old)
+            (rule_faults (items_of names.now.items.now) (rule_of rule.now)) }
+        ensures names { (items : List model.Item) → Contains items (model.Rule (rule_of rule.now)) →
+            NamesItsFault items self.old.first → NamesItsFault items self.new.first }
     {
         self.refuse_number(rule.fails, RuleNumber::Fails);
         self.refuse_number(rule.sequence, RuleNumber::Sequence);

@@ -42,7 +42,8 @@ impl App for Counter {
     ghost use Rattle.lc_model.specs.Name.{counter_name};
     ghost use Rattle.lc_model.specs.Kept.Summary.{CounterState};
 
-    ghost meaning = { λ c. record { called = counter_name; state = CounterState c.count; held = c.seat } };
+    ghost meaning = { λ c.
+        record { called = counter_name; state = CounterState c.count; held = c.seat } };
 
     fn name(&self) -> &[u8] {
         NAME

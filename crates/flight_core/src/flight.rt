@@ -50,16 +50,20 @@ pub(crate) fn fly<R: ByteSource, W: ByteSink>(
     requires nothing { records.old ≡ nothing_held (length pairs.now) }
     requires room { length room.old ≡ PIECE }
     requires files { AreWhole pairs.now }
-    requires between { let seen = shown (λ b. (⟦<dyn App as App>⟧ b.vtable).meaning b.value) in IsBetween (seen host.old) }
-    requires open { let seen = shown (λ b. (⟦<dyn App as App>⟧ b.vtable).meaning b.value) in (seen host.old).is_closed ≡ false }
+    requires between { let seen = shown (λ b. (⟦<dyn App as App>⟧ b.vtable).meaning b.value) in
+        IsBetween (seen host.old) }
+    requires open { let seen = shown (λ b. (⟦<dyn App as App>⟧ b.vtable).meaning b.value) in
+        (seen host.old).is_closed ≡ false }
     requires unread { (R.source reader.old).reads ≡ 0 }
     requires readable { (R.source reader.old).failed ≡ false }
     requires writable { (W.sink writer.old).failed ≡ false }
     requires most { most ≤ MOST_READS }
     ensures outcome { let seen = shown (λ b. (⟦<dyn App as App>⟧ b.vtable).meaning b.value) in
         FliesSo pairs.now most (seen host.old)
-        (devices (R.source reader.old) (R.source reader.new) (W.sink writer.old) (W.sink writer.new)) result }
-    ensures between { let seen = shown (λ b. (⟦<dyn App as App>⟧ b.vtable).meaning b.value) in IsBetween (seen host.new) }
+        (devices (R.source reader.old) (R.source reader.new) (W.sink writer.old)
+        (W.sink writer.new)) result }
+    ensures between { let seen = shown (λ b. (⟦<dyn App as App>⟧ b.vtable).meaning b.value) in
+        IsBetween (seen host.new) }
     ensures begun { HasBegun result }
     ensures bounded { (R.source reader.new).reads ≤ most }
 {

@@ -60,7 +60,9 @@ fn half(texts: usize, body: &[u8]) -> Option<Shape>
     requires { length body.now ≡ HALF }
     ensures text { IfSome result (IsOfText texts) }
     ensures named { IfSome result (λ shape. HasName shape (length body.now)) }
-    ensures brings { option_map (contents_by body.now) result ≡ half_contents texts (name_in (take NAME body.now)) (slice_index body.now 40) (u16_at body.now 41) }
+    ensures brings { option_map (contents_by body.now) result ≡
+        half_contents texts (name_in (take NAME body.now)) (slice_index body.now 40)
+        (u16_at body.now 41) }
 {
     let text = usize::from(u16_at(body, 41));
     if text >= texts {

@@ -22,12 +22,15 @@ pub(crate) fn handle_next<W: ByteSink>(
 ) -> Result<Option<u64>, Halt>
     requires texts { records.old.texts ≡ length pairs.now }
     requires files { AreWhole pairs.now }
-    requires between { let seen = shown (λ b. (⟦<dyn App as App>⟧ b.vtable).meaning b.value) in IsBetween (seen host.old) }
-    requires open { let seen = shown (λ b. (⟦<dyn App as App>⟧ b.vtable).meaning b.value) in (seen host.old).is_closed ≡ false }
+    requires between { let seen = shown (λ b. (⟦<dyn App as App>⟧ b.vtable).meaning b.value) in
+        IsBetween (seen host.old) }
+    requires open { let seen = shown (λ b. (⟦<dyn App as App>⟧ b.vtable).meaning b.value) in
+        (seen host.old).is_closed ≡ false }
     ensures next { let seen = shown (λ b. (⟦<dyn App as App>⟧ b.vtable).meaning b.value) in
         HandlesNext (meanings_of pairs.now) records.old records.new (seen host.old) (seen host.new)
         (W.sink writer.old) (W.sink writer.new) result }
-    ensures between { let seen = shown (λ b. (⟦<dyn App as App>⟧ b.vtable).meaning b.value) in IsBetween (seen host.new) }
+    ensures between { let seen = shown (λ b. (⟦<dyn App as App>⟧ b.vtable).meaning b.value) in
+        IsBetween (seen host.new) }
 {
     match records.next() {
         None => Ok(None),

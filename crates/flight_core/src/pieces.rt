@@ -37,7 +37,8 @@ pub(crate) fn take_piece<R: ByteSource>(
     requires bounded { (R.source reader.old).reads ≤ most }
     requires most { most ≤ MOST_READS }
     ensures room { length room.new ≡ PIECE }
-    ensures piece { TakesPiece most records.old records.new (R.source reader.old) (R.source reader.new) result }
+    ensures piece { TakesPiece most records.old records.new (R.source reader.old)
+        (R.source reader.new) result }
     ensures bounded { (R.source reader.new).reads ≤ most }
 {
     if reader.reads() == most {

@@ -32,7 +32,8 @@ impl Model for Records {
 
     ghost Value = { Held };
 
-    ghost view = { λ r. record { bytes = r.window.held; count = r.count; is_bad = r.is_bad; texts = r.texts } };
+    ghost view = { λ r.
+        record { bytes = r.window.held; count = r.count; is_bad = r.is_bad; texts = r.texts } };
 }
 
 impl Records {
@@ -55,7 +56,9 @@ impl Records {
         ensures taken { result ≡ length (taken_of self.old piece.now) }
         ensures fed { self.new ≡ fed self.old piece.now }
         ensures few { length self.new.bytes ≤ most_held }
-        ensures whole { self.old.is_bad ≡ false → length self.old.bytes + length piece.now ≤ most_held → taken_of self.old piece.now ≡ piece.now }
+        ensures whole { self.old.is_bad ≡ false →
+            length self.old.bytes + length piece.now ≤ most_held →
+            taken_of self.old piece.now ≡ piece.now }
     {
         let room = MOST_HELD - self.window.held().len();
         if self.is_bad {
@@ -72,7 +75,8 @@ impl Records {
         ensures found { answer_in result ≡ next_answer self.old }
         ensures text { IfSome result (NamesText self.old.texts) }
         ensures named { IfSome result IsShortNamed }
-        ensures shorter { IsRecord (next_answer self.old) → length (after_next self.old).bytes < length self.old.bytes }
+        ensures shorter { IsRecord (next_answer self.old) →
+            length (after_next self.old).bytes < length self.old.bytes }
         ensures part { IsNone result → front_of self.old ≡ part_of self.old.bytes }
         ensures few { IsNone result → length self.old.bytes < 65547 }
         ensures* after { sem 𝓛 (Rests the_row self.entry (λ new. new ≡ after_next self.old)) }

@@ -41,8 +41,11 @@ fn run_compiled<R: ByteSource, W: ByteSink>(
     requires most { reads ≤ MOST_READS }
     ensures run { AreOfProfile (map meaning stock.items) →
         RunsSo pairs.now (members_of (map meaning stock.items)) (length pairs.now) reads
-        (devices (R.source reader.old) (R.source reader.new) (W.sink writer.old) (W.sink writer.new)) result }
-    ensures judged { RefusesNone (devices (R.source reader.old) (R.source reader.new) (W.sink writer.old) (W.sink writer.new)) result }
+        (devices (R.source reader.old) (R.source reader.new) (W.sink writer.old)
+        (W.sink writer.new)) result }
+    ensures judged { RefusesNone
+        (devices (R.source reader.old) (R.source reader.new) (W.sink writer.old)
+        (W.sink writer.new)) result }
     ensures bounded { (R.source reader.new).reads ≤ reads }
 {
     let mut records = Records::new(alloc, pairs.len())?;
@@ -109,9 +112,11 @@ fn begin<R: ByteSource, W: ByteSink>(
     requires most { reads ≤ MOST_READS }
     ensures run { IsOfProfile schedule.now (map meaning stock.items) →
         IsRun (mission_of texts.now schedule.now (map meaning stock.items) reads)
-        (devices (R.source reader.old) (R.source reader.new) (W.sink writer.old) (W.sink writer.new)) (ending_of result) }
+        (devices (R.source reader.old) (R.source reader.new) (W.sink writer.old)
+        (W.sink writer.new)) (ending_of result) }
     ensures refuses { RefusesUnfitAlone (sources_of texts.now)
-        (devices (R.source reader.old) (R.source reader.new) (W.sink writer.old) (W.sink writer.new)) (ending_of result) }
+        (devices (R.source reader.old) (R.source reader.new) (W.sink writer.old)
+        (W.sink writer.new)) (ending_of result) }
     ensures named { IfErr result (NamesTheNumber (sources_of texts.now)) }
     ensures bounded { (R.source reader.new).reads ≤ reads }
 {

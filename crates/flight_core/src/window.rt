@@ -29,7 +29,12 @@ impl Model for Window {
 
     ghost Value = { Shown };
 
-    ghost view = { λ w. record { last = drop w.last (take w.start w.room.items); held = drop w.start w.room.items } };
+    ghost view = { λ w.
+        record {
+          last = drop w.last (take w.start w.room.items);
+          held = drop w.start
+              w.room.items;
+        } };
 
     ghost invariant = { λ w. IsWindow w.last w.start (vec_len w.room) (vec_capacity w.room) };
 }
@@ -77,7 +82,8 @@ impl Window {
     /// The first bytes held go, so many.
     pub fn take(&mut self, size: usize)
         requires { size ≤ length self.old.held }
-        ensures { self.new ≡ record { last = take size self.old.held; held = drop size self.old.held } }
+        ensures { self.new ≡
+            record { last = take size self.old.held; held = drop size self.old.held } }
     {
         self.last = self.start;
         self.start += size;

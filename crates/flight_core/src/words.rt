@@ -113,7 +113,8 @@ fn all_words<'a>(alloc: Global) -> Result<Command<'a>, AllocError>
 pub fn read_words<'a>(alloc: Global, words: &'a [&'a str]) -> Result<Plan<'a>, WordsError>
     ensures stored { length words.entry.now ≤ 1 → result ≡ Ok Stored }
     ensures holds { IfOk result (λ plan. HoldsWords (map (λ word. word.now) words.entry.now) plan) }
-    ensures accepts { 1 < length words.entry.now → IsOk result → GiveAPlan (map (λ word. word.now) words.entry.now) }
+    ensures accepts { 1 < length words.entry.now → IsOk result →
+        GiveAPlan (map (λ word. word.now) words.entry.now) }
     ensures refuses { result ≡ Err Usage → GiveAPlan (map (λ word. word.now) words.entry.now) → ⊥ }
 {
     if words.len() <= 1 {
@@ -127,8 +128,10 @@ pub fn read_words<'a>(alloc: Global, words: &'a [&'a str]) -> Result<Plan<'a>, W
 
 /// The plan of the command that was found.
 fn given_plan<'a>(alloc: Global, matches: &ArgMatches<'a>) -> Result<Plan<'a>, WordsError>
-    ensures holds { IfOk result (λ plan. IsSomeAnd (subcommand_rows_of matches.now) (λ command. HoldsRows command plan)) }
-    ensures refused { result ≡ Err Usage → IsSomeAnd (subcommand_rows_of matches.now) HasWhatItNeeds → ⊥ }
+    ensures holds { IfOk result
+        (λ plan. IsSomeAnd (subcommand_rows_of matches.now) (λ command. HoldsRows command plan)) }
+    ensures refused { result ≡ Err Usage →
+        IsSomeAnd (subcommand_rows_of matches.now) HasWhatItNeeds → ⊥ }
 {
     match matches.subcommand() {
         Some(("compile", found)) => compile_plan(found),
@@ -139,7 +142,8 @@ fn given_plan<'a>(alloc: Global, matches: &ArgMatches<'a>) -> Result<Plan<'a>, W
 
 /// The file of a name.
 fn file_of<'a>(found: &ArgMatches<'a>, name: &str) -> Result<&'a str, WordsError>
-    ensures some { IfOk result (λ word. first_of name.now (rows_of (found_of found.now)) ≡ Some word.now) }
+    ensures some { IfOk result
+        (λ word. first_of name.now (rows_of (found_of found.now)) ≡ Some word.now) }
     ensures none { OnErr result (first_of name.now (rows_of (found_of found.now)) ≡ None) }
 {
     found.get_str(name).ok_or(WordsError::Usage)
@@ -151,7 +155,9 @@ fn files_of<'a>(
     found: &ArgMatches<'a>,
     name: &str,
 ) -> Result<Vec<&'a str>, WordsError>
-    ensures some { IfOk result (λ words. all_of name.now (rows_of (found_of found.now)) ≡ Some (map (λ word. word.now) words.items)) }
+    ensures some { IfOk result
+        (λ words. all_of name.now (rows_of (found_of found.now)) ≡
+        Some (map (λ word. word.now) words.items)) }
     ensures none { result ≡ Err Usage → all_of name.now (rows_of (found_of found.now)) ≡ None }
 {
     let words = found.get_strs(name).ok_or(WordsError::Usage)?;
@@ -160,7 +166,8 @@ fn files_of<'a>(
 
 fn compile_plan<'a>(found: &ArgMatches<'a>) -> Result<Plan<'a>, WordsError>
     ensures holds { IfOk result (HoldsRows (codes "compile", rows_of (found_of found.now))) }
-    ensures refused { OnErr result (HasWhatItNeeds (codes "compile", rows_of (found_of found.now)) → ⊥) }
+    ensures refused { OnErr result
+        (HasWhatItNeeds (codes "compile", rows_of (found_of found.now)) → ⊥) }
 {
     Ok(Plan::Compile {
         rules: file_of(found, "RULES")?,
@@ -171,7 +178,8 @@ fn compile_plan<'a>(found: &ArgMatches<'a>) -> Result<Plan<'a>, WordsError>
 
 fn run_plan<'a>(alloc: Global, found: &ArgMatches<'a>) -> Result<Plan<'a>, WordsError>
     ensures holds { IfOk result (HoldsRows (codes "run", rows_of (found_of found.now))) }
-    ensures refused { result ≡ Err Usage → HasWhatItNeeds (codes "run", rows_of (found_of found.now)) → ⊥ }
+    ensures refused { result ≡ Err Usage →
+        HasWhatItNeeds (codes "run", rows_of (found_of found.now)) → ⊥ }
 {
     Ok(Plan::Run {
         schedule: file_of(found, "schedule")?,

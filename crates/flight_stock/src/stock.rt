@@ -28,7 +28,9 @@ pub fn add(
     requires kind { IsSpare (as_bytes layouts) schedule.now (member_of (meaning app)) }
     ensures spares { OnOk result (AreSpares (map meaning stock.new.items)) }
     ensures profile { OnOk result (IsOfProfile schedule.now (map meaning stock.new.items)) }
-    ensures names { OnOk result (names_of (map meaning stock.new.items) ≡ names_of (map meaning stock.old.items) ++ name.now ∷ []) }
+    ensures names { OnOk result
+        (names_of (map meaning stock.new.items) ≡ names_of (map meaning stock.old.items) ++
+        name.now ∷ []) }
 {
     stock.push(app)?;
     Ok(())

@@ -19,8 +19,10 @@ pub enum Unfit {
 
 /// Whether a file may go up as the table of this kind.
 pub fn judge(kind: Kind, file: &[u8]) -> Result<(), Unfit>
-    ensures sound { IfOk result (λ _. (table : model.TableFile) × (opened file.now ≡ Ok table) × IsSound layouts kind table.image) }
-    ensures accepts { (table : model.TableFile) → opened file.now ≡ Ok table → IsSound layouts kind table.image → IsOk result }
+    ensures sound { IfOk result (λ _. (table : model.TableFile) × (opened file.now ≡ Ok table) ×
+        IsSound layouts kind table.image) }
+    ensures accepts { (table : model.TableFile) → opened file.now ≡ Ok table →
+        IsSound layouts kind table.image → IsOk result }
 {
     let file = table_file::open(file).map_err(Unfit::File)?;
     table_validator::validate(kind, file.image()).map_err(Unfit::Table)?;

@@ -17,35 +17,46 @@ use lc_model::laws::table_services::table_services_go_by_names;
 
 /// With nothing running and the same stock, both begin alike.
 pub fn begins_as_the_world()
-    ensures { (layouts : List Layout) (schedule : Schedule) → BeginsSo (as_bytes layouts) AreBytes schedule }
+    ensures { (layouts : List Layout) (schedule : Schedule) →
+        BeginsSo (as_bytes layouts) AreBytes schedule }
 {}
 
 /// Each record keeps the host in numbers to the world, and the packets that it writes are those that the world sends.
 pub fn keeps_to_the_world()
-    ensures { (layouts : List Layout) (schedule : Schedule) → EachRecordKeeps (as_bytes layouts) AreBytes schedule }
+    ensures { (layouts : List Layout) (schedule : Schedule) →
+        EachRecordKeeps (as_bytes layouts) AreBytes schedule }
 {}
 
 /// Part by part, what each record keeps.
 pub fn each_part_is_kept()
     // The stored files, the registered tables with their slots, the senders of events with their types and filters, and each
     // message id's sequence count are the world's.
-    ensures files { (layouts : List Layout) (schedule : Schedule) → IsKept (as_bytes layouts) schedule AreBytes (HoldsFiles (as_bytes layouts) schedule) }
-    ensures tables { (layouts : List Layout) (schedule : Schedule) → IsKept (as_bytes layouts) schedule AreBytes (HoldsTables (as_bytes layouts) schedule) }
-    ensures filters { (layouts : List Layout) (schedule : Schedule) → IsKept (as_bytes layouts) schedule AreBytes (HoldsFilters (as_bytes layouts) schedule) }
-    ensures counts { (layouts : List Layout) (schedule : Schedule) → IsKept (as_bytes layouts) schedule AreBytes (HoldsCounts (as_bytes layouts) schedule) }
+    ensures files { (layouts : List Layout) (schedule : Schedule) →
+        IsKept (as_bytes layouts) schedule AreBytes (HoldsFiles (as_bytes layouts) schedule) }
+    ensures tables { (layouts : List Layout) (schedule : Schedule) →
+        IsKept (as_bytes layouts) schedule AreBytes (HoldsTables (as_bytes layouts) schedule) }
+    ensures filters { (layouts : List Layout) (schedule : Schedule) →
+        IsKept (as_bytes layouts) schedule AreBytes (HoldsFilters (as_bytes layouts) schedule) }
+    ensures counts { (layouts : List Layout) (schedule : Schedule) →
+        IsKept (as_bytes layouts) schedule AreBytes (HoldsCounts (as_bytes layouts) schedule) }
 
     // An application has one seat where it runs, and none else; its object has the state that its lists come to.
-    ensures seats { (layouts : List Layout) (schedule : Schedule) → IsKept (as_bytes layouts) schedule AreBytes (RunsOnOneSeat (as_bytes layouts) schedule) }
-    ensures states { (layouts : List Layout) (schedule : Schedule) → IsKept (as_bytes layouts) schedule AreBytes (HasStates (as_bytes layouts) schedule) }
+    ensures seats { (layouts : List Layout) (schedule : Schedule) →
+        IsKept (as_bytes layouts) schedule AreBytes (RunsOnOneSeat (as_bytes layouts) schedule) }
+    ensures states { (layouts : List Layout) (schedule : Schedule) →
+        IsKept (as_bytes layouts) schedule AreBytes (HasStates (as_bytes layouts) schedule) }
 
     // The stock is the world's, and between records no packet waits.
-    ensures spares { (layouts : List Layout) (schedule : Schedule) → IsKept (as_bytes layouts) schedule AreBytes (HasSpares (as_bytes layouts) schedule) }
-    ensures pipes { (layouts : List Layout) (schedule : Schedule) → IsKept (as_bytes layouts) schedule AreBytes (PipesAreEmpty (as_bytes layouts) schedule) }
+    ensures spares { (layouts : List Layout) (schedule : Schedule) →
+        IsKept (as_bytes layouts) schedule AreBytes (HasSpares (as_bytes layouts) schedule) }
+    ensures pipes { (layouts : List Layout) (schedule : Schedule) →
+        IsKept (as_bytes layouts) schedule AreBytes (PipesAreEmpty (as_bytes layouts) schedule) }
 {}
 
 /// Over whole runs it writes exactly what is called for.
 pub fn writes_what_is_called_for()
-    ensures { (layouts : List Layout) (schedule : Schedule) → WritesWhatIsCalledFor (as_bytes layouts) AreBytes schedule }
+    ensures { (layouts : List Layout) (schedule : Schedule) →
+        WritesWhatIsCalledFor (as_bytes layouts) AreBytes schedule }
 {}
 
 /// What it writes for one record more comes behind all else.
@@ -91,7 +102,8 @@ pub fn calls_go_with_services()
 
 /// Each object on a seat of an executive that keeps to a world goes with its services.
 pub fn seats_go_with_services()
-    ensures { (layouts : List Layout) (schedule : Schedule) → SeatsGoWith (as_bytes layouts) AreBytes schedule }
+    ensures { (layouts : List Layout) (schedule : Schedule) →
+        SeatsGoWith (as_bytes layouts) AreBytes schedule }
 {}
 
 /// What one call asks to be written has 65,536 bytes at most.

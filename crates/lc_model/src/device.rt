@@ -25,7 +25,8 @@ pub trait ByteSource {
     /// moves no byte.
     fn read(&mut self, buffer: &mut [u8]) -> Result<usize, DeviceFault>
         requires { 0 < length buffer.old }
-        ensures read { IfOk result (λ count. ReadsSome (source self.old) (source self.new) count buffer.new) }
+        ensures read { IfOk result
+            (λ count. ReadsSome (source self.old) (source self.new) count buffer.new) }
         ensures fault { OnErr result (ReadFails (source self.old) (source self.new)) }
         ensures counted { (source self.new).reads ≡ one_call_more (source self.old).reads };
 
@@ -47,7 +48,8 @@ pub trait ByteSink {
     /// which moves no byte.
     fn write(&mut self, bytes: &[u8]) -> Result<usize, DeviceFault>
         requires { 0 < length bytes.now }
-        ensures written { IfOk result (λ count. WritesSome (sink self.old) (sink self.new) count bytes.now) }
+        ensures written { IfOk result
+            (λ count. WritesSome (sink self.old) (sink self.new) count bytes.now) }
         ensures fault { OnErr result (WriteFails (sink self.old) (sink self.new)) };
 
     /// Whether a write has answered a fault.
@@ -57,7 +59,8 @@ pub trait ByteSink {
 
 /// Writes all of the bytes. The error is the number of those that the sink took before a write failed.
 pub fn write_all<W: ByteSink>(writer: &mut W, bytes: &[u8]) -> Result<(), usize>
-    ensures sent { OnOk result (Appends (W.sink writer.old).gained (W.sink writer.new).gained bytes.now) }
+    ensures sent { OnOk result
+        (Appends (W.sink writer.old).gained (W.sink writer.new).gained bytes.now) }
     ensures fine { OnOk result ((W.sink writer.new).failed ≡ (W.sink writer.old).failed) }
     ensures cut { IfErr result (IsCutShort (W.sink writer.old) (W.sink writer.new) bytes.now) }
 {

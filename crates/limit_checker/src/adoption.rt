@@ -53,7 +53,9 @@ fn is_activated(tables: &Tables, slot: Slot) -> bool
 fn is_one_activated(tables: &Tables, wdt: Slot, adt: Slot) -> bool
     requires wdt { IsTrue (is_some (table_at wdt tables.now.places)) }
     requires adt { IsTrue (is_some (table_at adt tables.now.places)) }
-    ensures { result ≡ (is_some (waiting_at Activated (slot_at wdt tables.now)) || is_some (waiting_at Activated (slot_at adt tables.now))) }
+    ensures { result ≡
+        (is_some (waiting_at Activated (slot_at wdt tables.now)) || is_some
+        (waiting_at Activated (slot_at adt tables.now))) }
 {
     is_activated(tables, wdt) || is_activated(tables, adt)
 }
@@ -62,7 +64,8 @@ fn is_one_activated(tables: &Tables, wdt: Slot, adt: Slot) -> bool
 fn sound_candidate<'a>(tables: &'a Tables, slot: Slot, kind: Kind) -> Option<ValidImage<'a>>
     requires registered { IsTrue (is_some (table_at slot tables.now.places)) }
     requires sound { HasSoundSlot kind (slot_at slot tables.now) }
-    ensures image { option_map (λ valid. valid.bytes) result ≡ model.candidate (slot_at slot tables.now) }
+    ensures image { option_map (λ valid. valid.bytes) result ≡
+        model.candidate (slot_at slot tables.now) }
     ensures kind { IfSome result (λ valid. valid.kind ≡ kind) }
 {
     match candidate(tables, slot) {
@@ -92,7 +95,8 @@ fn pair_to_adopt<'a>(
     requires adt { IsTrue (is_some (table_at adt tables.now.places)) }
     requires sound_wdt { HasSoundSlot Wdt (slot_at wdt tables.now) }
     requires sound_adt { HasSoundSlot Adt (slot_at adt tables.now) }
-    ensures pair { option_map pair_of result ≡ pair_to_adopt on_board (slot_at wdt tables.now) (slot_at adt tables.now) }
+    ensures pair { option_map pair_of result ≡ pair_to_adopt on_board (slot_at wdt tables.now)
+        (slot_at adt tables.now) }
     ensures sound { IfSome result IsSoundPair }
 {
     if !is_one_activated(tables, wdt, adt) {
@@ -128,9 +132,13 @@ pub(crate) fn adopt(engine: &mut Engine, services: &mut Services, seat: Seat) ->
     requires { MayRenew seat engine.old services.old }
     ensures answer { result ≡ is_some (pair_at seat services.old.tables) }
     ensures engine { engine.new ≡ own_adopted (pair_at seat services.old.tables) engine.old }
-    ensures tables { services.new.tables ≡ (if result then both_taken seat services.old.tables else services.old.tables) }
-    ensures bus { IfSome (pipe_at seat services.old.bus) (λ (queue : Queue). services.new.bus ≡ with_pipe seat services.old.bus (record queue { subscriptions = subscriptions_of (LcState engine.new) })) }
-    ensures rest { services.new ≡ record services.old { tables = services.new.tables; bus = services.new.bus } }
+    ensures tables { services.new.tables ≡
+        (if result then both_taken seat services.old.tables else services.old.tables) }
+    ensures bus { IfSome (pipe_at seat services.old.bus)
+        (λ (queue : Queue). services.new.bus ≡ with_pipe seat services.old.bus
+        (record queue { subscriptions = subscriptions_of (LcState engine.new) })) }
+    ensures rest { services.new ≡
+        record services.old { tables = services.new.tables; bus = services.new.bus } }
 {
     let wdt_slot = Slot::new(seat, 0);
     let adt_slot = Slot::new(seat, 1);

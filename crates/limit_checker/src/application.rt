@@ -57,7 +57,8 @@ impl Application {
         requires given { MayHave self.old.seat packet.now services.old }
         requires kind { message_id packet.now ≡ lc_command_mid }
         ensures seat { self.new.seat ≡ self.old.seat }
-        ensures answers { Answers self.old.seat self.old.engine self.new.engine packet.now services.old services.new }
+        ensures answers { Answers self.old.seat self.old.engine self.new.engine packet.now
+            services.old services.new }
     {
         seats_are_kept_by_the_rules();
         match command::obey(&mut self.engine, packet) {
@@ -78,7 +79,8 @@ impl Application {
         requires given { MayHave self.old.seat packet.now services.old }
         requires kind { is_telemetry_mid (message_id packet.now) ≡ true }
         ensures seat { self.new.seat ≡ self.old.seat }
-        ensures answers { Answers self.old.seat self.old.engine self.new.engine packet.now services.old services.new }
+        ensures answers { Answers self.old.seat self.old.engine self.new.engine packet.now
+            services.old services.new }
     {
         seats_are_kept_by_the_rules();
         telling_goes_on();
@@ -94,7 +96,8 @@ impl Application {
         requires given { MayHave self.old.seat packet.now services.old }
         requires kind { message_id packet.now ≡ sample_mid }
         ensures seat { self.new.seat ≡ self.old.seat }
-        ensures answers { Answers self.old.seat self.old.engine self.new.engine packet.now services.old services.new }
+        ensures answers { Answers self.old.seat self.old.engine self.new.engine packet.now
+            services.old services.new }
     {
         seats_are_kept_by_the_rules();
         match sample_request(packet) {
@@ -114,7 +117,9 @@ impl Application {
     pub(crate) fn tell_standing(&self, services: &mut Services)
         requires sends { MaySend self.now.seat services.old }
         requires room { length services.old.outgoing + 192 ≤ 65536 }
-        ensures told { Tells self.now.seat lc_name (Housekeeping self.now.engine.mode (map (standing by_counts) self.now.engine.points) ∷ []) services.old services.new }
+        ensures told { Tells self.now.seat lc_name
+            (Housekeeping self.now.engine.mode (map (standing by_counts) self.now.engine.points) ∷
+            []) services.old services.new }
         ensures size { length services.new.outgoing ≡ length services.old.outgoing + 192 }
     {
         let standings = standings::standings(&self.engine);
@@ -128,8 +133,11 @@ impl Application {
         requires idle { services.old.outgoing ≡ [] }
         ensures seat { self.new.seat ≡ None }
         ensures own { self.new.engine ≡ self.old.engine }
-        ensures rules { IfSome self.old.seat (λ seat. IsRetired seat lc_name (held_by services.old) (held_by services.new)) }
-        ensures exact { IfSome self.old.seat (λ seat. IfSome (next_retire (LcState self.old.engine) (shared services.old)) (LeavesEmpty seat services.old services.new)) }
+        ensures rules { IfSome self.old.seat
+            (λ seat. IsRetired seat lc_name (held_by services.old) (held_by services.new)) }
+        ensures exact { IfSome self.old.seat
+            (λ seat. IfSome (next_retire (LcState self.old.engine) (shared services.old))
+            (LeavesEmpty seat services.old services.new)) }
     {
         seats_are_kept_by_the_rules();
         table_services_go_by_names();

@@ -45,7 +45,8 @@ impl AskedList {
     /// Samples the rules that a request takes: what they ask for, in order, is what is there afterwards.
     pub(crate) fn sample(&mut self, engine: &mut Engine, request: &SampleRequest)
         ensures after { engine.new ≡ after_sample request.now engine.old }
-        ensures asked { requests_in engine.old.rules self.new ≡ (points_sampled request.now engine.old).1 }
+        ensures asked { requests_in engine.old.rules self.new ≡
+            (points_sampled request.now engine.old).1 }
     {
         self.items.clear();
         engine.sample(request, &mut self.items);

@@ -26,7 +26,8 @@ impl Application {
         requires home { IsHome self.old.seat self.old.engine services.old }
         requires given { MayHave self.old.seat packet.now services.old }
         ensures seat { self.new.seat ≡ self.old.seat }
-        ensures answers { Answers self.old.seat self.old.engine self.new.engine packet.now services.old services.new }
+        ensures answers { Answers self.old.seat self.old.engine self.new.engine packet.now
+            services.old services.new }
     {
         seats_are_kept_by_the_rules();
         telling_goes_on();

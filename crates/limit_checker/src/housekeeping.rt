@@ -98,7 +98,9 @@ impl Application {
     fn report(&self, renewal: &Renewal, services: &mut Services)
         requires sends { MaySend self.now.seat services.old }
         requires room { length services.old.outgoing + 696 ≤ 65536 }
-        ensures told { Tells self.now.seat lc_name (renewal_requests renewal.now ++ Housekeeping self.now.engine.mode (map (standing by_counts) self.now.engine.points) ∷ []) services.old services.new }
+        ensures told { Tells self.now.seat lc_name
+            (renewal_requests renewal.now ++ Housekeeping self.now.engine.mode
+            (map (standing by_counts) self.now.engine.points) ∷ []) services.old services.new }
         ensures size { length services.new.outgoing ≤ length services.old.outgoing + 696 }
     {
         telling_goes_on();
@@ -113,7 +115,8 @@ impl Application {
         requires given { MayHave self.old.seat packet.now services.old }
         requires kind { message_id packet.now ≡ lc_housekeeping_request_mid }
         ensures seat { self.new.seat ≡ self.old.seat }
-        ensures answers { Answers self.old.seat self.old.engine self.new.engine packet.now services.old services.new }
+        ensures answers { Answers self.old.seat self.old.engine self.new.engine packet.now
+            services.old services.new }
     {
         seats_are_kept_by_the_rules();
         table_services_go_by_names();

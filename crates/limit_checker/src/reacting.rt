@@ -42,7 +42,9 @@ fn request(rule: u16, run: u16, event: &RuleEvent<'_>, from: &Option<Seat>, serv
     requires sends { MaySend from.now services.old }
     requires short { length event.now.text.now ≤ 31 }
     requires room { length services.old.outgoing + 180 ≤ 65536 }
-    ensures told { (this : Actionpoint) → IsEventOf this event.now → Tells from.now lc_name (failure_requests this rule (Some (Requested run))) services.old services.new }
+    ensures told { (this : Actionpoint) → IsEventOf this event.now →
+        Tells from.now lc_name (failure_requests this rule (Some (Requested run))) services.old
+        services.new }
     ensures size { length services.new.outgoing ≤ length services.old.outgoing + 180 }
 {
     seats_are_kept_by_the_rules();
@@ -63,8 +65,11 @@ fn tell_failure(
     requires sends { MaySend from.now services.old }
     requires short { length event.now.text.now ≤ 31 }
     requires room { length services.old.outgoing + failure_size (Some failure) ≤ 65536 }
-    ensures told { (this : Actionpoint) → IsEventOf this event.now → Tells from.now lc_name (failure_requests this rule (Some failure)) services.old services.new }
-    ensures size { length services.new.outgoing ≤ length services.old.outgoing + failure_size (Some failure) }
+    ensures told { (this : Actionpoint) → IsEventOf this event.now →
+        Tells from.now lc_name (failure_requests this rule (Some failure)) services.old
+        services.new }
+    ensures size { length services.new.outgoing ≤ length services.old.outgoing + failure_size
+        (Some failure) }
 {
     seats_are_kept_by_the_rules();
     match failure {
@@ -91,8 +96,10 @@ fn tell_reactions(
     requires sends { MaySend from.now services.old }
     requires short { length event.now.text.now ≤ 31 }
     requires room { length services.old.outgoing + reactions_size reactions ≤ 65536 }
-    ensures told { (this : Actionpoint) → IsEventOf this event.now → Tells from.now lc_name (requests_of this rule reactions) services.old services.new }
-    ensures size { length services.new.outgoing ≤ length services.old.outgoing + reactions_size reactions }
+    ensures told { (this : Actionpoint) → IsEventOf this event.now →
+        Tells from.now lc_name (requests_of this rule reactions) services.old services.new }
+    ensures size { length services.new.outgoing ≤ length services.old.outgoing + reactions_size
+        reactions }
 {
     telling_goes_on();
     tell_turn(rule, reactions.turn, from, services);
@@ -105,9 +112,13 @@ fn tell_reactions(
 /// All that an item of a sample asks for is sent.
 fn tell_item(engine: &Engine, item: &Asked, from: &Option<Seat>, services: &mut Services)
     requires sends { MaySend from.now services.old }
-    requires room { length services.old.outgoing + sizes (requests_at (slice_get engine.now.rules item.now.rule) item.now) ≤ 65536 }
-    ensures told { Tells from.now lc_name (requests_at (slice_get engine.now.rules item.now.rule) item.now) services.old services.new }
-    ensures size { length services.new.outgoing ≤ length services.old.outgoing + sizes (requests_at (slice_get engine.now.rules item.now.rule) item.now) }
+    requires room { length services.old.outgoing + sizes
+        (requests_at (slice_get engine.now.rules item.now.rule) item.now) ≤ 65536 }
+    ensures told { Tells from.now lc_name
+        (requests_at (slice_get engine.now.rules item.now.rule) item.now) services.old
+        services.new }
+    ensures size { length services.new.outgoing ≤ length services.old.outgoing + sizes
+        (requests_at (slice_get engine.now.rules item.now.rule) item.now) }
     ensures sends { MaySend from.now services.new }
 {
     telling_goes_on();
@@ -126,9 +137,12 @@ pub(crate) fn tell_all(
     services: &mut Services,
 )
     requires sends { MaySend from.now services.old }
-    requires room { length services.old.outgoing + sizes (requests_in engine.now.rules asked.now) ≤ 65536 }
-    ensures told { Tells from.now lc_name (requests_in engine.now.rules asked.now) services.old services.new }
-    ensures size { length services.new.outgoing ≤ length services.old.outgoing + sizes (requests_in engine.now.rules asked.now) }
+    requires room { length services.old.outgoing + sizes
+        (requests_in engine.now.rules asked.now) ≤ 65536 }
+    ensures told { Tells from.now lc_name (requests_in engine.now.rules asked.now) services.old
+        services.new }
+    ensures size { length services.new.outgoing ≤ length services.old.outgoing + sizes
+        (requests_in engine.now.rules asked.now) }
 {
     telling_goes_on();
     for item in asked {

@@ -128,7 +128,9 @@ fn begin(engine: &mut Engine, tables: &mut Tables, seat: Seat) -> bool
 pub(crate) fn take_seat(engine: &mut Engine, seat: Seat, services: &mut Services)
     requires { MayBeStarted seat lc_name (held_by services.old) }
     ensures rules { IsStarted seat lc_name (held_by services.old) (held_by services.new) }
-    ensures exact { IfSome (next_start on_board services.old.moment (LcState engine.old) (shared services.old)) (Leaves seat (LcState engine.new) services.old services.new) }
+    ensures exact { IfSome
+        (next_start on_board services.old.moment (LcState engine.old) (shared services.old))
+        (Leaves seat (LcState engine.new) services.old services.new) }
     ensures settled { IsSettled (LcState engine.new) seat (held_by services.new) }
 {
     seats_are_kept_by_the_rules();

@@ -41,7 +41,8 @@ fn number_of(kind: Kind) -> u16
 /// What is found of the image that the owner of a table is asked about.
 fn verdict_on(tables: &Tables, slot: Slot, kind: Kind) -> Verdict
     requires { IsTrue (is_some (table_at slot tables.now.places)) }
-    ensures { verdict_seen result ≡ option_map (fault_on_board kind) (waiting_at Asked (slot_at slot tables.now)) }
+    ensures { verdict_seen result ≡ option_map (fault_on_board kind)
+        (waiting_at Asked (slot_at slot tables.now)) }
 {
     match tables.pending(slot) {
         Some((Stage::Asked, image)) => match validate(kind, image) {

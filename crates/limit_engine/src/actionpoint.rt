@@ -61,7 +61,13 @@ impl Model for Point {
 
     ghost view = { λ p. record {
       state = p.state;
-      past = record { last = p.last; run = p.run; to_fail = p.to_fail; to_pass = p.to_pass; quiet = p.quiet };
+      past = record {
+        last = p.last;
+        run = p.run;
+        to_fail = p.to_fail;
+        to_pass = p.to_pass;
+        quiet = p.quiet;
+      };
     } };
 
     ghost inverse = { λ p. record {
@@ -109,7 +115,8 @@ impl Point {
     }
 
     pub(crate) fn set_unless_off(&mut self, state: ApMode)
-        ensures { self.new ≡ (if is_off self.old.state then self.old else record self.old { state = state }) }
+        ensures { self.new ≡
+            (if is_off self.old.state then self.old else record self.old { state = state }) }
     {
         if !self.is_permanently_off() {
             self.state = state;
@@ -147,8 +154,11 @@ impl Point {
     /// Counts a sample, and answers what it leads to.
     pub(crate) fn sample(&mut self, rule: &Entry, mode: LcMode, outcome: ApResult) -> Reactions
         // Whatever the rule's number and condition.
-        ensures point { (n : ℕ) (c : Condition) → self.new ≡ (point_with (rule_with rule.now c) n mode outcome self.old).0 }
-        ensures requests { (n : ℕ) (c : Condition) → requests_of (rule_with rule.now c) n result ≡ (point_with (rule_with rule.now c) n mode outcome self.old).1 }
+        ensures point { (n : ℕ) (c : Condition) →
+            self.new ≡ (point_with (rule_with rule.now c) n mode outcome self.old).0 }
+        ensures requests { (n : ℕ) (c : Condition) →
+            requests_of (rule_with rule.now c) n result ≡
+            (point_with (rule_with rule.now c) n mode outcome self.old).1 }
     {
         let before = self.last;
         self.count(rule.fails, outcome);
@@ -167,7 +177,9 @@ impl Point {
 
     /// The turn that is reported of the newest result, with the counts up to it.
     fn turn(&self, rule: &Entry, before: Option<ApResult>, outcome: ApResult) -> Option<Turn>
-        ensures { (n : ℕ) (c : Condition) → turn_requests n result ≡ next_turn_reports (rule_with rule.now c) n before outcome self.now.past }
+        ensures { (n : ℕ) (c : Condition) →
+            turn_requests n result ≡ next_turn_reports (rule_with rule.now c) n before outcome
+            self.now.past }
     {
         if was(ApResult::Pass, before)
             && is_same(ApResult::Fail, outcome)
@@ -206,8 +218,12 @@ impl Point {
     /// active. Of a rule that is passive already so many reports are made as it says.
     fn fail(&mut self, rule: &Entry, mode: LcMode) -> Option<Failure>
         ensures past { self.new.past ≡ self.old.past }
-        ensures state { (n : ℕ) (c : Condition) → self.new.state ≡ (next_on_failure (rule_with rule.now c) n mode self.old.state self.old.past).state }
-        ensures requests { (n : ℕ) (c : Condition) → failure_requests (rule_with rule.now c) n result ≡ (next_on_failure (rule_with rule.now c) n mode self.old.state self.old.past).requests }
+        ensures state { (n : ℕ) (c : Condition) →
+            self.new.state ≡
+            (next_on_failure (rule_with rule.now c) n mode self.old.state self.old.past).state }
+        ensures requests { (n : ℕ) (c : Condition) →
+            failure_requests (rule_with rule.now c) n result ≡
+            (next_on_failure (rule_with rule.now c) n mode self.old.state self.old.past).requests }
     {
         match (self.state, mode) {
             (ApMode::Active, LcMode::Active) => {

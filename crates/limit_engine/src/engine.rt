@@ -57,10 +57,13 @@ impl Model for Engine {
 
     ghost coded = { Prim.hlevel (codes, coded_condition) };
 
-    ghost view = { λ s. own_of s.mode s.watchpoints s.watch.items s.entries.items s.points.items s.words.items s.steps s.probes };
+    ghost view = { λ s. own_of s.mode s.watchpoints s.watch.items s.entries.items s.points.items
+        s.words.items s.steps s.probes };
 
-    ghost invariant = { λ s. AreTables s.watchpoints s.watch.items s.entries.items s.points.items s.words.items
-        × HasRoom (vec_capacity s.watch) (vec_capacity s.entries) (vec_capacity s.points) (vec_capacity s.words)
+    ghost invariant = { λ s. AreTables s.watchpoints s.watch.items s.entries.items s.points.items
+        s.words.items
+        × HasRoom (vec_capacity s.watch) (vec_capacity s.entries) (vec_capacity s.points)
+        (vec_capacity s.words)
         × IsFewEffort s.steps s.probes };
 }
 
@@ -119,7 +122,8 @@ impl Engine {
         requires wdt { wdt.now.kind ≡ Wdt }
         requires adt { adt.now.kind ≡ Adt }
         requires matching { IsMatch wdt.now.bytes adt.now.bytes }
-        ensures { self.new ≡ with_tables (spelled_terms wdt.now.bytes) (spelled_rules layouts wdt.now.bytes adt.now.bytes) self.old }
+        ensures { self.new ≡ with_tables (spelled_terms wdt.now.bytes)
+            (spelled_rules layouts wdt.now.bytes adt.now.bytes) self.old }
     {
         self.watchpoints.set(wdt);
         layout::lay_out_results(self.watchpoints.terms().len(), &mut self.watch);
@@ -168,10 +172,14 @@ impl Engine {
     /// What the event of the rule with this number says, and the rule's sequence.
     pub fn rule_event(&self, index: usize) -> RuleEvent<'_>
         requires { index < length self.now.rules }
-        ensures sequence { (rule : Actionpoint) → slice_get self.now.rules index ≡ Some rule → result.sequence ≡ rule.sequence }
-        ensures kind { (rule : Actionpoint) → slice_get self.now.rules index ≡ Some rule → result.kind ≡ rule.event_kind }
-        ensures id { (rule : Actionpoint) → slice_get self.now.rules index ≡ Some rule → result.id ≡ rule.event_id }
-        ensures text { (rule : Actionpoint) → slice_get self.now.rules index ≡ Some rule → result.text.now ≡ rule.text }
+        ensures sequence { (rule : Actionpoint) → slice_get self.now.rules index ≡ Some rule →
+            result.sequence ≡ rule.sequence }
+        ensures kind { (rule : Actionpoint) → slice_get self.now.rules index ≡ Some rule →
+            result.kind ≡ rule.event_kind }
+        ensures id { (rule : Actionpoint) → slice_get self.now.rules index ≡ Some rule →
+            result.id ≡ rule.event_id }
+        ensures text { (rule : Actionpoint) → slice_get self.now.rules index ≡ Some rule →
+            result.text.now ≡ rule.text }
         ensures short { length result.text.now ≤ 31 }
     {
         let entry = &self.entries[index];
@@ -186,8 +194,10 @@ impl Engine {
     /// How the rule with this number stands.
     pub fn standing(&self, index: usize) -> Standing
         requires { index < length self.now.points }
-        ensures state { option_map (λ point. point.state) (slice_get self.now.points index) ≡ Some result.state }
-        ensures last { option_map (λ point. point.past.last) (slice_get self.now.points index) ≡ Some result.last }
+        ensures state { option_map (λ point. point.state) (slice_get self.now.points index) ≡
+            Some result.state }
+        ensures last { option_map (λ point. point.past.last) (slice_get self.now.points index) ≡
+            Some result.last }
     {
         let point = &self.points[index];
         Standing {
@@ -219,7 +229,8 @@ impl Engine {
         requires none { asked.old.items ≡ [] }
         requires room { TABLE_ENTRIES ≤ vec_capacity asked.old }
         ensures after { self.new ≡ engine.after_sample request.now self.old }
-        ensures asked { requests_in self.old.rules asked.new.items ≡ (points_sampled request.now self.old).1 }
+        ensures asked { requests_in self.old.rules asked.new.items ≡
+            (points_sampled request.now self.old).1 }
         ensures order { AreInOrder 0 (length self.old.rules) asked.new.items }
         ensures capacity { vec_capacity asked.new ≡ vec_capacity asked.old }
     {
@@ -244,7 +255,11 @@ impl Engine {
     /// Sets the mode of the Limit Checker: active (1), passive (2) or disabled (3).
     pub fn set_mode(&mut self, number: u16) -> Result<(), StateRefusal>
         ensures answer { answered result ≡ outcome (found (mode_numbered number) 154) }
-        ensures mode { self.new ≡ record self.old { mode = unless_refused (found (mode_numbered number) 154) self.old.mode } }
+        ensures mode { self.new ≡
+            record self.old {
+              mode = unless_refused (found (mode_numbered number) 154)
+                  self.old.mode;
+            } }
     {
         let Some(mode) = states::mode_numbered(number) else {
             return Err(StateRefusal::NoState);
@@ -257,15 +272,24 @@ impl Engine {
     /// was counted stays. A rule that is off for good stays so; where it is named itself, that is refused.
     pub fn set_state(&mut self, index: u16, number: u16) -> Result<(), StateRefusal>
         ensures answer { answered result ≡ outcome (states_set index number self.old.points) }
-        ensures points { self.new ≡ record self.old { points = unless_refused (states_set index number self.old.points) self.old.points } }
+        ensures points { self.new ≡
+            record self.old {
+              points = unless_refused (states_set index number self.old.points)
+                  self.old.points;
+            } }
     {
         states::set_state(self.points.as_mut_slice(), index, number)
     }
 
     /// Turns the rule with this number off for good. It has to be disabled.
     pub fn turn_permanently_off(&mut self, index: u16) -> Result<(), StateRefusal>
-        ensures answer { answered result ≡ outcome (one_set index turned_permanently_off self.old.points) }
-        ensures points { self.new ≡ record self.old { points = unless_refused (one_set index turned_permanently_off self.old.points) self.old.points } }
+        ensures answer { answered result ≡
+            outcome (one_set index turned_permanently_off self.old.points) }
+        ensures points { self.new ≡
+            record self.old {
+              points = unless_refused
+                  (one_set index turned_permanently_off self.old.points) self.old.points;
+            } }
     {
         states::turn_permanently_off(self.points.as_mut_slice(), index)
     }

@@ -27,11 +27,17 @@ fn sample_rule(
     point: &mut Point,
 ) -> Reactions
     requires few { length watch.now ≤ TABLE_ENTRIES }
-    requires runnable { (terms : List Term) × (length terms ≡ length watch.now) × IsRunnable terms words.now entry.now }
-    ensures point { (terms : List Term) (n : ℕ) → length terms ≡ length watch.now → AreShared terms watch.now
-        → point.new ≡ (sampled_point by_counts terms mode watch.now n (rule_in terms words.now entry.now) point.old).0 }
-    ensures requests { (terms : List Term) (n : ℕ) → length terms ≡ length watch.now → AreShared terms watch.now
-        → requests_of (rule_in terms words.now entry.now) n result ≡ (sampled_point by_counts terms mode watch.now n (rule_in terms words.now entry.now) point.old).1 }
+    requires runnable { (terms : List Term) × (length terms ≡ length watch.now) ×
+        IsRunnable terms words.now entry.now }
+    ensures point { (terms : List Term) (n : ℕ) → length terms ≡ length watch.now →
+        AreShared terms watch.now
+        → point.new ≡ (sampled_point by_counts terms mode watch.now n
+        (rule_in terms words.now entry.now) point.old).0 }
+    ensures requests { (terms : List Term) (n : ℕ) → length terms ≡ length watch.now →
+        AreShared terms watch.now
+        → requests_of (rule_in terms words.now entry.now) n result ≡
+        (sampled_point by_counts terms mode watch.now n (rule_in terms words.now entry.now)
+        point.old).1 }
 {
     let truth = equation::evaluate(&words[entry.start..entry.end], watch);
     point.sample(entry, mode, result_of_truth(truth))
@@ -40,8 +46,10 @@ fn sample_rule(
 /// Notes what a rule leads to, if it leads to something.
 fn note(asked: &mut Vec<Asked>, rule: u16, reactions: Reactions)
     requires { vec_len asked.old < vec_capacity asked.old }
-    ensures requests { (rules : List Actionpoint) (this : Actionpoint) → slice_get rules rule ≡ Some this
-        → requests_in rules asked.new.items ≡ requests_in rules asked.old.items ++ requests_of this rule reactions }
+    ensures requests { (rules : List Actionpoint) (this : Actionpoint) →
+        slice_get rules rule ≡ Some this
+        → requests_in rules asked.new.items ≡ requests_in rules asked.old.items ++ requests_of this
+        rule reactions }
     ensures order { AreInOrder 0 rule asked.old.items → AreInOrder 0 (rule + 1) asked.new.items }
     ensures len { vec_len asked.new ≤ vec_len asked.old + 1 }
     ensures capacity { vec_capacity asked.new ≡ vec_capacity asked.old }
@@ -63,16 +71,22 @@ pub(crate) fn sample_rules(
     points: &mut [Point],
     asked: &mut Vec<Asked>,
 ) -> usize
-    requires tables { (terms : List Term) × AreTables terms watch.now entries.now points.old words.now }
+    requires tables { (terms : List Term) ×
+        AreTables terms watch.now entries.now points.old words.now }
     requires none { asked.old.items ≡ [] }
     requires room { TABLE_ENTRIES ≤ vec_capacity asked.old }
-    ensures points { (terms : List Term) → AreTables terms watch.now entries.now points.old words.now
-        → points.new ≡ (sampled_points by_counts request.now terms mode watch.now 0 (map (rule_in terms words.now) entries.now) points.old).0 }
-    ensures requests { (terms : List Term) → AreTables terms watch.now entries.now points.old words.now
+    ensures points { (terms : List Term) →
+        AreTables terms watch.now entries.now points.old words.now
+        → points.new ≡ (sampled_points by_counts request.now terms mode watch.now 0
+        (map (rule_in terms words.now) entries.now) points.old).0 }
+    ensures requests { (terms : List Term) →
+        AreTables terms watch.now entries.now points.old words.now
         → requests_in (map (rule_in terms words.now) entries.now) asked.new.items
-        ≡ (sampled_points by_counts request.now terms mode watch.now 0 (map (rule_in terms words.now) entries.now) points.old).1 }
+        ≡ (sampled_points by_counts request.now terms mode watch.now 0
+        (map (rule_in terms words.now) entries.now) points.old).1 }
     ensures steps { (terms : List Term) → AreTables terms watch.now entries.now points.old words.now
-        → result ≡ sampled_words request.now 0 (map (rule_in terms words.now) entries.now) points.old }
+        → result ≡ sampled_words request.now 0 (map (rule_in terms words.now) entries.now)
+        points.old }
     ensures few { result ≤ 32 * length entries.now }
     ensures order { AreInOrder 0 (length entries.now) asked.new.items }
     ensures capacity { vec_capacity asked.new ≡ vec_capacity asked.old }

@@ -72,7 +72,8 @@ fn set_all(points: &mut [Point], state: ApMode)
 /// The rule with this number takes the state with this number, unless it is off for good.
 fn set_one(points: &mut [Point], index: u16, number: u16) -> Result<(), StateRefusal>
     ensures answer { answered result ≡ outcome (one_set index (settable number) points.old) }
-    ensures points { points.new ≡ unless_refused (one_set index (settable number) points.old) points.old }
+    ensures points { points.new ≡ unless_refused (one_set index (settable number) points.old)
+        points.old }
 {
     let index = usize::from(index);
     if points.len() <= index {
@@ -106,7 +107,8 @@ pub(crate) fn set_state(points: &mut [Point], index: u16, number: u16) -> Result
 /// The rule with this number, which is disabled, is off for good from now on.
 pub(crate) fn turn_permanently_off(points: &mut [Point], index: u16) -> Result<(), StateRefusal>
     ensures answer { answered result ≡ outcome (one_set index turned_permanently_off points.old) }
-    ensures points { points.new ≡ unless_refused (one_set index turned_permanently_off points.old) points.old }
+    ensures points { points.new ≡ unless_refused (one_set index turned_permanently_off points.old)
+        points.old }
 {
     let index = usize::from(index);
     if points.len() <= index {

@@ -83,7 +83,8 @@ fn deliver_to(seat: Seat, slot: u16, places: &mut Vec<Place>, full: &mut SeatSet
     requires open { is_some (place_at places.old.items seat) ≡ true }
     requires room { is_long (place_at places.old.items seat) ≡ false }
     requires full { full.old ≡ map is_long places.old.items }
-    ensures places { places.new.items ≡ slice_set places.old.items seat (option_map (with_slot slot) (place_at places.old.items seat)) }
+    ensures places { places.new.items ≡ slice_set places.old.items seat
+        (option_map (with_slot slot) (place_at places.old.items seat)) }
     ensures full { full.new ≡ map is_long places.new.items }
 {
     if places[seat.index()].push(slot) {
@@ -109,7 +110,8 @@ fn deliver_to_each(
     requires fits { length packet.now ≤ 2048 }
     ensures within { result < length pool.old }
     ensures free { (slot_at pool.old result).readers ≡ 0 }
-    ensures pool { pool.new ≡ slice_set pool.old result record { packet = packet.now; readers = count_by is_in hearers } }
+    ensures pool { pool.new ≡
+        slice_set pool.old result record { packet = packet.now; readers = count_by is_in hearers } }
     ensures places { places.new.items ≡ delivered result hearers places.old.items }
     ensures full { full.new ≡ map is_long places.new.items }
 {
@@ -140,7 +142,8 @@ fn deliver(
     requires fits { length packet.now ≤ 2048 }
     ensures within { result < length pool.old }
     ensures free { (slot_at pool.old result).readers ≡ 0 }
-    ensures pool { pool.new ≡ slice_set pool.old result record { packet = packet.now; readers = count_by is_in hearers } }
+    ensures pool { pool.new ≡
+        slice_set pool.old result record { packet = packet.now; readers = count_by is_in hearers } }
     ensures places { places.new.items ≡ delivered result hearers places.old.items }
     ensures ready { ready.new ≡ map has_slots places.new.items }
     ensures full { full.new ≡ map is_long places.new.items }
@@ -167,7 +170,8 @@ fn take_oldest(
     requires ready { ready.old ≡ map has_slots places.old.items }
     requires full { full.old ≡ map is_long places.old.items }
     ensures slot { result ≡ first_slot (place_at places.old.items seat) }
-    ensures places { places.new.items ≡ slice_set places.old.items seat (option_map behind_first (place_at places.old.items seat)) }
+    ensures places { places.new.items ≡ slice_set places.old.items seat
+        (option_map behind_first (place_at places.old.items seat)) }
     ensures ready { ready.new ≡ map has_slots places.new.items }
     ensures full { full.new ≡ map is_long places.new.items }
     ensures below { seat < 8 }

@@ -28,7 +28,8 @@ fn parity(first: u8, bytes: &[u8]) -> u8
 fn write(front: &[u8], payload: &[u8], out: &mut [u8]) -> usize
     requires { length front.now + length payload.now ≤ length out.old }
     ensures size { result ≡ length front.now + length payload.now }
-    ensures bytes { out.new ≡ front.now ++ payload.now ++ drop (length front.now + length payload.now) out.old }
+    ensures bytes { out.new ≡ front.now ++ payload.now ++
+        drop (length front.now + length payload.now) out.old }
 {
     let size = front.len() + payload.len();
     out[..front.len()].copy_from_slice(front);
@@ -50,7 +51,8 @@ pub fn build_command(
     requires size { 8 + length payload.now ≤ 2048 }
     requires room { 8 + length payload.now ≤ length out.old }
     ensures size { result ≡ 8 + length payload.now }
-    ensures bytes { out.new ≡ command message_id sequence_count function_code payload.now ++ drop (8 + length payload.now) out.old }
+    ensures bytes { out.new ≡ command message_id sequence_count function_code payload.now ++
+        drop (8 + length payload.now) out.old }
 {
     let header = primary_header(message_id, sequence_count, 8 + payload.len());
     let checksum = 0xFF ^ parity(parity(0, &header) ^ function_code, payload);
@@ -72,7 +74,8 @@ pub fn build_telemetry(
     requires size { 12 + length payload.now ≤ 2048 }
     requires room { 12 + length payload.now ≤ length out.old }
     ensures size { result ≡ 12 + length payload.now }
-    ensures bytes { out.new ≡ telemetry message_id sequence_count moment payload.now ++ drop (12 + length payload.now) out.old }
+    ensures bytes { out.new ≡ telemetry message_id sequence_count moment payload.now ++
+        drop (12 + length payload.now) out.old }
 {
     let [a, b, c, d, e, f] = primary_header(message_id, sequence_count, 12 + payload.len());
     let [s, t, u, v] = moment.seconds.to_be_bytes();

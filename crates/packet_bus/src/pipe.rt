@@ -29,7 +29,8 @@ impl Model for Place {
 
     ghost view = { λ p. line_if p.is_open p.subscriptions.items p.waiting.items };
 
-    ghost invariant = { λ p. IsPlace p.is_open p.subscriptions.items p.waiting (vec_capacity p.subscriptions) };
+    ghost invariant = { λ p. IsPlace p.is_open p.subscriptions.items p.waiting
+        (vec_capacity p.subscriptions) };
 }
 
 impl Place {

@@ -71,7 +71,8 @@ impl Slot {
     /// One pipe less waits for the packet. Answers whether none does.
     fn release(&mut self) -> bool
         requires { 0 < self.old.readers }
-        ensures after { self.new ≡ record { packet = self.old.packet; readers = self.old.readers - 1 } }
+        ensures after { self.new ≡
+            record { packet = self.old.packet; readers = self.old.readers - 1 } }
         ensures last { result ≡ (self.new.readers == 0) }
     {
         self.readers -= 1;
@@ -124,7 +125,9 @@ impl Pool {
         requires read { 0 < readers }
         ensures within { result < length self.old }
         ensures free { (slot_at self.old result).readers ≡ 0 }
-        ensures after { self.new ≡ slice_set self.old result record { packet = (slot_at self.old result).packet; readers = readers } }
+        ensures after { self.new ≡
+            slice_set self.old result
+            record { packet = (slot_at self.old result).packet; readers = readers } }
     {
         let number = self.free.pop().unwrap();
         self.slots[number as usize].reserve(readers);
@@ -135,7 +138,9 @@ impl Pool {
     pub fn put(&mut self, number: u16, packet: &[u8])
         requires within { number < length self.old }
         requires fits { length packet.now ≤ 2048 }
-        ensures { self.new ≡ slice_set self.old number record { packet = packet.now; readers = (slot_at self.old number).readers } }
+        ensures { self.new ≡
+            slice_set self.old number
+            record { packet = packet.now; readers = (slot_at self.old number).readers } }
     {
         self.slots[number as usize].put(packet);
     }
@@ -157,7 +162,8 @@ impl Pool {
         requires waiting { 0 < (slot_at self.old number).readers }
         ensures after { self.new ≡ slice_set self.old number (released (slot_at self.old number)) }
         ensures size { result ≡ length (slot_at self.old number).packet }
-        ensures buffer { buffer.new ≡ (slot_at self.old number).packet ++ drop (length (slot_at self.old number).packet) buffer.old }
+        ensures buffer { buffer.new ≡ (slot_at self.old number).packet ++
+            drop (length (slot_at self.old number).packet) buffer.old }
     {
         let slot = &mut self.slots[number as usize];
         if slot.release() {

@@ -63,7 +63,8 @@ impl SeatSet {
 
     /// The seat, where there is one alone.
     pub fn only(&self) -> Option<Seat>
-        ensures { result ≡ (if count_by is_in self.now == 1 then position_from is_in 0 self.now else None) }
+        ensures { result ≡
+            (if count_by is_in self.now == 1 then position_from is_in 0 self.now else None) }
     {
         if self.count() == 1 {
             self.least()

@@ -39,7 +39,8 @@ fn lower_rules(alloc: Global, rules: RuleSet) -> Result<Lowered, CompileError>
     requires { AllByRecursion (λ (rule : NamedRule). length rule.action.text < 32) rules.rules }
     ensures rules { IfOk result (λ lowered. lowered.rules.rules ≡ rules.rules) }
     ensures lowered { IfOk result IsLowered }
-    ensures refused { IfErr result (Refuses (λ refusal. limit_refusal limits rules.rules ≡ Some refusal)) }
+    ensures refused { IfErr result
+        (Refuses (λ refusal. limit_refusal limits rules.rules ≡ Some refusal)) }
     ensures tables { IfErr result IsOfTables }
 {
     let shared = share(alloc, &rules)?;
@@ -74,8 +75,10 @@ pub fn lower(alloc: Global, text: &[u8]) -> Result<Lowered, CompileError>
     ensures lowered { IfOk result IsLowered }
     ensures refused { IfErr result (Refuses (IsRefused limits text.now)) }
     ensures named { IfErr result (NamesTheNumberIn text.now) }
-    ensures accepts { (rules : List NamedRule) → Compiles limits text.now rules → MatchResult result (λ lowered. lowered.rules.rules ≡ rules) (λ error. error ≡ Memory) }
-    ensures refuses { (refusal : TextRefusal) → IsRefused limits text.now refusal → MatchResult result (λ _. ⊥) (Refuses (λ found. found ≡ refusal)) }
+    ensures accepts { (rules : List NamedRule) → Compiles limits text.now rules →
+        MatchResult result (λ lowered. lowered.rules.rules ≡ rules) (λ error. error ≡ Memory) }
+    ensures refuses { (refusal : TextRefusal) → IsRefused limits text.now refusal →
+        MatchResult result (λ _. ⊥) (Refuses (λ found. found ≡ refusal)) }
 {
     reading::reads_in_one_way();
     reading::has_at_most_one_verdict();

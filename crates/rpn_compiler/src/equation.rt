@@ -24,7 +24,8 @@ struct Pushed<'n> {
 /// How many operands wait in the words of two operands, of which the one of greater need comes first.
 fn need_of_both(first: usize, second: usize) -> usize
     requires { first < 2 ^ 63 }
-    ensures { result ≡ (if nat_lt first second then max second (first + 1) else max first (second + 1)) }
+    ensures { result ≡
+        (if nat_lt first second then max second (first + 1) else max first (second + 1)) }
 {
     let lighter = first.min(second);
     first.max(second).max(lighter + 1)
@@ -35,7 +36,8 @@ fn need_of_both(first: usize, second: usize) -> usize
 fn put_heavier_first(words: &mut [u16], start: usize, middle: usize, first: usize, second: usize)
     requires order { start ≤ middle }
     requires within { middle ≤ length words.old }
-    ensures { (before a b : List ℕ) → words.old ≡ before ++ a ++ b → length before ≡ start → length before + length a ≡ middle
+    ensures { (before a b : List ℕ) → words.old ≡ before ++ a ++ b → length before ≡ start →
+        length before + length a ≡ middle
         → words.new ≡ before ++ (if nat_lt first second then b ++ a else a ++ b) }
 {
     if first < second {
@@ -52,11 +54,19 @@ fn push_operands<'n>(
     numbers: &'n [u16],
     words: &mut Vec<u16>,
 ) -> Result<Pushed<'n>, AllocError>
-    requires { length (mentions (condition_of first.now)) + length (mentions (condition_of second.now)) ≤ length numbers.now }
+    requires { length (mentions (condition_of first.now)) + length
+        (mentions (condition_of second.now)) ≤ length numbers.now }
     ensures words { OnOk result (words.new.items ≡ words.old.items
-        ++ (operands_by_numbers operator (condition_of first.now) (condition_of second.now) numbers.now).0.words) }
-    ensures left { IfOk result (λ pushed. pushed.left.now ≡ (operands_by_numbers operator (condition_of first.now) (condition_of second.now) numbers.now).1) }
-    ensures need { IfOk result (λ pushed. pushed.need ≡ (operands_by_numbers operator (condition_of first.now) (condition_of second.now) numbers.now).0.need) }
+        ++ (operands_by_numbers operator (condition_of first.now) (condition_of second.now)
+        numbers.now).0.words) }
+    ensures left { IfOk result
+        (λ pushed. pushed.left.now ≡
+        (operands_by_numbers operator (condition_of first.now) (condition_of second.now)
+        numbers.now).1) }
+    ensures need { IfOk result
+        (λ pushed. pushed.need ≡
+        (operands_by_numbers operator (condition_of first.now) (condition_of second.now)
+        numbers.now).0.need) }
 {
     let start = words.len();
     let first = push_words(first, numbers, words)?;
@@ -80,9 +90,13 @@ fn push_words<'n>(
     words: &mut Vec<u16>,
 ) -> Result<Pushed<'n>, AllocError>
     requires { length (mentions (condition_of cond.now)) ≤ length numbers.now }
-    ensures words { OnOk result (words.new.items ≡ words.old.items ++ (by_numbers (condition_of cond.now) numbers.now).0.words) }
-    ensures left { IfOk result (λ pushed. pushed.left.now ≡ (by_numbers (condition_of cond.now) numbers.now).1) }
-    ensures need { IfOk result (λ pushed. pushed.need ≡ (by_numbers (condition_of cond.now) numbers.now).0.need) }
+    ensures words { OnOk result
+        (words.new.items ≡ words.old.items ++
+        (by_numbers (condition_of cond.now) numbers.now).0.words) }
+    ensures left { IfOk result
+        (λ pushed. pushed.left.now ≡ (by_numbers (condition_of cond.now) numbers.now).1) }
+    ensures need { IfOk result
+        (λ pushed. pushed.need ≡ (by_numbers (condition_of cond.now) numbers.now).0.need) }
 {
     match cond {
         Cond::Watch(_) => {
@@ -106,7 +120,8 @@ fn push_words<'n>(
 /// The words of a rule's condition, whose mentions have these numbers.
 fn words_of_rule(alloc: Global, rule: &Rule, numbers: &[u16]) -> Result<Vec<u16>, AllocError>
     requires { length (mentions (condition_of rule.now.cond)) ≤ length numbers.now }
-    ensures { IfOk result (λ words. words.items ≡ (by_numbers (condition_of rule.now.cond) numbers.now).0.words) }
+    ensures { IfOk result
+        (λ words. words.items ≡ (by_numbers (condition_of rule.now.cond) numbers.now).0.words) }
 {
     let mut words = Vec::with_capacity(alloc, EQUATION_WORDS)?;
     push_words(&rule.cond, numbers, &mut words)?;
@@ -119,8 +134,11 @@ pub fn words_of_rules(
     rules: &[Rule],
     numbers: &[Vec<u16>],
 ) -> Result<Vec<Vec<u16>>, AllocError>
-    requires { words_of numbers.now ≡ map (mention_numbers (terms_of (rules_of rules.now))) (rules_of rules.now) }
-    ensures { IfOk result (λ found. words_of found.items ≡ map (words_in arranged (terms_of (rules_of rules.now))) (rules_of rules.now)) }
+    requires { words_of numbers.now ≡ map (mention_numbers (terms_of (rules_of rules.now)))
+        (rules_of rules.now) }
+    ensures { IfOk result
+        (λ found. words_of found.items ≡ map (words_in arranged (terms_of (rules_of rules.now)))
+        (rules_of rules.now)) }
 {
     let mut found = Vec::with_capacity(alloc, rules.len())?;
     for (number, rule) in rules.iter().enumerate() {

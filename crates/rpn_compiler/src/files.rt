@@ -45,7 +45,9 @@ pub struct TablePair {
 fn wdt_file(alloc: Global, image: &WdtImage) -> Result<Vec<u8>, CompileError>
     requires few { length image.now.watchpoints.items ≤ table_entries }
     requires fit { AllByRecursion FitsWatchpoint image.now.watchpoints.items }
-    ensures file { IfOk result (λ file. file.items ≡ file_bytes (wrapped kinds.Wdt (wdt_image image.now.hash image.now.watchpoints.items))) }
+    ensures file { IfOk result
+        (λ file. file.items ≡
+        file_bytes (wrapped kinds.Wdt (wdt_image image.now.hash image.now.watchpoints.items))) }
     ensures refused { IfErr result (λ error. error ≡ Memory) }
 {
     let bytes = encode_wdt(alloc, image).map_err(|_| CompileError::Memory)?;
@@ -55,9 +57,11 @@ fn wdt_file(alloc: Global, image: &WdtImage) -> Result<Vec<u8>, CompileError>
 /// The file of a table of actionpoints. The writers refuse for want of memory alone.
 fn adt_file(alloc: Global, image: &AdtImage) -> Result<Vec<u8>, CompileError>
     requires few { length image.now.actionpoints.items ≤ table_entries }
-    requires fit { AllByRecursion (FitsEntry (layout_of_version image.now.version)) image.now.actionpoints.items }
+    requires fit { AllByRecursion (FitsEntry (layout_of_version image.now.version))
+        image.now.actionpoints.items }
     ensures file { IfOk result (λ file. file.items ≡ file_bytes (wrapped kinds.Adt
-        (adt_image (layout_of_version image.now.version) image.now.hash image.now.watchpoint_count image.now.actionpoints.items))) }
+        (adt_image (layout_of_version image.now.version) image.now.hash image.now.watchpoint_count
+        image.now.actionpoints.items))) }
     ensures refused { IfErr result (λ error. error ≡ Memory) }
 {
     let bytes = encode_adt(alloc, image).map_err(|_| CompileError::Memory)?;
@@ -108,12 +112,15 @@ fn files(alloc: Global, text: &[u8], lowered: Lowered) -> Result<TablePair, Comp
 /// its rules, and last the words of each rule. `Memory` comes only where the files, or what is made on the way to them,
 /// find no room.
 pub fn compile(alloc: Global, text: &[u8]) -> Result<TablePair, CompileError>
-    ensures compiles { IfOk result (λ pair. (rules : List NamedRule) × Compiles limits text.now rules × AreTables text.now rules pair) }
+    ensures compiles { IfOk result (λ pair. (rules : List NamedRule) ×
+        Compiles limits text.now rules × AreTables text.now rules pair) }
     ensures refused { IfErr result (Refuses (IsRefused limits text.now)) }
     // Of a number out of its range, which of the text's numbers that is.
     ensures named { IfErr result (NamesTheNumberIn text.now) }
-    ensures accepts { (rules : List NamedRule) → Compiles limits text.now rules → MatchResult result (AreTables text.now rules) (λ error. error ≡ Memory) }
-    ensures refuses { (refusal : TextRefusal) → IsRefused limits text.now refusal → MatchResult result (λ _. ⊥) (Refuses (λ found. found ≡ refusal)) }
+    ensures accepts { (rules : List NamedRule) → Compiles limits text.now rules →
+        MatchResult result (AreTables text.now rules) (λ error. error ≡ Memory) }
+    ensures refuses { (refusal : TextRefusal) → IsRefused limits text.now refusal →
+        MatchResult result (λ _. ⊥) (Refuses (λ found. found ≡ refusal)) }
 {
     let lowered = lower(alloc, text)?;
     files(alloc, text, lowered)

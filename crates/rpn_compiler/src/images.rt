@@ -36,8 +36,10 @@ pub fn entries(
     words: Vec<Vec<u16>>,
 ) -> Result<Vec<TableEntry>, AllocError>
     requires { length words.items ≡ length rules.now }
-    ensures { (terms : List Term) → words_of words.items ≡ map (words_in arranged terms) (rules_of rules.now)
-        → IfOk result (λ entries. entries.items ≡ map (entry_over arranged terms) (rules_of rules.now)) }
+    ensures { (terms : List Term) →
+        words_of words.items ≡ map (words_in arranged terms) (rules_of rules.now)
+        → IfOk result (λ entries. entries.items ≡ map (entry_over arranged terms)
+        (rules_of rules.now)) }
 {
     let mut entries = Vec::with_capacity(alloc, rules.len())?;
     for (number, words) in words.into_iter().enumerate() {

@@ -28,7 +28,8 @@ fn size(cond: &Cond) -> usize
 
 /// Whether the equation of the rule with this number is short enough. However its operands stand, few wait at once.
 fn judge_rule(number: usize, rule: &Rule) -> Result<(), CompileError>
-    ensures judged { MatchResult result (λ _. refusal_of_rule number (rule_of rule.now) ≡ None) (IsRefusal (refusal_of_rule number (rule_of rule.now))) }
+    ensures judged { MatchResult result (λ _. refusal_of_rule number (rule_of rule.now) ≡ None)
+        (IsRefusal (refusal_of_rule number (rule_of rule.now))) }
     ensures tables { IfErr result IsOfTables }
 {
     if size(&rule.cond) >= EQUATION_WORDS {
@@ -40,7 +41,8 @@ fn judge_rule(number: usize, rule: &Rule) -> Result<(), CompileError>
 /// Whether rules over at most 176 watchpoints are few enough, and then whether each equation is short enough.
 pub fn judge(rules: &[Rule]) -> Result<(), CompileError>
     requires { length (terms_of (rules_of rules.now)) ≤ table_entries }
-    ensures judged { MatchResult result (λ _. limit_refusal limits (rules_of rules.now) ≡ None) (IsRefusal (limit_refusal limits (rules_of rules.now))) }
+    ensures judged { MatchResult result (λ _. limit_refusal limits (rules_of rules.now) ≡ None)
+        (IsRefusal (limit_refusal limits (rules_of rules.now))) }
     ensures tables { IfErr result IsOfTables }
 {
     if rules.len() > TABLE_ENTRIES {

@@ -56,7 +56,8 @@ fn event_kind(word: &[u8]) -> Option<EventKind>
 
 /// A word that begins an item.
 fn item_word(word: &[u8]) -> Option<TokenKind>
-    ensures { MatchOption result (IsFalse (list_any (bytes_eq word.now) item_words)) (λ kind. IsKind kind word.now) }
+    ensures { MatchOption result (IsFalse (list_any (bytes_eq word.now) item_words))
+        (λ kind. IsKind kind word.now) }
 {
     match word {
         b"packet" => Some(TokenKind::Packet),
@@ -68,7 +69,8 @@ fn item_word(word: &[u8]) -> Option<TokenKind>
 
 /// A word of a packet or a field.
 fn field_word(word: &[u8]) -> Option<TokenKind>
-    ensures { MatchOption result (IsFalse (list_any (bytes_eq word.now) field_words)) (λ kind. IsKind kind word.now) }
+    ensures { MatchOption result (IsFalse (list_any (bytes_eq word.now) field_words))
+        (λ kind. IsKind kind word.now) }
 {
     match word {
         b"mid" => Some(TokenKind::Mid),
@@ -82,7 +84,8 @@ fn field_word(word: &[u8]) -> Option<TokenKind>
 
 /// A word of a rule.
 fn rule_word(word: &[u8]) -> Option<TokenKind>
-    ensures { MatchOption result (IsFalse (list_any (bytes_eq word.now) rule_words)) (λ kind. IsKind kind word.now) }
+    ensures { MatchOption result (IsFalse (list_any (bytes_eq word.now) rule_words))
+        (λ kind. IsKind kind word.now) }
 {
     match word {
         b"fails" => Some(TokenKind::Fails),
@@ -96,7 +99,8 @@ fn rule_word(word: &[u8]) -> Option<TokenKind>
 
 /// An operator of a condition.
 fn operator_word(word: &[u8]) -> Option<TokenKind>
-    ensures { MatchOption result (IsFalse (list_any (bytes_eq word.now) operator_words)) (λ kind. IsKind kind word.now) }
+    ensures { MatchOption result (IsFalse (list_any (bytes_eq word.now) operator_words))
+        (λ kind. IsKind kind word.now) }
 {
     match word {
         b"or" => Some(TokenKind::Or),
@@ -109,7 +113,8 @@ fn operator_word(word: &[u8]) -> Option<TokenKind>
 
 /// The kind of a reserved word that stands for no value.
 fn plain_word(word: &[u8]) -> Option<TokenKind>
-    ensures { MatchOption result (IsFalse (list_any (bytes_eq word.now) other_words)) (λ kind. IsKind kind word.now) }
+    ensures { MatchOption result (IsFalse (list_any (bytes_eq word.now) other_words))
+        (λ kind. IsKind kind word.now) }
 {
     if let Some(kind) = item_word(word) {
         Some(kind)

@@ -49,8 +49,10 @@ pub fn lex<'a>(alloc: Global, text: &'a [u8]) -> Result<Vec<Token<'a>>, LexError
     ensures splits { IfOk result (λ found. Splits text.now (tokens_of found.items)) }
     ensures kinds { IfOk result (λ found. All HasItsKind found.items) }
     ensures refused { IfErr result (λ error. IsFaultUnlessMemory text.now error) }
-    ensures accepts { (tokens : List model.Token) → Splits text.now tokens → MatchResult result (λ found. tokens_of found.items ≡ tokens) (λ error. error ≡ Memory) }
-    ensures refuses { (fault : LexError) → IsFault text.now fault → MatchResult result (λ found. ⊥) (λ error. IsUnlessMemory fault error) }
+    ensures accepts { (tokens : List model.Token) → Splits text.now tokens →
+        MatchResult result (λ found. tokens_of found.items ≡ tokens) (λ error. error ≡ Memory) }
+    ensures refuses { (fault : LexError) → IsFault text.now fault →
+        MatchResult result (λ found. ⊥) (λ error. IsUnlessMemory fault error) }
 {
     reading::splits_in_one_way();
     has_at_most_one_fault();

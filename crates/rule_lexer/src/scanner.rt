@@ -62,7 +62,9 @@ impl<'a> Scanner<'a> {
     /// behind the blanks and comments.
     pub fn next_token(&mut self) -> Result<Option<Token<'a>>, LexError>
         requires { self.old.at + length self.old.rest.now ≤ longest_text }
-        ensures { MatchResult result (IsStep self.old.at self.old.rest.now self.new.at self.new.rest.now) (IsFaultBehindGap self.old.at self.old.rest.now) }
+        ensures { MatchResult result
+            (IsStep self.old.at self.old.rest.now self.new.at self.new.rest.now)
+            (IsFaultBehindGap self.old.at self.old.rest.now) }
     {
         self.advance(gap_length(self.rest));
         if self.rest.is_empty() {

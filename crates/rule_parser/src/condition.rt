@@ -40,7 +40,9 @@ fn negated<'a>(
     room: &mut usize,
 ) -> Result<Expression<'a>, ParseError>
     requires { begins (word "not") tokens.old.tokens ≡ true }
-    ensures { MatchResult result (λ found. Took grammar.nots grammar.nots tokens.old tokens.new room.old room.new (expression_of found)) (Refuses (Stops tokens.old room.old)) }
+    ensures { MatchResult result
+        (λ found. Took grammar.nots grammar.nots tokens.old tokens.new room.old room.new
+        (expression_of found)) (Refuses (Stops tokens.old room.old)) }
 {
     tokens.nest(room)?;
     let negated = operand(alloc, tokens, room)?;
@@ -55,7 +57,9 @@ fn parenthesized<'a>(
     room: &mut usize,
 ) -> Result<Expression<'a>, ParseError>
     requires { begins (sign "(") tokens.old.tokens ≡ true }
-    ensures { MatchResult result (λ found. Took grammar.nots grammar.nots tokens.old tokens.new room.old room.new (expression_of found)) (Refuses (Stops tokens.old room.old)) }
+    ensures { MatchResult result
+        (λ found. Took grammar.nots grammar.nots tokens.old tokens.new room.old room.new
+        (expression_of found)) (Refuses (Stops tokens.old room.old)) }
 {
     tokens.nest(room)?;
     let inner = joined(Operator::Or, alloc, tokens, room)?;
@@ -71,7 +75,9 @@ fn operand<'a>(
     tokens: &mut Reader<'_, 'a>,
     room: &mut usize,
 ) -> Result<Expression<'a>, ParseError>
-    ensures { MatchResult result (λ found. Took grammar.nots grammar.nots tokens.old tokens.new room.old room.new (expression_of found)) (Refuses (Stops tokens.old room.old)) }
+    ensures { MatchResult result
+        (λ found. Took grammar.nots grammar.nots tokens.old tokens.new room.old room.new
+        (expression_of found)) (Refuses (Stops tokens.old room.old)) }
 {
     if tokens.begins(TokenKind::Not) {
         return negated(alloc, tokens, room);
@@ -90,7 +96,9 @@ fn part<'a>(
     tokens: &mut Reader<'_, 'a>,
     room: &mut usize,
 ) -> Result<Expression<'a>, ParseError>
-    ensures { MatchResult result (λ found. Took (operands_of operator) (operands_of operator) tokens.old tokens.new room.old room.new (expression_of found)) (Refuses (Stops tokens.old room.old)) }
+    ensures { MatchResult result
+        (λ found. Took (operands_of operator) (operands_of operator) tokens.old tokens.new room.old
+        room.new (expression_of found)) (Refuses (Stops tokens.old room.old)) }
 {
     match operator {
         Operator::Or => joined(Operator::Xor, alloc, tokens, room),
@@ -107,7 +115,9 @@ fn joined<'a>(
     tokens: &mut Reader<'_, 'a>,
     room: &mut usize,
 ) -> Result<Expression<'a>, ParseError>
-    ensures { MatchResult result (λ found. Took (part_of operator) (part_of operator) tokens.old tokens.new room.old room.new (expression_of found)) (Refuses (Stops tokens.old room.old)) }
+    ensures { MatchResult result
+        (λ found. Took (part_of operator) (part_of operator) tokens.old tokens.new room.old room.new
+        (expression_of found)) (Refuses (Stops tokens.old room.old)) }
 {
     let mut left = part(operator, alloc, tokens, room)?;
     while tokens.begins(operator.kind()) {
@@ -123,7 +133,9 @@ pub fn condition<'a>(
     alloc: Global,
     tokens: &mut Reader<'_, 'a>,
 ) -> Result<Expression<'a>, ParseError>
-    ensures { MatchResult result (λ found. TookCondition tokens.old tokens.new (expression_of found)) (Refuses (Stops tokens.old 64)) }
+    ensures { MatchResult result
+        (λ found. TookCondition tokens.old tokens.new (expression_of found))
+        (Refuses (Stops tokens.old 64)) }
 {
     let mut room = MOST_NESTING;
     joined(Operator::Or, alloc, tokens, &mut room)

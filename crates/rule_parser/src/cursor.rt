@@ -129,7 +129,8 @@ impl<'t, 'a> Cursor<'t, 'a> {
     }
 
     pub fn field_type(&mut self) -> Option<FieldType>
-        ensures { Gives (λ kind. kind) self.new result (value_at class.FieldKind field_type self.old) }
+        ensures { Gives (λ kind. kind) self.new result
+            (value_at class.FieldKind field_type self.old) }
     {
         let token = self.next()?;
         match token.kind {

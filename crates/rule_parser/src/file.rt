@@ -22,7 +22,9 @@ use std::alloc::Global;
 
 /// A rule, behind `rule`.
 fn rule_item<'a>(alloc: Global, tokens: &mut Reader<'_, 'a>) -> Result<RuleItem<'a>, ParseError>
-    ensures { MatchResult result (λ found. (t : text.Token) → Fits (word "rule") t → TookRule t tokens.old tokens.new (model.Rule (rule_of found))) (Refuses (StopsAt rule_left tokens.old)) }
+    ensures { MatchResult result (λ found. (t : text.Token) → Fits (word "rule") t →
+        TookRule t tokens.old tokens.new (model.Rule (rule_of found)))
+        (Refuses (StopsAt rule_left tokens.old)) }
 {
     let head = rule_head(tokens)?;
     let condition = condition(alloc, tokens)?;
@@ -43,7 +45,8 @@ fn rule_item<'a>(alloc: Global, tokens: &mut Reader<'_, 'a>) -> Result<RuleItem<
 /// The item that stands next.
 fn item<'a>(alloc: Global, tokens: &mut Reader<'_, 'a>) -> Result<Item<'a>, ParseError>
     requires { IsFalse (is_empty tokens.old.tokens) }
-    ensures { MatchResult result (λ found. TookItem tokens.old tokens.new (item_of found)) (Refuses (StopsAt [] tokens.old)) }
+    ensures { MatchResult result (λ found. TookItem tokens.old tokens.new (item_of found))
+        (Refuses (StopsAt [] tokens.old)) }
 {
     if tokens.takes(TokenKind::Packet) {
         return Ok(Item::Packet(packet_item(tokens)?));
@@ -67,7 +70,9 @@ pub fn items<'a>(
     end: usize,
 ) -> Result<Vec<Item<'a>>, ParseError>
     requires { All HasItsKind tokens.now }
-    ensures { MatchResult result (λ found. TookAll end (tokens_of tokens.now) (items_of found.items)) (Refuses (StopsAll end (tokens_of tokens.now))) }
+    ensures { MatchResult result
+        (λ found. TookAll end (tokens_of tokens.now) (items_of found.items))
+        (Refuses (StopsAll end (tokens_of tokens.now))) }
 {
     let mut reader = Reader::new(tokens, end);
     let mut items = Vec::with_capacity(alloc, tokens.len() / SHORTEST_ITEM)?;

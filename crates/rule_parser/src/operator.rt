@@ -36,7 +36,9 @@ impl Operator {
         left: Expression<'a>,
         right: Expression<'a>,
     ) -> Result<Expression<'a>, AllocError>
-        ensures { IfOk result (λ joined. expression_of joined ≡ Join (operator_of self) (expression_of left.entry) (expression_of right.entry)) }
+        ensures { IfOk result
+            (λ joined. expression_of joined ≡ Join (operator_of self) (expression_of left.entry)
+            (expression_of right.entry)) }
     {
         let operands = Box::new(alloc, (left, right))?;
         Ok(match self {

@@ -19,7 +19,8 @@ use std::alloc::Global;
 /// The items of the tokens of a text of this length.
 fn read<'a>(alloc: Global, tokens: &[Token<'a>], end: usize) -> Result<RuleFile<'a>, ParseError>
     requires { All HasItsKind tokens.now }
-    ensures derives { IfOk result (λ file. Parses (tokens_of tokens.now) (items_of file.items.items)) }
+    ensures derives { IfOk result
+        (λ file. Parses (tokens_of tokens.now) (items_of file.items.items)) }
     ensures refused { IfErr result (Refuses (HasParseFault end (tokens_of tokens.now))) }
 {
     Ok(RuleFile {
@@ -41,10 +42,15 @@ pub fn parse<'a>(
 ) -> Result<RuleFile<'a>, ParseError>
     requires kinds { All HasItsKind tokens.now }
     requires splits { Splits text.now (tokens_of tokens.now) }
-    ensures derives { IfOk result (λ file. Parses (tokens_of tokens.now) (items_of file.items.items)) }
-    ensures refused { IfErr result (Refuses (HasParseFault (length text.now) (tokens_of tokens.now))) }
-    ensures accepts { (items : List Item) → Parses (tokens_of tokens.now) items → MatchResult result (λ file. items_of file.items.items ≡ items) (λ error. error ≡ Memory) }
-    ensures refuses { (fault : ParseFault) → HasParseFault (length text.now) (tokens_of tokens.now) fault → MatchResult result (λ file. ⊥) (Refuses (λ found. found ≡ fault)) }
+    ensures derives { IfOk result
+        (λ file. Parses (tokens_of tokens.now) (items_of file.items.items)) }
+    ensures refused { IfErr result
+        (Refuses (HasParseFault (length text.now) (tokens_of tokens.now))) }
+    ensures accepts { (items : List Item) → Parses (tokens_of tokens.now) items →
+        MatchResult result (λ file. items_of file.items.items ≡ items) (λ error. error ≡ Memory) }
+    ensures refuses { (fault : ParseFault) →
+        HasParseFault (length text.now) (tokens_of tokens.now) fault →
+        MatchResult result (λ file. ⊥) (Refuses (λ found. found ≡ fault)) }
 {
     tokens_have_at_most_one_parse();
     read(alloc, tokens, text.len())

@@ -80,7 +80,8 @@ impl<'t, 'a> Reader<'t, 'a> {
     /// it, is none.
     pub fn nest(&mut self, room: &mut usize) -> Result<(), ParseError>
         ensures { (wanted : Class) → begins wanted self.old.tokens ≡ true
-            → MatchResult result (λ _. Nested wanted self.old self.new room.old room.new) (Refuses (NoRoom wanted self.old room.old)) }
+            → MatchResult result (λ _. Nested wanted self.old self.new room.old room.new)
+            (Refuses (NoRoom wanted self.old room.old)) }
     {
         if *room == 0 {
             return Err(ParseError::TooNested { at: self.place() });
@@ -110,7 +111,8 @@ impl<'t, 'a> Reader<'t, 'a> {
     /// This reserved word.
     #[tactic(auto, unfolding(crate::specs::Left::token_in))]
     pub fn word(&mut self, word: Word) -> Result<Token<'a>, ParseError>
-        ensures { Reads token_of self.new result (token_in (class_of (kind_of_word word)) self.old) }
+        ensures { Reads token_of self.new result
+            (token_in (class_of (kind_of_word word)) self.old) }
     {
         let missing = self.expected(What::Word(word));
         self.cursor.take(word.kind()).ok_or(missing)
@@ -119,7 +121,8 @@ impl<'t, 'a> Reader<'t, 'a> {
     /// This sign.
     #[tactic(auto, unfolding(crate::specs::Left::token_in))]
     pub fn sign(&mut self, sign: Sign) -> Result<Token<'a>, ParseError>
-        ensures { Reads token_of self.new result (token_in (class_of (kind_of_sign sign)) self.old) }
+        ensures { Reads token_of self.new result
+            (token_in (class_of (kind_of_sign sign)) self.old) }
     {
         let missing = self.expected(What::Sign(sign));
         self.cursor.take(sign.kind()).ok_or(missing)
@@ -164,7 +167,8 @@ impl<'t, 'a> Reader<'t, 'a> {
     /// A field's type.
     #[tactic(auto, unfolding(crate::specs::Left::value_in))]
     pub fn field_type(&mut self) -> Result<FieldType, ParseError>
-        ensures { Reads (λ kind. kind) self.new result (value_in class.FieldKind field_type self.old) }
+        ensures { Reads (λ kind. kind) self.new result
+            (value_in class.FieldKind field_type self.old) }
     {
         let missing = self.expected(What::FieldKind);
         self.cursor.field_type().ok_or(missing)
@@ -200,7 +204,8 @@ impl<'t, 'a> Reader<'t, 'a> {
     /// A reserved word and a number.
     #[tactic(auto, unfolding(crate::specs::Left::labelled_in))]
     pub fn labelled(&mut self, word: Word) -> Result<Number, ParseError>
-        ensures { Reads number_of self.new result (labelled_in (class_of (kind_of_word word)) self.old) }
+        ensures { Reads number_of self.new result
+            (labelled_in (class_of (kind_of_word word)) self.old) }
     {
         self.word(word)?;
         self.number()
@@ -209,7 +214,8 @@ impl<'t, 'a> Reader<'t, 'a> {
     /// A reserved word and a number, or nothing where the word doesn't stand next.
     #[tactic(auto, unfolding(crate::specs::Left::option_in, crate::specs::Left::some_in))]
     pub fn optional(&mut self, word: Word) -> Result<Option<Number>, ParseError>
-        ensures { Reads (option_map number_of) self.new result (option_in (class_of (kind_of_word word)) self.old) }
+        ensures { Reads (option_map number_of) self.new result
+            (option_in (class_of (kind_of_word word)) self.old) }
     {
         if self.begins(word.kind()) {
             Ok(Some(self.labelled(word)?))

@@ -147,9 +147,11 @@ fn with_bits(payload: Vec<u8>, kind: FieldType, place: usize, bits: u32) -> Vec<
 /// TYPE OFFSET VALUE: a payload with this field set.
 fn field_set(payload: Vec<u8>, kind: &[u8], offset: &[u8], value: &[u8]) -> Result<Vec<u8>, Reason>
     requires { length payload.items ≤ 2036 }
-    ensures set { IfOk result (λ after. field_set payload.items kind.now offset.now value.now ≡ Ok after.items) }
+    ensures set { IfOk result
+        (λ after. field_set payload.items kind.now offset.now value.now ≡ Ok after.items) }
     ensures same_size { IfOk result (λ after. length after.items ≡ length payload.items) }
-    ensures refused { IfErr result (λ reason. field_set payload.items kind.now offset.now value.now ≡ Err reason) }
+    ensures refused { IfErr result
+        (λ reason. field_set payload.items kind.now offset.now value.now ≡ Err reason) }
 {
     let kind = some_type(kind)?;
     let place = place_in(kind, payload.len(), offset)?;
@@ -160,9 +162,11 @@ fn field_set(payload: Vec<u8>, kind: &[u8], offset: &[u8], value: &[u8]) -> Resu
 /// A payload with the fields of these words set, one after the other.
 fn fields_set(payload: Vec<u8>, words: &[&[u8]]) -> Result<Vec<u8>, Reason>
     requires { length payload.items ≤ 2036 }
-    ensures set { IfOk result (λ after. fields_set payload.items (texts_of words.now) ≡ Ok after.items) }
+    ensures set { IfOk result
+        (λ after. fields_set payload.items (texts_of words.now) ≡ Ok after.items) }
     ensures same_size { IfOk result (λ after. length after.items ≡ length payload.items) }
-    ensures refused { IfErr result (λ reason. fields_set payload.items (texts_of words.now) ≡ Err reason) }
+    ensures refused { IfErr result
+        (λ reason. fields_set payload.items (texts_of words.now) ≡ Err reason) }
 {
     let mut after = payload;
     let mut left = words;
@@ -178,7 +182,8 @@ fn fields_set(payload: Vec<u8>, words: &[&[u8]]) -> Result<Vec<u8>, Reason>
 
 /// LENGTH {TYPE OFFSET VALUE}: the payload of a packet of this length, zeros but for the fields.
 pub(crate) fn payload_of(alloc: Global, size: &[u8], words: &[&[u8]]) -> Result<Vec<u8>, Fault>
-    ensures said { IfOk result (λ payload. payload_of size.now (texts_of words.now) ≡ Ok payload.items) }
+    ensures said { IfOk result
+        (λ payload. payload_of size.now (texts_of words.now) ≡ Ok payload.items) }
     ensures refused { IfErr result (IsRefused (payload_of size.now (texts_of words.now))) }
     ensures most { IfOk result (λ payload. length payload.items ≤ 2036) }
 {

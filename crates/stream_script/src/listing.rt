@@ -39,7 +39,8 @@ fn with_record(
     body: &[u8],
 ) -> Result<Vec<u8>, AllocError>
     requires { fits_kind kind (length body.now) }
-    ensures { IfOk result (λ after. after.items ≡ text.items ++ record_shown number moment kind body.now) }
+    ensures { IfOk result
+        (λ after. after.items ≡ text.items ++ record_shown number moment kind body.now) }
 {
     let text = with_head(text, number, moment, kind)?;
     let text = with_body(alloc, text, kind, body)?;
@@ -59,7 +60,9 @@ fn with_front(
     requires long { header_size ≤ size }
     requires inside { size ≤ length bytes.now }
     requires fits { fits_kind kind (size - header_size) }
-    ensures { IfOk result (λ after. after.items ≡ text.items ++ record_shown number (moment_of bytes.now) kind (body_in_front bytes.now)) }
+    ensures { IfOk result
+        (λ after. after.items ≡ text.items ++ record_shown number (moment_of bytes.now) kind
+        (body_in_front bytes.now)) }
 {
     let moment = Moment {
         seconds: u32_at(bytes, 1),
@@ -85,7 +88,9 @@ fn with_next<'a>(
     number: usize,
     bytes: &'a [u8],
 ) -> Result<(Vec<u8>, Option<&'a [u8]>), AllocError>
-    ensures said { IfOk result (λ next. next.0.items ++ lines_of_rest (number + 1) next.1 ≡ text.items ++ lines_from number bytes.now) }
+    ensures said { IfOk result
+        (λ next. next.0.items ++ lines_of_rest (number + 1) next.1 ≡ text.items ++ lines_from number
+        bytes.now) }
     ensures fewer { IfOk result (λ next. most_parts next.1 ≤ length bytes.now) }
 {
     match front_of(bytes) {

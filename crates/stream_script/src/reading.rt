@@ -26,8 +26,10 @@ fn line_said(alloc: Global, script: Script, line: &[u8]) -> Result<Script, Fault
 
 /// The same, with the line's number where it is at fault.
 fn read_line(alloc: Global, script: Script, line: &[u8], n: usize) -> Result<Script, ScriptError>
-    ensures said { IfOk result (λ after. (lines : List (List ℕ)) → lines_said script n (line.now ∷ lines) ≡ lines_said after (n + 1) lines) }
-    ensures refused { IfErr result (λ error. (lines : List (List ℕ)) → IsScriptError (lines_said script n (line.now ∷ lines)) error) }
+    ensures said { IfOk result (λ after. (lines : List (List ℕ)) →
+        lines_said script n (line.now ∷ lines) ≡ lines_said after (n + 1) lines) }
+    ensures refused { IfErr result (λ error. (lines : List (List ℕ)) →
+        IsScriptError (lines_said script n (line.now ∷ lines)) error) }
 {
     match line_said(alloc, script, line) {
         Ok(after) => Ok(after),
@@ -39,7 +41,8 @@ fn read_line(alloc: Global, script: Script, line: &[u8], n: usize) -> Result<Scr
 /// What all lines say.
 fn read_lines(alloc: Global, script: &[u8]) -> Result<Script, ScriptError>
     ensures said { IfOk result (λ said. lines_said nothing_said 1 (lines_of script.now) ≡ Ok said) }
-    ensures refused { IfErr result (IsScriptError (lines_said nothing_said 1 (lines_of script.now))) }
+    ensures refused { IfErr result
+        (IsScriptError (lines_said nothing_said 1 (lines_of script.now))) }
 {
     let mut said = Script::new(alloc);
     let mut left = Some(script);
@@ -64,7 +67,8 @@ fn read_lines(alloc: Global, script: &[u8]) -> Result<Script, ScriptError>
 pub fn read_script(alloc: Global, script: &[u8]) -> Result<Vec<u8>, ScriptError>
     ensures said { IfOk result (λ stream. script_in script.now ≡ Ok stream.items) }
     ensures refused { IfErr result (IsScriptError (script_in script.now)) }
-    ensures accepts { (stream : List ℕ) → script_in script.now ≡ Ok stream → IfErr result (λ error. error ≡ Memory) }
+    ensures accepts { (stream : List ℕ) → script_in script.now ≡ Ok stream →
+        IfErr result (λ error. error ≡ Memory) }
     ensures refuses { (fault : ScriptFault) → script_in script.now ≡ Err fault → IsErr result }
 {
     match read_lines(alloc, script) {

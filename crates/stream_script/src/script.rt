@@ -121,7 +121,8 @@ impl Script {
     ) -> Result<Script, AllocError>
         requires count { count < 16384 }
         requires size { 12 + length payload.now ≤ 2048 }
-        ensures { IfOk result (λ after. after ≡ recorded Packet (telemetry mid count time payload.now) self) }
+        ensures { IfOk result
+            (λ after. after ≡ recorded Packet (telemetry mid count time payload.now) self) }
     {
         let mut buffer = [0; LONGEST_PACKET];
         let size = build_telemetry(mid, count, time, payload, &mut buffer);

@@ -57,8 +57,10 @@ fn whole_record(
     kind: &[u8],
     bytes: &[u8],
 ) -> Result<Script, Fault>
-    ensures said { IfOk result (λ after. whole_record script seconds.now subseconds.now kind.now bytes.now ≡ Ok after) }
-    ensures refused { IfErr result (IsRefused (whole_record script seconds.now subseconds.now kind.now bytes.now)) }
+    ensures said { IfOk result
+        (λ after. whole_record script seconds.now subseconds.now kind.now bytes.now ≡ Ok after) }
+    ensures refused { IfErr result
+        (IsRefused (whole_record script seconds.now subseconds.now kind.now bytes.now)) }
 {
     let script = moment_set(script, seconds, subseconds)?;
     record_brought(alloc, script, kind, bytes)
@@ -124,8 +126,10 @@ fn table_ordered(script: Script, code: u8, name: &[u8]) -> Result<Script, Fault>
 
 /// `sample FIRST LAST age` and `sample FIRST LAST keep`: the sample request.
 fn sample_requested(script: Script, first: &[u8], last: &[u8], ages: &[u8]) -> Result<Script, Fault>
-    ensures said { IfOk result (λ after. sample_requested script first.now last.now ages.now ≡ Ok after) }
-    ensures refused { IfErr result (IsRefused (sample_requested script first.now last.now ages.now)) }
+    ensures said { IfOk result
+        (λ after. sample_requested script first.now last.now ages.now ≡ Ok after) }
+    ensures refused { IfErr result
+        (IsRefused (sample_requested script first.now last.now ages.now)) }
 {
     let first = number_in(65_535, first)?;
     let last = number_in(65_535, last)?;
@@ -143,8 +147,10 @@ fn telemetry_brought(
     count: &[u8],
     bytes: &[u8],
 ) -> Result<Script, Fault>
-    ensures said { IfOk result (λ after. telemetry_brought script mid.now count.now bytes.now ≡ Ok after) }
-    ensures refused { IfErr result (IsRefused (telemetry_brought script mid.now count.now bytes.now)) }
+    ensures said { IfOk result
+        (λ after. telemetry_brought script mid.now count.now bytes.now ≡ Ok after) }
+    ensures refused { IfErr result
+        (IsRefused (telemetry_brought script mid.now count.now bytes.now)) }
 {
     let mid = mid_in(alloc, mid)?;
     let count = number_in(16_383, count)?;
@@ -184,8 +190,11 @@ fn fields_brought(
     size: &[u8],
     words: &[&[u8]],
 ) -> Result<Script, Fault>
-    ensures said { IfOk result (λ after. fields_brought script mid.now count.now size.now (texts_of words.now) ≡ Ok after) }
-    ensures refused { IfErr result (IsRefused (fields_brought script mid.now count.now size.now (texts_of words.now))) }
+    ensures said { IfOk result
+        (λ after. fields_brought script mid.now count.now size.now (texts_of words.now) ≡
+        Ok after) }
+    ensures refused { IfErr result
+        (IsRefused (fields_brought script mid.now count.now size.now (texts_of words.now))) }
 {
     let mid = mid_in(alloc, mid)?;
     let count = number_in(16_383, count)?;
@@ -201,7 +210,8 @@ fn command_brought(
     code: &[u8],
     bytes: &[u8],
 ) -> Result<Script, Fault>
-    ensures said { IfOk result (λ after. command_brought script mid.now code.now bytes.now ≡ Ok after) }
+    ensures said { IfOk result
+        (λ after. command_brought script mid.now code.now bytes.now ≡ Ok after) }
     ensures refused { IfErr result (IsRefused (command_brought script mid.now code.now bytes.now)) }
 {
     let mid = mid_in(alloc, mid)?;
@@ -317,8 +327,10 @@ fn five_words(
     c: &[u8],
     d: &[u8],
 ) -> Result<Script, Fault>
-    ensures said { IfOk result (λ after. five_words script verb.now a.now b.now c.now d.now ≡ Ok after) }
-    ensures refused { IfErr result (IsRefused (five_words script verb.now a.now b.now c.now d.now)) }
+    ensures said { IfOk result
+        (λ after. five_words script verb.now a.now b.now c.now d.now ≡ Ok after) }
+    ensures refused { IfErr result
+        (IsRefused (five_words script verb.now a.now b.now c.now d.now)) }
 {
     if !is(verb, b"record") {
         return Err(Fault::Line(Reason::UnknownStatement));

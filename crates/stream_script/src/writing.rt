@@ -21,7 +21,8 @@ fn with_line(
     kind: RecordKind,
     body: &[u8],
 ) -> Result<Vec<u8>, AllocError>
-    ensures { IfOk result (λ after. after.items ≡ text.items ++ record_line moment kind body.now ++ codes "\n") }
+    ensures { IfOk result
+        (λ after. after.items ≡ text.items ++ record_line moment kind body.now ++ codes "\n") }
 {
     text.extend_from_slice(b"record ")?;
     let text = with_number(text, u64::from(moment.seconds))?;
@@ -44,7 +45,9 @@ fn with_front(
     requires same { size ≡ record_size bytes.now }
     requires long { header_size ≤ size }
     requires inside { size ≤ length bytes.now }
-    ensures { IfOk result (λ after. after.items ≡ text.items ++ record_line (moment_of bytes.now) kind (body_in_front bytes.now) ++ codes "\n") }
+    ensures { IfOk result
+        (λ after. after.items ≡ text.items ++ record_line (moment_of bytes.now) kind
+        (body_in_front bytes.now) ++ codes "\n") }
 {
     let moment = Moment {
         seconds: u32_at(bytes, 1),
@@ -61,7 +64,8 @@ fn with_next<'a>(
     text: Vec<u8>,
     bytes: &'a [u8],
 ) -> Result<(Vec<u8>, Option<&'a [u8]>), AllocError>
-    ensures said { IfOk result (λ next. next.0.items ++ script_of_rest next.1 ≡ text.items ++ script_of bytes.now) }
+    ensures said { IfOk result
+        (λ next. next.0.items ++ script_of_rest next.1 ≡ text.items ++ script_of bytes.now) }
     ensures fewer { IfOk result (λ next. most_parts next.1 ≤ length bytes.now) }
 {
     match front_of(bytes) {

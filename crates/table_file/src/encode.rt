@@ -39,7 +39,9 @@ fn push_preamble(
     watchpoint_count: u16,
     hash: &[u8; 32],
 ) -> Result<(), AllocError>
-    ensures { OnOk result (out.new.items ≡ out.old.items ++ preamble (layout_of layout) own_count watchpoint_count hash.now) }
+    ensures { OnOk result
+        (out.new.items ≡ out.old.items ++ preamble (layout_of layout) own_count watchpoint_count
+        hash.now) }
 {
     push_u16(out, layout.version())?;
     push_u16(out, kind_code(layout.kind()))?;
@@ -94,7 +96,8 @@ fn push_text(out: &mut Vec<u8>, text: &[u8]) -> Result<(), AllocError>
 fn push_equation(out: &mut Vec<u8>, layout: Layout, words: &[u16]) -> Result<(), AllocError>
     requires { length words.now < words_in (layout_of layout) }
     ensures { OnOk result (out.new.items ≡ out.old.items
-        ++ flat_map u16 (zero_filled (words_in (layout_of layout)) (words.now ++ equal_word ∷ []))) }
+        ++ flat_map u16 (zero_filled (words_in (layout_of layout))
+        (words.now ++ equal_word ∷ []))) }
 {
     push_words(out, words)?;
     push_u16(out, EQUAL)?;
@@ -105,7 +108,8 @@ fn push_equation(out: &mut Vec<u8>, layout: Layout, words: &[u16]) -> Result<(),
 /// An actionpoint's entry.
 fn push_actionpoint(out: &mut Vec<u8>, layout: Layout, entry: &TableEntry) -> Result<(), AllocError>
     requires { FitsEntry (layout_of layout) entry.now }
-    ensures { OnOk result (out.new.items ≡ out.old.items ++ entry_bytes (layout_of layout) entry.now) }
+    ensures { OnOk result
+        (out.new.items ≡ out.old.items ++ entry_bytes (layout_of layout) entry.now) }
 {
     push_numbers(out, entry)?;
     push_text(out, entry.text.as_slice())?;
@@ -115,7 +119,9 @@ fn push_actionpoint(out: &mut Vec<u8>, layout: Layout, entry: &TableEntry) -> Re
 
 /// Entries that aren't used.
 fn push_blank_entries(out: &mut Vec<u8>, layout: Layout, count: usize) -> Result<(), AllocError>
-    ensures { OnOk result (out.new.items ≡ out.old.items ++ flat_map (λ e. e) (replicate count (blank_entry (layout_of layout)))) }
+    ensures { OnOk result
+        (out.new.items ≡ out.old.items ++ flat_map (λ e. e)
+        (replicate count (blank_entry (layout_of layout)))) }
 {
     for _ in 0..count {
         out.push(0xFF)?;
@@ -142,7 +148,8 @@ fn push_actionpoints(
     entries: &[TableEntry],
 ) -> Result<(), AllocError>
     requires { AllByRecursion (FitsEntry (layout_of layout)) entries.now }
-    ensures { OnOk result (out.new.items ≡ out.old.items ++ flat_map (entry_bytes (layout_of layout)) entries.now) }
+    ensures { OnOk result
+        (out.new.items ≡ out.old.items ++ flat_map (entry_bytes (layout_of layout)) entries.now) }
 {
     for entry in entries {
         push_actionpoint(out, layout, entry)?;
@@ -157,7 +164,8 @@ fn push_actionpoints(
 pub fn encode_wdt(alloc: Global, image: &WdtImage) -> Result<Vec<u8>, FileError>
     requires few { length image.now.watchpoints.items ≤ table_entries }
     requires fit { AllByRecursion FitsWatchpoint image.now.watchpoints.items }
-    ensures bytes { IfOk result (λ bytes. bytes.items ≡ wdt_image image.now.hash image.now.watchpoints.items) }
+    ensures bytes { IfOk result
+        (λ bytes. bytes.items ≡ wdt_image image.now.hash image.now.watchpoints.items) }
     ensures length { IfOk result (λ bytes. length bytes.items ≡ image_length Watchpoints) }
     ensures refused { IfErr result (λ error. error ≡ Memory) }
 {
@@ -178,10 +186,13 @@ pub fn encode_wdt(alloc: Global, image: &WdtImage) -> Result<Vec<u8>, FileError>
 /// Errors: `Memory` alone.
 pub fn encode_adt(alloc: Global, image: &AdtImage) -> Result<Vec<u8>, FileError>
     requires few { length image.now.actionpoints.items ≤ table_entries }
-    requires fit { AllByRecursion (FitsEntry (layout_of_version image.now.version)) image.now.actionpoints.items }
+    requires fit { AllByRecursion (FitsEntry (layout_of_version image.now.version))
+        image.now.actionpoints.items }
     ensures bytes { IfOk result (λ bytes. bytes.items
-        ≡ adt_image (layout_of_version image.now.version) image.now.hash image.now.watchpoint_count image.now.actionpoints.items) }
-    ensures length { IfOk result (λ bytes. length bytes.items ≡ image_length (layout_of_version image.now.version)) }
+        ≡ adt_image (layout_of_version image.now.version) image.now.hash image.now.watchpoint_count
+        image.now.actionpoints.items) }
+    ensures length { IfOk result
+        (λ bytes. length bytes.items ≡ image_length (layout_of_version image.now.version)) }
     ensures refused { IfErr result (λ error. error ≡ Memory) }
 {
     let layout = image.version.layout();

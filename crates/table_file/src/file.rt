@@ -174,7 +174,8 @@ pub fn open(bytes: &[u8]) -> Result<TableFile<'_>, FileError>
     // What is opened is spelled so, byte for byte.
     ensures spelled { IfOk result (λ file. IsTableFile file × (bytes.now ≡ file_bytes file)) }
     // What is spelled so is opened, with the same fields.
-    ensures again { (file : model.TableFile) → IsTableFile file → bytes.now ≡ file_bytes file → result ≡ Ok file }
+    ensures again { (file : model.TableFile) → IsTableFile file → bytes.now ≡ file_bytes file →
+        result ≡ Ok file }
 {
     files_have_one_spelling();
     read_headers(bytes)

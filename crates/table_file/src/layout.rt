@@ -77,7 +77,8 @@ impl Layout {
 
     /// This layout, where its images have this length.
     fn of_length(self, length: usize) -> Option<Layout>
-        ensures { result ≡ (if model.image_length (layout_of self) == length then Some self else None) }
+        ensures { result ≡
+            (if model.image_length (layout_of self) == length then Some self else None) }
     {
         if length == self.image_length() {
             Some(self)

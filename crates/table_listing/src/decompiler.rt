@@ -16,8 +16,10 @@ use std::alloc::{AllocError, Global};
 /// Negates the last operand that waits.
 fn negate(alloc: Global, waiting: &mut Vec<Equation>) -> Result<(), AllocError>
     requires { 1 ≤ vec_len waiting.old }
-    ensures words { OnOk result (words_of_all waiting.new.items ≡ words_of_all waiting.old.items ++ not_word ∷ []) }
-    ensures numbers { OnOk result (mentioned_by_all waiting.new.items ≡ mentioned_by_all waiting.old.items) }
+    ensures words { OnOk result
+        (words_of_all waiting.new.items ≡ words_of_all waiting.old.items ++ not_word ∷ []) }
+    ensures numbers { OnOk result
+        (mentioned_by_all waiting.new.items ≡ mentioned_by_all waiting.old.items) }
     ensures count { OnOk result (vec_len waiting.new ≡ vec_len waiting.old) }
 {
     let operand = waiting.pop().unwrap();
@@ -28,8 +30,11 @@ fn negate(alloc: Global, waiting: &mut Vec<Equation>) -> Result<(), AllocError>
 /// Joins the last two operands that wait.
 fn join(alloc: Global, waiting: &mut Vec<Equation>, operator: Operator) -> Result<(), AllocError>
     requires { 2 ≤ vec_len waiting.old }
-    ensures words { OnOk result (words_of_all waiting.new.items ≡ words_of_all waiting.old.items ++ operator_word (operator_of operator) ∷ []) }
-    ensures numbers { OnOk result (mentioned_by_all waiting.new.items ≡ mentioned_by_all waiting.old.items) }
+    ensures words { OnOk result
+        (words_of_all waiting.new.items ≡ words_of_all waiting.old.items ++ operator_word
+        (operator_of operator) ∷ []) }
+    ensures numbers { OnOk result
+        (mentioned_by_all waiting.new.items ≡ mentioned_by_all waiting.old.items) }
     ensures count { OnOk result (vec_len waiting.new + 1 ≡ vec_len waiting.old) }
 {
     let second = waiting.pop().unwrap();
@@ -43,8 +48,10 @@ fn join(alloc: Global, waiting: &mut Vec<Equation>, operator: Operator) -> Resul
 fn read_word(alloc: Global, waiting: &mut Vec<Equation>, word: u16) -> Result<(), AllocError>
     requires known { (word < TABLE_ENTRIES) ⊎ ((AND ≤ word) × (word ≤ NOT)) }
     requires enough { operands_of word ≤ vec_len waiting.old }
-    ensures words { OnOk result (words_of_all waiting.new.items ≡ words_of_all waiting.old.items ++ word ∷ []) }
-    ensures numbers { AreNumbers (mentioned_by_all waiting.old.items) → OnOk result (AreNumbers (mentioned_by_all waiting.new.items)) }
+    ensures words { OnOk result
+        (words_of_all waiting.new.items ≡ words_of_all waiting.old.items ++ word ∷ []) }
+    ensures numbers { AreNumbers (mentioned_by_all waiting.old.items) →
+        OnOk result (AreNumbers (mentioned_by_all waiting.new.items)) }
     ensures count { OnOk result (vec_len waiting.new + operands_of word ≡ vec_len waiting.old + 1) }
 {
     match word {

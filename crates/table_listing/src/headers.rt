@@ -58,7 +58,8 @@ impl FileLine {
 }
 
 impl Display for FileLine {
-    ghost output = { λ l. Some (file_line l.spacecraft l.processor l.application l.seconds l.subseconds) };
+    ghost output = { λ l.
+        Some (file_line l.spacecraft l.processor l.application l.seconds l.subseconds) };
 
     fn fmt<W: Write>(&self, f: &mut Formatter<W>) -> fmt::Result {
         let FileLine {

@@ -38,8 +38,10 @@ fn words_of(alloc: Global, entry: &ActionpointEntry) -> Result<Vec<u16>, AllocEr
 
 /// The condition of an entry's equation.
 fn condition_of(alloc: Global, entry: &ActionpointEntry) -> Result<Equation, AllocError>
-    requires { (count : ℕ) × (count ≤ table_entries) × IsSoundEquation count (words_before_equal (all_words entry.now)) }
-    ensures { IfOk result (λ condition. IsTreeOf (words_before_equal (all_words entry.now)) (formula_of condition)) }
+    requires { (count : ℕ) × (count ≤ table_entries) ×
+        IsSoundEquation count (words_before_equal (all_words entry.now)) }
+    ensures { IfOk result
+        (λ condition. IsTreeOf (words_before_equal (all_words entry.now)) (formula_of condition)) }
 {
     let words = words_of(alloc, entry)?;
     decompile(alloc, words.as_slice())
@@ -54,7 +56,8 @@ fn list_watchpoint<W: Write>(
     requires kind { valid.now.kind ≡ Wdt }
     requires used { number < own_count valid.now.bytes }
     ensures { OnOk result (Appends (W.contents out.old) (W.contents out.new)
-        (line.watchpoint_line number (spelled_term (entry_at Watchpoints valid.now.bytes number)) ++ codes "\n")) }
+        (line.watchpoint_line number (spelled_term (entry_at Watchpoints valid.now.bytes number)) ++
+        codes "\n")) }
 {
     let term = valid.watchpoint(usize::from(number)).term();
     writeln!(out, "{}", WatchpointLine { number, term })?;
@@ -71,7 +74,9 @@ fn list_actionpoint<W: Write>(
     requires kind { valid.now.kind ≡ Adt }
     requires used { number < own_count valid.now.bytes }
     requires sound { HasSoundActionpoints valid.now.bytes }
-    ensures { OnOk result (Adds (IsActionpointListed (entry_at (adt_layout valid.now.bytes) valid.now.bytes number) number) (W.contents out.old) (W.contents out.new)) }
+    ensures { OnOk result
+        (Adds (IsActionpointListed (entry_at (adt_layout valid.now.bytes) valid.now.bytes number)
+        number) (W.contents out.old) (W.contents out.new)) }
 {
     let entry = valid.actionpoint(usize::from(number));
     let condition = condition_of(alloc, &entry)?;
@@ -93,7 +98,8 @@ fn list_actionpoint<W: Write>(
 /// The lines of the used entries of an image of watchpoints.
 fn list_watchpoints<W: Write>(valid: &ValidImage, out: &mut W) -> Result<(), ListingError>
     requires kind { valid.now.kind ≡ Wdt }
-    ensures { OnOk result (Adds (AreEntriesListed Wdt valid.now.bytes) (W.contents out.old) (W.contents out.new)) }
+    ensures { OnOk result
+        (Adds (AreEntriesListed Wdt valid.now.bytes) (W.contents out.old) (W.contents out.new)) }
 {
     for number in 0..preamble::own_count(valid.image()) {
         list_watchpoint(valid, number, out)?;
@@ -108,7 +114,8 @@ fn list_actionpoints<W: Write>(
     out: &mut W,
 ) -> Result<(), ListingError>
     requires kind { valid.now.kind ≡ Adt }
-    ensures { OnOk result (Adds (AreEntriesListed Adt valid.now.bytes) (W.contents out.old) (W.contents out.new)) }
+    ensures { OnOk result
+        (Adds (AreEntriesListed Adt valid.now.bytes) (W.contents out.old) (W.contents out.new)) }
 {
     for number in 0..preamble::own_count(valid.image()) {
         list_actionpoint(alloc, valid, number, out)?;
@@ -122,7 +129,9 @@ fn list_entries<W: Write>(
     valid: &ValidImage,
     out: &mut W,
 ) -> Result<(), ListingError>
-    ensures { OnOk result (Adds (AreEntriesListed valid.now.kind valid.now.bytes) (W.contents out.old) (W.contents out.new)) }
+    ensures { OnOk result
+        (Adds (AreEntriesListed valid.now.kind valid.now.bytes) (W.contents out.old)
+        (W.contents out.new)) }
 {
     match valid.kind() {
         Kind::Wdt => list_watchpoints(valid, out),
@@ -132,7 +141,8 @@ fn list_entries<W: Write>(
 
 /// The lines of a file's headers.
 fn list_headers<W: Write>(file: &TableFile, out: &mut W) -> Result<(), ListingError>
-    ensures { OnOk result (Appends (W.contents out.old) (W.contents out.new) (headers_shown file.now)) }
+    ensures { OnOk result
+        (Appends (W.contents out.old) (W.contents out.new) (headers_shown file.now)) }
 {
     writeln!(out, "{}", FileLine::of(file))?;
     writeln!(out, "{}", TableLine::of(file))?;
@@ -141,7 +151,8 @@ fn list_headers<W: Write>(file: &TableFile, out: &mut W) -> Result<(), ListingEr
 
 /// The lines of an image's preamble, where there is one.
 fn list_preamble<W: Write>(image: &[u8], out: &mut W) -> Result<(), ListingError>
-    ensures { OnOk result (Appends (W.contents out.old) (W.contents out.new) (preamble_shown image.now)) }
+    ensures { OnOk result
+        (Appends (W.contents out.old) (W.contents out.new) (preamble_shown image.now)) }
 {
     if image.len() < PREAMBLE {
         return Ok(());
@@ -153,7 +164,8 @@ fn list_preamble<W: Write>(image: &[u8], out: &mut W) -> Result<(), ListingError
 /// The lines of an image: its preamble, and its entries or its fault.
 fn list_image<W: Write>(alloc: Global, image: &[u8], out: &mut W) -> Result<bool, ListingError>
     ensures judged { IfOk result (λ sound. sound ≡ is_sound_image image.now) }
-    ensures listed { IfOk result (λ sound. sound ≡ true → Adds (IsImageListed image.now) (W.contents out.old) (W.contents out.new)) }
+    ensures listed { IfOk result (λ sound. sound ≡ true →
+        Adds (IsImageListed image.now) (W.contents out.old) (W.contents out.new)) }
 {
     list_preamble(image, out)?;
     match validate(kind_of_image(image), image) {
@@ -180,7 +192,8 @@ fn list_image<W: Write>(alloc: Global, image: &[u8], out: &mut W) -> Result<bool
 /// stands.
 pub fn list_table<W: Write>(alloc: Global, file: &[u8], out: &mut W) -> Result<bool, ListingError>
     ensures judged { IfOk result (λ sound. sound ≡ is_sound_file file.now) }
-    ensures listed { IfOk result (λ sound. sound ≡ true → Adds (IsFileListed (opened file.now)) (W.contents out.old) (W.contents out.new)) }
+    ensures listed { IfOk result (λ sound. sound ≡ true →
+        Adds (IsFileListed (opened file.now)) (W.contents out.old) (W.contents out.new)) }
 {
     match table_file::open(file) {
         Ok(file) => {

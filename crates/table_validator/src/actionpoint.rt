@@ -51,7 +51,9 @@ fn is_state(code: u8) -> bool
 
 /// Whether the entry's event has no type, or an id below 1,000.
 fn has_wrong_event(entry: &ActionpointEntry<'_>) -> bool
-    ensures { result ≡ (not (is_in_range 1 4 (event_type_field entry.now)) || nat_lt (event_id_field entry.now) 1_000) }
+    ensures { result ≡
+        (not (is_in_range 1 4 (event_type_field entry.now)) || nat_lt (event_id_field entry.now)
+        1_000) }
 {
     !(1..=4).contains(&entry.event_code()) || entry.event_id() < FIRST_EVENT_ID
 }

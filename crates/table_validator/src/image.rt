@@ -34,7 +34,8 @@ impl<'a> Model for ValidImage<'a> {
     ghost view = { λ v. record { kind = kind_of (layout_of v.layout); bytes = v.bytes.now } };
 
     ghost invariant = { λ v. IsSound layouts (kind_of (layout_of v.layout)) v.bytes.now
-        × (model.layout_of layouts (kind_of (layout_of v.layout)) v.bytes.now ≡ Some (layout_of v.layout)) };
+        × (model.layout_of layouts (kind_of (layout_of v.layout)) v.bytes.now ≡
+        Some (layout_of v.layout)) };
 }
 
 impl<'a> ValidImage<'a> {

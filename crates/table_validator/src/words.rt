@@ -87,7 +87,8 @@ impl WordScan {
 
 /// The least code of an entry's words, in a table over so many watchpoints.
 pub fn words_fault(entry: &ActionpointEntry<'_>, watchpoints: u16) -> Option<FaultCode>
-    ensures { option_map code_number result ≡ first_code (word_tests watchpoints (all_words entry.now)) }
+    ensures { option_map code_number result ≡
+        first_code (word_tests watchpoints (all_words entry.now)) }
 {
     let mut scan = WordScan::new();
     for number in 0..entry.word_count() {

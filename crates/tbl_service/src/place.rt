@@ -34,7 +34,8 @@ impl Model for Table {
 
     ghost Value = { Kept };
 
-    ghost view = { λ t. record { name = t.name.items; size = t.size; other = t.other; slot = t.images } };
+    ghost view = { λ t.
+        record { name = t.name.items; size = t.size; other = t.other; slot = t.images } };
 }
 
 impl Table {
@@ -118,7 +119,8 @@ impl Table {
     }
 
     pub(crate) fn pending(&self) -> Option<(Stage, &[u8])>
-        ensures { option_map (λ pending. waiting_seen pending.0 pending.1.now) result ≡ self.now.slot.waiting }
+        ensures { option_map (λ pending. waiting_seen pending.0 pending.1.now) result ≡
+            self.now.slot.waiting }
     {
         self.images.pending()
     }
@@ -140,7 +142,8 @@ impl Model for Place {
 
     ghost view = { λ p. p.tables.items };
 
-    ghost invariant = { λ p. IsPlace p.tables.items p.spare.items (vec_capacity p.tables) (vec_capacity p.spare) };
+    ghost invariant = { λ p. IsPlace p.tables.items p.spare.items (vec_capacity p.tables)
+        (vec_capacity p.spare) };
 }
 
 impl Place {
@@ -165,8 +168,11 @@ impl Place {
         other: Option<usize>,
     ) -> Option<usize>
         requires { length name.now ≤ 40 }
-        ensures room { result ≡ (if nat_le 2 (length self.old) then None else Some (length self.old)) }
-        ensures after { self.new ≡ (if nat_le 2 (length self.old) then self.old else self.old ++ new_table name.now size other ∷ []) }
+        ensures room { result ≡
+            (if nat_le 2 (length self.old) then None else Some (length self.old)) }
+        ensures after { self.new ≡
+            (if nat_le 2 (length self.old) then self.old else self.old ++ new_table name.now size
+            other ∷ []) }
     {
         let images = self.spare.pop()?;
         let number = self.tables.len();
@@ -195,7 +201,8 @@ impl Place {
     pub(crate) fn load(&mut self, number: usize, image: &[u8]) -> Result<(), TableError>
         requires inside { number < length self.old }
         requires fits { length image.now ≤ 32768 }
-        ensures answer { (d : Kept) → answered result self.new ≡ loaded_at image.now number d self.old }
+        ensures answer { (d : Kept) →
+            answered result self.new ≡ loaded_at image.now number d self.old }
         ensures refused { OnErr result (self.new ≡ self.old) }
     {
         if !self.tables[number].fits(image.len()) {
@@ -207,7 +214,8 @@ impl Place {
     /// A command to the table of this number.
     pub(crate) fn change(&mut self, number: usize, change: Move) -> Result<(), TableError>
         requires inside { number < length self.old }
-        ensures answer { (d : Kept) → answered result self.new ≡ changed_by (moved (move_of change)) number d self.old }
+        ensures answer { (d : Kept) →
+            answered result self.new ≡ changed_by (moved (move_of change)) number d self.old }
         ensures refused { OnErr result (self.new ≡ self.old) }
     {
         self.tables[number].change(change)
@@ -216,7 +224,8 @@ impl Place {
     /// The verdict on the image that waits at the table of this number.
     pub(crate) fn judge(&mut self, number: usize, valid: bool)
         requires inside { number < length self.old }
-        requires asked { (d : Kept) → IsTrue (is_some (waiting_at Asked (slice_index_or self.old number d).slot)) }
+        requires asked { (d : Kept) →
+            IsTrue (is_some (waiting_at Asked (slice_index_or self.old number d).slot)) }
         ensures { (d : Kept) → self.new ≡ with_images_at number (judged valid) d self.old }
     {
         self.tables[number].judge(valid);
@@ -225,7 +234,8 @@ impl Place {
     /// The activated image of the table of this number comes into use.
     pub(crate) fn take(&mut self, number: usize)
         requires inside { number < length self.old }
-        requires activated { (d : Kept) → IsTrue (is_some (waiting_at Activated (slice_index_or self.old number d).slot)) }
+        requires activated { (d : Kept) →
+            IsTrue (is_some (waiting_at Activated (slice_index_or self.old number d).slot)) }
         ensures { (d : Kept) → self.new ≡ with_images_at number taken d self.old }
     {
         self.tables[number].take();

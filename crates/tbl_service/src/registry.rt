@@ -104,7 +104,8 @@ impl Registry {
         other: Option<usize>,
     ) -> Result<Slot, TableError>
         requires { length name.now ≤ 40 }
-        ensures answer { answered result self.new ≡ table_registered seat name.now size other self.old }
+        ensures answer { answered result self.new ≡ table_registered seat name.now size other
+            self.old }
         ensures slot { IfOk result (λ slot. slot ≡ new_handle seat self.old) }
         ensures refused { OnErr result (self.new ≡ self.old) }
     {
@@ -139,7 +140,8 @@ impl Registry {
     /// The owner of the table is asked whether the image that waits is valid. Errors, the first that stands: `UnknownTable`,
     /// `NothingLoaded`, `UpdatePending`.
     pub fn request_validate(&mut self, table: &[u8]) -> Result<(), TableError>
-        ensures answer { answered result self.new ≡ table_commanded (Manage Validate table.now) self.old }
+        ensures answer { answered result self.new ≡ table_commanded (Manage Validate table.now)
+            self.old }
         ensures refused { OnErr result (self.new ≡ self.old) }
     {
         change_among(self.places.as_mut_slice(), table, Move::Validate)
@@ -148,7 +150,8 @@ impl Registry {
     /// The owner of the table is to take the valid image that waits. Errors, the first that stands: `UnknownTable`,
     /// `NothingLoaded`, `UpdatePending`, `NotValidated`.
     pub fn request_activate(&mut self, table: &[u8]) -> Result<(), TableError>
-        ensures answer { answered result self.new ≡ table_commanded (Manage Activate table.now) self.old }
+        ensures answer { answered result self.new ≡ table_commanded (Manage Activate table.now)
+            self.old }
         ensures refused { OnErr result (self.new ≡ self.old) }
     {
         change_among(self.places.as_mut_slice(), table, Move::Activate)
@@ -156,7 +159,8 @@ impl Registry {
 
     /// The image that waits goes. Errors, the first that stands: `UnknownTable`, `NothingLoaded`.
     pub fn abort(&mut self, table: &[u8]) -> Result<(), TableError>
-        ensures answer { answered result self.new ≡ table_commanded (Manage Abort table.now) self.old }
+        ensures answer { answered result self.new ≡ table_commanded (Manage Abort table.now)
+            self.old }
         ensures refused { OnErr result (self.new ≡ self.old) }
     {
         change_among(self.places.as_mut_slice(), table, Move::Abort)
@@ -165,7 +169,8 @@ impl Registry {
     /// The image that waits, and how far it has come.
     pub fn pending(&self, slot: Slot) -> Option<(Stage, &[u8])>
         requires { IsTrue (is_some (table_at slot self.now.places)) }
-        ensures { option_map (λ pending. waiting_seen pending.0 pending.1.now) result ≡ (slot_at slot self.now).waiting }
+        ensures { option_map (λ pending. waiting_seen pending.0 pending.1.now) result ≡
+            (slot_at slot self.now).waiting }
     {
         self.table(slot).pending()
     }
@@ -200,8 +205,10 @@ impl Registry {
     /// table's sizes.
     pub fn install(&mut self, slot: Slot, file: &[u8])
         requires registered { IsTrue (is_some (table_at slot self.old.places)) }
-        requires fits { IsSomeAnd (stored_image file.now self.old) (λ image. IsTrue (fits_at slot self.old image)) }
-        ensures { IfSome (stored_image file.now self.old) (λ image. self.new ≡ image_installed slot image self.old) }
+        requires fits { IsSomeAnd (stored_image file.now self.old)
+            (λ image. IsTrue (fits_at slot self.old image)) }
+        ensures { IfSome (stored_image file.now self.old)
+            (λ image. self.new ≡ image_installed slot image self.old) }
     {
         if let Some(bytes) = self.files.find(file) {
             install_into(self.places.as_mut_slice(), slot, bytes);
@@ -250,7 +257,8 @@ fn load_into(places: &mut [Place], bytes: &[u8]) -> Result<(), TableError>
 fn load_among(places: &mut [Place], table: &[u8], image: &[u8]) -> Result<(), TableError>
     requires seats { length places.old ≡ 8 }
     requires fits { length image.now ≤ 32768 }
-    ensures answer { answered result places.new ≡ image_loaded_among image.now table.now places.old }
+    ensures answer { answered result places.new ≡ image_loaded_among image.now table.now
+        places.old }
     ensures seats { length places.new ≡ 8 }
     ensures refused { OnErr result (places.new ≡ places.old) }
 {
@@ -265,7 +273,8 @@ fn install_into(places: &mut [Place], slot: Slot, bytes: &[u8])
     requires seats { length places.old ≡ 8 }
     requires registered { IsTrue (is_some (table_at slot places.old)) }
     requires fits { length bytes.now ≤ 32768 }
-    ensures opened { IfSome (image_in (opened bytes.now)) (λ image. places.new ≡ changed_among (installed image) slot places.old) }
+    ensures opened { IfSome (image_in (opened bytes.now))
+        (λ image. places.new ≡ changed_among (installed image) slot places.old) }
     ensures seats { length places.new ≡ 8 }
 {
     match open(bytes) {
@@ -288,7 +297,8 @@ fn install_image(places: &mut [Place], slot: Slot, image: &[u8])
 /// Moves the waiting image of the table of a name.
 fn change_among(places: &mut [Place], table: &[u8], change: Move) -> Result<(), TableError>
     requires seats { length places.old ≡ 8 }
-    ensures answer { answered result places.new ≡ moved_among (move_of change) table.now places.old }
+    ensures answer { answered result places.new ≡ moved_among (move_of change) table.now
+        places.old }
     ensures seats { length places.new ≡ 8 }
     ensures refused { OnErr result (places.new ≡ places.old) }
 {

@@ -75,7 +75,8 @@ impl Tables {
         other: Option<usize>,
     ) -> Result<Slot, TableError>
         requires { length name.now ≤ 40 }
-        ensures answer { answered result self.new ≡ table_registered seat name.now size other self.old }
+        ensures answer { answered result self.new ≡ table_registered seat name.now size other
+            self.old }
         ensures slot { IfOk result (λ slot. slot ≡ new_handle seat self.old) }
         ensures refused { OnErr result (self.new ≡ self.old) }
     {
@@ -104,7 +105,8 @@ impl Tables {
     /// The owner of the table is asked whether the image that waits is valid. Errors, the first that stands: `UnknownTable`,
     /// `NothingLoaded`, `UpdatePending`.
     pub fn request_validate(&mut self, table: &[u8]) -> Result<(), TableError>
-        ensures answer { answered result self.new ≡ table_commanded (Manage Validate table.now) self.old }
+        ensures answer { answered result self.new ≡ table_commanded (Manage Validate table.now)
+            self.old }
         ensures refused { OnErr result (self.new ≡ self.old) }
     {
         table_services_stay_sound();
@@ -114,7 +116,8 @@ impl Tables {
     /// The owner of the table is to take the valid image that waits. Errors, the first that stands: `UnknownTable`,
     /// `NothingLoaded`, `UpdatePending`, `NotValidated`.
     pub fn request_activate(&mut self, table: &[u8]) -> Result<(), TableError>
-        ensures answer { answered result self.new ≡ table_commanded (Manage Activate table.now) self.old }
+        ensures answer { answered result self.new ≡ table_commanded (Manage Activate table.now)
+            self.old }
         ensures refused { OnErr result (self.new ≡ self.old) }
     {
         table_services_stay_sound();
@@ -123,7 +126,8 @@ impl Tables {
 
     /// The image that waits goes. Errors, the first that stands: `UnknownTable`, `NothingLoaded`.
     pub fn abort(&mut self, table: &[u8]) -> Result<(), TableError>
-        ensures answer { answered result self.new ≡ table_commanded (Manage Abort table.now) self.old }
+        ensures answer { answered result self.new ≡ table_commanded (Manage Abort table.now)
+            self.old }
         ensures refused { OnErr result (self.new ≡ self.old) }
     {
         table_services_stay_sound();
@@ -133,7 +137,8 @@ impl Tables {
     /// The image that waits, and how far it has come.
     pub fn pending(&self, slot: Slot) -> Option<(Stage, &[u8])>
         requires { IsTrue (is_some (table_at slot self.now.places)) }
-        ensures { option_map (λ pending. waiting_seen pending.0 pending.1.now) result ≡ (slot_at slot self.now).waiting }
+        ensures { option_map (λ pending. waiting_seen pending.0 pending.1.now) result ≡
+            (slot_at slot self.now).waiting }
     {
         self.registry.pending(slot)
     }
@@ -170,8 +175,10 @@ impl Tables {
     /// table's sizes.
     pub fn install(&mut self, slot: Slot, file: &[u8])
         requires registered { IsTrue (is_some (table_at slot self.old.places)) }
-        requires fits { IsSomeAnd (stored_image file.now self.old) (λ image. IsTrue (fits_at slot self.old image)) }
-        ensures { IfSome (stored_image file.now self.old) (λ image. self.new ≡ image_installed slot image self.old) }
+        requires fits { IsSomeAnd (stored_image file.now self.old)
+            (λ image. IsTrue (fits_at slot self.old image)) }
+        ensures { IfSome (stored_image file.now self.old)
+            (λ image. self.new ≡ image_installed slot image self.old) }
     {
         table_services_stay_sound();
         self.registry.install(slot, file);

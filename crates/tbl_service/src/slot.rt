@@ -145,7 +145,8 @@ impl Images {
 
     /// The image that waits, and how far it has come.
     pub(crate) fn pending(&self) -> Option<(Stage, &[u8])>
-        ensures { option_map (λ pending. waiting_seen pending.0 pending.1.now) result ≡ self.now.waiting }
+        ensures { option_map (λ pending. waiting_seen pending.0 pending.1.now) result ≡
+            self.now.waiting }
     {
         match self.stage {
             None => None,

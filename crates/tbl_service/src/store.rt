@@ -137,7 +137,8 @@ impl Files {
 
 /// Where the file of a name stands.
 fn place_of(files: &[StoredFile], name: &[u8]) -> Option<usize>
-    ensures place { result ≡ position_from (λ (file : NamedFile). is_named name.now file.0) 0 files.now }
+    ensures place { result ≡ position_from (λ (file : NamedFile). is_named name.now file.0) 0
+        files.now }
     ensures inside { IfSome result (λ place. place < length files.now) }
 {
     files.iter().position(|file| file.is_named(name))

@@ -26,7 +26,8 @@ impl Entry {
     /// sample request, 8 of a housekeeping request. Its sequence count is 0.
     pub fn write_packet(self, buffer: &mut [u8; PACKET_SIZE]) -> usize
         ensures size { result ≡ length (entry_packet (entry_of self)) }
-        ensures bytes { buffer.new ≡ entry_packet (entry_of self) ++ drop (length (entry_packet (entry_of self))) buffer.old }
+        ensures bytes { buffer.new ≡ entry_packet (entry_of self) ++
+            drop (length (entry_packet (entry_of self))) buffer.old }
     {
         match self {
             Entry::Sample { first, last, ages } => {

@@ -124,7 +124,8 @@ fn sample_in(
     last: &[u8],
     ages: &[u8],
 ) -> Option<(usize, Entry)>
-    ensures said { option_map placed_of result ≡ entry_in (slot.now ∷ verb.now ∷ first.now ∷ last.now ∷ ages.now ∷ []) }
+    ensures said { option_map placed_of result ≡
+        entry_in (slot.now ∷ verb.now ∷ first.now ∷ last.now ∷ ages.now ∷ []) }
     ensures fits { IfSome result (λ placed. IsEntry (entry_of placed.1)) }
 {
     let slot = decimal_number(slot)?;

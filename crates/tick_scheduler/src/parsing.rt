@@ -15,7 +15,8 @@ use std::alloc::Global;
 
 /// The slots that the first line with words asks for, without entries.
 fn empty_slots(alloc: Global, words: &[&[u8]], n: usize) -> Result<Schedule, ScheduleError>
-    ensures said { IfOk result (λ schedule. empty_slots (slots_in (texts_of words.now)) n ≡ Ok schedule) }
+    ensures said { IfOk result
+        (λ schedule. empty_slots (slots_in (texts_of words.now)) n ≡ Ok schedule) }
     ensures refused { IfErr result (IsRefused (empty_slots (slots_in (texts_of words.now)) n)) }
 {
     let slots = line::slots_in(words).ok_or(ScheduleError::BadLine { n })? as usize;
@@ -27,8 +28,10 @@ fn empty_slots(alloc: Global, words: &[&[u8]], n: usize) -> Result<Schedule, Sch
 
 /// A schedule with the entry of a further line.
 fn with_entry(mut schedule: Schedule, words: &[&[u8]], n: usize) -> Result<Schedule, ScheduleError>
-    ensures said { IfOk result (λ after. entry_added schedule (entry_in (texts_of words.now)) n ≡ Ok after) }
-    ensures refused { IfErr result (IsRefused (entry_added schedule (entry_in (texts_of words.now)) n)) }
+    ensures said { IfOk result
+        (λ after. entry_added schedule (entry_in (texts_of words.now)) n ≡ Ok after) }
+    ensures refused { IfErr result
+        (IsRefused (entry_added schedule (entry_in (texts_of words.now)) n)) }
 {
     let (slot, entry) = line::entry_in(words).ok_or(ScheduleError::BadLine { n })?;
     if slot >= schedule.len() {
@@ -48,8 +51,10 @@ fn read_line(
     text: &[u8],
     n: usize,
 ) -> Result<Option<Schedule>, ScheduleError>
-    ensures said { IfOk result (λ after. (texts : List (List ℕ)) → lines_read known n (text.now ∷ texts) ≡ lines_read after (n + 1) texts) }
-    ensures refused { IfErr result (λ error. (texts : List (List ℕ)) → IsRefused (lines_read known n (text.now ∷ texts)) error) }
+    ensures said { IfOk result (λ after. (texts : List (List ℕ)) →
+        lines_read known n (text.now ∷ texts) ≡ lines_read after (n + 1) texts) }
+    ensures refused { IfErr result (λ error. (texts : List (List ℕ)) →
+        IsRefused (lines_read known n (text.now ∷ texts)) error) }
 {
     let words = words(text);
     if line::is_silent(words.as_slice()) {
@@ -73,7 +78,8 @@ fn read_line(
 pub fn parse_schedule(alloc: Global, text: &[u8]) -> Result<Schedule, ScheduleError>
     ensures said { IfOk result (λ schedule. schedule_in text.now ≡ Ok schedule) }
     ensures refused { IfErr result (IsRefused (schedule_in text.now)) }
-    ensures accepts { (schedule : Slots) → schedule_in text.now ≡ Ok schedule → IfErr result (λ error. error ≡ Memory) }
+    ensures accepts { (schedule : Slots) → schedule_in text.now ≡ Ok schedule →
+        IfErr result (λ error. error ≡ Memory) }
     ensures refuses { (fault : ScheduleFault) → schedule_in text.now ≡ Err fault → IsErr result }
 {
     let mut known = None;

@@ -143,7 +143,8 @@ impl Schedule {
         requires slot { slot < length self.old }
         requires room { length (entries_at self.old slot) < 8 }
         requires entry { IsEntry (entry_of entry) }
-        ensures { self.new ≡ slice_set self.old slot (entries_at self.old slot ++ entry_of entry ∷ []) }
+        ensures { self.new ≡
+            slice_set self.old slot (entries_at self.old slot ++ entry_of entry ∷ []) }
     {
         self.slots[slot].push(entry);
     }

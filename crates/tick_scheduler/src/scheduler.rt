@@ -43,7 +43,8 @@ impl Model for Scheduler {
 impl Scheduler {
     /// A scheduler in front of its first tick, with a copy of the schedule, on no seat. Out of memory is the only error.
     pub fn new(alloc: Global, schedule: &Schedule) -> Result<Scheduler, AllocError>
-        ensures { IfOk result (λ scheduler. scheduler ≡ record { schedule = schedule.now; slot = 0; seat = None }) }
+        ensures { IfOk result
+            (λ scheduler. scheduler ≡ record { schedule = schedule.now; slot = 0; seat = None }) }
     {
         let slots = schedule.len();
         let copy = schedule.copy(alloc)?;
@@ -70,7 +71,8 @@ impl Scheduler {
 
     /// What the next tick publishes, entry by entry: `Entry::write_packet` gives the packet of each.
     pub fn entries(&self) -> &[Entry]
-        ensures packets { map entry_packet (entries_of result.now) ≡ (next_tick self.now.schedule self.now.slot).1 }
+        ensures packets { map entry_packet (entries_of result.now) ≡
+            (next_tick self.now.schedule self.now.slot).1 }
         ensures few { length result.now ≤ 8 }
         ensures inside { self.now.slot < length self.now.schedule }
     {
@@ -79,7 +81,8 @@ impl Scheduler {
 
     /// The next tick is that of the slot behind, or of the first behind the last.
     pub fn move_on(&mut self)
-        ensures { self.new ≡ record self.old { slot = (next_tick self.old.schedule self.old.slot).0 } }
+        ensures { self.new ≡
+            record self.old { slot = (next_tick self.old.schedule self.old.slot).0 } }
     {
         let slots = self.schedule.len();
         self.slot = (self.slot + 1) % slots;
@@ -90,7 +93,8 @@ impl App for Scheduler {
     ghost use Rattle.lc_model.specs.Name.{sch_name};
     ghost use Rattle.lc_model.specs.Kept.Summary.{SchState};
 
-    ghost meaning = { λ s. record { called = sch_name; state = SchState s.schedule s.slot; held = s.seat } };
+    ghost meaning = { λ s.
+        record { called = sch_name; state = SchState s.schedule s.slot; held = s.seat } };
 
     fn name(&self) -> &[u8] {
         self.has_schedule();

@@ -41,10 +41,14 @@ fn number_mentions(
     numbers: &mut Vec<u16>,
 ) -> Result<(), ShareError>
     requires { length terms.old.keys ≤ table_entries }
-    ensures numbers { OnOk result (numbers.new.items ≡ numbers.old.items ++ numbers_among terms.old.keys (mentions (condition_of cond.now))) }
-    ensures added { OnOk result (terms.new.keys ≡ added_all terms.old.keys (mentions (condition_of cond.now))) }
+    ensures numbers { OnOk result
+        (numbers.new.items ≡ numbers.old.items ++ numbers_among terms.old.keys
+        (mentions (condition_of cond.now))) }
+    ensures added { OnOk result
+        (terms.new.keys ≡ added_all terms.old.keys (mentions (condition_of cond.now))) }
     ensures few { OnOk result (length terms.new.keys ≤ table_entries) }
-    ensures refused { IfErr result (IsTooManyUnlessMemory (added_all terms.old.keys (mentions (condition_of cond.now)))) }
+    ensures refused { IfErr result
+        (IsTooManyUnlessMemory (added_all terms.old.keys (mentions (condition_of cond.now)))) }
 {
     match cond {
         Cond::Watch(term) => numbers.push(number(terms, *term)?)?,
@@ -64,10 +68,13 @@ fn number_rules(
     rules: &[Rule],
 ) -> Result<Vec<Vec<u16>>, ShareError>
     requires { length terms.old.keys ≤ table_entries }
-    ensures numbers { IfOk result (λ found. numbers_of found.items ≡ numbers_by_rule terms.old.keys (rules_of rules.now)) }
-    ensures added { OnOk result (terms.new.keys ≡ added_all terms.old.keys (all_mentions (rules_of rules.now))) }
+    ensures numbers { IfOk result
+        (λ found. numbers_of found.items ≡ numbers_by_rule terms.old.keys (rules_of rules.now)) }
+    ensures added { OnOk result
+        (terms.new.keys ≡ added_all terms.old.keys (all_mentions (rules_of rules.now))) }
     ensures few { OnOk result (length terms.new.keys ≤ table_entries) }
-    ensures refused { IfErr result (IsTooManyUnlessMemory (added_all terms.old.keys (all_mentions (rules_of rules.now)))) }
+    ensures refused { IfErr result
+        (IsTooManyUnlessMemory (added_all terms.old.keys (all_mentions (rules_of rules.now)))) }
 {
     let mut mentions = Vec::with_capacity(alloc, rules.len())?;
     for rule in rules {
@@ -85,10 +92,13 @@ fn number_rules(
 #[tactic(auto, using(crate::proofs::Distinct::terms_are, crate::proofs::Distinct::numbers_are_the_rules))]
 pub fn share(alloc: Global, rules: &RuleSet) -> Result<Shared, ShareError>
     ensures terms { IfOk result (λ shared. shared.terms.items ≡ terms_of rules.now.rules) }
-    ensures mentions { IfOk result (λ shared. numbers_of shared.mentions.items ≡ map (mention_numbers (terms_of rules.now.rules)) rules.now.rules) }
+    ensures mentions { IfOk result
+        (λ shared. numbers_of shared.mentions.items ≡
+        map (mention_numbers (terms_of rules.now.rules)) rules.now.rules) }
     ensures few { IfOk result (λ shared. length shared.terms.items ≤ table_entries) }
     ensures refused { IfErr result (IsTooManyUnlessMemory (terms_of rules.now.rules)) }
-    ensures accepts { length (terms_of rules.now.rules) ≤ table_entries → IfErr result (λ error. error ≡ Memory) }
+    ensures accepts { length (terms_of rules.now.rules) ≤ table_entries →
+        IfErr result (λ error. error ≡ Memory) }
     ensures refuses { table_entries < length (terms_of rules.now.rules) → IsErr result }
 {
     let mut terms = IndexSet::new(alloc);

@@ -18,7 +18,8 @@ const NOW: Moment = Moment {
 /// The host, with this stock. Out of memory is the only error.
 pub fn begin(alloc: Global, stock: Vec<Box<dyn App>>) -> Result<Host, AllocError>
     requires { AreSpares (map meaning stock.items) }
-    ensures { IfOk result (λ host. IsBetween (shown (λ b. (⟦<dyn App as App>⟧ b.vtable).meaning b.value) host)) }
+    ensures { IfOk result
+        (λ host. IsBetween (shown (λ b. (⟦<dyn App as App>⟧ b.vtable).meaning b.value) host)) }
 {
     match Host::new(alloc, stock) {
         Ok(host) => Ok(host),

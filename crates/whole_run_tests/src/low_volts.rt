@@ -32,11 +32,13 @@ pub fn run_low_volts<R: ByteSource, W: ByteSink>(
 
     // Over every known stream without raw files: what the rules of the text call for.
     ensures any_stream { IfOk result (λ answer. WritesByItsText schedule.now
-        (devices (R.source reader.old) (R.source reader.new) (W.sink writer.old) (W.sink writer.new)) (ending_of answer)) }
+        (devices (R.source reader.old) (R.source reader.new) (W.sink writer.old)
+        (W.sink writer.new)) (ending_of answer)) }
 
     // Over the stream of two failing samples: exactly the 852 bytes that are called for.
     ensures two_failures { IfOk result (λ answer. WritesTwoFailures
-        (devices (R.source reader.old) (R.source reader.new) (W.sink writer.old) (W.sink writer.new)) (ending_of answer)) }
+        (devices (R.source reader.old) (R.source reader.new) (W.sink writer.old)
+        (W.sink writer.new)) (ending_of answer)) }
 {
     let mut stock: Vec<Box<dyn App>> = Vec::new(alloc);
     let checker = Box::new(alloc, LimitChecker::new(alloc)?)?;

@@ -80,7 +80,8 @@ pub fn file_refused(numbers: &[u16]) -> EventText
 
 /// The service's event of type information: it did what the function code asks.
 pub fn command_done(service: Service, code: u8) -> EventText
-    ensures { Event host_name (service_titled service).done Information result ≡ request.command_done (service_titled service) code }
+    ensures { Event host_name (service_titled service).done Information result ≡
+        request.command_done (service_titled service) code }
 {
     let mut text = EventText::of(service.title());
     text.push_number(u32::from(code));
@@ -91,7 +92,8 @@ pub fn command_done(service: Service, code: u8) -> EventText
 /// The service's event of type error: why a command is refused, in at most two numbers.
 pub fn command_refused(service: Service, numbers: &[u16]) -> EventText
     requires { length numbers.now ≤ 2 }
-    ensures { Event host_name (service_titled service).refused Error result ≡ request.command_refused (service_titled service) numbers.now }
+    ensures { Event host_name (service_titled service).refused Error result ≡
+        request.command_refused (service_titled service) numbers.now }
 {
     let mut text = EventText::of(service.title());
     text.push(b" refused");

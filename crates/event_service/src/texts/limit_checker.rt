@@ -11,7 +11,8 @@ use crate::text::EventText;
 
 /// Event 1, of type information: the application started.
 pub fn started(has_tables: bool) -> EventText
-    ensures { Event lc_name 1 Information result ≡ request.lc_started (if has_tables then codes "with tables" else codes "without tables") }
+    ensures { Event lc_name 1 Information result ≡
+        request.lc_started (if has_tables then codes "with tables" else codes "without tables") }
 {
     if has_tables {
         EventText::of(b"started with tables")

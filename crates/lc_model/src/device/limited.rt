@@ -74,18 +74,26 @@ impl<'a> Limited<'a> {
 }
 
 impl<'a> ByteSink for Limited<'a> {
-    ghost sink = { λ limited. record { gained = Some (take limited.taken limited.room.now); failed = limited.failed } };
+    ghost sink = { λ limited.
+        record { gained = Some (take limited.taken limited.room.now); failed = limited.failed } };
 
     fn write(&mut self, bytes: &[u8]) -> Result<usize, DeviceFault>
         requires { 0 < length bytes.now }
-        ensures written { IfOk result (λ count. WritesSome (⟦<Limited<'a> as ByteSink>⟧.sink self.old) (⟦<Limited<'a> as ByteSink>⟧.sink self.new) count bytes.now) }
-        ensures fault { OnErr result (WriteFails (⟦<Limited<'a> as ByteSink>⟧.sink self.old) (⟦<Limited<'a> as ByteSink>⟧.sink self.new)) }
+        ensures written { IfOk result
+            (λ count. WritesSome (⟦<Limited<'a> as ByteSink>⟧.sink self.old)
+            (⟦<Limited<'a> as ByteSink>⟧.sink self.new) count bytes.now) }
+        ensures fault { OnErr result
+            (WriteFails (⟦<Limited<'a> as ByteSink>⟧.sink self.old)
+            (⟦<Limited<'a> as ByteSink>⟧.sink self.new)) }
 
         // It fails at the write that it is told to fail at and behind its limit, and takes all that the limit allows.
-        ensures told { IsErr result ↔ ((self.old.fault_at ≡ Some self.new.writes) ⊎ (self.old.taken ≡ self.old.limit)) }
-        ensures whole { IfOk result (λ count. count ≡ min (length bytes.now) (self.old.limit - self.old.taken)) }
+        ensures told { IsErr result ↔ ((self.old.fault_at ≡ Some self.new.writes) ⊎
+            (self.old.taken ≡ self.old.limit)) }
+        ensures whole { IfOk result
+            (λ count. count ≡ min (length bytes.now) (self.old.limit - self.old.taken)) }
         ensures writes { self.new.writes ≡ one_call_more self.old.writes }
-        ensures behind { drop self.new.taken self.new.room.now ≡ drop self.new.taken self.old.room.now }
+        ensures behind { drop self.new.taken self.new.room.now ≡
+            drop self.new.taken self.old.room.now }
         ensures limit { self.new.limit ≡ self.old.limit }
         ensures fault_at { self.new.fault_at ≡ self.old.fault_at }
     {

@@ -60,17 +60,24 @@ impl<'a> Pieces<'a> {
 }
 
 impl<'a> ByteSource for Pieces<'a> {
-    ghost source = { λ pieces. record { rest = Some pieces.left.now; reads = pieces.reads; failed = pieces.failed } };
+    ghost source = { λ pieces.
+        record { rest = Some pieces.left.now; reads = pieces.reads; failed = pieces.failed } };
 
     fn read(&mut self, buffer: &mut [u8]) -> Result<usize, DeviceFault>
         requires { 0 < length buffer.old }
-        ensures read { IfOk result (λ count. ReadsSome (⟦<Pieces<'a> as ByteSource>⟧.source self.old) (⟦<Pieces<'a> as ByteSource>⟧.source self.new) count buffer.new) }
-        ensures fault { OnErr result (ReadFails (⟦<Pieces<'a> as ByteSource>⟧.source self.old) (⟦<Pieces<'a> as ByteSource>⟧.source self.new)) }
+        ensures read { IfOk result
+            (λ count. ReadsSome (⟦<Pieces<'a> as ByteSource>⟧.source self.old)
+            (⟦<Pieces<'a> as ByteSource>⟧.source self.new) count buffer.new) }
+        ensures fault { OnErr result
+            (ReadFails (⟦<Pieces<'a> as ByteSource>⟧.source self.old)
+            (⟦<Pieces<'a> as ByteSource>⟧.source self.new)) }
         ensures counted { self.new.reads ≡ one_call_more self.old.reads }
 
         // It fails at the read that it is told to fail at, and gives all that a piece, the buffer and the rest allow.
         ensures told { IsErr result ↔ (self.old.fault_at ≡ Some self.new.reads) }
-        ensures whole { IfOk result (λ count. count ≡ min (min self.old.most (length buffer.old)) (length self.old.left.now)) }
+        ensures whole { IfOk result
+            (λ count. count ≡ min (min self.old.most (length buffer.old))
+            (length self.old.left.now)) }
         ensures most { self.new.most ≡ self.old.most }
         ensures fault_at { self.new.fault_at ≡ self.old.fault_at }
     {

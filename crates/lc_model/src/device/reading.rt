@@ -17,7 +17,8 @@ pub struct Reading<R: Drop> {
 impl<R: Read + Drop> Reading<R> {
     /// Nothing was read or failed yet.
     pub fn new(reader: R) -> Reading<R>
-        ensures { ⟦<Reading<R> as ByteSource>⟧.source result ≡ record { rest = R.remaining reader; reads = 0; failed = false } }
+        ensures { ⟦<Reading<R> as ByteSource>⟧.source result ≡
+            record { rest = R.remaining reader; reads = 0; failed = false } }
     {
         Reading {
             reader,
@@ -28,7 +29,12 @@ impl<R: Read + Drop> Reading<R> {
 }
 
 impl<R: Read + Drop> ByteSource for Reading<R> {
-    ghost source = { λ reading. record { rest = R.remaining reading.reader; reads = reading.reads; failed = reading.failed } };
+    ghost source = { λ reading.
+        record {
+          rest = R.remaining reading.reader;
+          reads = reading.reads;
+          failed = reading.failed;
+        } };
 
     fn read(&mut self, buffer: &mut [u8]) -> Result<usize, DeviceFault> {
         self.reads = self.reads.saturating_add(1);

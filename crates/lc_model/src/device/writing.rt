@@ -16,7 +16,8 @@ pub struct Writing<W: Drop> {
 impl<W: Write + Drop> Writing<W> {
     /// Nothing failed yet.
     pub fn new(writer: W) -> Writing<W>
-        ensures { ⟦<Writing<W> as ByteSink>⟧.sink result ≡ record { gained = W.contents writer; failed = false } }
+        ensures { ⟦<Writing<W> as ByteSink>⟧.sink result ≡
+            record { gained = W.contents writer; failed = false } }
     {
         Writing {
             writer,
@@ -26,7 +27,8 @@ impl<W: Write + Drop> Writing<W> {
 }
 
 impl<W: Write + Drop> ByteSink for Writing<W> {
-    ghost sink = { λ writing. record { gained = W.contents writing.writer; failed = writing.failed } };
+    ghost sink = { λ writing.
+        record { gained = W.contents writing.writer; failed = writing.failed } };
 
     fn write(&mut self, bytes: &[u8]) -> Result<usize, DeviceFault> {
         match self.writer.write(bytes) {
