@@ -12,7 +12,6 @@ ghost use Rattle.app_host.specs.Writing.{IsFlushed, IsSent};
 use crate::error::WriteFault;
 use crate::host::Host;
 use crate::places::give_at;
-use lc_model::laws::table_services::table_services_go_by_names;
 use lc_model::{ByteSink, Seat, write_all};
 
 impl Host {
@@ -26,13 +25,13 @@ impl Host {
         ensures delivered { HasDelivered seat (shown meaning self.old) (shown meaning self.new) }
         ensures next { result ≡ ready_seat (seen self.new.services.bus) }
     {
-        table_services_go_by_names();
         let size = self
             .services
             .bus
             .receive(seat, &mut self.packet)
             .unwrap()
             .unwrap();
+        // For the proof: tables and files are within their bounds, each under a name of its own.
         self.services.tables.is_service();
         give_at(
             &mut self.seats,
@@ -40,6 +39,7 @@ impl Host {
             &mut self.services,
             &self.packet[..size],
         );
+        // And so they are behind the call.
         self.services.tables.is_service();
         self.calls += 1;
         self.services.bus.least_ready()
@@ -55,7 +55,7 @@ impl Host {
         ensures sent { IsSent sent (shown meaning self.old) (shown meaning self.new)
             (W.sink out.old) (W.sink out.new) result }
     {
-        table_services_go_by_names();
+        // For the proof: tables and files are within their bounds, each under a name of its own.
         self.services.tables.is_service();
         let waiting = self.services.outgoing.as_slice();
         let size = waiting.len() as u64;

@@ -9,7 +9,6 @@ use crate::app::App;
 use crate::host::Host;
 use crate::places::retire_at;
 use lc_model::Seat;
-use lc_model::laws::table_services::table_services_go_by_names;
 
 impl Host {
     /// The object of a seat retires, if there is one, and is handed on.
@@ -19,9 +18,10 @@ impl Host {
         requires idle { self.old.services.outgoing ≡ [] }
         ensures { HasVacated seat (shown meaning self.old) (shown meaning self.new) }
     {
-        table_services_go_by_names();
+        // For the proof: tables and files are within their bounds, each under a name of its own.
         self.services.tables.is_service();
         let retired = retire_at(&mut self.seats, seat, &mut self.services);
+        // And so they are behind the call.
         self.services.tables.is_service();
         retired
     }
@@ -48,7 +48,7 @@ impl Host {
             (shown meaning self.new).services }
         ensures idle { self.new.services.outgoing ≡ [] }
     {
-        table_services_go_by_names();
+        // For the proof: tables and files are within their bounds, each under a name of its own.
         self.services.tables.is_service();
         self.services.outgoing.clear();
     }

@@ -16,8 +16,6 @@ use crate::host::Host;
 use crate::numbers::{Numbers, of_events};
 use event_service::host::{self, Service};
 use event_service::{EventTypes, Events};
-use lc_model::laws::senders::event_services_go_by_names;
-use lc_model::laws::table_services::table_services_go_by_names;
 use lc_model::packet::function_code;
 use lc_model::{ByteSink, EventKind, u16_at};
 
@@ -119,8 +117,7 @@ impl Host {
             self.old.services.events)) (shown meaning self.old) (shown meaning self.new)
             (W.sink out.old).gained (W.sink out.new).gained result }
     {
-        event_services_go_by_names();
-        table_services_go_by_names();
+        // For the proof: tables and files are within their bounds, each under a name of its own.
         self.services.tables.is_service();
         match obey(&mut self.services.events, packet) {
             Ok(()) => {

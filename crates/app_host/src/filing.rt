@@ -11,7 +11,6 @@ use crate::error::WriteFault;
 use crate::host::Host;
 use crate::numbers::of_tables;
 use event_service::host;
-use lc_model::laws::table_services::table_services_go_by_names;
 use lc_model::{ByteSink, EventKind};
 
 impl Host {
@@ -33,9 +32,10 @@ impl Host {
             (shown meaning self.old) (shown meaning self.new) (W.sink out.old).gained
             (W.sink out.new).gained result }
     {
-        table_services_go_by_names();
+        // For the proof: tables and files are within their bounds, each under a name of its own.
         self.services.tables.is_service();
         let stored = self.services.tables.put_file(name, bytes);
+        // And so they are behind the call.
         self.services.tables.is_service();
         match stored {
             Ok(()) => {

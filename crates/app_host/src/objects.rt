@@ -17,6 +17,7 @@ pub(crate) fn start(app: &mut Box<dyn App>, seat: Seat, services: &mut Services)
     requires { MayStartOn seat services.old (meaning app.old) }
     ensures { HasStarted seat services.old services.new (meaning app.old) (meaning app.new) }
 {
+    // For the proof: an object stays at home on its seat, whatever packets it has.
     objects_are_at_home();
     app.start(seat, services);
 }
@@ -27,6 +28,7 @@ pub(crate) fn give(app: &mut Box<dyn App>, seat: Seat, services: &mut Services, 
     ensures { HasAnswered seat packet.now services.old services.new (meaning app.old)
         (meaning app.new) }
 {
+    // For the proof: an object stays at home on its seat, whatever packets it has.
     objects_are_at_home();
     app.on_packet(services, packet);
 }

@@ -11,7 +11,6 @@ ghost use Rattle.app_host.specs.Response.{only_telling, Responds};
 use crate::error::WriteFault;
 use crate::host::Host;
 use event_service::{EventText, host};
-use lc_model::laws::table_services::table_services_go_by_names;
 use lc_model::{ByteSink, EventKind};
 
 impl Host {
@@ -23,7 +22,7 @@ impl Host {
         ensures { HasTold (Event host_name id kind text.now) (shown meaning self.old)
             (shown meaning self.new) }
     {
-        table_services_go_by_names();
+        // For the proof: tables and files are within their bounds, each under a name of its own.
         self.services.tables.is_service();
         self.services.ask(None, id, kind, text.as_bytes());
     }

@@ -15,7 +15,6 @@ ghost use Rattle.app_host.specs.Response.{handing_on, Responds};
 use crate::error::WriteFault;
 use crate::host::Host;
 use crate::places::give_at;
-use lc_model::laws::table_services::table_services_go_by_names;
 use lc_model::{ByteSink, Seat};
 
 /// A tick: a command to 0x18C0 without payload, of code 0.
@@ -35,9 +34,10 @@ impl Host {
             (shown meaning self.new) }
         ensures next { result ≡ ready_seat (seen self.new.services.bus) }
     {
-        table_services_go_by_names();
+        // For the proof: tables and files are within their bounds, each under a name of its own.
         self.services.tables.is_service();
         give_at(&mut self.seats, seat, &mut self.services, packet);
+        // And so they are behind the call.
         self.services.tables.is_service();
         self.calls += 1;
         self.services.bus.least_ready()
@@ -61,7 +61,7 @@ impl Host {
             (shown meaning self.old) (shown meaning self.new) (W.sink out.old).gained
             (W.sink out.new).gained result }
     {
-        table_services_go_by_names();
+        // For the proof: tables and files are within their bounds, each under a name of its own.
         self.services.tables.is_service();
         let mut sent = 0;
         let mut next = match self.services.bus.only_hearer(packet) {

@@ -6,7 +6,7 @@ ghost use Rattle.lc_model.specs.Services.Bus.{is_blocked};
 ghost use Rattle.app_host.specs.Publishing.{AreShort, Publishes, NothingIsPublished, PublishingGoesOn, TicksHaveRoom, PublishingAnswers, PublishingLeaves, PublishingSettles};
 
 use crate::services::Services;
-use lc_model::laws::bus::{bus_has_room, bus_is_seen};
+use lc_model::laws::bus::{bus_is_seen};
 
 impl Services {
     /// Publishes a packet: each pipe that is subscribed to its message id has it once, behind what waits. Conditions: the packet
@@ -17,8 +17,6 @@ impl Services {
         ensures published { Publishes (packet.now ∷ []) self.old self.new }
         ensures fills { (n : ℕ) → AreShort n self.old.bus → AreShort (n + 1) self.new.bus }
     {
-        bus_is_seen();
-        bus_has_room();
         self.bus.publish_judged(packet).unwrap();
     }
 }

@@ -11,7 +11,6 @@ ghost use Rattle.app_host.specs.Seating.{IsOpened, IsClosed, HasPipeAndSender};
 
 use crate::services::Services;
 use lc_model::Seat;
-use lc_model::laws::senders::event_services_go_by_names;
 use packet_bus::Bus;
 
 impl Services {
@@ -25,7 +24,7 @@ impl Services {
         requires few { length message_ids.now ≤ 256 }
         ensures { IsOpened seat name.now (with_mids message_ids.now []) self.old self.new }
     {
-        event_services_go_by_names();
+        // For the proof: the senders of events have names of their own.
         self.events.is_service();
         self.bus.add_pipe(seat).unwrap();
         subscribe(&mut self.bus, seat, message_ids);
@@ -37,7 +36,7 @@ impl Services {
         requires { HasPipeAndSender seat (held_by self.old) }
         ensures { IsClosed seat self.old self.new }
     {
-        event_services_go_by_names();
+        // For the proof: the senders of events have names of their own.
         self.events.is_service();
         self.bus.remove_pipe(seat).unwrap();
         self.events.unregister(seat).unwrap();

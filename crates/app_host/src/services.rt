@@ -11,7 +11,6 @@ ghost use Rattle.app_host.specs.Telling.{Tells};
 use crate::counts::Counts;
 use crate::outgoing::Outgoing;
 use event_service::Events;
-use lc_model::laws::senders::event_services_go_by_names;
 use lc_model::{EventKind, Moment, Seat};
 use packet_bus::Bus;
 use std::alloc::{AllocError, Global};
@@ -80,7 +79,7 @@ impl Services {
             concat (option_to_list
             (event_asked from self.old.moment id kind text.now self.old.events).1) }
     {
-        event_services_go_by_names();
+        // For the proof: the senders of events have names of their own.
         self.events.is_service();
         if let Some(packet) = self.events.send(from, self.moment, id, kind, text) {
             self.outgoing.append(packet.as_bytes());

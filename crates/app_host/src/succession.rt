@@ -12,7 +12,6 @@ use crate::host::Host;
 use crate::objects::{retire, start};
 use crate::services::Services;
 use lc_model::Seat;
-use lc_model::laws::table_services::table_services_go_by_names;
 
 /// Who takes a seat next.
 #[derive(Drop)]
@@ -106,9 +105,10 @@ impl Host {
         ensures { HasWithdrawn seat (shown meaning self.old) (shown meaning self.new)
             (meaning result) }
     {
-        table_services_go_by_names();
+        // For the proof: tables and files are within their bounds, each under a name of its own.
         self.services.tables.is_service();
         let app = withdraw_at(&mut self.seats, seat, &mut self.services);
+        // And so they are behind the call.
         self.services.tables.is_service();
         app
     }
@@ -121,10 +121,12 @@ impl Host {
         requires may { MayBegin seat (shown meaning self.old) (meaning app) }
         ensures { HasBegun seat (meaning app) (shown meaning self.old) (shown meaning self.new) }
     {
-        table_services_go_by_names();
+        // For the proof: the object is of the kind that goes by its name, and tables and files are within their bounds, each
+        // under a name of its own.
         is_object(&app);
         self.services.tables.is_service();
         begin_at(&mut self.seats, seat, &mut self.services, app);
+        // And so they are behind the call.
         self.services.tables.is_service();
     }
 

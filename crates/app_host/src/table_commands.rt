@@ -18,7 +18,6 @@ use crate::host::Host;
 use crate::numbers::{Numbers, of_tables};
 use event_service::host::{self, Service};
 use host_laws::table_commands_go_by_names;
-use lc_model::laws::table_services::table_services_go_by_names;
 use lc_model::packet::function_code;
 use lc_model::{ByteSink, EventKind};
 use tbl_service::Tables;
@@ -120,10 +119,12 @@ impl Host {
             self.old.services.tables)) (shown meaning self.old) (shown meaning self.new)
             (W.sink out.old).gained (W.sink out.new).gained result }
     {
-        table_services_go_by_names();
+        // For the proof: what a table command does goes by the names of tables, and tables and files are within their bounds,
+        // each under a name of its own.
         table_commands_go_by_names();
         self.services.tables.is_service();
         let obeyed = obey(&mut self.services.tables, packet);
+        // And so they are behind the call.
         self.services.tables.is_service();
         match obeyed {
             Ok(()) => {

@@ -13,7 +13,6 @@ use crate::error::EventError;
 use crate::packet::EventPacket;
 use crate::sender::{Change, Sender};
 use crate::types::EventTypes;
-use lc_model::laws::senders::event_services_stay_sound;
 use lc_model::{EventKind, Moment, Seat};
 use std::alloc::Global;
 use std::marker::Model;
@@ -74,7 +73,6 @@ impl Events {
         ensures answer { answered result self.new ≡ registered_at seat name.now self.old }
         ensures refused { OnErr result (self.new ≡ self.old) }
     {
-        event_services_stay_sound();
         if name == HOST || place_of(self.places.as_slice(), name).is_some() {
             return Err(EventError::AppsFull);
         }
@@ -91,7 +89,6 @@ impl Events {
         ensures answer { answered result self.new ≡ unregistered_at seat self.old }
         ensures refused { OnErr result (self.new ≡ self.old) }
     {
-        event_services_stay_sound();
         let place = &mut self.places[seat.index()];
         if place.is_none() {
             return Err(EventError::NotRegistered);
@@ -120,7 +117,6 @@ impl Events {
         ensures after { self.new ≡ (event_asked from moment id kind text.now self.old).0 }
         ensures packet { result ≡ (event_asked from moment id kind text.now self.old).1 }
     {
-        event_services_stay_sound();
         match from {
             None => self.host.ask(&mut self.sent, moment, id, kind, text),
             Some(seat) => match &mut self.places[seat.index()] {
@@ -162,7 +158,6 @@ impl Events {
         ensures answer { answered result self.new ≡ commanded name.now (item_of change) self.old }
         ensures refused { OnErr result (self.new ≡ self.old) }
     {
-        event_services_stay_sound();
         if name == HOST {
             return self.host.change(change);
         }

@@ -50,6 +50,7 @@ impl App for Counter {
     }
 
     fn start(&mut self, seat: Seat, services: &mut Services) {
+        // For the proof: each call of the services keeps the rules of the interface.
         seats_are_kept_by_the_rules();
         services.open(seat, NAME, &[mids::COUNTER]);
         self.count = 0;
@@ -57,6 +58,7 @@ impl App for Counter {
     }
 
     fn on_packet(&mut self, services: &mut Services, packet: &[u8]) {
+        // For the proof: each call of the services keeps the rules of the interface.
         seats_are_kept_by_the_rules();
         if message_id(packet) != mids::COUNTER {
             return;
@@ -75,6 +77,7 @@ impl App for Counter {
     }
 
     fn retire(&mut self, services: &mut Services) {
+        // For the proof: each call of the services keeps the rules of the interface.
         seats_are_kept_by_the_rules();
         if let Some(seat) = self.seat.take() {
             services.close(seat);

@@ -11,7 +11,6 @@ ghost use Rattle.app_host.specs.Step.{IsBetween};
 use crate::error::{Report, RunError};
 use crate::halt::Halt;
 use crate::handling::handle_next;
-use crate::laws::{records_are_handed_out, the_rest_says_the_end};
 use crate::pieces::{MOST_READS, PIECE, take_piece};
 use crate::records::Records;
 use app_host::{App, Host};
@@ -67,8 +66,8 @@ pub(crate) fn fly<R: ByteSource, W: ByteSink>(
     ensures begun { HasBegun result }
     ensures bounded { (R.source reader.new).reads ≤ most }
 {
-    records_are_handed_out();
-    the_rest_says_the_end();
+    // For the proof: what is written for one record more comes behind all else; a stream of bytes brings files of bytes; what
+    // is written is what the steps write.
     goes_on();
     records_of_bytes_are_fine();
     writes_are_the_steps();

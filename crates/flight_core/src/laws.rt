@@ -5,9 +5,6 @@ ghost use Rattle.flight_core.specs.Cutting.{Begins, Comes, EndsBadly, EndsCut, E
 ghost use Rattle.flight_core.specs.Promises.{RunsKeepTheirPromises};
 ghost use Rattle.flight_core.specs.Words.{GiveAPlan, compile_words, words_lacking_a_file, run_words, run_words_otherwise};
 
-use lc_model::laws::isolation::asides_do_not_count;
-use lc_model::laws::runs::runs_write_what_is_called_for;
-
 /// Bytes come and records are handed out, one after the other: whatever follows, the records of it all are those handed out,
 /// and then those of what is held and what follows.
 pub fn records_are_handed_out()
@@ -40,7 +37,4 @@ pub fn words_give_plans()
 /// All that a run of this profile's applications promises follows from how it ends.
 pub fn runs_keep_their_promises()
     ensures { RunsKeepTheirPromises }
-{
-    runs_write_what_is_called_for();
-    asides_do_not_count();
-}
+{}

@@ -91,6 +91,7 @@ pub fn run_within<R: ByteSource, W: ByteSink>(
         (W.sink writer.old) (W.sink writer.new) in
         Promises (IsOfProfile schedule.now objects) mission before_and_after result }
 {
+    // For the proof: each promise follows from how the run ends.
     runs_keep_their_promises();
     begin(alloc, texts, schedule, stock, reader, writer, reads)
 }
@@ -120,7 +121,9 @@ fn begin<R: ByteSource, W: ByteSink>(
     ensures named { IfErr result (NamesTheNumber (sources_of texts.now)) }
     ensures bounded { (R.source reader.new).reads ≤ reads }
 {
+    // For the proof: the host in numbers writes what a mission calls for.
     writes_a_mission();
+    // For the proof: the schedule is one that a text can say.
     let _slots = schedule.len();
     match compile_all(alloc, texts) {
         Ok(pairs) => run_compiled(alloc, pairs.as_slice(), stock, reader, writer, reads),

@@ -74,6 +74,7 @@ pub fn launch<R: ByteSource, W: ByteSink>(
         (W.sink writer.old) (W.sink writer.new) in
         Promises ⊤ (own_mission texts.now schedule.now) before_and_after result }
 {
+    // For the proof: each promise follows from how the run ends.
     runs_keep_their_promises();
     match fly(alloc, texts, schedule, reader, writer) {
         Ok(answer) => answer,

@@ -23,7 +23,6 @@ use app_host::Services;
 use app_host::laws::seats_are_kept_by_the_rules;
 use app_host::sending::telling_goes_on;
 use event_service::limit_checker as texts;
-use lc_model::laws::table_services::table_services_go_by_names;
 use lc_model::packet::{function_code, message_id};
 use lc_model::{EventKind, Seat, sample_request};
 use limit_engine::Engine;
@@ -60,6 +59,7 @@ impl Application {
         ensures answers { Answers self.old.seat self.old.engine self.new.engine packet.now
             services.old services.new }
     {
+        // For the proof: each call of the services keeps the rules of the interface.
         seats_are_kept_by_the_rules();
         match command::obey(&mut self.engine, packet) {
             Ok(()) => {
@@ -82,6 +82,8 @@ impl Application {
         ensures answers { Answers self.old.seat self.old.engine self.new.engine packet.now
             services.old services.new }
     {
+        // For the proof: each call of the services keeps the rules of the interface, and what is told adds up from call to
+        // call.
         seats_are_kept_by_the_rules();
         telling_goes_on();
         if self.engine.telemetry(packet) {
@@ -99,6 +101,7 @@ impl Application {
         ensures answers { Answers self.old.seat self.old.engine self.new.engine packet.now
             services.old services.new }
     {
+        // For the proof: each call of the services keeps the rules of the interface.
         seats_are_kept_by_the_rules();
         match sample_request(packet) {
             Ok(request) => {
@@ -139,8 +142,9 @@ impl Application {
             (λ seat. IfSome (next_retire (LcState self.old.engine) (shared services.old))
             (LeavesEmpty seat services.old services.new)) }
     {
+        // For the proof: each call of the services keeps the rules of the interface, and tables and files are within their
+        // bounds, each under a name of its own.
         seats_are_kept_by_the_rules();
-        table_services_go_by_names();
         services.tables.is_service();
         if let Some(seat) = self.seat.take() {
             services.close(seat);

@@ -29,6 +29,8 @@ impl Application {
         ensures answers { Answers self.old.seat self.old.engine self.new.engine packet.now
             services.old services.new }
     {
+        // For the proof: each call of the services keeps the rules of the interface, and what is told adds up from call to
+        // call.
         seats_are_kept_by_the_rules();
         telling_goes_on();
         let mid = message_id(packet);

@@ -19,7 +19,6 @@ use app_host::Services;
 use app_host::laws::seats_are_kept_by_the_rules;
 use app_host::sending::telling_goes_on;
 use event_service::limit_checker as texts;
-use lc_model::laws::table_services::{table_services_go_by_names, table_services_stay_sound};
 use lc_model::packet::function_code;
 use lc_model::{CommandRefusal, EventKind, Kind, Seat};
 use limit_engine::Engine;
@@ -71,6 +70,7 @@ fn tell_adoption(adopted: bool, from: &Option<Seat>, services: &mut Services)
     ensures told { Tells from.now lc_name (adoption_requests adopted) services.old services.new }
     ensures size { length services.new.outgoing ≤ length services.old.outgoing + 168 }
 {
+    // For the proof: each call of the services keeps the rules of the interface, and what is told adds up from call to call.
     seats_are_kept_by_the_rules();
     telling_goes_on();
     if adopted {
@@ -86,6 +86,7 @@ fn tell_renewal(renewal: &Renewal, from: &Option<Seat>, services: &mut Services)
     ensures told { Tells from.now lc_name (renewal_requests renewal.now) services.old services.new }
     ensures size { length services.new.outgoing ≤ length services.old.outgoing + 504 }
 {
+    // For the proof: what is told adds up from call to call.
     telling_goes_on();
     tell_verdict(Kind::Wdt, renewal.wdt, from, services);
     tell_verdict(Kind::Adt, renewal.adt, from, services);
@@ -103,6 +104,7 @@ impl Application {
             (map (standing by_counts) self.now.engine.points) ∷ []) services.old services.new }
         ensures size { length services.new.outgoing ≤ length services.old.outgoing + 696 }
     {
+        // For the proof: what is told adds up from call to call.
         telling_goes_on();
         tell_renewal(renewal, &self.seat, services);
         self.tell_standing(services);
@@ -118,9 +120,9 @@ impl Application {
         ensures answers { Answers self.old.seat self.old.engine self.new.engine packet.now
             services.old services.new }
     {
+        // For the proof: each call of the services keeps the rules of the interface, and tables and files are within their
+        // bounds, each under a name of its own.
         seats_are_kept_by_the_rules();
-        table_services_go_by_names();
-        table_services_stay_sound();
         services.tables.is_service();
         match requested(packet) {
             Ok(()) => {

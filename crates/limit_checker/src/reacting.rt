@@ -22,6 +22,7 @@ fn tell_turn(rule: u16, turn: Option<Turn>, from: &Option<Seat>, services: &mut 
     ensures told { Tells from.now lc_name (turn_requests rule turn) services.old services.new }
     ensures size { length services.new.outgoing ≤ length services.old.outgoing + turn_size turn }
 {
+    // For the proof: each call of the services keeps the rules of the interface, and what is told adds up from call to call.
     seats_are_kept_by_the_rules();
     telling_goes_on();
     match turn {
@@ -47,6 +48,7 @@ fn request(rule: u16, run: u16, event: &RuleEvent<'_>, from: &Option<Seat>, serv
         services.new }
     ensures size { length services.new.outgoing ≤ length services.old.outgoing + 180 }
 {
+    // For the proof: each call of the services keeps the rules of the interface, and what is told adds up from call to call.
     seats_are_kept_by_the_rules();
     telling_goes_on();
     services.request_sequence(event.sequence);
@@ -71,6 +73,7 @@ fn tell_failure(
     ensures size { length services.new.outgoing ≤ length services.old.outgoing + failure_size
         (Some failure) }
 {
+    // For the proof: each call of the services keeps the rules of the interface.
     seats_are_kept_by_the_rules();
     match failure {
         Failure::Requested(run) => request(rule, run, event, from, services),
@@ -101,6 +104,7 @@ fn tell_reactions(
     ensures size { length services.new.outgoing ≤ length services.old.outgoing + reactions_size
         reactions }
 {
+    // For the proof: what is told adds up from call to call.
     telling_goes_on();
     tell_turn(rule, reactions.turn, from, services);
     match reactions.failure {
@@ -121,6 +125,7 @@ fn tell_item(engine: &Engine, item: &Asked, from: &Option<Seat>, services: &mut 
         (requests_at (slice_get engine.now.rules item.now.rule) item.now) }
     ensures sends { MaySend from.now services.new }
 {
+    // For the proof: what is told adds up from call to call.
     telling_goes_on();
     let index = usize::from(item.rule);
     if index < engine.rule_count() {
@@ -144,6 +149,7 @@ pub(crate) fn tell_all(
     ensures size { length services.new.outgoing ≤ length services.old.outgoing + sizes
         (requests_in engine.now.rules asked.now) }
 {
+    // For the proof: what is told adds up from call to call.
     telling_goes_on();
     for item in asked {
         tell_item(engine, item, from, services);

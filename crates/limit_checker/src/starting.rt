@@ -86,6 +86,7 @@ fn register_both(tables: &mut Tables, seat: Seat)
     requires unused { AreUnused tables.old }
     ensures { tables.new ≡ with_both seat tables.old }
 {
+    // For the proof: tables and files are within their bounds, each under a name of its own.
     tables.is_service();
     tables
         .register(
@@ -133,6 +134,8 @@ pub(crate) fn take_seat(engine: &mut Engine, seat: Seat, services: &mut Services
         (Leaves seat (LcState engine.new) services.old services.new) }
     ensures settled { IsSettled (LcState engine.new) seat (held_by services.new) }
 {
+    // For the proof: each call of the services keeps the rules of the interface, and tables and files are within their
+    // bounds, each under a name of its own.
     seats_are_kept_by_the_rules();
     services.tables.is_service();
     services.open(seat, NAME, &[]);

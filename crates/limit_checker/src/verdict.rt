@@ -80,6 +80,7 @@ pub(crate) fn tell_verdict(
     ensures told { Tells from.now lc_name (requests_of kind verdict) services.old services.new }
     ensures size { length services.new.outgoing ≤ length services.old.outgoing + 168 }
 {
+    // For the proof: each call of the services keeps the rules of the interface, and what is told adds up from call to call.
     seats_are_kept_by_the_rules();
     telling_goes_on();
     match verdict {

@@ -17,7 +17,6 @@ use crate::limits;
 use crate::lowered::Lowered;
 use field_checker::check;
 use lc_model::RuleSet;
-use lc_model::laws::reading;
 use rule_lexer::lex;
 use rule_parser::parse;
 use std::alloc::Global;
@@ -60,7 +59,6 @@ fn lower_text(alloc: Global, text: &[u8]) -> Result<Lowered, CompileError>
     ensures refused { IfErr result (Refuses (IsRefused limits text.now)) }
     ensures named { IfErr result (NamesTheNumberIn text.now) }
 {
-    reading::rules_are_within_ranges();
     let rules = read(alloc, text)?;
     lower_rules(alloc, rules)
 }
@@ -80,7 +78,5 @@ pub fn lower(alloc: Global, text: &[u8]) -> Result<Lowered, CompileError>
     ensures refuses { (refusal : TextRefusal) → IsRefused limits text.now refusal →
         MatchResult result (λ _. ⊥) (Refuses (λ found. found ≡ refusal)) }
 {
-    reading::reads_in_one_way();
-    reading::has_at_most_one_verdict();
     lower_text(alloc, text)
 }

@@ -22,7 +22,6 @@ use crate::error::CompileError;
 use crate::images::entries;
 use crate::lowered::Lowered;
 use lc_model::Kind;
-use lc_model::laws::tables::compiled_tables_are_halves;
 use sha2::{Digest, Sha256};
 use std::alloc::Global;
 use table_file::{AdtImage, AdtVersion, WdtImage, encode_adt, encode_wdt, wrap};
@@ -75,7 +74,6 @@ fn files(alloc: Global, text: &[u8], lowered: Lowered) -> Result<TablePair, Comp
     ensures tables { IfOk result (AreTables text.now lowered.rules.rules) }
     ensures refused { IfErr result (λ error. error ≡ Memory) }
 {
-    compiled_tables_are_halves();
     let hash = Sha256::digest(text);
     let Lowered {
         rules,

@@ -5,6 +5,7 @@ use Rattle.lc_model.specs.Laws.Reading.{AtMostOneBadToken}
 use Rattle.rule_lexer.specs.declared.error.LexError.{LexError}
 use Rattle.rule_lexer.specs.declared.error.LexError.TheVariants.{BadByte, BadNumber, NameTooLong, BadString, TextTooLong, Memory}
 use Rattle.rule_lexer.specs.Fault.{IsFault}
+use Rattle.lc_model.proofs.Texts.OneBadToken.{one_bad_token, splits_has_no_bad_token}
 use Rattle.rule_lexer.specs.Laws.{AtMostOneFault}
 
 -- the error of a bad token
@@ -38,8 +39,11 @@ apart : (text : List ℕ) (tokens : List Token) (error : LexError) → AtMostOne
 apart text tokens error one splits (inl long) = let short = splits.0 in omega (arith, long.1, short)
 apart text tokens error one splits (inr (code, at, is, short, bad)) = one.not_both tokens code at splits bad
 
-pub at_most_one_fault : (text : List ℕ) → AtMostOneBadToken text → AtMostOneFault text
-at_most_one_fault text one = record {
-  one_fault = λ error other is is'. same text error other one (sort text error is) (sort text other is');
-  not_both = λ tokens error splits is. apart text tokens error one splits (sort text error is);
+bad_token : (text : List ℕ) → AtMostOneBadToken text
+bad_token text = record { one_bad_token = λ code at other place. one_bad_token text code at other place; not_both = splits_has_no_bad_token text }
+
+pub at_most_one_fault : (text : List ℕ) → AtMostOneFault text
+at_most_one_fault text = record {
+  one_fault = λ error other is is'. same text error other (bad_token text) (sort text error is) (sort text other is');
+  not_both = λ tokens error splits is. apart text tokens error (bad_token text) splits (sort text error is);
 }

@@ -3,14 +3,10 @@
 ghost use Rattle.std.specs.Prelude.{List, ℕ};
 ghost use Rattle.rule_lexer.specs.Laws.{AtMostOneFault, KindsDecideClasses};
 
-use lc_model::laws::reading;
-
 /// A text has at most one fault of the lexer, and none where it splits into tokens.
 pub fn has_at_most_one_fault()
     ensures { (text : List ℕ) → AtMostOneFault text }
-{
-    reading::has_at_most_one_bad_token();
-}
+{}
 
 /// The kind of a token decides of which of the grammar's classes it is.
 pub fn kinds_decide_classes()

@@ -9,10 +9,8 @@ ghost use Rattle.rule_lexer.specs.Token.{tokens_of, HasItsKind};
 ghost use Rattle.rule_lexer.specs.Fault.{IsFault, IsFaultUnlessMemory, IsUnlessMemory};
 
 use crate::error::LexError;
-use crate::laws::has_at_most_one_fault;
 use crate::scanner::Scanner;
 use crate::token::Token;
-use lc_model::laws::reading;
 use std::alloc::Global;
 
 /// The most bytes of a text.
@@ -54,7 +52,5 @@ pub fn lex<'a>(alloc: Global, text: &'a [u8]) -> Result<Vec<Token<'a>>, LexError
     ensures refuses { (fault : LexError) → IsFault text.now fault →
         MatchResult result (λ found. ⊥) (λ error. IsUnlessMemory fault error) }
 {
-    reading::splits_in_one_way();
-    has_at_most_one_fault();
     scan(alloc, text)
 }

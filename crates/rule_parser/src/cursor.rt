@@ -73,6 +73,7 @@ impl<'t, 'a> Cursor<'t, 'a> {
     pub fn next(&mut self) -> Option<Token<'a>>
         ensures { IsNext self.old self.new result }
     {
+        // For the proof: the kind of a token decides its class.
         kinds_decide_classes();
         let token = *self.tokens.get(self.count)?;
         self.count += 1;
@@ -84,6 +85,7 @@ impl<'t, 'a> Cursor<'t, 'a> {
         requires { IsTrue (is_plain kind) }
         ensures { result ≡ begins (class_of kind) self.now }
     {
+        // For the proof: the kind of a token decides its class.
         kinds_decide_classes();
         match self.tokens.get(self.count) {
             Some(token) => token.kind == kind,

@@ -5,8 +5,6 @@ ghost use Rattle.lc_model.specs.Text.Token.{Token};
 ghost use Rattle.lc_model.specs.Laws.Reading.{OneAnswer, ParsesOrFails};
 ghost use Rattle.rule_parser.specs.Laws.{AtMostOneParse};
 
-use lc_model::laws::reading;
-
 /// Tokens parse, or have a fault of the parser.
 pub fn tokens_parse_or_fail()
     ensures { ParsesOrFails }
@@ -15,15 +13,9 @@ pub fn tokens_parse_or_fail()
 /// Tokens are at most one list of items, or have at most one fault of the parser, and not both.
 pub fn tokens_have_at_most_one_parse()
     ensures { (end : ℕ) (tokens : List Token) → AtMostOneParse end tokens }
-{
-    reading::has_one_parse_fault();
-}
+{}
 
 /// Each text has one answer: the rules that it says, or one refusal.
 pub fn text_has_one_answer()
     ensures { (text : List ℕ) → OneAnswer text }
-{
-    tokens_parse_or_fail();
-    reading::has_answer_where_tokens_do();
-    reading::has_at_most_one_answer();
-}
+{}

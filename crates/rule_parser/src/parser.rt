@@ -11,7 +11,6 @@ ghost use Rattle.rule_parser.specs.declared.error.ParseError.TheVariants.{Memory
 
 use crate::error::ParseError;
 use crate::file;
-use crate::laws::tokens_have_at_most_one_parse;
 use crate::syntax::RuleFile;
 use rule_lexer::Token;
 use std::alloc::Global;
@@ -52,6 +51,5 @@ pub fn parse<'a>(
         HasParseFault (length text.now) (tokens_of tokens.now) fault →
         MatchResult result (λ file. ⊥) (Refuses (λ found. found ≡ fault)) }
 {
-    tokens_have_at_most_one_parse();
     read(alloc, tokens, text.len())
 }

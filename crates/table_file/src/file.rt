@@ -10,7 +10,6 @@ ghost use Rattle.table_file.specs.Error.{Answers};
 
 use crate::error::FileError;
 use crate::name::front_name;
-use lc_model::laws::tables::files_have_one_spelling;
 use lc_model::u32_at;
 use std::marker::Model;
 
@@ -177,6 +176,5 @@ pub fn open(bytes: &[u8]) -> Result<TableFile<'_>, FileError>
     ensures again { (file : model.TableFile) → IsTableFile file → bytes.now ≡ file_bytes file →
         result ≡ Ok file }
 {
-    files_have_one_spelling();
     read_headers(bytes)
 }

@@ -9,7 +9,6 @@ use crate::error::FileError;
 use crate::file::{CONTENT_TYPE, FILE_HEADER_LENGTH, HEADERS_LENGTH, SUBTYPE};
 use crate::output::{push_u32, push_zeros};
 use lc_model::Kind;
-use lc_model::laws::tables::files_have_one_spelling;
 use std::alloc::{AllocError, Global};
 
 /// The spacecraft and the processor that files are written for (this project's own).
@@ -66,7 +65,6 @@ pub fn wrap(alloc: Global, kind: Kind, image: &[u8]) -> Result<Vec<u8>, FileErro
     ensures opens { IfOk result (λ bytes. opened bytes.items ≡ Ok (wrapped kind image.now)) }
     ensures refused { IfErr result (λ error. error ≡ Memory) }
 {
-    files_have_one_spelling();
     let mut out = Vec::with_capacity(alloc, HEADERS_LENGTH + image.len())?;
     push_file_header(&mut out)?;
     push_table_header(&mut out, kind, image.len() as u32)?;

@@ -11,7 +11,6 @@ use crate::schedule::Schedule;
 use app_host::laws::seats_are_kept_by_the_rules;
 use app_host::publishing::publishing_is_by_the_rules;
 use app_host::{App, Services};
-use lc_model::laws::bus::bus_has_room;
 use lc_model::packet::message_id;
 use lc_model::{Seat, mids};
 use std::alloc::{AllocError, Global};
@@ -97,11 +96,13 @@ impl App for Scheduler {
         record { called = sch_name; state = SchState s.schedule s.slot; held = s.seat } };
 
     fn name(&self) -> &[u8] {
+        // For the proof: what is scheduled is a schedule that a text can say.
         self.has_schedule();
         NAME
     }
 
     fn start(&mut self, seat: Seat, services: &mut Services) {
+        // For the proof: each call of the services keeps the rules of the interface.
         seats_are_kept_by_the_rules();
         services.open(seat, NAME, &[mids::TICK]);
         self.seat = Some(seat);
@@ -109,6 +110,8 @@ impl App for Scheduler {
     }
 
     fn on_packet(&mut self, services: &mut Services, packet: &[u8]) {
+        // For the proof: each call of the services keeps the rules of the interface, and what is published keeps the rules of
+        // the interface.
         seats_are_kept_by_the_rules();
         publishing_is_by_the_rules();
         if message_id(packet) != mids::TICK {
@@ -119,6 +122,7 @@ impl App for Scheduler {
     }
 
     fn retire(&mut self, services: &mut Services) {
+        // For the proof: each call of the services keeps the rules of the interface.
         seats_are_kept_by_the_rules();
         let seat = self.seat.take().unwrap();
         services.close(seat);
@@ -131,8 +135,8 @@ fn publish_all(entries: &[Entry], services: &mut Services)
     requires room { AreShort 64 services.old.bus }
     ensures { Publishes (map entry_packet (entries_of entries.now)) services.old services.new }
 {
+    // For the proof: what is published keeps the rules of the interface.
     publishing_is_by_the_rules();
-    bus_has_room();
     let mut buffer = [0; PACKET_SIZE];
     for entry in entries {
         let size = entry.write_packet(&mut buffer);

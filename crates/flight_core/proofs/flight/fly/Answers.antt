@@ -1,6 +1,7 @@
 use Rattle.std.proofs.Common.{rules, ◌<◌, refl, arith}
 use Rattle.lc_model.specs.Tables.InForce.{layouts}
 use Rattle.flight_core.proofs.Courses.{goes_on_board, takes_on_board, nothing_yet, one_more, idle, comes_more}
+use Rattle.flight_core.proofs.Cutting.{begins, comes, goes, ends_badly, ends_whole, ends_cut}
 use Rattle.flight_core.proofs.Endings.{stops_by, reads_by, ends_by}
 use Rattle.flight_core.proofs.flight.fly.Goals as goal
 
@@ -8,7 +9,7 @@ pub loop-total-init : goal.loop-total-init
 loop-total-init g c = record {
   room = c.requires.room;
   bounded = omega (arith, c.requires.unread);
-  far = nothing_yet _ _ _ c.records_are_handed_out.ensures.begins _ _ _ c.requires.nothing c.requires.between c.requires.open c.requires.unread c.requires.readable c.requires.writable;
+  far = nothing_yet _ _ _ begins _ _ _ c.requires.nothing c.requires.between c.requires.open c.requires.unread c.requires.readable c.requires.writable;
 }
 
 pub loop-total-preserved-in-Ok-Some : goal.loop-total-preserved-in-Ok-Some
@@ -18,7 +19,7 @@ loop-total-preserved-in-Ok-Some g c =
     record {
       room = c.loop-total.invariant.room;
       bounded = c.loop-total.invariant.bounded;
-      far = one_more _ _ _ (goes_on_board (c.goes_on.ensures layouts)) c.records_are_handed_out.ensures.goes _ _ _ _ _ _ _ _ c.loop-total.invariant.far _ _ _ _ fits handled;
+      far = one_more _ _ _ (goes_on_board (c.goes_on.ensures layouts)) goes _ _ _ _ _ _ _ _ c.loop-total.invariant.far _ _ _ _ fits handled;
     }
 
 pub loop-total-preserved : goal.loop-total-preserved
@@ -29,7 +30,7 @@ loop-total-preserved g c =
     record {
       room = c.take_piece.ensures.room;
       bounded = c.take_piece.ensures.bounded;
-      far = comes_more _ _ _ c.records_are_handed_out.ensures.comes _ _ _ _ _ _ _ _ _ far _ _ came;
+      far = comes_more _ _ _ comes _ _ _ _ _ _ _ _ _ far _ _ came;
     }
 
 pub returns-in-Ok-false-clause-outcome : goal.returns-in-Ok-false-clause-outcome
@@ -40,10 +41,10 @@ returns-in-Ok-false-clause-outcome g c = λ known output same.
       goes_on = goes_on_board (c.goes_on.ensures layouts);
       takes = takes_on_board (c.writes_are_the_steps.ensures.taken layouts);
       brings = c.records_of_bytes_are_fine.ensures.brought;
-      goes = c.records_are_handed_out.ensures.goes;
-      bad = c.the_rest_says_the_end.ensures.bad;
-      whole = c.the_rest_says_the_end.ensures.whole;
-      cut = c.the_rest_says_the_end.ensures.cut;
+      goes = goes;
+      bad = ends_badly;
+      whole = ends_whole;
+      cut = ends_cut;
     }) _ _ _ _ _ _ known output same _ _ _ _ _ _ c.loop-total.invariant.far _ _ _ none _ _ over c.loop-total.report refl refl c.ended.result c.ended.ensures.so
 
 pub returns-in-Err-take_piece-clause-outcome : goal.returns-in-Err-take_piece-clause-outcome
@@ -53,10 +54,10 @@ returns-in-Err-take_piece-clause-outcome g c = λ known output same.
       goes_on = goes_on_board (c.goes_on.ensures layouts);
       takes = takes_on_board (c.writes_are_the_steps.ensures.taken layouts);
       brings = c.records_of_bytes_are_fine.ensures.brought;
-      goes = c.records_are_handed_out.ensures.goes;
-      bad = c.the_rest_says_the_end.ensures.bad;
-      whole = c.the_rest_says_the_end.ensures.whole;
-      cut = c.the_rest_says_the_end.ensures.cut;
+      goes = goes;
+      bad = ends_badly;
+      whole = ends_whole;
+      cut = ends_cut;
     }) _ _ _ _ _ _ known output same _ _ _ _ _ _ c.loop-total.invariant.far _ _ _ none _ _ c.in-Err-take_piece.halt c.in-Err-take_piece.ensures.piece
     (c.stopped.result) c.stopped.ensures.so
 
@@ -66,8 +67,8 @@ returns-in-Err-clause-outcome g c = λ known output same.
       goes_on = goes_on_board (c.goes_on.ensures layouts);
       takes = takes_on_board (c.writes_are_the_steps.ensures.taken layouts);
       brings = c.records_of_bytes_are_fine.ensures.brought;
-      goes = c.records_are_handed_out.ensures.goes;
-      bad = c.the_rest_says_the_end.ensures.bad;
-      whole = c.the_rest_says_the_end.ensures.whole;
-      cut = c.the_rest_says_the_end.ensures.cut;
+      goes = goes;
+      bad = ends_badly;
+      whole = ends_whole;
+      cut = ends_cut;
     }) _ _ _ _ _ _ known output same _ _ _ _ _ _ c.loop-total.invariant.far _ _ _ c.in-Err.halt c.in-Err.ensures.next c.stopped-in-Err.result c.stopped-in-Err.ensures.so

@@ -6,6 +6,7 @@ use Rattle.lc_model.proofs.Exits.{passed_on}
 use Rattle.rpn_compiler.specs.Fault.{Refuses}
 use Rattle.rpn_compiler.proofs.Naming.{of_all_tables}
 use Rattle.rpn_compiler.proofs.Refused.{also, also_of, short_texts}
+use Rattle.lc_model.proofs.Tables.RulesFit.{within_ranges}
 use Rattle.rpn_compiler.proofs.compiler.lower_text.Goals as goal
 
 pub returns-in_err-rules-clause-refused : goal.returns-in_err-rules-clause-refused
@@ -16,7 +17,7 @@ returns-in_err-rules-clause-refused c =
 pub lower_rules-requires : goal.lower_rules-requires
 lower_rules-requires c =
     short_texts c.in_ok-rules.rules.rules
-    (c.rules_are_within_ranges.ensures c.args.text.now c.in_ok-rules.rules.rules c.in_ok-rules.ensures.reads)
+    (within_ranges c.args.text.now c.in_ok-rules.rules.rules c.in_ok-rules.ensures.reads)
 
 pub returns-clause-refused : goal.returns-clause-refused
 returns-clause-refused c =

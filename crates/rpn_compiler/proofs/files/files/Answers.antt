@@ -12,6 +12,7 @@ use Rattle.lc_model.specs.Tables.InForce.{arranged}
 use Rattle.lc_model.specs.Tables.Lowering.{words_in}
 use Rattle.rpn_compiler.proofs.EntryWords.{as_many}
 use Rattle.rpn_compiler.proofs.Compiled.{fit_terms, fit_entries, tables}
+use Rattle.lc_model.proofs.Tables.CompiledTables.{compiled_tables_are_halves}
 use Rattle.rpn_compiler.proofs.files.files.Goals as goal
 
 pub entries-requires : goal.entries-requires
@@ -23,7 +24,7 @@ pub wdt_file-requires-clause-fit : goal.wdt_file-requires-clause-fit
 wdt_file-requires-clause-fit c =
     let rules : List NamedRule = c.args.lowered.rules.rules in
     fit_terms c.args.text.now rules c.args.lowered.terms.items c.requires.lowered.watchpoints
-    (c.compiled_tables_are_halves.ensures c.args.text.now rules c.requires.compiles)
+    (compiled_tables_are_halves c.args.text.now rules c.requires.compiles)
 
 pub adt_file-requires-clause-fit : goal.adt_file-requires-clause-fit
 adt_file-requires-clause-fit c =
@@ -33,7 +34,7 @@ adt_file-requires-clause-fit c =
     let entries = c.in_ok-actionpoints.ensures terms known ∙ ap (map (entry_over arranged terms)) c.as_slice.ensures in
     subst (AllByRecursion (FitsEntry compiled_actionpoints)) (sym entries)
     (fit_entries c.args.text.now rules c.args.lowered.terms.items c.requires.lowered.watchpoints
-    (c.compiled_tables_are_halves.ensures c.args.text.now rules c.requires.compiles))
+    (compiled_tables_are_halves c.args.text.now rules c.requires.compiles))
 
 pub returns-clause-tables : goal.returns-clause-tables
 returns-clause-tables c =
@@ -42,7 +43,7 @@ returns-clause-tables c =
     let known = c.requires.lowered.words ∙ ap (map (words_in arranged terms)) (sym c.as_slice.ensures) in
     let entries = c.in_ok-actionpoints.ensures terms known ∙ ap (map (entry_over arranged terms)) c.as_slice.ensures in
     let watchpoints : c.len-watchpoint_count.result ≡ length terms = c.len-watchpoint_count.ensures ∙ c.args.lowered.terms.ok.0 in
-    tables c.args.text.now rules terms c.requires.lowered.watchpoints (c.compiled_tables_are_halves.ensures c.args.text.now rules c.requires.compiles) _
+    tables c.args.text.now rules terms c.requires.lowered.watchpoints (compiled_tables_are_halves c.args.text.now rules c.requires.compiles) _
     (c.in_ok-wdt_file.ensures.file ∙ ap (λ (h : List ℕ). file_bytes (wrapped Wdt (wdt_image h terms))) c.digest-hash.ensures)
     (c.in_ok-adt_file.ensures.file
     ∙ (λ i. file_bytes (wrapped Adt (adt_image compiled_actionpoints (c.digest-hash.ensures i) (watchpoints i) (entries i)))))

@@ -2,4 +2,4 @@ use Rattle.rule_lexer.proofs.Faults.{at_most_one_fault}
 use Rattle.rule_lexer.proofs.laws.has_at_most_one_fault.Goals as goal
 
 pub returns : goal.returns
-returns c = λ text. at_most_one_fault text (c.has_at_most_one_bad_token.ensures text)
+returns c = at_most_one_fault

@@ -9,6 +9,8 @@ use Rattle.rule_lexer.specs.declared.token.Token.{Token}
 use Rattle.rule_lexer.specs.Token.{tokens_of}
 use Rattle.rule_lexer.specs.Fault.{IsFault, IsFaultUnlessMemory, IsUnlessMemory}
 use Rattle.rule_lexer.specs.Laws.{AtMostOneFault}
+use Rattle.lc_model.proofs.Texts.OneSplit.{one_split}
+use Rattle.rule_lexer.proofs.Faults.{at_most_one_fault}
 use Rattle.rule_lexer.proofs.lexer.lex.Goals as goal
 
 -- an answer that is right is the only one
@@ -29,9 +31,9 @@ refuses items text (Err error) one splits (inr other) fault is = inr (one.one_fa
 pub returns-clause-accepts : goal.returns-clause-accepts
 returns-clause-accepts c =
     let text = c.args.text.now in
-    accepts (λ v. v.items) text c.scan.result c.splits_in_one_way.ensures (c.has_at_most_one_fault.ensures text) c.scan.ensures.splits c.scan.ensures.refused
+    accepts (λ v. v.items) text c.scan.result one_split (at_most_one_fault text) c.scan.ensures.splits c.scan.ensures.refused
 
 pub returns-clause-refuses : goal.returns-clause-refuses
 returns-clause-refuses c =
     let text = c.args.text.now in
-    refuses (λ v. v.items) text c.scan.result (c.has_at_most_one_fault.ensures text) c.scan.ensures.splits c.scan.ensures.refused
+    refuses (λ v. v.items) text c.scan.result (at_most_one_fault text) c.scan.ensures.splits c.scan.ensures.refused

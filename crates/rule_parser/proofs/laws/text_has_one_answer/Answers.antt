@@ -1,7 +1,10 @@
+use Rattle.lc_model.proofs.Texts.HasAnswers.{has_answer}
+use Rattle.lc_model.proofs.Texts.OneRefusal.{at_most_one_answer}
+use Rattle.rule_parser.proofs.FirstFault.{parses_or_fails}
 use Rattle.rule_parser.proofs.laws.text_has_one_answer.Goals as goal
 
 pub returns : goal.returns
 returns c = λ text. record {
-  some = c.has_answer_where_tokens_do.ensures c.tokens_parse_or_fail.ensures text;
-  at_most_one = c.has_at_most_one_answer.ensures text;
+  some = has_answer parses_or_fails text;
+  at_most_one = at_most_one_answer text;
 }

@@ -8,12 +8,12 @@ pub returns-clause-accepts : goal.returns-clause-accepts
 returns-clause-accepts c =
     let end = length c.args.text.now in
     let tokens = tokens_of c.args.tokens.now in
-    accepts (λ file. items_of file.items.items) end tokens c.read.result (c.tokens_have_at_most_one_parse.ensures end tokens) c.read.ensures.derives
+    accepts (λ file. items_of file.items.items) end tokens c.read.result c.read.ensures.derives
     c.read.ensures.refused
 
 pub returns-clause-refuses : goal.returns-clause-refuses
 returns-clause-refuses c =
     let end = length c.args.text.now in
     let tokens = tokens_of c.args.tokens.now in
-    refuses (λ file. items_of file.items.items) end tokens c.read.result (c.tokens_have_at_most_one_parse.ensures end tokens) c.read.ensures.derives
+    refuses (λ file. items_of file.items.items) end tokens c.read.result c.read.ensures.derives
     c.read.ensures.refused

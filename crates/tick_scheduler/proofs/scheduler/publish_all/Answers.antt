@@ -1,5 +1,6 @@
 use Rattle.std.proofs.Common.{◌+◌, take, arith}
 use Rattle.tick_scheduler.proofs.Publishing.{written_is_good, packet_of_entry, one_entry_more, one_more_waits}
+use Rattle.lc_model.proofs.Services.BusLaws.{has_room}
 use Rattle.tick_scheduler.proofs.scheduler.publish_all.Goals as goal
 
 pub publish-requires-clause-good : goal.publish-requires-clause-good
@@ -8,7 +9,7 @@ publish-requires-clause-good c =
 
 pub publish-requires-clause-room : goal.publish-requires-clause-room
 publish-requires-clause-room c =
-    c.bus_has_room.ensures.room (64 + c.loop-entry.entry-index) (take c.write_packet-size.result c.write_packet-size.new.buffer) c.loop-entry.services.bus c.loop-entry.invariant.short
+    has_room (64 + c.loop-entry.entry-index) (take c.write_packet-size.result c.write_packet-size.new.buffer) c.loop-entry.services.bus c.loop-entry.invariant.short
     (let more = c.loop-entry-test.true in let few = c.requires.few in omega (arith, more, few))
 
 pub loop-entry-preserved : goal.loop-entry-preserved

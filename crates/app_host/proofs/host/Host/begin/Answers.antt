@@ -1,5 +1,6 @@
 use Rattle.std.proofs.Common.{rules, refl}
 use Rattle.app_host.proofs.Begun.{may_start, has_begun}
+use Rattle.lc_model.proofs.Services.TableNames.{tables_are_found}
 use Rattle.app_host.proofs.host.Host.begin.Goals as goal
 
 pub begin_at-requires : goal.begin_at-requires
@@ -7,5 +8,5 @@ begin_at-requires g c = may_start _ c.args.seat _ c.requires.seated c.requires.i
 
 pub returns : goal.returns
 returns g c =
-    has_begun c.table_services_go_by_names.ensures.found _ _ c.args.seat _ _ c.requires.seated c.is_service.ensures c.is_service-2.ensures (search rules) c.is_object.ensures c.requires.may
+    has_begun tables_are_found _ _ c.args.seat _ _ c.requires.seated c.is_service.ensures c.is_service-2.ensures (search rules) c.is_object.ensures c.requires.may
     c.begin_at.ensures.started c.begin_at.ensures.others refl refl refl

@@ -7,29 +7,31 @@ use Rattle.lc_model.specs.Services.Events.{EventService, sender_at}
 use Rattle.app_host.specs.Telling.{name_of}
 use Rattle.app_host.proofs.EventsObeyed.{names_stay, whole_obeyed, is_obeyed, is_not_obeyed}
 use Rattle.app_host.proofs.Responding.{events_obeyed, events_refused}
+use Rattle.lc_model.proofs.Services.SenderLaws.{commands_by_name}
+use Rattle.lc_model.proofs.Services.TableNames.{tables_are_found}
 use Rattle.app_host.proofs.host.Host.obey_events.Goals as goal
 
 pub tell_alone-requires-clause-whole : goal.tell_alone-requires-clause-whole
 tell_alone-requires-clause-whole g c =
-    whole_obeyed c.table_services_go_by_names.ensures.found c.event_services_go_by_names.ensures.commands _ _ c.args.packet.now c.requires.whole c.is_service.ensures
+    whole_obeyed tables_are_found commands_by_name _ _ c.args.packet.now c.requires.whole c.is_service.ensures
     (record { stock = refl; seats = refl; is_closed = refl; bus = refl; tables = refl; counts = refl; moment = refl; outgoing = refl })
     (names_stay (event_command (function_code c.args.packet.now) (payload c.args.packet.now)) c.args.self.now.services.events c.obey.new.events c.in-Ok.ensures.answer)
 
 pub tell_alone-requires-in-Err-clause-whole : goal.tell_alone-requires-in-Err-clause-whole
 tell_alone-requires-in-Err-clause-whole g c =
-    whole_obeyed c.table_services_go_by_names.ensures.found c.event_services_go_by_names.ensures.commands _ _ c.args.packet.now c.requires.whole c.is_service.ensures
+    whole_obeyed tables_are_found commands_by_name _ _ c.args.packet.now c.requires.whole c.is_service.ensures
     (record { stock = refl; seats = refl; is_closed = refl; bus = refl; tables = refl; counts = refl; moment = refl; outgoing = refl })
     (record { sent = ap (λ (x : EventService). x.sent) c.in-Err.ensures.refused; names = λ seat. ap (λ (x : EventService). option_map name_of (sender_at (Some seat) x)) c.in-Err.ensures.refused })
 
 pub returns-in-Ok-clause-handled : goal.returns-in-Ok-clause-handled
 returns-in-Ok-clause-handled g c =
-    is_obeyed c.table_services_go_by_names.ensures.found c.event_services_go_by_names.ensures.commands _ _ c.args.packet.now c.requires.whole c.is_service.ensures
+    is_obeyed tables_are_found commands_by_name _ _ c.args.packet.now c.requires.whole c.is_service.ensures
     (record { stock = refl; seats = refl; is_closed = refl; bus = refl; tables = refl; counts = refl; moment = refl; outgoing = refl })
     c.in-Ok.ensures.answer _ (c.command_done-text.ensures ∙ ap (command_done event_services) c.function_code.ensures) _ _ _ c.tell_alone.result c.tell_alone.ensures.handled
 
 pub returns-in-Err-clause-handled : goal.returns-in-Err-clause-handled
 returns-in-Err-clause-handled g c =
-    is_not_obeyed c.table_services_go_by_names.ensures.found c.event_services_go_by_names.ensures.commands _ _ c.args.packet.now c.requires.whole c.is_service.ensures
+    is_not_obeyed tables_are_found commands_by_name _ _ c.args.packet.now c.requires.whole c.is_service.ensures
     (record { stock = refl; seats = refl; is_closed = refl; bus = refl; tables = refl; counts = refl; moment = refl; outgoing = refl })
     c.in-Err.ensures.refused c.in-Err.numbers c.in-Err.ensures.answer _
     (c.command_refused-text.ensures ∙ ap (command_refused event_services) c.as_slice.ensures.numbers) _ _ _ c.tell_alone-in-Err.result c.tell_alone-in-Err.ensures.handled

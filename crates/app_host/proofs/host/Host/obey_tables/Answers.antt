@@ -4,19 +4,20 @@ use Rattle.lc_model.specs.Command.{table_command}
 use Rattle.lc_model.specs.Events.Request.{table_services, command_done, command_refused}
 use Rattle.app_host.proofs.TablesObeyed.{kept_by, whole_obeyed, whole_refused, is_obeyed, is_not_obeyed}
 use Rattle.app_host.proofs.Responding.{tables_obeyed, tables_refused}
+use Rattle.lc_model.proofs.Services.TableNames.{changing_tables, tables_are_found}
 use Rattle.app_host.proofs.host.Host.obey_tables.Goals as goal
 
 pub tell_alone-requires-clause-whole : goal.tell_alone-requires-clause-whole
 tell_alone-requires-clause-whole g c =
     whole_obeyed _ _ c.requires.whole (record { stock = refl; seats = refl; is_closed = refl; bus = refl; events = refl; counts = refl; moment = refl; outgoing = refl })
-    c.table_services_go_by_names.ensures.found c.table_services_go_by_names.ensures.changes c.is_service.ensures
+    tables_are_found changing_tables c.is_service.ensures
     (kept_by c.table_commands_go_by_names.ensures.forms (table_command (function_code c.args.packet.now) (payload c.args.packet.now)) c.args.self.now.services.tables c.obey-obeyed.new.tables
     c.in-Ok.ensures.answer)
 
 pub tell_alone-requires-in-Err-clause-whole : goal.tell_alone-requires-in-Err-clause-whole
 tell_alone-requires-in-Err-clause-whole g c =
     whole_refused _ _ c.requires.whole (record { stock = refl; seats = refl; is_closed = refl; bus = refl; events = refl; counts = refl; moment = refl; outgoing = refl })
-    c.table_services_go_by_names.ensures.found c.is_service.ensures c.in-Err.ensures.refused
+    tables_are_found c.is_service.ensures c.in-Err.ensures.refused
 
 pub returns-in-Ok-clause-handled : goal.returns-in-Ok-clause-handled
 returns-in-Ok-clause-handled g c =

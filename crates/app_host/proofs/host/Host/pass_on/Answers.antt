@@ -6,6 +6,7 @@ use Rattle.app_host.proofs.FirstPublished.{is_published}
 use Rattle.app_host.proofs.PassedOn.{whole_mid, light_after, load_after, published_so, ok_holds, offered_passes, offered_responds}
 use Rattle.app_host.proofs.HandedOver.{ready_first, offered_first, handing_first}
 use Rattle.app_host.proofs.Draining.{draining_first, draining_next, draining_cut, draining_end, responds_cut, responds_end, responds_short, cut_short}
+use Rattle.lc_model.proofs.Services.TableNames.{tables_are_found}
 use Rattle.app_host.proofs.host.Host.pass_on.Goals as goal
 use Rattle.app_host.proofs.host.Host.pass_on.Goals.{in-Some+in_ok-sent-in-Some, in-None}
 
@@ -15,7 +16,7 @@ unwrap-requires g c = is_published c.args.packet.now c.args.self.now.services.bu
 pub loop-next-init : goal.loop-next-init
 loop-next-init g c = elim c.match-only_hearer.branch [
   | in-Some+in_ok-sent-in-Some w ↦
-      let law = c.table_services_go_by_names.ensures.found in
+      let law = tables_are_found in
       let only = sym c.only_hearer.ensures.only ∙ w.in-Some.is in
       rw (w.self-is, w.out-is, w.sent-is, w.next-is)
       (record {
@@ -29,7 +30,7 @@ loop-next-init g c = elim c.match-only_hearer.branch [
         next = w.hand_over-next.ensures.next ∙ ap (λ (s : Services). ready_seat (seen s.bus)) (sym w.flush.ensures.flushed.services);
       })
   | in-None w ↦
-      let law = c.table_services_go_by_names.ensures.found in
+      let law = tables_are_found in
       let ok = is_published c.args.packet.now c.args.self.now.services.bus w.publish_judged.result c.requires.good c.requires.quiet w.publish_judged.ensures.answer in
       let published = published_so c.args.packet.now _ _ w.publish_judged.result ok w.publish_judged.ensures.published in
       let eight = ok_holds w.publish_judged.result ok w.publish_judged.ensures.eight in
@@ -67,7 +68,7 @@ loop-next-preserved g c = record {
 
 pub returns-in_err-sent-in-Some-clause-handled : goal.returns-in_err-sent-in-Some-clause-handled
 returns-in_err-sent-in-Some-clause-handled g c =
-    let law = c.table_services_go_by_names.ensures.found in
+    let law = tables_are_found in
     let only = sym c.only_hearer.ensures.only ∙ c.in-Some.is in
     offered_passes _ _ c.args.packet.now (offered_first law c.args.packet.now _ c.requires.whole c.requires.quiet c.is_service.ensures c.requires.good c.only_hearer.ensures.eight c.in-Some.seat only)
     law c.requires.whole c.requires.quiet c.is_service.ensures _ _ _ c.from_residual.result
@@ -79,7 +80,7 @@ returns-in_err-sent-in-Some-clause-handled g c =
 
 pub returns-in_err-sent-in-Some-clause-own : goal.returns-in_err-sent-in-Some-clause-own
 returns-in_err-sent-in-Some-clause-own g c =
-    let law = c.table_services_go_by_names.ensures.found in
+    let law = tables_are_found in
     let only = sym c.only_hearer.ensures.only ∙ c.in-Some.is in
     offered_responds _ _ c.args.packet.now (offered_first law c.args.packet.now _ c.requires.whole c.requires.quiet c.is_service.ensures c.requires.good c.only_hearer.ensures.eight c.in-Some.seat only)
     _ _ _ c.from_residual.result
@@ -91,7 +92,7 @@ returns-in_err-sent-in-Some-clause-own g c =
 
 pub returns-in_err-sent-clause-handled : goal.returns-in_err-sent-clause-handled
 returns-in_err-sent-clause-handled g c =
-    offered_passes _ c.loop-next.invariant.first c.args.packet.now c.loop-next.invariant.offered c.table_services_go_by_names.ensures.found c.requires.whole c.requires.quiet c.is_service.ensures
+    offered_passes _ c.loop-next.invariant.first c.args.packet.now c.loop-next.invariant.offered tables_are_found c.requires.whole c.requires.quiet c.is_service.ensures
     _ _ _ c.from_residual-in_err-sent.result
     (cut_short _ _ _ _ _ _ _ _ c.from_residual-in_err-sent.result c.in_err-sent.field-0.0 c.from_residual-in_err-sent.ensures.1
     (draining_cut _ _ _ _ c.loop-next.sent c.in-Some-next.seat _ _ _ c.loop-next.invariant.far (sym c.loop-next.invariant.next ∙ c.in-Some-next.is)
@@ -106,7 +107,7 @@ returns-in_err-sent-clause-own g c =
 
 pub returns-clause-handled : goal.returns-clause-handled
 returns-clause-handled g c =
-    offered_passes _ c.loop-next.invariant.first c.args.packet.now c.loop-next.invariant.offered c.table_services_go_by_names.ensures.found c.requires.whole c.requires.quiet c.is_service.ensures
+    offered_passes _ c.loop-next.invariant.first c.args.packet.now c.loop-next.invariant.offered tables_are_found c.requires.whole c.requires.quiet c.is_service.ensures
     _ _ _ (Ok c.loop-next.sent) (draining_end _ _ _ _ _ c.loop-next.invariant.far (sym c.loop-next.invariant.next ∙ c.in_default.is))
 
 pub returns-clause-own : goal.returns-clause-own

@@ -4,29 +4,30 @@ use Rattle.lc_model.specs.Events.Request.{file_refused}
 use Rattle.tbl_service.specs.Error.{refusal_of}
 use Rattle.app_host.proofs.Filed.{places_stay, whole_filed, is_filed, is_not_filed}
 use Rattle.app_host.proofs.Responding.{file_kept, file_turned_away}
+use Rattle.lc_model.proofs.Services.TableNames.{storing_files, tables_are_found}
 use Rattle.app_host.proofs.host.Host.store_file.Goals as goal
 
 pub tell_alone-requires-clause-whole : goal.tell_alone-requires-clause-whole
 tell_alone-requires-clause-whole g c =
-    whole_filed c.table_services_go_by_names.ensures.found c.table_services_go_by_names.ensures.files _ _ c.args.name.now c.args.bytes.now c.requires.whole c.requires.quiet c.is_service.ensures
+    whole_filed tables_are_found storing_files _ _ c.args.name.now c.args.bytes.now c.requires.whole c.requires.quiet c.is_service.ensures
     c.is_service-2.ensures (record { stock = refl; seats = refl; is_closed = refl; bus = refl; events = refl; counts = refl; moment = refl; outgoing = refl })
     (places_stay c.args.name.now c.args.bytes.now c.args.self.now.services.tables c.put_file-stored.new.self c.in-Ok.ensures.answer)
 
 pub tell_alone-requires-in-Err-clause-whole : goal.tell_alone-requires-in-Err-clause-whole
 tell_alone-requires-in-Err-clause-whole g c =
-    whole_filed c.table_services_go_by_names.ensures.found c.table_services_go_by_names.ensures.files _ _ c.args.name.now c.args.bytes.now c.requires.whole c.requires.quiet c.is_service.ensures
+    whole_filed tables_are_found storing_files _ _ c.args.name.now c.args.bytes.now c.requires.whole c.requires.quiet c.is_service.ensures
     c.is_service-2.ensures (record { stock = refl; seats = refl; is_closed = refl; bus = refl; events = refl; counts = refl; moment = refl; outgoing = refl })
     (ap (λ (t : TableService). t.places) c.in-Err.ensures.refused)
 
 pub returns-in-Ok-clause-handled : goal.returns-in-Ok-clause-handled
 returns-in-Ok-clause-handled g c =
-    is_filed c.table_services_go_by_names.ensures.found c.table_services_go_by_names.ensures.files _ _ c.args.name.now c.args.bytes.now c.requires.whole c.requires.quiet c.is_service.ensures
+    is_filed tables_are_found storing_files _ _ c.args.name.now c.args.bytes.now c.requires.whole c.requires.quiet c.is_service.ensures
     c.is_service-2.ensures (record { stock = refl; seats = refl; is_closed = refl; bus = refl; events = refl; counts = refl; moment = refl; outgoing = refl })
     c.in-Ok.ensures.answer _ c.file_stored-text.ensures _ _ _ c.tell_alone.result c.tell_alone.ensures.handled
 
 pub returns-in-Err-clause-handled : goal.returns-in-Err-clause-handled
 returns-in-Err-clause-handled g c =
-    is_not_filed c.table_services_go_by_names.ensures.found c.table_services_go_by_names.ensures.files _ _ c.args.name.now c.args.bytes.now c.requires.whole c.requires.quiet c.is_service.ensures
+    is_not_filed tables_are_found storing_files _ _ c.args.name.now c.args.bytes.now c.requires.whole c.requires.quiet c.is_service.ensures
     c.is_service-2.ensures (record { stock = refl; seats = refl; is_closed = refl; bus = refl; events = refl; counts = refl; moment = refl; outgoing = refl })
     c.in-Err.ensures.refused (refusal_of c.in-Err.error) c.in-Err.ensures.answer _
     (c.file_refused-text.ensures ∙ ap file_refused (c.as_slice.ensures.numbers ∙ c.of_tables-numbers.ensures)) _ _ _ c.tell_alone-in-Err.result c.tell_alone-in-Err.ensures.handled

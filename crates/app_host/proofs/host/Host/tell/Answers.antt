@@ -1,8 +1,9 @@
 use Rattle.std.proofs.Common.{refl}
 use Rattle.app_host.proofs.OwnEvents.{has_told}
+use Rattle.lc_model.proofs.Services.TableNames.{tables_are_found}
 use Rattle.app_host.proofs.host.Host.tell.Goals as goal
 
 pub returns : goal.returns
 returns g c =
-    has_told c.table_services_go_by_names.ensures.found _ _ _ (rw c.as_bytes.ensures.bytes at c.ask.ensures.told) c.is_service.ensures c.requires.seated c.requires.idle refl refl refl refl
+    has_told tables_are_found _ _ _ (rw c.as_bytes.ensures.bytes at c.ask.ensures.told) c.is_service.ensures c.requires.seated c.requires.idle refl refl refl refl
     c.ask.ensures.events (rw c.as_bytes.ensures.bytes at c.ask.ensures.outgoing) c.ask.ensures.size

@@ -1,5 +1,6 @@
 use Rattle.std.proofs.Common.{refl}
 use Rattle.app_host.proofs.Departed.{may_retire, has_vacated}
+use Rattle.lc_model.proofs.Services.TableNames.{tables_are_found}
 use Rattle.app_host.proofs.host.Host.vacate.Goals as goal
 
 pub retire_at-retired-requires : goal.retire_at-retired-requires
@@ -7,5 +8,5 @@ retire_at-retired-requires g c = may_retire c.args.seat _ _ c.requires.idle (c.r
 
 pub returns : goal.returns
 returns g c =
-    has_vacated c.table_services_go_by_names.ensures.found _ _ c.args.seat c.requires.seated c.requires.idle c.is_service.ensures c.is_service-2.ensures c.retire_at-retired.ensures.below refl
+    has_vacated tables_are_found _ _ c.args.seat c.requires.seated c.requires.idle c.is_service.ensures c.is_service-2.ensures c.retire_at-retired.ensures.below refl
     c.retire_at-retired.ensures.gone refl refl _ refl c.retire_at-retired.ensures.left

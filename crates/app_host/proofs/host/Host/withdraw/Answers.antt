@@ -1,5 +1,6 @@
 use Rattle.std.proofs.Common.{rules, refl}
 use Rattle.app_host.proofs.Withdrawn.{may_withdraw, has_withdrawn}
+use Rattle.lc_model.proofs.Services.TableNames.{tables_are_found}
 use Rattle.app_host.proofs.host.Host.withdraw.Goals as goal
 
 pub withdraw_at-app-requires : goal.withdraw_at-app-requires
@@ -7,5 +8,5 @@ withdraw_at-app-requires g c = may_withdraw c.args.seat _ _ c.requires.idle (c.r
 
 pub returns : goal.returns
 returns g c =
-    has_withdrawn c.table_services_go_by_names.ensures.found _ _ c.args.seat _ _ refl c.requires.seated c.requires.idle c.is_service.ensures c.is_service-2.ensures (search rules) c.requires.there
+    has_withdrawn tables_are_found _ _ c.args.seat _ _ refl c.requires.seated c.requires.idle c.is_service.ensures c.is_service-2.ensures (search rules) c.requires.there
     c.withdraw_at-app.ensures.left c.withdraw_at-app.ensures.gone refl refl refl

@@ -1,6 +1,7 @@
 use Rattle.std.proofs.Common.{◌∙◌, ap, refl}
 use Rattle.lc_model.specs.Services.Bus.{after}
 use Rattle.app_host.proofs.Seats.{pipe_is_removed, may_unregister, answered_by, name_is_gone}
+use Rattle.lc_model.proofs.Services.SenderLaws.{unregistering_by_name}
 use Rattle.app_host.proofs.services.Services.close.Goals as goal
 
 pub returns : goal.returns
@@ -10,7 +11,7 @@ returns c =
     record {
       bus = c.remove_pipe.ensures.after ∙ ap (after c.args.self.now.bus) (pipe_is_removed c.args.seat c.args.self.now.bus c.requires.pipe);
       events = gone;
-      names = name_is_gone c.args.seat c.args.self.now.events c.unregister.new.self c.event_services_go_by_names.ensures.unregistering
+      names = name_is_gone c.args.seat c.args.self.now.events c.unregister.new.self unregistering_by_name
           (record { seats = c.is_service.ensures.seats; names = c.is_service.ensures.names; count = c.is_service.ensures.count }) gone goes;
       tables = c.unregister-2.ensures;
       counts = refl;

@@ -5,11 +5,13 @@ use Rattle.lc_model.specs.Events.Request.{Event, lc_command_refused}
 use Rattle.lc_model.specs.Name.{lc_name}
 use Rattle.limit_checker.proofs.Answering.{told_by_name}
 use Rattle.limit_checker.proofs.Attending.{attended_there, may_renew_there, refused_there, sends_still}
+use Rattle.lc_model.proofs.Services.TableNames.{changing_tables, tables_are_found}
+use Rattle.lc_model.proofs.Services.TableServiceLaws.{changes_stay_sound}
 use Rattle.limit_checker.proofs.application.Application.housekeeping.Goals as goal
 
 pub renew-renewal-requires : goal.renew-renewal-requires
 renew-renewal-requires c =
-    may_renew_there c.args.self.now.seat c.unwrap-seat.result c.args.self.now.engine c.args.services.now c.table_services_go_by_names.ensures.found c.unwrap-seat.ensures c.requires.home c.is_service.ensures
+    may_renew_there c.args.self.now.seat c.unwrap-seat.result c.args.self.now.engine c.args.services.now tables_are_found c.unwrap-seat.ensures c.requires.home c.is_service.ensures
 
 pub report-requires-clause-sends : goal.report-requires-clause-sends
 report-requires-clause-sends c =
@@ -19,7 +21,7 @@ report-requires-clause-sends c =
 pub returns-in-Ok-clause-answers : goal.returns-in-Ok-clause-answers
 returns-in-Ok-clause-answers c =
     attended_there c.args.self.now.seat c.unwrap-seat.result c.args.self.now.engine c.renew-renewal.new.engine c.args.packet.now c.renew-renewal.result c.args.services.now c.renew-renewal.new.services
-    c.report.new.services c.table_services_go_by_names.ensures.changes c.table_services_stay_sound.ensures.changes c.table_services_go_by_names.ensures.found c.unwrap-seat.ensures c.requires.home c.requires.given
+    c.report.new.services changing_tables changes_stay_sound tables_are_found c.unwrap-seat.ensures c.requires.home c.requires.given
     c.is_service.ensures c.requires.kind c.in-Ok.ensures c.renew-renewal.ensures c.report.ensures.told c.report.ensures.size
 
 pub returns-in-Err-clause-answers : goal.returns-in-Err-clause-answers

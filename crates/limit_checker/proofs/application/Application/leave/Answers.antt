@@ -2,6 +2,7 @@ use Rattle.std.proofs.Common.{sym, ◌∙◌, subst}
 use Rattle.std.specs.Prelude.{IfSome}
 use Rattle.app_host.specs.Seating.{IsClosed}
 use Rattle.limit_checker.proofs.Leaving.{retires, leaves_empty}
+use Rattle.lc_model.proofs.Services.TableNames.{unregistering_tables}
 use Rattle.limit_checker.proofs.application.Application.leave.Goals as goal
 
 pub returns-in-Some-clause-rules : goal.returns-in-Some-clause-rules
@@ -11,6 +12,6 @@ returns-in-Some-clause-rules c =
 
 pub returns-in-Some-clause-exact : goal.returns-in-Some-clause-exact
 returns-in-Some-clause-exact c =
-    leaves_empty c.seats_are_kept_by_the_rules.ensures.closing_leaves c.table_services_go_by_names.ensures.unregistering c.args.self.now.seat c.args.self.now.engine
+    leaves_empty c.seats_are_kept_by_the_rules.ensures.closing_leaves unregistering_tables c.args.self.now.seat c.args.self.now.engine
     c.args.services.now c.close.new.self c.is_service.ensures c.requires.home
     (subst (λ place. IfSome place (λ seat. IsClosed seat c.args.services.now c.close.new.self)) (sym c.in-Some.is ∙ c.take.ensures.value) c.close.ensures) c.requires.idle
