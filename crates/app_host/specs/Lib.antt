@@ -13,6 +13,7 @@ pub mod Load
 pub mod Delivered
 pub mod HandedOver
 pub mod Writing
+pub mod Texts
 pub mod Told
 pub mod Left
 pub mod Obeyed

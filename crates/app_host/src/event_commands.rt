@@ -14,24 +14,10 @@ ghost use Rattle.app_host.specs.Obeyed.{obeyed_by, set_filter_by, reset_by, set_
 use crate::error::WriteFault;
 use crate::host::Host;
 use crate::numbers::{Numbers, of_events};
-use event_service::host::{self, Service};
+use crate::texts::{self, Service};
 use event_service::{EventTypes, Events};
 use lc_model::packet::function_code;
-use lc_model::{ByteSink, EventKind, u16_at};
-
-/// How many bytes come before the first zero byte, or all of them.
-fn name_length(field: &[u8]) -> usize
-    ensures { result ≡ position_or_len (λ b. b == 0) field.now }
-{
-    field.iter().take_while(|byte| **byte != 0).count()
-}
-
-/// The name in a field: the bytes before the first zero byte, or all of them.
-pub(crate) fn name_in(field: &[u8]) -> &[u8]
-    ensures { result.now ≡ name_in field.now }
-{
-    &field[..name_length(field)]
-}
+use lc_model::{ByteSink, EventKind, name_in, u16_at};
 
 /// A filter is set: 20 bytes of a name, then an id and a mask.
 fn set_filter(events: &mut Events, payload: &[u8]) -> Result<(), Numbers>
@@ -121,11 +107,11 @@ impl Host {
         self.services.tables.is_service();
         match obey(&mut self.services.events, packet) {
             Ok(()) => {
-                let text = host::command_done(Service::Events, function_code(packet));
+                let text = texts::command_done(Service::Events, function_code(packet));
                 self.tell_alone(6, EventKind::Information, &text, out)
             }
             Err(numbers) => {
-                let text = host::command_refused(Service::Events, numbers.as_slice());
+                let text = texts::command_refused(Service::Events, numbers.as_slice());
                 self.tell_alone(7, EventKind::Error, &text, out)
             }
         }

@@ -10,7 +10,7 @@ ghost use Rattle.app_host.specs.Response.{filing, Responds};
 use crate::error::WriteFault;
 use crate::host::Host;
 use crate::numbers::of_tables;
-use event_service::host;
+use crate::texts;
 use lc_model::{ByteSink, EventKind};
 
 impl Host {
@@ -39,12 +39,12 @@ impl Host {
         self.services.tables.is_service();
         match stored {
             Ok(()) => {
-                let text = host::file_stored();
+                let text = texts::file_stored();
                 self.tell_alone(2, EventKind::Information, &text, out)
             }
             Err(error) => {
                 let numbers = of_tables(error);
-                let text = host::file_refused(numbers.as_slice());
+                let text = texts::file_refused(numbers.as_slice());
                 self.tell_alone(3, EventKind::Error, &text, out)
             }
         }

@@ -26,6 +26,7 @@ mod services;
 mod step;
 mod succession;
 mod table_commands;
+mod texts;
 
 pub use app::App;
 pub use counts::Counts;

@@ -20,7 +20,7 @@ use crate::host::Host;
 use crate::numbers::{Numbers, of_host};
 use crate::objects::{free_seat, seat_of, spare_of};
 use crate::succession::Successor;
-use event_service::host::{self, Service};
+use crate::texts::{self, Service};
 use lc_model::packet::function_code;
 use lc_model::{ByteSink, EventKind, Seat};
 
@@ -265,13 +265,13 @@ impl Host {
         match self.take_order(packet) {
             Ok(next) => {
                 let sent = self.come_in(next, out)?;
-                let text = host::command_done(Service::Applications, function_code(packet));
+                let text = texts::command_done(Service::Applications, function_code(packet));
                 self.tell(8, EventKind::Information, &text);
                 let total = self.flush(out, sent)?;
                 Ok(total)
             }
             Err(numbers) => {
-                let text = host::command_refused(Service::Applications, numbers.as_slice());
+                let text = texts::command_refused(Service::Applications, numbers.as_slice());
                 self.tell_alone(9, EventKind::Error, &text, out)
             }
         }

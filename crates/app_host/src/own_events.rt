@@ -10,7 +10,8 @@ ghost use Rattle.app_host.specs.Response.{only_telling, Responds};
 
 use crate::error::WriteFault;
 use crate::host::Host;
-use event_service::{EventText, host};
+use crate::texts;
+use event_service::EventText;
 use lc_model::{ByteSink, EventKind};
 
 impl Host {
@@ -64,7 +65,7 @@ impl Host {
             (only_telling (bad_packet reason) (shown meaning self.old)) (shown meaning self.old)
             (shown meaning self.new) (W.sink out.old).gained (W.sink out.new).gained result }
     {
-        let text = host::bad_packet(u16::from(reason));
+        let text = texts::bad_packet(u16::from(reason));
         self.tell_alone(1, EventKind::Error, &text, out)
     }
 }

@@ -6,7 +6,7 @@ ghost use Rattle.lc_model.specs.Services.Bus.{is_blocked};
 ghost use Rattle.app_host.specs.Publishing.{AreShort, Publishes, NothingIsPublished, PublishingGoesOn, TicksHaveRoom, PublishingAnswers, PublishingLeaves, PublishingSettles};
 
 use crate::services::Services;
-use lc_model::laws::bus::{bus_is_seen};
+use lc_model::laws::bus::bus_is_seen;
 
 impl Services {
     /// Publishes a packet: each pipe that is subscribed to its message id has it once, behind what waits. Conditions: the packet

@@ -16,7 +16,7 @@ use crate::error::WriteFault;
 use crate::event_commands::name_in;
 use crate::host::Host;
 use crate::numbers::{Numbers, of_tables};
-use event_service::host::{self, Service};
+use crate::texts::{self, Service};
 use host_laws::table_commands_go_by_names;
 use lc_model::packet::function_code;
 use lc_model::{ByteSink, EventKind};
@@ -128,11 +128,11 @@ impl Host {
         self.services.tables.is_service();
         match obeyed {
             Ok(()) => {
-                let text = host::command_done(Service::Tables, function_code(packet));
+                let text = texts::command_done(Service::Tables, function_code(packet));
                 self.tell_alone(4, EventKind::Information, &text, out)
             }
             Err(numbers) => {
-                let text = host::command_refused(Service::Tables, numbers.as_slice());
+                let text = texts::command_refused(Service::Tables, numbers.as_slice());
                 self.tell_alone(5, EventKind::Error, &text, out)
             }
         }

@@ -13,7 +13,7 @@ use crate::speaking::Speaking;
 use crate::tally::Tally;
 use crate::tracked::Tracked;
 use app_host::{App, Host, WriteFault};
-use flight_core::Counter;
+use command_counter::Counter;
 use lc_model::{Body, ByteSink, Limited};
 use std::alloc::{AllocError, Global};
 

@@ -1,4 +1,3 @@
 pub mod FilterLists
 pub mod Joined
-pub mod RuleTexts
 pub mod Stays

@@ -3,5 +3,4 @@ pub mod Types
 pub mod Filters
 pub mod Change
 pub mod Service
-pub mod Texts
 pub mod Packet

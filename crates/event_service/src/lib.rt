@@ -1,5 +1,5 @@
 //! Event services (cFE user's guide, event services): who sends events, with types and filters, the packets of the events
-//! that are sent, and their texts.
+//! that are sent, and what their texts are written with.
 #![tactic(auto)]
 
 mod error;
@@ -8,12 +8,10 @@ mod packet;
 mod sender;
 mod service;
 mod text;
-mod texts;
 mod types;
 
 pub use error::EventError;
 pub use packet::{EventPacket, PACKET_SIZE};
 pub use service::Events;
 pub use text::{EventText, MAX_TEXT};
-pub use texts::{counter, host, limit_checker};
 pub use types::EventTypes;

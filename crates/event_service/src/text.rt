@@ -33,8 +33,8 @@ impl EventText {
         self.bytes.as_slice()
     }
 
-    /// These bytes alone.
-    pub(crate) fn of(bytes: &[u8]) -> EventText
+    /// These bytes alone. Condition: at most 121.
+    pub fn of(bytes: &[u8]) -> EventText
         requires { length bytes.now ≤ 121 }
         ensures { result ≡ bytes.now }
     {
@@ -45,8 +45,8 @@ impl EventText {
         text
     }
 
-    /// More bytes.
-    pub(crate) fn push(&mut self, bytes: &[u8])
+    /// More bytes. Condition: with them, at most 121.
+    pub fn push(&mut self, bytes: &[u8])
         requires { length self.old + length bytes.now ≤ 121 }
         ensures text { self.new ≡ self.old ++ bytes.now }
         ensures size { length self.new ≡ length self.old + length bytes.now }
@@ -54,8 +54,8 @@ impl EventText {
         self.bytes.try_extend_from_slice(bytes).unwrap();
     }
 
-    /// A space and a number in decimal digits.
-    pub(crate) fn push_number(&mut self, number: u32)
+    /// A space and a number in decimal digits. Condition: room for 11 bytes.
+    pub fn push_number(&mut self, number: u32)
         requires { length self.old + 11 ≤ 121 }
         ensures text { self.new ≡ numbered self.old (number ∷ []) }
         ensures size { length self.new ≤ length self.old + 11 }
@@ -65,8 +65,8 @@ impl EventText {
         self.push(digits.format(number).as_bytes());
     }
 
-    /// Several numbers, each after a space.
-    pub(crate) fn push_numbers(&mut self, numbers: &[u16])
+    /// Several numbers, each behind a space. Condition: room for 11 bytes each.
+    pub fn push_numbers(&mut self, numbers: &[u16])
         requires { length self.old + 11 * length numbers.now ≤ 121 }
         ensures { self.new ≡ numbered self.old numbers.now }
     {
@@ -75,8 +75,8 @@ impl EventText {
         }
     }
 
-    /// Four lower case hexadecimal digits.
-    pub(crate) fn push_hex(&mut self, number: u16)
+    /// Four lower case hexadecimal digits. Condition: room for them.
+    pub fn push_hex(&mut self, number: u16)
         requires { length self.old + 4 ≤ 121 }
         ensures { self.new ≡ self.old ++ four_digits number }
     {

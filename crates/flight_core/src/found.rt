@@ -8,8 +8,9 @@ ghost use Rattle.flight_core.specs.Front.{entry_by, HasName, IsOfText};
 ghost use Rattle.flight_core.specs.Found.{answer_of, IsShortNamed, NamesText};
 ghost use Rattle.flight_core.specs.Answer.{Entry};
 
-use crate::front::{HEADER, NAME, Shape};
-use lc_model::{Body, Kind, Moment, Record, u16_at, u32_at};
+use crate::front::Shape;
+use lc_model::stream::{HEADER, NAME, moment_of};
+use lc_model::{Body, Kind, Moment, Record, name_in};
 
 /// The next record of a stream, or the number of what is none. Bytes and names lie where they came in.
 #[derive(Clone, Copy, Debug, PartialEq, Eq)]
@@ -31,23 +32,6 @@ pub enum Found<'a> {
     },
 }
 
-/// How many bytes come before the first zero byte, or all of them.
-fn name_length(field: &[u8]) -> usize
-    ensures { result ≡ position_or_len (λ b. b == 0) field.now }
-{
-    field.iter().take_while(|byte| **byte != 0).count()
-}
-
-/// The name in a body's first 40 bytes: those before the first zero byte, or all of them.
-fn name_in(body: &[u8]) -> &[u8]
-    requires { NAME ≤ length body.now }
-    ensures name { result.now ≡ name_in (take NAME body.now) }
-    ensures few { length result.now ≤ NAME }
-{
-    let field = &body[..NAME];
-    &field[..name_length(field)]
-}
-
 /// What a whole record of this shape brings.
 pub(crate) fn read_off(shape: Shape, bytes: &[u8]) -> Found<'_>
     requires long { header_size ≤ length bytes.now }
@@ -56,10 +40,7 @@ pub(crate) fn read_off(shape: Shape, bytes: &[u8]) -> Found<'_>
     ensures text { (texts : ℕ) → IsOfText texts shape → NamesText texts result }
     ensures named { IsShortNamed result }
 {
-    let moment = Moment {
-        seconds: u32_at(bytes, 1),
-        subseconds: u16_at(bytes, 5),
-    };
+    let moment = moment_of(bytes);
     let body = &bytes[HEADER..];
     match shape {
         Shape::Packet => Found::Record(Record {
@@ -73,13 +54,13 @@ pub(crate) fn read_off(shape: Shape, bytes: &[u8]) -> Found<'_>
         Shape::File => Found::Record(Record {
             moment,
             body: Body::File {
-                name: name_in(body),
+                name: name_in(&body[..NAME]),
                 bytes: &body[NAME..],
             },
         }),
         Shape::Half { kind, text } => Found::Half {
             moment,
-            name: name_in(body),
+            name: name_in(&body[..NAME]),
             kind,
             text,
         },

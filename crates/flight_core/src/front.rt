@@ -1,4 +1,4 @@
-//! What stands at the front of a stream: kind, seconds, subseconds, length and body of a record (this project's own format).
+//! What stands at the front of a stream (this project's own format).
 
 ghost use Rattle.std.specs.Prelude.{◌≡◌, ◌≤◌, true, length, take, slice_index, option_map, IfSome};
 ghost use Rattle.lc_model.specs.Bytes.{u16_at};
@@ -6,19 +6,8 @@ ghost use Rattle.lc_model.specs.Name.{name_in};
 ghost use Rattle.lc_model.specs.Host.Stream.{all_kinds, contents_of, fits_body, half_contents};
 ghost use Rattle.flight_core.specs.Front.{contents_by, HasName, IsFront, IsOfText};
 
-use lc_model::{Kind, u16_at, u32_at};
-
-/// The bytes of a record before its body: kind, seconds, subseconds and length.
-pub(crate) const HEADER: usize = 11;
-
-/// The bytes of a file's name.
-pub(crate) const NAME: usize = 40;
-
-/// The bytes of a body that names a half of a rule text: the file's name, the half and the text's number.
-const HALF: usize = 43;
-
-/// The most bytes of a body.
-const LONGEST_BODY: usize = 65_536;
+use lc_model::stream::{HALF, HEADER, NAME, body_size, fits_body};
+use lc_model::{Kind, u16_at};
 
 /// What a whole record brings.
 #[derive(Clone, Copy, Debug, PartialEq, Eq)]
@@ -39,20 +28,6 @@ pub(crate) enum Front {
     NoRecord,
     /// A whole record of so many bytes.
     Record { shape: Shape, size: usize },
-}
-
-/// Whether a record of this kind may have a body of so many bytes.
-fn fits(kind: u8, size: usize) -> bool
-    ensures exact { result ≡ fits_body all_kinds kind size }
-    ensures longest { result ≡ true → size ≤ LONGEST_BODY }
-{
-    match kind {
-        1 => size <= LONGEST_BODY,
-        2 => size == 0,
-        3 => (NAME..=LONGEST_BODY).contains(&size),
-        4 => size == HALF,
-        _ => false,
-    }
 }
 
 /// The half that a body names, where there is such a half, and a text of this number among so many.
@@ -103,8 +78,8 @@ pub(crate) fn front_of(texts: usize, bytes: &[u8]) -> Front
     if bytes.len() < HEADER {
         return Front::Part;
     }
-    let size = u32_at(bytes, 7) as usize;
-    if !fits(bytes[0], size) {
+    let size = body_size(bytes);
+    if !fits_body(bytes[0], size) {
         return Front::NoRecord;
     }
     if bytes.len() < HEADER + size {

@@ -1,10 +1,9 @@
 //! A run of the host, below its program: rule texts are compiled, and the records of a stream that comes in pieces are handled.
-//! Beside it the program's words, and the counter.
+//! Beside it the program's words.
 #![tactic(auto)]
 
 mod bringing;
 mod compiling;
-mod counter;
 mod error;
 mod flight;
 mod found;
@@ -18,7 +17,6 @@ mod running;
 mod window;
 mod words;
 
-pub use counter::Counter;
 pub use error::{Report, RunError};
 pub use found::Found;
 pub use records::Records;

@@ -7,8 +7,9 @@ ghost use Rattle.flight_stock.specs.Stock.{own_mission};
 
 use crate::stock::add;
 use app_host::App;
+use command_counter::Counter;
 use flight_core::laws::runs_keep_their_promises;
-use flight_core::{Counter, Report, RunError, run};
+use flight_core::{Report, RunError, run};
 use lc_model::{ByteSink, ByteSource};
 use limit_checker::LimitChecker;
 use std::alloc::{AllocError, Global};

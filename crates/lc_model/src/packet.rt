@@ -1,12 +1,16 @@
 //! Packets: why they are refused, what is read of them, and sequence requests (CCSDS 133.0-B and the cFE user's guide; the
 //! time code and the checks on what comes in are this project's own).
 
-ghost use Rattle.std.specs.Prelude.{◌≡◌, ◌≤◌, ◌+◌, ◌%◌, ◌<◌, ◌^◌, None, length};
+ghost use Rattle.std.specs.Prelude.{◌≡◌, ◌≤◌, ◌+◌, ◌++◌, ◌%◌, ◌<◌, ◌^◌, ◌&&◌, None, IfSome, is_some, length, nat_le};
+ghost use Rattle.lc_model.specs.Bytes as number;
 ghost use Rattle.lc_model.specs.Packet.{function_code, header_fault, is_own_mid, message_id, parity, stream_fault};
 ghost use Rattle.lc_model.specs.Events.Outgoing.{sequence_request};
 
 use crate::mids;
 use crate::numbers::u16_at;
+
+/// The bytes of the primary header.
+const PRIMARY_HEADER: usize = 6;
 
 /// The bytes of a command's headers, which every packet has.
 const COMMAND_HEADERS: usize = 8;
@@ -93,6 +97,20 @@ pub fn stream_fault(bytes: &[u8]) -> Option<u8>
         return Some(7);
     }
     None
+}
+
+/// The first of packets that stand one behind the other, and what stands behind it; none where the bytes are no whole packet. Of
+/// its header the length alone is read.
+pub fn first_packet(packets: &[u8]) -> Option<(&[u8], &[u8])>
+    ensures whole { is_some result ≡ (nat_le 6 (length packets.now) &&
+        nat_le (number.u16_at packets.now 4 + 7) (length packets.now)) }
+    ensures parts { IfSome result (λ parts. packets.now ≡ parts.0.now ++ parts.1.now) }
+    ensures size { IfSome result (λ parts. length parts.0.now ≡ number.u16_at packets.now 4 + 7) }
+{
+    if packets.len() < PRIMARY_HEADER {
+        return None;
+    }
+    packets.split_at_checked(usize::from(u16_at(packets, 4)) + 7)
 }
 
 // ---- writing

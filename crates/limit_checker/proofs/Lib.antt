@@ -1,3 +1,4 @@
+mod RuleTexts
 mod Answering
 mod Commanding
 mod Sizes

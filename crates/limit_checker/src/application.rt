@@ -18,11 +18,10 @@ ghost use Rattle.limit_engine.specs.Engine.{without_tables};
 ghost use Rattle.limit_checker.specs.Application.{IsHome, MayHave, Answers};
 
 use crate::asked::AskedList;
-use crate::{command, reacting, standings};
+use crate::{command, reacting, standings, texts};
 use app_host::Services;
 use app_host::laws::seats_are_kept_by_the_rules;
 use app_host::sending::telling_goes_on;
-use event_service::limit_checker as texts;
 use lc_model::packet::{function_code, message_id};
 use lc_model::{EventKind, Seat, sample_request};
 use limit_engine::Engine;

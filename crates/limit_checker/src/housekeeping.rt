@@ -14,11 +14,11 @@ ghost use Rattle.limit_checker.specs.Sending.{MaySend};
 
 use crate::adoption::adopt;
 use crate::application::Application;
+use crate::texts;
 use crate::verdict::{Verdict, judge, tell_verdict};
 use app_host::Services;
 use app_host::laws::seats_are_kept_by_the_rules;
 use app_host::sending::telling_goes_on;
-use event_service::limit_checker as texts;
 use lc_model::packet::function_code;
 use lc_model::{CommandRefusal, EventKind, Kind, Seat};
 use limit_engine::Engine;

@@ -12,6 +12,7 @@ mod housekeeping;
 mod reacting;
 mod standings;
 mod starting;
+mod texts;
 mod verdict;
 
 pub use checker::LimitChecker;

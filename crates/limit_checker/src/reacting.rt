@@ -8,10 +8,10 @@ ghost use Rattle.limit_engine.specs.Reactions.{failure_requests, requests_at, re
 ghost use Rattle.limit_engine.specs.declared.reaction.Failure.TheVariants.{Requested};
 ghost use Rattle.limit_checker.specs.Sending.{IsEventOf, MaySend, failure_size, reactions_size, sizes, turn_size};
 
+use crate::texts;
 use app_host::Services;
 use app_host::laws::seats_are_kept_by_the_rules;
 use app_host::sending::telling_goes_on;
-use event_service::limit_checker as texts;
 use lc_model::{EventKind, Seat};
 use limit_engine::{Asked, Engine, Failure, Reactions, RuleEvent, Turn};
 

@@ -16,9 +16,9 @@ ghost use Rattle.limit_checker.specs.Adoption.{are_matching, pair_of, IsSoundPai
 ghost use Rattle.limit_checker.specs.Starting.{new_wdt, new_adt, with_both, AreUnused, start_image, start_pair, IsDefault, AreDefaults, own_started, tables_started};
 
 use crate::adoption::{REQUESTS, belong_together};
+use crate::texts;
 use app_host::laws::seats_are_kept_by_the_rules;
 use app_host::{Services, subscribe_to};
-use event_service::limit_checker as texts;
 use lc_model::{EventKind, Kind, Seat};
 use limit_engine::Engine;
 use table_file::{Layout, open, table_name};

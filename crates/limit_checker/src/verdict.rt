@@ -9,10 +9,10 @@ ghost use Rattle.app_host.specs.Telling.{Tells};
 ghost use Rattle.limit_checker.specs.Sending.{MaySend};
 ghost use Rattle.limit_checker.specs.Housekeeping.{fault_on_board, requested_by, requests_of, validation, verdict_seen};
 
+use crate::texts;
 use app_host::Services;
 use app_host::laws::seats_are_kept_by_the_rules;
 use app_host::sending::telling_goes_on;
-use event_service::limit_checker as texts;
 use lc_model::{EventKind, Kind, Seat};
 use table_validator::{TableFault, validate};
 use tbl_service::{Slot, Stage, Tables};

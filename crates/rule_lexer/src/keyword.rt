@@ -3,31 +3,12 @@
 ghost use Rattle.std.specs.Prelude.{◌≡◌, IsTrue, IsFalse, MatchOption, bytes_eq};
 ghost use Rattle.std.specs.List.{list_any};
 ghost use Rattle.lc_model.specs.Text.Token.{is_word};
-ghost use Rattle.lc_model.specs.Text.Class.{field_type, state, event_kind, other_words};
+ghost use Rattle.lc_model.specs.Text.Class.{state, event_kind, other_words};
 ghost use Rattle.rule_lexer.specs.Token.{IsKind};
 ghost use Rattle.rule_lexer.specs.WordGroups.{item_words, field_words, rule_words, operator_words};
 
 use crate::token::TokenKind;
 use lc_model::{ApMode, EventKind, FieldType};
-
-/// The type that the word names.
-fn field_type(word: &[u8]) -> Option<FieldType>
-    ensures { result ≡ field_type word.now }
-{
-    match word {
-        b"u8" => Some(FieldType::U8),
-        b"i8" => Some(FieldType::I8),
-        b"u16be" => Some(FieldType::U16Be),
-        b"u16le" => Some(FieldType::U16Le),
-        b"i16be" => Some(FieldType::I16Be),
-        b"i16le" => Some(FieldType::I16Le),
-        b"u32be" => Some(FieldType::U32Be),
-        b"u32le" => Some(FieldType::U32Le),
-        b"i32be" => Some(FieldType::I32Be),
-        b"i32le" => Some(FieldType::I32Le),
-        _ => None,
-    }
-}
 
 /// The state that the word names.
 fn state(word: &[u8]) -> Option<ApMode>
@@ -134,7 +115,7 @@ pub fn word_kind(word: &[u8]) -> TokenKind
 {
     if let Some(kind) = plain_word(word) {
         kind
-    } else if let Some(kind) = field_type(word) {
+    } else if let Some(kind) = FieldType::named(word) {
         TokenKind::FieldKind(kind)
     } else if let Some(mode) = state(word) {
         TokenKind::State(mode)

@@ -3,10 +3,10 @@
 use crate::account::Account;
 use crate::course::Entry;
 use crate::escape::{put, put_text};
-use crate::framing::HEADER;
 use crate::sent::Sent;
 use lc_model::packet::message_id;
-use lc_model::{EventKind, mids, u16_at};
+use lc_model::stream::{HALF, HEADER, NAME};
+use lc_model::{EventKind, mids, name_in, u16_at};
 use std::io::{self, Write};
 
 /// What a record brings.
@@ -24,11 +24,12 @@ pub enum Brings<'a> {
     Half { name: &'a [u8], half: u8, text: u16 },
 }
 
-/// The bytes before the first zero, of so many at most.
-fn name_in(field: &[u8], most: usize) -> &[u8] {
-    let front = field.get(..most).unwrap_or(field);
-    let count = front.iter().take_while(|byte| **byte != 0).count();
-    front.get(..count).unwrap_or(front)
+/// The bytes of an application's name in an order.
+const APPLICATION: usize = 20;
+
+/// The first bytes, or all of them where there are fewer.
+fn at_most(size: usize, bytes: &[u8]) -> &[u8] {
+    bytes.get(..size).unwrap_or(bytes)
 }
 
 /// What a packet is.
@@ -41,7 +42,7 @@ fn packet_brings(packet: &[u8]) -> Brings<'_> {
     if mid == mids::EXECUTIVE_SERVICES {
         return Brings::Order {
             code,
-            name: name_in(packet.split_at(8).1, 20),
+            name: name_in(at_most(APPLICATION, packet.split_at(8).1)),
         };
     }
     if mid / 4096 % 2 == 1 {
@@ -52,11 +53,11 @@ fn packet_brings(packet: &[u8]) -> Brings<'_> {
 
 /// What the half of a text in a record's body is.
 fn half_brings(body: &[u8]) -> Brings<'_> {
-    if body.len() < 43 {
+    if body.len() < HALF {
         return Brings::Packet;
     }
     Brings::Half {
-        name: name_in(body, 40),
+        name: name_in(at_most(NAME, body)),
         half: body[40],
         text: u16_at(body, 41),
     }
@@ -70,7 +71,7 @@ pub fn read_record(record: &[u8]) -> Brings<'_> {
     match header.first() {
         Some(2) => Brings::Tick,
         Some(3) => Brings::File {
-            name: name_in(body, 40),
+            name: name_in(at_most(NAME, body)),
         },
         Some(4) => half_brings(body),
         _ => packet_brings(body),

@@ -2,11 +2,9 @@
 
 ghost use Rattle.std.specs.Prelude.{◌<◌, ◌≤◌, length};
 
-use lc_model::{Moment, u16_at, u32_at};
+use lc_model::Moment;
+use lc_model::stream::{self, HEADER, body_size};
 use std::alloc::{AllocError, Global};
-
-/// The bytes of a record before its body.
-pub const HEADER: usize = 11;
 
 /// The bytes from the front of a record to its end, or to the end of the stream where that comes first.
 pub fn record_size(rest: &[u8]) -> usize
@@ -17,7 +15,7 @@ pub fn record_size(rest: &[u8]) -> usize
     if rest.len() < HEADER {
         return rest.len();
     }
-    let size = u32_at(rest, 7) as usize;
+    let size = body_size(rest);
     (HEADER + size).min(rest.len())
 }
 
@@ -56,8 +54,5 @@ pub fn moment_of(record: &[u8]) -> Moment {
             subseconds: 0,
         };
     }
-    Moment {
-        seconds: u32_at(record, 1),
-        subseconds: u16_at(record, 5),
-    }
+    stream::moment_of(record)
 }

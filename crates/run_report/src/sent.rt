@@ -3,9 +3,6 @@
 use lc_model::packet::{REQUEST_SIZE, message_id};
 use lc_model::{EventKind, LcMode, Moment, mids, u16_at, u32_at};
 
-/// The bytes of a primary header, which ends with a length.
-const PRIMARY_HEADER: usize = 6;
-
 /// The bytes of an event packet.
 const EVENT_SIZE: usize = 168;
 
@@ -100,13 +97,4 @@ pub fn read_packet(packet: &[u8]) -> Option<Sent<'_>> {
         });
     }
     None
-}
-
-/// The first packet, and what stands behind it.
-pub fn first_packet(packets: &[u8]) -> Option<(&[u8], &[u8])> {
-    if packets.len() < PRIMARY_HEADER {
-        return None;
-    }
-    let size = usize::from(u16_at(packets, 4)) + 7;
-    packets.split_at_checked(size)
 }

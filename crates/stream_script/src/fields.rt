@@ -17,30 +17,11 @@ use std::alloc::Global;
 /// The bytes of telemetry's headers.
 const HEADERS: usize = 12;
 
-/// The type that the word names.
-fn field_type(word: &[u8]) -> Option<FieldType>
-    ensures { result ≡ field_type word.now }
-{
-    match word {
-        b"u8" => Some(FieldType::U8),
-        b"i8" => Some(FieldType::I8),
-        b"u16be" => Some(FieldType::U16Be),
-        b"u16le" => Some(FieldType::U16Le),
-        b"i16be" => Some(FieldType::I16Be),
-        b"i16le" => Some(FieldType::I16Le),
-        b"u32be" => Some(FieldType::U32Be),
-        b"u32le" => Some(FieldType::U32Le),
-        b"i32be" => Some(FieldType::I32Be),
-        b"i32le" => Some(FieldType::I32Le),
-        _ => None,
-    }
-}
-
-/// The same, which has to be there.
+/// The type that the word names, which has to be there.
 fn some_type(word: &[u8]) -> Result<FieldType, Reason>
     ensures { result ≡ some_type (field_type word.now) }
 {
-    match field_type(word) {
+    match FieldType::named(word) {
         Some(kind) => Ok(kind),
         None => Err(Reason::UnknownType),
     }

@@ -6,10 +6,7 @@ ghost use Rattle.stream_script.specs.Front.{front_in, front_of_kind, IsInside};
 ghost use Rattle.stream_script.specs.Kind.{kind_numbered};
 
 use crate::kind::RecordKind;
-use lc_model::u32_at;
-
-/// The bytes of a record before its body: kind, seconds, subseconds and length.
-pub(crate) const HEADER: usize = 11;
+use lc_model::stream::{HEADER, body_size};
 
 /// What stands at the front of a stream.
 #[derive(Clone, Copy)]
@@ -33,7 +30,7 @@ fn front_of_header(bytes: &[u8]) -> Front
     let Some(kind) = RecordKind::numbered(bytes[0]) else {
         return Front::NoRecord;
     };
-    let length = u32_at(bytes, 7) as usize;
+    let length = body_size(bytes);
     if !kind.fits(length) {
         return Front::NoRecord;
     }

@@ -7,6 +7,7 @@ ghost use Rattle.stream_script.specs.Script.{some_kind};
 
 use crate::error::Reason;
 use crate::word::is;
+use lc_model::stream::{NAME, fits_body};
 
 /// What a record brings.
 #[derive(Clone, Copy)]
@@ -20,15 +21,6 @@ pub enum RecordKind {
     /// A file's name in 40 bytes, and which half of which rule text it has.
     Half,
 }
-
-/// The bytes of a name.
-const NAME: usize = 40;
-
-/// The most bytes of a body.
-const LONGEST_BODY: usize = 65_536;
-
-/// The bytes that name a half of a rule text.
-const HALF: usize = 43;
 
 impl RecordKind {
     /// The kind's number in a stream.
@@ -73,12 +65,7 @@ impl RecordKind {
         ensures exact { result ≡ fits_body all_kinds (kind_number self) size }
         ensures longest { result ≡ true → size ≤ 65536 }
     {
-        match self {
-            RecordKind::Packet => size <= LONGEST_BODY,
-            RecordKind::Tick => size == 0,
-            RecordKind::File => (NAME..=LONGEST_BODY).contains(&size),
-            RecordKind::Half => size == HALF,
-        }
+        fits_body(self.number(), size)
     }
 
     /// Whether a body that fits names a half of a rule text, where it has to.

@@ -10,23 +10,8 @@ ghost use Rattle.stream_script.specs.Listing.{any_order_shown, app_order, body_s
 use crate::kind::RecordKind;
 use crate::text::{with_bytes, with_digits, with_name, with_size, with_text};
 use lc_model::packet::{function_code, message_id};
-use lc_model::{mids, u16_at};
+use lc_model::{mids, name_in, u16_at};
 use std::alloc::{AllocError, Global};
-
-/// How many bytes come before the first zero byte, or all of them.
-fn name_length(field: &[u8]) -> usize
-    ensures place { result ≡ position_or_len (λ b. b == 0) field.now }
-    ensures inside { result ≤ length field.now }
-{
-    field.iter().take_while(|byte| **byte != 0).count()
-}
-
-/// The name in a field: the bytes before the first zero byte, or all of them.
-fn name_in(field: &[u8]) -> &[u8]
-    ensures { result.now ≡ name_in field.now }
-{
-    field.split_at(name_length(field)).0
-}
 
 /// The first bytes, or all of them where there are fewer.
 fn at_most(size: usize, bytes: &[u8]) -> &[u8]

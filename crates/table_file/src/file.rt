@@ -9,8 +9,7 @@ ghost use Rattle.lc_model.specs.Laws.Tables.{IsTableFile};
 ghost use Rattle.table_file.specs.Error.{Answers};
 
 use crate::error::FileError;
-use crate::name::front_name;
-use lc_model::u32_at;
+use lc_model::{name_in, u32_at};
 use std::marker::Model;
 
 /// `cFE1`, by which a cFE file is known.
@@ -118,7 +117,7 @@ impl<'a> TableFile<'a> {
     pub fn name(&self) -> &'a [u8]
         ensures { result.now ≡ name_in self.now.name_field }
     {
-        front_name(self.name_field)
+        name_in(self.name_field)
     }
 
     /// The image, as it stands in the file.

@@ -10,7 +10,6 @@ mod file;
 mod image;
 pub mod laws;
 mod layout;
-mod name;
 mod output;
 pub mod preamble;
 mod watchpoint;

@@ -1,8 +1,9 @@
 -- The tables of a seat by what is kept of them.
 use Rattle.std.specs.Prelude.{◌≡◌, ℕ, ◌+◌, ◌≤◌, List, length, slice_index_or, slice_set, Result, Ok}
+use Rattle.std.specs.Option.{option_map_or}
 use Rattle.lc_model.specs.Refusal.{Refusal, ◌>>=◌, provided}
-use Rattle.lc_model.specs.Tables.Slot.{Slot, loaded}
-use Rattle.lc_model.specs.Services.Tables.{Table, fits_table}
+use Rattle.lc_model.specs.Tables.Slot.{Slot, loaded, no_images}
+use Rattle.lc_model.specs.Services.Tables.{Table, Handle, fits_table, table_at}
 
 -- there are images for two tables, those of tables and those still free, and room for either in both lists
 pub record IsPlace (tables : List Table) (spare : List (Slot (List ℕ))) (table_room spare_room : ℕ) : Type 0 where
@@ -30,3 +31,7 @@ abbrev pub loaded_at : List ℕ → ℕ → Table → List Table → Result (Lis
 loaded_at image number d tables = do
   fitting ← provided (fits_table (slice_index_or tables number d) (length image)) 114 image
   changed_by (loaded fitting) number d tables
+
+-- the images of a handle's table; of a handle without a table nothing waits
+abbrev pub slot_among : Handle → List (List Table) → Slot (List ℕ)
+slot_among handle places = option_map_or (λ (table : Table). table.slot) (table_at handle places) no_images

@@ -5,12 +5,12 @@
 mod buffer;
 mod error;
 mod place;
-mod registry;
+mod seats;
 mod service;
 mod slot;
 mod store;
 
 pub use error::TableError;
-pub use registry::Slot;
+pub use seats::Slot;
 pub use service::Tables;
 pub use slot::Stage;

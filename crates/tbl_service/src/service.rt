@@ -1,7 +1,7 @@
 //! The table services: stored files and registered tables (cFE user's guide, table services; that tables belong to seats, and
 //! the limits, are this project's own).
 
-ghost use Rattle.std.specs.Prelude.{◌≡◌, ◌≤◌, length, option_map, IfErr, IfOk, IfSome, IsSomeAnd, IsTrue, is_some, OnErr};
+ghost use Rattle.std.specs.Prelude.{◌≡◌, ◌≤◌, length, option_map, IfErr, IfOk, IfSome, IsSomeAnd, IsTrue, is_some, OnErr, Some};
 ghost use Rattle.lc_model.specs.Name.{held};
 ghost use Rattle.lc_model.specs.Command.{Load, Manage};
 ghost use Rattle.lc_model.specs.Tables.Slot.{Activated, Asked, Validate, Activate, Abort, waiting_at};
@@ -11,10 +11,11 @@ ghost use Rattle.tbl_service.specs.Error.{answered};
 ghost use Rattle.tbl_service.specs.Images.{waiting_seen};
 
 use crate::error::TableError;
-use crate::registry::{Registry, Slot};
-use crate::slot::Stage;
+use crate::place::{Place, Table};
+use crate::seats::{Slot, change_among, install_into, judge, load_into, register, take};
+use crate::slot::{Move, Stage};
+use crate::store::Files;
 use lc_model::Seat;
-use lc_model::laws::table_services::table_services_stay_sound;
 use std::alloc::Global;
 use std::marker::Model;
 
@@ -22,7 +23,8 @@ use std::marker::Model;
 /// in use and one that waits. Contracts see the files under their names and the tables by seat.
 #[derive(Debug, Drop)]
 pub struct Tables {
-    registry: Registry,
+    files: Files,
+    places: Vec<Place>,
 }
 
 impl Model for Tables {
@@ -30,9 +32,9 @@ impl Model for Tables {
 
     ghost Value = { TableService };
 
-    ghost view = { λ t. t.registry };
+    ghost view = { λ t. record { files = t.files; places = t.places.items } };
 
-    ghost invariant = { λ t. IsTableService t.registry };
+    ghost invariant = { λ t. IsTableService (record { files = t.files; places = t.places.items }) };
 }
 
 impl Tables {
@@ -41,10 +43,12 @@ impl Tables {
         ensures first { IfOk result (λ tables. tables ≡ first_tables) }
         ensures memory { IfErr result (λ e. e ≡ Memory) }
     {
-        table_services_stay_sound();
-        Ok(Tables {
-            registry: Registry::new(alloc)?,
-        })
+        let files = Files::new(alloc)?;
+        let mut places = Vec::with_capacity(alloc, Seat::COUNT)?;
+        for _ in 0..Seat::COUNT {
+            places.push(Place::new(alloc)?)?;
+        }
+        Ok(Tables { files, places })
     }
 
     /// Stores a file, in place of another of its name. Errors: `FileTooLong`, over 32,768 bytes; `StoreFull`, where eight
@@ -54,15 +58,14 @@ impl Tables {
         ensures answer { answered result self.new ≡ file_put name.now bytes.now self.old }
         ensures refused { OnErr result (self.new ≡ self.old) }
     {
-        table_services_stay_sound();
-        self.registry.put_file(name, bytes)
+        self.files.put(name, bytes)
     }
 
     /// The bytes of the file of a name.
     pub fn file(&self, name: &[u8]) -> Option<&[u8]>
         ensures { option_map (λ bytes. bytes.now) result ≡ held name.now self.now.files }
     {
-        self.registry.file(name)
+        self.files.find(name)
     }
 
     /// The seat has one table more, without images, for images of `size` bytes or of the other size. Error: `NoSlot`, where
@@ -80,16 +83,14 @@ impl Tables {
         ensures slot { IfOk result (λ slot. slot ≡ new_handle seat self.old) }
         ensures refused { OnErr result (self.new ≡ self.old) }
     {
-        table_services_stay_sound();
-        self.registry.register(seat, name, size, other)
+        register(self.places.as_mut_slice(), seat, name, size, other)
     }
 
     /// The seat has no table from now on.
     pub fn unregister(&mut self, seat: Seat)
         ensures { self.new ≡ tables_unregistered seat self.old }
     {
-        table_services_stay_sound();
-        self.registry.unregister(seat);
+        self.places[seat.index()].clear();
     }
 
     /// The image of a stored file waits at the table that the file names. Errors, the first that stands: `NoFile`; `FileFault`
@@ -98,8 +99,10 @@ impl Tables {
         ensures answer { answered result self.new ≡ table_commanded (Load file.now) self.old }
         ensures refused { OnErr result (self.new ≡ self.old) }
     {
-        table_services_stay_sound();
-        self.registry.load(file)
+        match self.files.find(file) {
+            None => Err(TableError::NoFile),
+            Some(bytes) => load_into(self.places.as_mut_slice(), bytes),
+        }
     }
 
     /// The owner of the table is asked whether the image that waits is valid. Errors, the first that stands: `UnknownTable`,
@@ -109,8 +112,7 @@ impl Tables {
             self.old }
         ensures refused { OnErr result (self.new ≡ self.old) }
     {
-        table_services_stay_sound();
-        self.registry.request_validate(table)
+        change_among(self.places.as_mut_slice(), table, Move::Validate)
     }
 
     /// The owner of the table is to take the valid image that waits. Errors, the first that stands: `UnknownTable`,
@@ -120,8 +122,7 @@ impl Tables {
             self.old }
         ensures refused { OnErr result (self.new ≡ self.old) }
     {
-        table_services_stay_sound();
-        self.registry.request_activate(table)
+        change_among(self.places.as_mut_slice(), table, Move::Activate)
     }
 
     /// The image that waits goes. Errors, the first that stands: `UnknownTable`, `NothingLoaded`.
@@ -130,8 +131,7 @@ impl Tables {
             self.old }
         ensures refused { OnErr result (self.new ≡ self.old) }
     {
-        table_services_stay_sound();
-        self.registry.abort(table)
+        change_among(self.places.as_mut_slice(), table, Move::Abort)
     }
 
     /// The image that waits, and how far it has come.
@@ -140,7 +140,7 @@ impl Tables {
         ensures { option_map (λ pending. waiting_seen pending.0 pending.1.now) result ≡
             (slot_at slot self.now).waiting }
     {
-        self.registry.pending(slot)
+        self.table(slot).pending()
     }
 
     /// The image in use.
@@ -148,7 +148,7 @@ impl Tables {
         requires { IsTrue (is_some (table_at slot self.now.places)) }
         ensures { option_map (λ image. image.now) result ≡ (slot_at slot self.now).active }
     {
-        self.registry.active(slot)
+        self.table(slot).active()
     }
 
     /// The owner's verdict on the image that it is asked about: it is valid, or it is loaded as before.
@@ -157,8 +157,7 @@ impl Tables {
         requires asked { IsTrue (is_some (waiting_at Asked (slot_at slot self.old))) }
         ensures { self.new ≡ verdict_set slot valid self.old }
     {
-        table_services_stay_sound();
-        self.registry.set_verdict(slot, valid);
+        judge(self.places.as_mut_slice(), slot, valid);
     }
 
     /// The activated image comes into use; no byte is copied.
@@ -167,8 +166,7 @@ impl Tables {
         requires activated { IsTrue (is_some (waiting_at Activated (slot_at slot self.old))) }
         ensures { self.new ≡ image_taken slot self.old }
     {
-        table_services_stay_sound();
-        self.registry.take(slot);
+        take(self.places.as_mut_slice(), slot);
     }
 
     /// The image of a stored file comes into use; the one that waits stays. The file opens, and its image has one of the
@@ -180,8 +178,9 @@ impl Tables {
         ensures { IfSome (stored_image file.now self.old)
             (λ image. self.new ≡ image_installed slot image self.old) }
     {
-        table_services_stay_sound();
-        self.registry.install(slot, file);
+        if let Some(bytes) = self.files.find(file) {
+            install_into(self.places.as_mut_slice(), slot, bytes);
+        }
     }
 
     /// The files are at most eight, each within its bound and under a name of its own, and no seat has over two tables, nor two
@@ -189,6 +188,15 @@ impl Tables {
     pub fn is_service(&self)
         ensures { IsTableService self.now }
     {
-        let _registry = &self.registry;
+        let _files = &self.files;
+    }
+
+    /// The table of a slot.
+    fn table(&self, slot: Slot) -> &Table
+        requires { IsTrue (is_some (table_at slot self.now.places)) }
+        ensures { Some result.now ≡ table_at slot self.now.places }
+    {
+        let tables = self.places[slot.seat.index()].tables();
+        &tables[slot.number]
     }
 }

@@ -3,7 +3,8 @@
 ghost use Rattle.std.specs.Prelude.{◌≡◌, false};
 
 use app_host::App;
-use flight_core::{Counter, Report, RunError, run, run_within};
+use command_counter::Counter;
+use flight_core::{Report, RunError, run, run_within};
 use flight_stock::add;
 use lc_model::{Limited, Pieces};
 use limit_checker::LimitChecker;

@@ -3,7 +3,8 @@
 ghost use Rattle.std.specs.Prelude.{◌≡◌, false, None};
 
 use app_host::{App, Services};
-use flight_core::{Counter, Report, RunError, run};
+use command_counter::Counter;
+use flight_core::{Report, RunError, run};
 use flight_stock::add;
 use lc_model::{Limited, Pieces, Seat};
 use std::alloc::{AllocError, Global};

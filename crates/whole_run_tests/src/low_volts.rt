@@ -6,7 +6,8 @@ ghost use Rattle.flight_core.specs.Ending.{ending_of};
 ghost use Rattle.whole_run_tests.specs.LowVolts.{WritesByItsText, WritesTwoFailures};
 
 use app_host::App;
-use flight_core::{Counter, Report, RunError, run};
+use command_counter::Counter;
+use flight_core::{Report, RunError, run};
 use flight_stock::add;
 use lc_model::{ByteSink, ByteSource};
 use limit_checker::LimitChecker;

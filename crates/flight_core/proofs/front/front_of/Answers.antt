@@ -8,26 +8,26 @@ returns-then-bytes-lt-HEADER c = (short_in_front c.args.texts c.args.bytes.now c
 
 pub returns-then-bytes-size : goal.returns-then-bytes-size
 returns-then-bytes-size c = (
-  cut_in_front c.args.texts c.args.bytes.now c.u32_at-size.result c.if-bytes-lt-HEADER.false c.u32_at-size.ensures (sym c.fits.ensures.exact ∙ c.if-not-fits.false) c.if-bytes-size.true,
-  omega (arith, c.fits.ensures.longest c.if-not-fits.false),
+  cut_in_front c.args.texts c.args.bytes.now c.body_size-size.result c.if-bytes-lt-HEADER.false c.body_size-size.ensures (sym c.fits_body.ensures.exact ∙ c.if-not-fits_body.false) c.if-bytes-size.true,
+  omega (arith, c.fits_body.ensures.longest c.if-not-fits_body.false),
 )
 
 pub returns-in-Some : goal.returns-in-Some
 returns-in-Some c =
-    let there : IsThere c.args.bytes.now c.u32_at-size.result = record {
+    let there : IsThere c.args.bytes.now c.body_size-size.result = record {
       long = c.if-bytes-lt-HEADER.false;
-      same = c.u32_at-size.ensures;
-      fits = sym c.fits.ensures.exact ∙ c.if-not-fits.false;
+      same = c.body_size-size.ensures;
+      fits = sym c.fits_body.ensures.exact ∙ c.if-not-fits_body.false;
       whole = c.if-bytes-size.false;
     } in
-    whole_in_front c.args.texts c.args.bytes.now c.u32_at-size.result c.in-Some.shape there c.in-Some.ensures.text c.in-Some.ensures.named c.in-Some.ensures.brings
+    whole_in_front c.args.texts c.args.bytes.now c.body_size-size.result c.in-Some.shape there c.in-Some.ensures.text c.in-Some.ensures.named c.in-Some.ensures.brings
 
 pub returns-in-None : goal.returns-in-None
 returns-in-None c =
-    let there : IsThere c.args.bytes.now c.u32_at-size.result = record {
+    let there : IsThere c.args.bytes.now c.body_size-size.result = record {
       long = c.if-bytes-lt-HEADER.false;
-      same = c.u32_at-size.ensures;
-      fits = sym c.fits.ensures.exact ∙ c.if-not-fits.false;
+      same = c.body_size-size.ensures;
+      fits = sym c.fits_body.ensures.exact ∙ c.if-not-fits_body.false;
       whole = c.if-bytes-size.false;
     } in
-    none_in_front c.args.texts c.args.bytes.now c.u32_at-size.result there c.in-None.ensures.brings
+    none_in_front c.args.texts c.args.bytes.now c.body_size-size.result there c.in-None.ensures.brings

@@ -1,10 +1,15 @@
+use Rattle.std.proofs.Common.{rules, ap}
 use Rattle.lc_model.specs.Command.{Manage}
 use Rattle.lc_model.specs.Tables.Slot.{Validate}
-use Rattle.lc_model.specs.Services.Tables.{table_commanded}
-use Rattle.tbl_service.proofs.Sound.{stays_sound}
+use Rattle.lc_model.specs.Services.Tables.{TableService, moved_among, table_commanded}
+use Rattle.lc_model.proofs.Services.TableServiceLaws.{commands_stay_sound}
+use Rattle.tbl_service.proofs.Sound.{answered_sound, of_places}
 use Rattle.tbl_service.proofs.service.Tables.request_validate.Goals as goal
 
 pub invariant_of-self : goal.invariant_of-self
 invariant_of-self c =
-    stays_sound c.request_validate.result c.self.inside.registry c.request_validate.new.self (table_commanded (Manage Validate c.args.table.now) c.self.inside.registry) c.request_validate.ensures.answer c.request_validate.ensures.refused
-    (c.table_services_stay_sound.ensures.commands (Manage Validate c.args.table.now) c.self.inside.registry c.self.invariant) c.self.invariant
+    let old : TableService = record { files = c.self.inside.files; places = c.self.inside.places.items } in
+    answered_sound c.self.inside.files c.self.inside.places.items c.as_mut_slice.result.now c.change_among.new.places c.self.inside.places.len (search rules) (search rules) (search rules)
+    c.change_among.result (table_commanded (Manage Validate c.args.table.now) old)
+    (of_places c.change_among.result c.self.inside.files c.self.inside.places.items c.change_among.new.places (moved_among Validate c.args.table.now c.self.inside.places.items) (search rules))
+    c.change_among.ensures.refused (commands_stay_sound (Manage Validate c.args.table.now) old c.self.invariant) c.self.invariant

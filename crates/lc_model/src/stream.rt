@@ -1,0 +1,53 @@
+//! What the header of a stream's record says (this project's own format): kind, seconds, subseconds and length of the body.
+
+ghost use Rattle.std.specs.Prelude.{◌≡◌, ◌≤◌, true, length};
+ghost use Rattle.lc_model.specs.Host.Stream.{all_kinds, body_size, fits_body, header_size, max_body, moment_of};
+
+use crate::numbers::{u16_at, u32_at};
+use crate::record::Moment;
+
+/// The bytes of a record before its body.
+pub const HEADER: usize = 11;
+
+/// The bytes of a file's name.
+pub const NAME: usize = 40;
+
+/// The bytes of a body that names a half of a rule text: the file's name, the half and the text's number.
+pub const HALF: usize = 43;
+
+/// The most bytes of a body.
+pub const LONGEST_BODY: usize = 65_536;
+
+/// The moment of a record.
+pub fn moment_of(record: &[u8]) -> Moment
+    requires { header_size ≤ length record.now }
+    ensures { result ≡ moment_of record.now }
+{
+    Moment {
+        seconds: u32_at(record, 1),
+        subseconds: u16_at(record, 5),
+    }
+}
+
+/// How many bytes the body of a record has, as its header says.
+pub fn body_size(record: &[u8]) -> usize
+    requires { header_size ≤ length record.now }
+    ensures { result ≡ body_size record.now }
+{
+    u32_at(record, 7) as usize
+}
+
+/// Whether a record of this kind may have a body of so many bytes: 1, a packet, any to 65,536; 2, a tick, none; 3, a file, a name
+/// and more, to 65,536; 4, a half of a rule text, 43.
+pub fn fits_body(kind: u8, size: usize) -> bool
+    ensures exact { result ≡ fits_body all_kinds kind size }
+    ensures longest { result ≡ true → size ≤ max_body }
+{
+    match kind {
+        1 => size <= LONGEST_BODY,
+        2 => size == 0,
+        3 => (NAME..=LONGEST_BODY).contains(&size),
+        4 => size == HALF,
+        _ => false,
+    }
+}
