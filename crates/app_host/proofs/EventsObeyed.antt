@@ -201,9 +201,6 @@ module _ (found_law : TablesAreFound) (law : CommandsByName) (old mid : Hosted) 
 
   -- it is refused
   module _ (same : mid.services.events ≡ old.services.events) (refusal : Refusal) (is : Err refusal ≡ events_by (event_command (function_code packet) (payload packet)) old.services.events) where
-    pub same_names : KeepsNames old.services.events mid.services.events
-    same_names = record { sent = ap (λ (x : EventService). x.sent) same; names = λ seat. ap (λ (x : EventService). option_map name_of (sender_at (Some seat) x)) same }
-
     executive_same : executive_in mid ≡ e
     executive_same = λ i. record {
       stock = map member_of (alone.stock i);

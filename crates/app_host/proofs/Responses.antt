@@ -1,5 +1,5 @@
 -- What a record asks of HOST, by what the record is.
-use Rattle.std.proofs.Common.{◌≡◌, refl, ap, sym, subst, ℕ, ◌==◌, false, List, if◌then◌else◌, Option, Some, None, Result}
+use Rattle.std.proofs.Common.{◌≡◌, refl, ap, sym, subst, ℕ, ◌==◌, List, if◌then◌else◌, Option, Some, Result}
 use Rattle.std.specs.Option.{option_map_or}
 use Rattle.lc_model.specs.declared.record.Body.{Body}
 use Rattle.lc_model.specs.declared.record.Body.TheVariants as variant
@@ -45,17 +45,11 @@ module _ (packet : List ℕ) (h : Hosted) where
   pub is_for_orders : message_id packet ≡ executive_services_mid → for_orders ≡ routed_to packet h
   is_for_orders is = sym (ap by_mid is)
 
-  pub is_handed_on : (message_id packet == event_services_mid) ≡ false → (message_id packet == table_services_mid) ≡ false → (message_id packet == executive_services_mid) ≡ false → handing_on h ≡ routed_to packet h
-  is_handed_on events tables orders = rw (events, tables, orders) refl
-
   abbrev by_fault : Option ℕ → Response
   by_fault fault = option_map_or (λ reason. only_telling (bad_packet reason) h) fault (routed_to packet h)
 
   pub is_refused : (reason : ℕ) → stream_fault packet ≡ Some reason → only_telling (bad_packet reason) h ≡ response_to_packet packet h
   is_refused reason is = sym (ap by_fault is)
-
-  pub is_routed : stream_fault packet ≡ None → routed_to packet h ≡ response_to_packet packet h
-  is_routed is = sym (ap by_fault is)
 
 -- the response to a packet is that of whoever handles it
 module _ (moment : Moment) (old new : Hosted) (before now : Option (List ℕ)) (result : Result ℕ WriteFault) (packet : List ℕ) where
@@ -71,14 +65,8 @@ module _ (moment : Moment) (old new : Hosted) (before now : Option (List ℕ)) (
   pub routed_orders : message_id packet ≡ executive_services_mid → By (for_orders packet old) → By (routed_to packet old)
   routed_orders is = subst By (is_for_orders packet old is)
 
-  pub routed_on : (message_id packet == event_services_mid) ≡ false → (message_id packet == table_services_mid) ≡ false → (message_id packet == executive_services_mid) ≡ false → By (handing_on old) → By (routed_to packet old)
-  routed_on events tables orders = subst By (is_handed_on packet old events tables orders)
-
   pub turned_away : (reason : ℕ) → stream_fault packet ≡ Some reason → By (only_telling (bad_packet reason) old) → By (response_to_packet packet old)
   turned_away reason is = subst By (is_refused packet old reason is)
-
-  pub routed : stream_fault packet ≡ None → By (routed_to packet old) → By (response_to_packet packet old)
-  routed is = subst By (is_routed packet old is)
 
 -- ---- a step
 

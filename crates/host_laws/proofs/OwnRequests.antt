@@ -98,9 +98,6 @@ module _ {Image : Type 0} (images : Interpretation Image) where
       by_waiting None = tt
       by_waiting (Some image) = verdict_own kind (images.fault_of kind image) slot
 
-  OfOk : Lc Image → Result (LcStep Image History Past) Refusal → Type 0
-  OfOk lc r = AreOf lc_name (unless_refused lc r).1
-
   command_own : (packet : List ℕ) (lc : Lc Image) → AreOf lc_name (unless_refused lc (lc_commanded packet lc)).1
   command_own packet lc = by_command (lc_command (function_code packet) (payload packet))
     where

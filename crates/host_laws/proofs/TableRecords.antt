@@ -103,9 +103,6 @@ module _ {Image : Type 0} (images : Interpretation Image) (schedule : Schedule) 
       at false false = refl
   slots_with Adt slot lc i name = by_adt (is_named name (table_name Adt)) refl i
     where
-      Same : Name → Bool → Type 0
-      Same name b = option_map (λ kind. slot_now images schedule kind (with_slot_now Adt slot lc)) (kind_named name)
-          ≡ (if b then Some slot else option_map (λ kind. slot_now images schedule kind lc) (kind_named name))
 
       at : (a : Bool) →
           option_map (λ kind. slot_now images schedule kind (with_slot_now Adt slot lc)) (if a then Some Wdt else None)
