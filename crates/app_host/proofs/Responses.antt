@@ -4,8 +4,8 @@ use Rattle.std.specs.Option.{option_map_or}
 use Rattle.lc_model.specs.declared.record.Body.{Body}
 use Rattle.lc_model.specs.declared.record.Body.TheVariants as variant
 use Rattle.lc_model.specs.declared.record.Moment.{Moment}
-use Rattle.lc_model.specs.Packet.{stream_fault, function_code, payload, message_id, event_services_mid, table_services_mid, executive_services_mid}
-use Rattle.lc_model.specs.Command.{event_command, table_command}
+use Rattle.lc_model.specs.Packet.{stream_fault, message_id, event_services_mid, table_services_mid, executive_services_mid, by_service}
+use Rattle.lc_model.specs.Command.{event_command_in, table_command_in}
 use Rattle.lc_model.specs.Events.Request.{bad_packet}
 use Rattle.app_host.specs.declared.error.WriteFault.{WriteFault}
 use Rattle.app_host.specs.Shared.{at_moment}
@@ -21,20 +21,16 @@ use Rattle.app_host.proofs.Responding.{responds_from}
 
 module _ (packet : List ℕ) (h : Hosted) where
   abbrev for_events : Response
-  for_events = obeying_events packet h (events_by (event_command (function_code packet) (payload packet)) h.services.events)
+  for_events = obeying_events packet h (events_by (event_command_in packet) h.services.events)
 
   abbrev for_tables : Response
-  for_tables = obeying_tables packet h (tables_by (table_command (function_code packet) (payload packet)) h.services.tables)
+  for_tables = obeying_tables packet h (tables_by (table_command_in packet) h.services.tables)
 
   abbrev for_orders : Response
   for_orders = obeying_orders packet h (succession_by packet (roster_of h))
 
   abbrev by_mid : ℕ → Response
-  by_mid mid =
-      if mid == event_services_mid then for_events
-      else if mid == table_services_mid then for_tables
-      else if mid == executive_services_mid then for_orders
-      else handing_on h
+  by_mid mid = by_service mid for_events for_tables for_orders (handing_on h)
 
   pub is_for_events : message_id packet ≡ event_services_mid → for_events ≡ routed_to packet h
   is_for_events is = sym (ap by_mid is)

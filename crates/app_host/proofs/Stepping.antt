@@ -7,8 +7,8 @@ use Rattle.lc_model.specs.declared.record.Moment.{Moment}
 use Rattle.lc_model.specs.Device.{Sink}
 use Rattle.lc_model.specs.Name.{Name}
 use Rattle.lc_model.specs.Services.Seen.{meaning_of}
-use Rattle.lc_model.specs.Packet.{stream_fault, function_code, payload, message_id, event_services_mid, table_services_mid, executive_services_mid}
-use Rattle.lc_model.specs.Command.{app_command}
+use Rattle.lc_model.specs.Packet.{stream_fault, message_id, event_services_mid, table_services_mid, executive_services_mid, by_service}
+use Rattle.lc_model.specs.Command.{order_in}
 use Rattle.lc_model.specs.Refusal.{Refusal}
 use Rattle.lc_model.specs.Events.Request.{event_services, table_services, executive_services, bad_packet}
 use Rattle.lc_model.specs.Host.React.{Input, Packet, File, stored}
@@ -179,7 +179,7 @@ module _ (old new : Hosted) (before now : Sink) (result : Result ℕ WriteFault)
   module _ (packet : List ℕ) where
     -- who takes part in an order
     abbrev party : Party
-    party = party_by (app_command (function_code packet) (payload packet))
+    party = party_by (order_in packet)
 
     -- by the fault of the packet
     abbrev ByFault : Option ℕ → Type 0
@@ -203,14 +203,10 @@ module _ (old new : Hosted) (before now : Sink) (result : Result ℕ WriteFault)
     abbrev ByMid : ℕ → Type 0
     ByMid mid =
         let stations : List (Station (List ℕ)) =
-        if mid == event_services_mid then written_once events_step
-        else if mid == table_services_mid then written_once tables_step
-        else if mid == executive_services_mid then order_stations on_board moment packet e (executive_service_now on_board moment packet e)
-        else passing_stations on_board moment packet e in
-        Handles (if mid == event_services_mid then nobody else if mid == table_services_mid then Holders else if mid == executive_services_mid then party else passing packet) stations (if mid == event_services_mid then events_step
-        else if mid == table_services_mid then tables_step
-        else if mid == executive_services_mid then orders_step
-        else passed_on on_board moment packet e) (last_calls on_board moment stations) old new before now result
+        by_service mid (written_once events_step) (written_once tables_step) (order_stations on_board moment packet e (executive_service_now on_board moment packet e))
+        (passing_stations on_board moment packet e) in
+        Handles (by_service mid nobody Holders party (passing packet)) stations
+        (by_service mid events_step tables_step orders_step (passed_on on_board moment packet e)) (last_calls on_board moment stations) old new before now result
 
     module _ (good : stream_fault packet ≡ None) where
       routed_so : ByMid (message_id packet) → Takes (Packet packet) old new before now result
