@@ -3,9 +3,9 @@ use Rattle.std.proofs.Common.{◌≡◌, refl, ap, sym, ◌∙◌, subst, ℕ, z
 use Rattle.std.specs.Prelude.{option_map, slice_index_or}
 use Rattle.lc_model.specs.Device.{Sink}
 use Rattle.lc_model.specs.Name.{Name}
-use Rattle.lc_model.specs.Packet.{function_code, payload}
+use Rattle.lc_model.specs.Packet.{function_code}
 use Rattle.lc_model.specs.Refusal.{Refusal, ◌>>=◌, found}
-use Rattle.lc_model.specs.Command.{event_command}
+use Rattle.lc_model.specs.Command.{event_command_in}
 use Rattle.lc_model.specs.Events.Log.{LogItem}
 use Rattle.lc_model.specs.Events.Request.{Request, event_services, command_done, command_refused}
 use Rattle.lc_model.specs.Kept.Summary.{EventState}
@@ -82,8 +82,8 @@ all_commands law s (Ok command) = one_command law s command
 all_commands law s (Err refusal) = refl
 
 pub obeyed_so : CommandsByName → (packet : List ℕ) (s : Services) →
-    event_service_now packet (shared s) ≡ (events_by (event_command (function_code packet) (payload packet)) s.events >>= (λ after. Ok (record (shared s) { events = sender_named after })))
-obeyed_so law packet s = all_commands law s (event_command (function_code packet) (payload packet))
+    event_service_now packet (shared s) ≡ (events_by (event_command_in packet) s.events >>= (λ after. Ok (record (shared s) { events = sender_named after })))
+obeyed_so law packet s = all_commands law s (event_command_in packet)
 
 -- ---- names and the count stay
 
@@ -172,9 +172,9 @@ module _ (found_law : TablesAreFound) (law : CommandsByName) (old mid : Hosted) 
       }
 
   -- it is obeyed
-  module _ (is : Ok mid.services.events ≡ events_by (event_command (function_code packet) (payload packet)) old.services.events) where
+  module _ (is : Ok mid.services.events ≡ events_by (event_command_in packet) old.services.events) where
     pub keeps_names : KeepsNames old.services.events mid.services.events
-    keeps_names = names_stay (event_command (function_code packet) (payload packet)) old.services.events mid.services.events is
+    keeps_names = names_stay (event_command_in packet) old.services.events mid.services.events is
 
     abbrev later : Executive (List ℕ)
     later = record e { services = record e.services { events = sender_named mid.services.events } }
@@ -200,10 +200,7 @@ module _ (found_law : TablesAreFound) (law : CommandsByName) (old mid : Hosted) 
         (told_behind old mid new later executive_obeyed alone.stock alone.moment alone.is_closed known_obeyed request before now result tells)
 
   -- it is refused
-  module _ (same : mid.services.events ≡ old.services.events) (refusal : Refusal) (is : Err refusal ≡ events_by (event_command (function_code packet) (payload packet)) old.services.events) where
-    pub same_names : KeepsNames old.services.events mid.services.events
-    same_names = record { sent = ap (λ (x : EventService). x.sent) same; names = λ seat. ap (λ (x : EventService). option_map name_of (sender_at (Some seat) x)) same }
-
+  module _ (same : mid.services.events ≡ old.services.events) (refusal : Refusal) (is : Err refusal ≡ events_by (event_command_in packet) old.services.events) where
     executive_same : executive_in mid ≡ e
     executive_same = λ i. record {
       stock = map member_of (alone.stock i);

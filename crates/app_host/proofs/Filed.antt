@@ -9,7 +9,7 @@ use Rattle.lc_model.specs.Refusal.{Refusal, ◌>>=◌}
 use Rattle.lc_model.specs.Host.React.{stored}
 use Rattle.lc_model.specs.Tables.Interpretation.{FileMeaning}
 use Rattle.lc_model.specs.Events.Request.{Request, file_stored, file_refused}
-use Rattle.lc_model.specs.Kept.Executive.{Pipe, Executive, Written, ready_seat, told_by_host, filed_now}
+use Rattle.lc_model.specs.Kept.Executive.{Pipe, Executive, Written, told_by_host, filed_now}
 use Rattle.lc_model.specs.Kept.Stations.{written_once}
 use Rattle.lc_model.specs.Laws.TablesByName.{TablesAreFound, StoringFiles}
 use Rattle.lc_model.specs.Services.Bus.{Bus, seen}
@@ -112,9 +112,6 @@ module _ (found : TablesAreFound) (storing : StoringFiles) (old mid : Hosted) (n
     (sound : IsTableService old.services.tables) (sound' : IsTableService mid.services.tables) (alone : TablesAlone old mid) where
   known_filed : AreKnown old → AreKnown mid
   known_filed known = λ seat. rw alone.seats (known seat)
-
-  pub quiet_filed : IsQuiet mid
-  quiet_filed = ap (λ (b : Bus). ready_seat (seen b)) alone.bus ∙ quiet
 
   abbrev e : Executive (List ℕ)
   e = executive_in old

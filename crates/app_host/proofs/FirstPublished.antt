@@ -5,30 +5,15 @@ use Rattle.std.specs.Option.{option_or}
 use Rattle.std.specs.List.{sum_by, position_from}
 use Rattle.std.proofs.lemmas.List.{length-map}
 use Rattle.std.proofs.lemmas.List.Sums.{sum_by-cons, count_by-le-length}
-use Rattle.lc_model.specs.Packet.{header_fault, message_id}
+use Rattle.lc_model.specs.Packet.{header_fault}
 use Rattle.lc_model.specs.Kept.Executive.{Pipe, has_some, is_ready, ready_seat, hears, offered, published_to}
-use Rattle.lc_model.specs.Services.Bus.{Bus, Queue, Publication, seen, seen_pipe, is_subscribed, is_full, hears_packet, is_blocked, publish_refusal, offered_as, published_as}
+use Rattle.lc_model.specs.Services.Bus.{Bus, Queue, Publication, seen, seen_pipe, is_full, hears_packet, is_blocked, publish_refusal}
 use Rattle.lc_model.specs.Services.Interface.{waiting_in}
 use Rattle.packet_bus.specs.declared.error.BusError.{BusError}
 use Rattle.packet_bus.specs.Error.{refusal_in}
 use Rattle.app_host.specs.Load.{is_tick, packets_in, ticks_in, weight_of, all_ticks, load, IsLight}
 use Rattle.app_host.proofs.Found.{nowhere}
 use Rattle.app_host.proofs.Loads.{no_ticks_in}
-
--- ---- the pipes after it
-
-seen_offered : (number : ℕ) (packet : List ℕ) (queue : Queue) → seen_pipe (offered_as number packet queue) ≡ offered packet (seen_pipe queue)
-seen_offered number packet queue = by_test (is_subscribed (message_id packet) queue)
-  where
-    more : (ps : List Publication) → map (λ (p : Publication). p.bytes) (ps ++ record { number = number; bytes = packet } ∷ []) ≡ map (λ (p : Publication). p.bytes) ps ++ packet ∷ []
-    more [] = refl
-    more (p ∷ ps) = ap (λ rest. p.bytes ∷ rest) (more ps)
-
-    by_test : (b : Bool) →
-        seen_pipe (if b then record queue { waiting = queue.waiting ++ record { number = number; bytes = packet } ∷ [] } else queue)
-        ≡ (if b then record { subscriptions = queue.subscriptions; waiting = (seen_pipe queue).waiting ++ packet ∷ [] } else seen_pipe queue)
-    by_test true = ap (λ waiting. record { subscriptions = queue.subscriptions; waiting = waiting }) (more queue.waiting)
-    by_test false = refl
 
 -- ---- it is not refused
 

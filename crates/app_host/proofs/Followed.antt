@@ -1,13 +1,11 @@
 -- The next one took its seat.
-use Rattle.std.proofs.Common.{◌≡◌, refl, ap, ap₂, sym, ◌∙◌, subst, ℕ, suc, ◌<◌, List, [], ◌++◌, length, map, take, drop, arith, Option, Some, None, get_or}
+use Rattle.std.proofs.Common.{◌≡◌, ap, ap₂, sym, ◌∙◌, subst, ℕ, suc, ◌<◌, List, [], ◌++◌, length, map, take, drop, arith, Some, None, get_or}
 use Rattle.std.specs.Prelude.{option_map, All, slice_set}
 use Rattle.std.specs.List.{remove}
 use Rattle.std.proofs.lemmas.List.{take-map, drop-map, map-append, length-map}
 use Rattle.std.proofs.lemmas.List.Elements.{All-append, All-take, All-drop}
 use Rattle.std.specs.Global.{Global}
 use Rattle.std.specs.declared.dyn_box.DynBox.{DynBox}
-use Rattle.lc_model.specs.Name.{Name}
-use Rattle.lc_model.specs.Kept.Summary.{AppState}
 use Rattle.lc_model.specs.Kept.Executive.{no_member, spare_at, begun_on, without_spare}
 use Rattle.lc_model.specs.Services.Bus.{seen}
 use Rattle.app_host.specs.declared.services.Services.{Services}
@@ -18,7 +16,7 @@ use Rattle.app_host.specs.Hosted.{Object, Hosted, spare_in, no_object, member_of
 use Rattle.app_host.specs.Whole.{AreSeated, AreSpares, AreKnown}
 use Rattle.app_host.specs.Roster.{name_of}
 use Rattle.app_host.specs.Delivered.{executive_in, Becomes}
-use Rattle.app_host.specs.Ordered.{next_of, Nobody, Spare, Same, MayBegin, MayFollow, StaysWhole, HasBegun, HasFollowed}
+use Rattle.app_host.specs.Ordered.{next_of, Spare, MayBegin, MayFollow, StaysWhole, HasBegun, HasFollowed}
 use Rattle.app_host.proofs.Found.{shown_at, shown_in}
 
 -- ---- one thing after the other
@@ -45,22 +43,6 @@ stays_so old mid seated idle seats services closed calls = record {
   fits = let none : length mid.services.outgoing ≡ 0 = ap (λ (s : Services). length s.outgoing) services ∙ ap length idle in omega (arith, none);
 }
 
--- ---- nobody comes
-
-pub nobody_followed : (h : Hosted) → AreSeated h.seats h.services → AreSpares h.stock → h.services.outgoing ≡ [] → HasFollowed Nobody h h
-nobody_followed h seated spares idle = record {
-  whole = stays_so h h seated idle refl refl refl refl;
-  spares = spares;
-  own = record { host = refl; files = refl; roster = refl };
-  known = λ known its_own. known;
-  exact = λ its_own. record { executive = refl; outgoing = idle };
-}
-
--- ---- one that was there before
-
-pub same_followed : (old new : Hosted) (seat : ℕ) (o : Object) → AreSpares old.stock → HasBegun seat o old new → HasFollowed (Same o seat) old new
-same_followed old new seat o spares begun = record { whole = begun.whole; spares = rw begun.stock spares; own = begun.own; known = begun.known; exact = begun.exact }
-
 -- ---- a spare
 
 map_removed : {A B : Type 0} (f : A → B) (xs : List A) (i : ℕ) → map f (remove xs i) ≡ remove (map f xs) i
@@ -81,9 +63,6 @@ module _ (old mid : Hosted) (place : ℕ) (less : place < length old.stock) (sto
   -- it may begin
   pub may_begin : (seat : ℕ) (o : Object) → o ≡ spare_in old.stock place → MayBegin seat old (spare_in old.stock place) → MayBegin seat mid o
   may_begin seat o is may = rw is (record { free = rw seats may.free; spare = may.spare; unused = rw seats may.unused })
-
-  pub seated_mid : AreSeated old.seats old.services → AreSeated mid.seats mid.services
-  seated_mid seated = rw (seats, services) seated
 
   -- in numbers
   stock_mid : map member_of mid.stock ≡ remove (map member_of old.stock) place

@@ -2,7 +2,7 @@
 use Rattle.std.proofs.Common.{◌≡◌, ℕ, ◌+◌, ◌<◌, ◌≤◌, Bool, true, false, List, [], ◌∷◌, Option, Some, None, map, refl, ap, ◌∙◌, sym, length, cond, suc, zero, arith, get_or, set, drop, take, count_by}
 use Rattle.std.specs.Prelude.{option_map, is_some, find}
 use Rattle.std.specs.List.{position_from}
-use Rattle.std.proofs.lemmas.List.{drop_more, drop_all, length-map, map-set, get_or-set_same}
+use Rattle.std.proofs.lemmas.List.{drop_more, length-map, map-set, get_or-set_same}
 use Rattle.std.proofs.lemmas.List.Sums.{count_by_more_yes, count_by_more_no}
 use Rattle.std.proofs.lemmas.Option.{same_Some}
 use Rattle.lc_model.specs.Name.{Name}
@@ -39,11 +39,6 @@ miss f p xs i x r lt e bad h = sym (step f p xs i x lt e ∙ ap (λ b. cond b (S
 pub hit : {B M : Type 0} (f : B → M) (p : M → Bool) (xs : List B) (i : ℕ) (x : B) (r : Option ℕ) → i < length xs → x ≡ get_or xs i x → p (f x) ≡ true
     → position_from p i (drop i (map f xs)) ≡ r → Some i ≡ r
 hit f p xs i x r lt e good h = sym (step f p xs i x lt e ∙ ap (λ b. cond b (Some i) (position_from p (i + 1) (drop (i + 1) (map f xs)))) good) ∙ h
-
-pub none_left : {B M : Type 0} (f : B → M) (p : M → Bool) (xs : List B) (i : ℕ) (r : Option ℕ) → length xs ≤ i → position_from p i (drop i (map f xs)) ≡ r → None ≡ r
-none_left f p xs i r le h =
-    let past : length (map f xs) ≤ i = rw length-map le
-    in sym (ap (position_from p i) (drop_all i (map f xs) past)) ∙ h
 
 -- a test of what is shown
 pub through : {M N : Type 0} (f : M → N) (p : N → Bool) (i : ℕ) (xs : List M) → position_from p i (map f xs) ≡ position_from (λ x. p (f x)) i xs

@@ -67,9 +67,6 @@ stays_running law seat o before after was is stays running = record {
 }
 
 -- a call at one seat leaves each other seat so
-heard_by : List (List ℕ) → Pipe → Pipe
-heard_by published pipe = record pipe { waiting = pipe.waiting ++ filter (λ packet. hears packet pipe) published }
-
 pub others_stay : (seat : ℕ) (published : List (List ℕ)) (before after : Services) → LeavesOthersAlone seat (held_by before) (held_by after) → PipesHear seat published (held_by before) (held_by after) →
     (other : ℕ) → other ≢ seat → StaysAt other before after
 others_stay seat published before after leaves hear other another = record {

@@ -1,10 +1,10 @@
 -- A new host.
-use Rattle.std.proofs.Common.{◌≡◌, refl, ap, sym, ◌∙◌, subst, ℕ, zero, suc, Bool, true, false, ◌==◌, List, [], ◌∷◌, map, replicate, if◌then◌else◌, Option, Some, None}
+use Rattle.std.proofs.Common.{◌≡◌, refl, ap, sym, ◌∙◌, subst, ℕ, Bool, true, false, ◌==◌, List, [], ◌∷◌, map, replicate, if◌then◌else◌, Option, Some, None}
 use Rattle.std.specs.Prelude.{IfSome, slice_index_or}
 use Rattle.lc_model.specs.Packet.{event_mid}
-use Rattle.lc_model.specs.Kept.Executive.{first_executive, ready_seat}
+use Rattle.lc_model.specs.Kept.Executive.{first_executive}
 use Rattle.lc_model.specs.Kept.Stations.{first_host}
-use Rattle.lc_model.specs.Services.Bus.{Bus, no_pipes, pipe_at, seen}
+use Rattle.lc_model.specs.Services.Bus.{no_pipes, pipe_at, seen}
 use Rattle.lc_model.specs.Services.Events.{counts_with, first_events, sender_at}
 use Rattle.lc_model.specs.Services.Tables.{TableService, first_tables, tables_at}
 use Rattle.lc_model.specs.Services.Interface.{IsFreeSeat}
@@ -13,7 +13,7 @@ use Rattle.lc_model.proofs.Facts.{same_at}
 use Rattle.app_host.specs.declared.services.Services.{Services}
 use Rattle.app_host.specs.Shared.{held_by, shared}
 use Rattle.app_host.specs.Hosted.{Object, Hosted, object_at, member_of, in_numbers}
-use Rattle.app_host.specs.Whole.{IsRunning, AreSpares, IsWhole, IsQuiet, name_at}
+use Rattle.app_host.specs.Whole.{IsRunning, AreSpares, IsWhole, name_at}
 
 -- eight free seats
 abbrev pub no_objects : List (Option Object)
@@ -73,6 +73,3 @@ module _ (stock : List Object) (s : Services) (n : ℕ) (bus : s.bus ≡ no_pipe
     where
       nothing : (j : ℕ) (name : List ℕ) → name_at j no_objects ≡ Some name → ⊥
       nothing j name at = let none : object_at j no_objects ≡ None = nobody j in cc
-
-  pub first_quiet : IsQuiet fresh
-  first_quiet = ap (λ (b : Bus). ready_seat (seen b)) bus

@@ -7,8 +7,8 @@ use Rattle.std.proofs.lemmas.List.{take-append-le}
 use Rattle.std.proofs.lemmas.List.Folds.{concat-append}
 use Rattle.std.proofs.Math.Seq.{take-append-add}
 use Rattle.lc_model.specs.Device.{Sink}
-use Rattle.lc_model.specs.Packet.{function_code, payload}
-use Rattle.lc_model.specs.Command.{app_command}
+use Rattle.lc_model.specs.Packet.{function_code}
+use Rattle.lc_model.specs.Command.{order_in}
 use Rattle.lc_model.specs.Refusal.{Refusal}
 use Rattle.lc_model.specs.Events.Request.{Request, executive_services, command_done, command_refused}
 use Rattle.lc_model.specs.Kept.Executive.{Written, ready_seat, told_by_host, answered_now, executive_service_now}
@@ -94,10 +94,10 @@ module _ (step told : Written (List ℕ)) where
 -- ---- an order that is obeyed
 
 module _ (packet : List ℕ) (old ready : Hosted) (next : Next) (whole : IsWhole old) (quiet : IsQuiet old) (none_yet : old.calls ≡ 0)
-    (prepared : IsPrepared (party_by (app_command (function_code packet) (payload packet))) (executive_service_now on_board old.services.moment packet (executive_in old)) old ready next) where
+    (prepared : IsPrepared (party_by (order_in packet)) (executive_service_now on_board old.services.moment packet (executive_in old)) old ready next) where
   -- who takes part
   abbrev party : Party
-  party = party_by (app_command (function_code packet) (payload packet))
+  party = party_by (order_in packet)
 
   among_then : (new : Hosted) → All (Contains ready.stock) new.stock → All (Contains old.stock) new.stock
   among_then new among = subst (λ (stock : List Object). All (Contains stock) new.stock) prepared.stock among
@@ -226,7 +226,7 @@ module _ (packet : List ℕ) (old ready : Hosted) (next : Next) (whole : IsWhole
 pub order_refused : (packet : List ℕ) (old mid new : Hosted) (refusal : Refusal) → executive_service_now on_board old.services.moment packet (executive_in old) ≡ Err refusal → mid ≡ old → (request : Request) →
     request ≡ command_refused executive_services refusal → (before now : Sink) (result : Result ℕ WriteFault) → TellsAlone request mid new before now result → ObeysOrders packet old new before now result
 order_refused packet old mid new refusal is same request asked before now result tells =
-    asking_more (party_by (app_command (function_code packet) (payload packet))) _ _ _ _ _ _ _ result
+    asking_more (party_by (order_in packet)) _ _ _ _ _ _ _ result
     (subst (λ (r : Result (Written (List ℕ)) Refusal).
     Handles nobody (order_stations on_board old.services.moment packet (executive_in old) r) (answered_now on_board old.services.moment executive_services packet (executive_in old) r) 0 old new before now result)
     (sym is)

@@ -1,11 +1,11 @@
 -- What a record asks of HOST, by what the record is.
-use Rattle.std.proofs.Common.{◌≡◌, refl, ap, sym, subst, ℕ, ◌==◌, false, List, if◌then◌else◌, Option, Some, None, Result}
+use Rattle.std.proofs.Common.{◌≡◌, refl, ap, sym, subst, ℕ, ◌==◌, List, if◌then◌else◌, Option, Some, Result}
 use Rattle.std.specs.Option.{option_map_or}
 use Rattle.lc_model.specs.declared.record.Body.{Body}
 use Rattle.lc_model.specs.declared.record.Body.TheVariants as variant
 use Rattle.lc_model.specs.declared.record.Moment.{Moment}
-use Rattle.lc_model.specs.Packet.{stream_fault, function_code, payload, message_id, event_services_mid, table_services_mid, executive_services_mid}
-use Rattle.lc_model.specs.Command.{event_command, table_command}
+use Rattle.lc_model.specs.Packet.{stream_fault, message_id, event_services_mid, table_services_mid, executive_services_mid, by_service}
+use Rattle.lc_model.specs.Command.{event_command_in, table_command_in}
 use Rattle.lc_model.specs.Events.Request.{bad_packet}
 use Rattle.app_host.specs.declared.error.WriteFault.{WriteFault}
 use Rattle.app_host.specs.Shared.{at_moment}
@@ -21,20 +21,16 @@ use Rattle.app_host.proofs.Responding.{responds_from}
 
 module _ (packet : List ℕ) (h : Hosted) where
   abbrev for_events : Response
-  for_events = obeying_events packet h (events_by (event_command (function_code packet) (payload packet)) h.services.events)
+  for_events = obeying_events packet h (events_by (event_command_in packet) h.services.events)
 
   abbrev for_tables : Response
-  for_tables = obeying_tables packet h (tables_by (table_command (function_code packet) (payload packet)) h.services.tables)
+  for_tables = obeying_tables packet h (tables_by (table_command_in packet) h.services.tables)
 
   abbrev for_orders : Response
   for_orders = obeying_orders packet h (succession_by packet (roster_of h))
 
   abbrev by_mid : ℕ → Response
-  by_mid mid =
-      if mid == event_services_mid then for_events
-      else if mid == table_services_mid then for_tables
-      else if mid == executive_services_mid then for_orders
-      else handing_on h
+  by_mid mid = by_service mid for_events for_tables for_orders (handing_on h)
 
   pub is_for_events : message_id packet ≡ event_services_mid → for_events ≡ routed_to packet h
   is_for_events is = sym (ap by_mid is)
@@ -45,17 +41,11 @@ module _ (packet : List ℕ) (h : Hosted) where
   pub is_for_orders : message_id packet ≡ executive_services_mid → for_orders ≡ routed_to packet h
   is_for_orders is = sym (ap by_mid is)
 
-  pub is_handed_on : (message_id packet == event_services_mid) ≡ false → (message_id packet == table_services_mid) ≡ false → (message_id packet == executive_services_mid) ≡ false → handing_on h ≡ routed_to packet h
-  is_handed_on events tables orders = rw (events, tables, orders) refl
-
   abbrev by_fault : Option ℕ → Response
   by_fault fault = option_map_or (λ reason. only_telling (bad_packet reason) h) fault (routed_to packet h)
 
   pub is_refused : (reason : ℕ) → stream_fault packet ≡ Some reason → only_telling (bad_packet reason) h ≡ response_to_packet packet h
   is_refused reason is = sym (ap by_fault is)
-
-  pub is_routed : stream_fault packet ≡ None → routed_to packet h ≡ response_to_packet packet h
-  is_routed is = sym (ap by_fault is)
 
 -- the response to a packet is that of whoever handles it
 module _ (moment : Moment) (old new : Hosted) (before now : Option (List ℕ)) (result : Result ℕ WriteFault) (packet : List ℕ) where
@@ -71,14 +61,8 @@ module _ (moment : Moment) (old new : Hosted) (before now : Option (List ℕ)) (
   pub routed_orders : message_id packet ≡ executive_services_mid → By (for_orders packet old) → By (routed_to packet old)
   routed_orders is = subst By (is_for_orders packet old is)
 
-  pub routed_on : (message_id packet == event_services_mid) ≡ false → (message_id packet == table_services_mid) ≡ false → (message_id packet == executive_services_mid) ≡ false → By (handing_on old) → By (routed_to packet old)
-  routed_on events tables orders = subst By (is_handed_on packet old events tables orders)
-
   pub turned_away : (reason : ℕ) → stream_fault packet ≡ Some reason → By (only_telling (bad_packet reason) old) → By (response_to_packet packet old)
   turned_away reason is = subst By (is_refused packet old reason is)
-
-  pub routed : stream_fault packet ≡ None → By (routed_to packet old) → By (response_to_packet packet old)
-  routed is = subst By (is_routed packet old is)
 
 -- ---- a step
 

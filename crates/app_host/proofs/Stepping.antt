@@ -7,28 +7,28 @@ use Rattle.lc_model.specs.declared.record.Moment.{Moment}
 use Rattle.lc_model.specs.Device.{Sink}
 use Rattle.lc_model.specs.Name.{Name}
 use Rattle.lc_model.specs.Services.Seen.{meaning_of}
-use Rattle.lc_model.specs.Packet.{stream_fault, function_code, payload, message_id, event_services_mid, table_services_mid, executive_services_mid}
-use Rattle.lc_model.specs.Command.{app_command}
+use Rattle.lc_model.specs.Packet.{stream_fault, message_id, event_services_mid, table_services_mid, executive_services_mid, by_service}
+use Rattle.lc_model.specs.Command.{order_in}
 use Rattle.lc_model.specs.Refusal.{Refusal}
 use Rattle.lc_model.specs.Events.Request.{event_services, table_services, executive_services, bad_packet}
 use Rattle.lc_model.specs.Host.React.{Input, Packet, File, stored}
 use Rattle.lc_model.specs.Laws.TablesByName.{TablesAreFound}
 use Rattle.lc_model.specs.Services.Bus.{seen}
 use Rattle.lc_model.specs.Services.Tables.{IsTableService, tables_at}
-use Rattle.lc_model.specs.Kept.Executive.{Pipe, Executive, Written, ready_seat, told_by_host, filed_now, step_by, routed_now, answered_now, with_services, event_service_now, table_service_now, executive_service_now, passed_on}
+use Rattle.lc_model.specs.Kept.Executive.{Pipe, Executive, Written, told_by_host, filed_now, step_by, routed_now, answered_now, with_services, event_service_now, table_service_now, executive_service_now, passed_on}
 use Rattle.lc_model.specs.Kept.Stations.{Station, Host, stop_at, written_once, order_stations, routed_stations, passing_stations, stations_of, last_calls, host_after, host_step}
 use Rattle.app_host.specs.declared.services.Services.{Services}
 use Rattle.app_host.specs.declared.error.WriteFault.{WriteFault}
 use Rattle.app_host.specs.Shared.{on_board, shared, at_moment}
 use Rattle.app_host.specs.Hosted.{Object, Hosted, member_of, in_numbers}
-use Rattle.app_host.specs.Whole.{AreKnown, IsWhole, IsQuiet}
+use Rattle.app_host.specs.Whole.{AreKnown, IsWhole}
 use Rattle.app_host.specs.Load.{all_ticks}
 use Rattle.app_host.specs.Party.{Party, Hearers, Waiting, Holders, Only, nobody, scheduled_mids, passing, party_by, AreKnownHearers, IsKnownOnSeat, IsKnownSpare, AreKnownIn}
 use Rattle.app_host.specs.Delivered.{executive_in}
-use Rattle.app_host.specs.Writing.{IsDone, IsCut, Handles, PassesOn}
+use Rattle.app_host.specs.Writing.{IsDone, IsCut, Handles}
 use Rattle.app_host.specs.Told.{TellsAlone, Files, ObeysEvents, ObeysTables}
 use Rattle.app_host.specs.Ordered.{ObeysOrders}
-use Rattle.app_host.specs.Step.{party_of, routed_party, HasBegun, Takes, IsBetween, StepsSo, StopsSo, Steps, without_count, Counts}
+use Rattle.app_host.specs.Step.{party_of, routed_party, HasBegun, Takes, StepsSo, StopsSo, Steps, without_count, Counts}
 use Rattle.app_host.proofs.Flushed.{same_shared, same_seated}
 
 -- ---- it begins
@@ -90,9 +90,6 @@ module _ (moment : Moment) (input : Input (List ℕ)) (old begun : Hosted) (bega
   among_begun : (new : Hosted) → All (Contains begun.stock) new.stock → All (Contains old.stock) new.stock
   among_begun new among = subst (λ (stock : List Object). All (Contains stock) new.stock) began.stock among
 
-  pub quiet_begun : IsQuiet old → IsQuiet begun
-  quiet_begun quiet = ap (λ (s : Services). ready_seat (seen s.bus)) began.services ∙ quiet
-
   abbrev stations_by : Moment × Executive (List ℕ) → List (Station (List ℕ))
   stations_by from = stations_of on_board from.0 from.1 input
 
@@ -150,10 +147,6 @@ module _ (moment : Moment) (input : Input (List ℕ)) (old begun : Hosted) (bega
       ∙ ap (λ (from : Moment × Executive (List ℕ)). length (concat (step_by on_board from.0 from.1 input).1)) (λ i. (moment_begun i, executive_begun i))
   counts_then new before now (Err fault) part = tt
 
-  pub between_then : (new : Hosted) (before now : Sink) (result : Result ℕ WriteFault) → Takes input begun new before now result → IsBetween new
-  between_then new before now (Ok total) all = record { whole = all.whole; quiet = λ is_open. all.quiet }
-  between_then new before now (Err fault) part = record { whole = part.whole; quiet = λ is_open. let clash : true ≡ false = sym part.is_closed ∙ is_open in cc }
-
 -- ---- what is handled
 
 -- one write behind all is no call
@@ -186,7 +179,7 @@ module _ (old new : Hosted) (before now : Sink) (result : Result ℕ WriteFault)
   module _ (packet : List ℕ) where
     -- who takes part in an order
     abbrev party : Party
-    party = party_by (app_command (function_code packet) (payload packet))
+    party = party_by (order_in packet)
 
     -- by the fault of the packet
     abbrev ByFault : Option ℕ → Type 0
@@ -210,14 +203,10 @@ module _ (old new : Hosted) (before now : Sink) (result : Result ℕ WriteFault)
     abbrev ByMid : ℕ → Type 0
     ByMid mid =
         let stations : List (Station (List ℕ)) =
-        if mid == event_services_mid then written_once events_step
-        else if mid == table_services_mid then written_once tables_step
-        else if mid == executive_services_mid then order_stations on_board moment packet e (executive_service_now on_board moment packet e)
-        else passing_stations on_board moment packet e in
-        Handles (if mid == event_services_mid then nobody else if mid == table_services_mid then Holders else if mid == executive_services_mid then party else passing packet) stations (if mid == event_services_mid then events_step
-        else if mid == table_services_mid then tables_step
-        else if mid == executive_services_mid then orders_step
-        else passed_on on_board moment packet e) (last_calls on_board moment stations) old new before now result
+        by_service mid (written_once events_step) (written_once tables_step) (order_stations on_board moment packet e (executive_service_now on_board moment packet e))
+        (passing_stations on_board moment packet e) in
+        Handles (by_service mid nobody Holders party (passing packet)) stations
+        (by_service mid events_step tables_step orders_step (passed_on on_board moment packet e)) (last_calls on_board moment stations) old new before now result
 
     module _ (good : stream_fault packet ≡ None) where
       routed_so : ByMid (message_id packet) → Takes (Packet packet) old new before now result
@@ -233,7 +222,3 @@ module _ (old new : Hosted) (before now : Sink) (result : Result ℕ WriteFault)
       for_orders is obeys = routed_so (subst ByMid (sym is)
           (subst (λ last. Handles party (order_stations on_board moment packet e (executive_service_now on_board moment packet e)) orders_step last old new before now result)
           (sym (no_call_for_orders moment packet e (executive_service_now on_board moment packet e))) obeys))
-
-      pub for_pipes : (message_id packet == event_services_mid) ≡ false → (message_id packet == table_services_mid) ≡ false → (message_id packet == executive_services_mid) ≡ false →
-          PassesOn packet old new before now result → Takes (Packet packet) old new before now result
-      for_pipes events tables orders passes = routed_so (rw (events, tables, orders) passes)

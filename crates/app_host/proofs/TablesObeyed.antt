@@ -4,9 +4,9 @@ use Rattle.std.specs.Prelude.{IfOk, option_map}
 use Rattle.std.specs.List.{AllByRecursion}
 use Rattle.std.specs.List.{concat}
 use Rattle.lc_model.specs.Device.{Sink}
-use Rattle.lc_model.specs.Packet.{function_code, payload}
+use Rattle.lc_model.specs.Packet.{function_code}
 use Rattle.lc_model.specs.Refusal.{Refusal, ◌>>=◌}
-use Rattle.lc_model.specs.Command.{TableCommand, Load, Manage, table_command}
+use Rattle.lc_model.specs.Command.{TableCommand, Load, Manage, table_command_in}
 use Rattle.lc_model.specs.Events.Request.{Request, table_services, command_done, command_refused}
 use Rattle.lc_model.specs.Kept.Call.{ServicesNow}
 use Rattle.lc_model.specs.Kept.Executive.{Executive, Written, told_by_host, answered_now, with_services, managed_now, table_service_now}
@@ -52,8 +52,8 @@ module _ (moves : MovesByName) (loads : LoadsByName) (s : Services) (sound : IsT
   all_commands (Ok command) = one_command command
   all_commands (Err refusal) = refl
 
-  pub obeyed_so : (packet : List ℕ) → table_service_now on_board packet (shared s) ≡ left_by s (tables_by (table_command (function_code packet) (payload packet)) s.tables)
-  obeyed_so packet = all_commands (table_command (function_code packet) (payload packet))
+  pub obeyed_so : (packet : List ℕ) → table_service_now on_board packet (shared s) ≡ left_by s (tables_by (table_command_in packet) s.tables)
+  obeyed_so packet = all_commands (table_command_in packet)
 
 -- ---- what a command keeps
 
@@ -125,7 +125,7 @@ module _ (old mid : Hosted) (whole : IsWhole old) (alone : TablesAlone old mid) 
     this_step = answered_now on_board old.services.moment table_services packet e (with_services e (table_service_now on_board packet e.services))
 
     abbrev answer : Result TableService Refusal
-    answer = tables_by (table_command (function_code packet) (payload packet)) old.services.tables
+    answer = tables_by (table_command_in packet) old.services.tables
 
     step_so : AreKnownHolders old → this_step ≡ answered_now on_board old.services.moment table_services packet e (with_services e (left_by old.services answer))
     step_so known = ap (λ r. answered_now on_board old.services.moment table_services packet e (with_services e r)) (obeyed_so moves loads old.services sound (known_tables old whole.seated known) packet)

@@ -61,13 +61,6 @@ pub each_of : {A : Type 0} (P : A → Type 0) (xs : List A) (d : A) → ((i : �
 each_of P [] d each = tt
 each_of P (x ∷ xs) d each = (each 0, each_of P xs d (λ i. each (suc i)))
 
-named_false : (name other : Name) → (other ≡ name → ⊥) → is_named name other ≡ false
-named_false name other differ = by_test (is_named name other) refl
-  where
-    by_test : (b : Bool) → is_named name other ≡ b → b ≡ false
-    by_test true same = absurd (differ (sym ((bytes_eq-Decides name other).0 same)))
-    by_test false same = refl
-
 nobody : (name : Name) (places : List (Option Sender)) → ((i : ℕ) → IfSome (slice_index_or places i None) (λ (sender : Sender). is_named name sender.name ≡ false)) → events_among places name ≡ None
 nobody name [] each = refl
 nobody name (None ∷ places) each = nobody name places (λ i. each (suc i))

@@ -6,12 +6,11 @@ use Rattle.std.specs.declared.dyn_box.DynBox.{DynBox}
 use Rattle.std.specs.Io.KnownBytes.{Appends}
 use Rattle.lc_model.specs.declared.record.Moment.{Moment}
 use Rattle.lc_model.specs.Device.{Sink}
-use Rattle.lc_model.specs.Packet.{function_code, payload}
+use Rattle.lc_model.specs.Packet.{payload}
 use Rattle.lc_model.specs.Name.{Name, is_named, name_in}
 use Rattle.lc_model.specs.Refusal.{Refusal}
 use Rattle.lc_model.specs.Command as model
 use Rattle.lc_model.specs.Events.Request.{executive_services}
-use Rattle.lc_model.specs.Kept.Summary.{AppState}
 use Rattle.lc_model.specs.Kept.Executive.{Executive, Written, spare_at, begun_on, without_spare, ordered_now, answered_now, executive_service_now}
 use Rattle.lc_model.specs.Kept.Stations.{order_stations}
 use Rattle.app_host.specs.declared.orders.Order.{Order}
@@ -252,4 +251,4 @@ abbrev pub ObeysOrders : List ℕ → Hosted → Hosted → Sink → Sink → Re
 ObeysOrders packet old new before now result =
     let e : Executive (List ℕ) = executive_in old in
     let answer : Result (Written (List ℕ)) Refusal = executive_service_now on_board old.services.moment packet e in
-    Handles (party_by (model.app_command (function_code packet) (payload packet))) (order_stations on_board old.services.moment packet e answer) (answered_now on_board old.services.moment executive_services packet e answer) 0 old new before now result
+    Handles (party_by (model.order_in packet)) (order_stations on_board old.services.moment packet e answer) (answered_now on_board old.services.moment executive_services packet e answer) 0 old new before now result

@@ -7,9 +7,9 @@ use Rattle.std.specs.Io.KnownBytes.{Appends}
 use Rattle.lc_model.specs.declared.record.Body.{Body}
 use Rattle.lc_model.specs.declared.record.Body.TheVariants as body
 use Rattle.lc_model.specs.declared.record.Moment.{Moment}
-use Rattle.lc_model.specs.Packet.{stream_fault, function_code, payload, message_id, event_services_mid, table_services_mid, executive_services_mid}
+use Rattle.lc_model.specs.Packet.{stream_fault, function_code, message_id, by_service}
 use Rattle.lc_model.specs.Refusal.{Refusal}
-use Rattle.lc_model.specs.Command.{event_command, table_command}
+use Rattle.lc_model.specs.Command.{event_command_in, table_command_in}
 use Rattle.lc_model.specs.Events.Request.{Request, Event, Sequence, Housekeeping, bad_packet, file_stored, file_refused, event_services, table_services, executive_services, command_done, command_refused}
 use Rattle.lc_model.specs.Services.Events.{EventService, event_asked}
 use Rattle.lc_model.specs.Services.Tables.{TableService, file_put}
@@ -77,11 +77,11 @@ obeying_orders packet h (Err refusal) = only_telling (command_refused executive_
 -- a good packet goes to a service of the host, or to the applications
 abbrev pub routed_to : List ℕ → Hosted → Response
 routed_to packet h =
-    let mid : ℕ = message_id packet in
-    if mid == event_services_mid then obeying_events packet h (events_by (event_command (function_code packet) (payload packet)) h.services.events)
-    else if mid == table_services_mid then obeying_tables packet h (tables_by (table_command (function_code packet) (payload packet)) h.services.tables)
-    else if mid == executive_services_mid then obeying_orders packet h (succession_by packet (roster_of h))
-    else handing_on h
+    by_service (message_id packet)
+        (obeying_events packet h (events_by (event_command_in packet) h.services.events))
+        (obeying_tables packet h (tables_by (table_command_in packet) h.services.tables))
+        (obeying_orders packet h (succession_by packet (roster_of h)))
+        (handing_on h)
 
 -- any packet
 abbrev pub response_to_packet : List ℕ → Hosted → Response

@@ -3,9 +3,8 @@
 use Rattle.std.specs.Prelude.{◌≡◌, ℕ, Bool, false, List, map, remove, if◌then◌else◌, Option, Some, None, is_some, is_none, option_map, slice_set, Result, Ok}
 use Rattle.std.specs.List.{position_from}
 use Rattle.lc_model.specs.Name.{Name, is_named}
-use Rattle.lc_model.specs.Packet.{function_code, payload}
 use Rattle.lc_model.specs.Refusal.{Refusal, ◌>>=◌, refused, found}
-use Rattle.lc_model.specs.Command.{Order, Start, Stop, Restart, Reload, app_command}
+use Rattle.lc_model.specs.Command.{Order, Start, Stop, Restart, Reload, order_in}
 use Rattle.app_host.specs.Hosted.{Object, Hosted, spare_in}
 
 -- the spares in order, and the names on the eight seats
@@ -83,5 +82,5 @@ ordered_by Reload name r = do
 -- the same of a command, which may be none
 abbrev pub succession_by : List ℕ → Roster → Result Succession Refusal
 succession_by packet r = do
-  command ← app_command (function_code packet) (payload packet)
+  command ← order_in packet
   ordered_by command.0 command.1 r

@@ -7,8 +7,8 @@ use Rattle.lc_model.specs.declared.record.Body.{Body}
 use Rattle.lc_model.specs.declared.record.Body.TheVariants as body
 use Rattle.lc_model.specs.declared.record.Moment.{Moment}
 use Rattle.lc_model.specs.Device.{Sink}
-use Rattle.lc_model.specs.Packet.{stream_fault, function_code, payload, message_id, event_services_mid, table_services_mid, executive_services_mid, tick_mid}
-use Rattle.lc_model.specs.Command.{app_command}
+use Rattle.lc_model.specs.Packet.{stream_fault, message_id, tick_mid, by_service}
+use Rattle.lc_model.specs.Command.{order_in}
 use Rattle.lc_model.specs.Host.React.{Input, Packet, Tick, File}
 use Rattle.lc_model.specs.Host.Stream.{name_size}
 use Rattle.lc_model.specs.Services.Seen.{meaning_of}
@@ -40,11 +40,7 @@ IsNamed (body.File name bytes) = length name.now ≤ name_size
 -- services, which go by names, those of an order, and else those that hear it
 abbrev pub routed_party : List ℕ → Party
 routed_party packet =
-    let mid : ℕ = message_id packet in
-    if mid == event_services_mid then nobody
-    else if mid == table_services_mid then Holders
-    else if mid == executive_services_mid then party_by (app_command (function_code packet) (payload packet))
-    else passing packet
+    by_service (message_id packet) nobody Holders (party_by (order_in packet)) (passing packet)
 
 -- in any record
 abbrev pub party_of : Input (List ℕ) → Party

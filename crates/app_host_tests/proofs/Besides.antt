@@ -1,20 +1,18 @@
 -- An application of this profile beside one of another kind.
-use Rattle.std.proofs.Common.{◌≡◌, refl, ap, sym, ◌∙◌, subst, ℕ, zero, suc, ◌==◌, true, false, if◌then◌else◌, List, [], ◌∷◌, map, replicate, Option, Some, None, Result}
+use Rattle.std.proofs.Common.{◌≡◌, refl, ap, sym, ◌∙◌, subst, ℕ, zero, suc, ◌==◌, true, if◌then◌else◌, List, [], ◌∷◌, map, replicate, Option, Some, None, Result}
 use Rattle.std.specs.Prelude.{option_map, find, slice_index_or, IfSome, IsTrue, OnOk}
 use Rattle.std.specs.List.{list_any}
 use Rattle.std.specs.Io.KnownBytes.{Appends}
 use Rattle.std.proofs.lemmas.Slice.Eq.{bytes_eq-Decides}
 use Rattle.lc_model.specs.Name.{is_named, counter_name}
 use Rattle.lc_model.specs.Kept.Summary.{CounterState, Other}
-use Rattle.lc_model.specs.Packet.{counter_mid}
 use Rattle.lc_model.specs.Kept.Executive.{Pipe, Member}
-use Rattle.lc_model.specs.Services.Bus.{seen}
 use Rattle.lc_model.specs.Kept.Stations as model
 use Rattle.lc_model.specs.Kept.Stations.{first_host}
 use Rattle.app_host.specs.declared.error.WriteFault.{WriteFault}
 use Rattle.app_host.specs.Hosted.{Object, Hosted, object_at, member_of, in_numbers}
 use Rattle.app_host.specs.Whole.{IsKnown, AreKnown}
-use Rattle.app_host.specs.Party.{AreKnownHearers, IsKnownSpare}
+use Rattle.app_host.specs.Party.{IsKnownSpare}
 use Rattle.app_host.specs.Delivered.{executive_in}
 use Rattle.app_host_tests.specs.Beside.{written_from, written_beside}
 
@@ -48,22 +46,6 @@ spare_first h stock first other is items named counts =
     spare_in_front h.stock first (member_of other ∷ []) (ap (λ (x : model.Host (List ℕ)). x.executive.stock) is ∙ ap (map member_of) items) named counts
 
 -- ---- among others
-
--- on two seats, a counter, and an application of another kind that is subscribed to one packet of telemetry
-abbrev two_seats : List (Option Object)
-two_seats = Some (record { state = CounterState 0; called = counter_name; held = Some 0 }) ∷ Some (record { state = Other; called = 79 ∷ []; held = Some 1 }) ∷ []
-
-abbrev two_pipes : List (Option Pipe)
-two_pipes = Some (record { subscriptions = counter_mid ∷ []; waiting = [] }) ∷ Some (record { subscriptions = 0x0900 ∷ []; waiting = [] }) ∷ []
-
--- it takes no part in a command to the counter
-pub takes_no_part : (h : Hosted) → h.seats ≡ two_seats → seen h.services.bus ≡ two_pipes → AreKnownHearers h counter_mid
-takes_no_part h seats pipes = λ seat. rw (seats, pipes) (by_seat seat)
-  where
-    by_seat : (seat : ℕ) → IfSome (slice_index_or two_pipes seat None) (λ (pipe : Pipe). IsTrue (list_any (λ own. counter_mid == own) pipe.subscriptions) → IfSome (object_at seat two_seats) IsKnown)
-    by_seat zero = λ hearing other. cc
-    by_seat (suc zero) = λ hearing. absurd (cc hearing)
-    by_seat (suc (suc seat)) = tt
 
 -- where all on the seats are known, so are those that hear a message id
 pub hearers_known : (mid : ℕ) (seats : List (Option Object)) (pipes : List (Option Pipe)) → ((seat : ℕ) → IfSome (object_at seat seats) IsKnown) → (seat : ℕ) →

@@ -1,5 +1,5 @@
 -- Names of one letter, and what their applications do at their seats.
-use Rattle.std.proofs.Common.{◌≡◌, ◌≢◌, ◌∙◌, Bool, true, false, refl, sym, ap, subst, ℕ, suc, ◌+◌, ◌≤◌, ◌==◌, ◌&&◌, List, [], ◌∷◌, ◌++◌, length, replicate, slice_index_or, slice_set, Option, Some, None, Result, Ok, Err, arith, lit≤, if◌then◌else◌}
+use Rattle.std.proofs.Common.{◌≡◌, ◌≢◌, ◌∙◌, refl, sym, ap, subst, ℕ, ◌+◌, ◌≤◌, ◌==◌, ◌&&◌, List, [], ◌∷◌, ◌++◌, length, replicate, slice_set, Option, Some, None, Result, Ok, Err, arith, if◌then◌else◌}
 use Rattle.std.specs.Prelude.{IsSomeAnd, IfSome, OnErr, is_some}
 use Rattle.std.proofs.lemmas.List.{set-get_or, replicate_more, length-append}
 use Rattle.lc_model.specs.Name.{Name}
@@ -10,7 +10,7 @@ use Rattle.lc_model.specs.Laws.Senders.{UnregisteringByName}
 use Rattle.lc_model.specs.Services.Bus.{Bus, Queue, after, pipe_at, pipe_removed}
 use Rattle.lc_model.specs.Services.Events.{IsEventService, Sender, sender_at, sender_named, unregistered_at}
 use Rattle.lc_model.specs.Services.Tables.{tables_unregistered}
-use Rattle.lc_model.specs.Services.Interface.{Held, IsApplicationName, MayBeGiven, MayPublish, IsGiven, IsRetired}
+use Rattle.lc_model.specs.Services.Interface.{Held, MayBeGiven, MayPublish, IsGiven, IsRetired}
 use Rattle.lc_model.specs.Kept.Call.{with_at}
 use Rattle.event_service.specs.Error.{answered}
 use Rattle.event_service.specs.declared.error.EventError.{EventError}
@@ -23,22 +23,6 @@ use Rattle.app_host.specs.Statements.{ClosingRetires}
 use Rattle.app_host.proofs.Seats.{without, name_is_gone, answered_by}
 use Rattle.app_host_tests.specs.Naming.{heard}
 
--- ---- names
-
-pub letter_names : (name : Name) → length name ≡ 1 → 65 ≤ slice_index_or name 0 0 → IsApplicationName name
-letter_names [] one letter = absurd (let none : ◌≡◌ {A = ℕ} 0 1 = one in omega (arith, none))
-letter_names (x ∷ []) one letter = record {
-  some = lit≤ tt;
-  few = lit≤ tt;
-  bytes = ((λ zero. omega (arith, zero, letter), λ dot. omega (arith, dot, letter)), tt);
-  own = is_no_host (x == 72);
-}
-  where
-    is_no_host : (b : Bool) → (b && false) ≡ false
-    is_no_host true = refl
-    is_no_host false = refl
-letter_names (x ∷ y ∷ name) one letter = absurd (let two : suc (suc (length name)) ≡ 1 = one in omega (arith, two))
-
 -- ---- publishing
 
 pub one_more : PublishingGoesOn → (k : ℕ) (before between after : Services) → Publishes (replicate k heard) before between → Publishes (heard ∷ []) between after →
@@ -48,22 +32,6 @@ one_more law k before between after far next =
 
 pub one_more_waits : (k : ℕ) (bus : Bus) → AreShort (64 + k + 1) bus → AreShort (64 + (k + 1)) bus
 one_more_waits k bus short = subst (λ n. AreShort n bus) (let same : 64 + k + 1 ≡ 64 + (k + 1) = omega arith in same) short
-
-pub eight : (k : ℕ) (before after : Services) → k ≡ 8 → Publishes (replicate k heard) before after → Publishes (replicate 8 heard) before after
-eight k before after is far = subst (λ n. Publishes (replicate n heard) before after) is far
-
-pub may_be_none : (packet : List ℕ) → MayPublish packet (replicate 0 heard)
-may_be_none packet = record { few = lit≤ tt; for_ticks = λ some. absurd (some refl); no_ticks = tt }
-
-no_tick : message_id heard ≢ tick_mid
-no_tick same = omega (arith, same)
-
-pub may_be_eight : (packet : List ℕ) → message_id packet ≡ tick_mid → MayPublish packet (replicate 8 heard)
-may_be_eight packet tick = record {
-  few = lit≤ tt;
-  for_ticks = λ some. tick;
-  no_ticks = (no_tick, (no_tick, (no_tick, (no_tick, (no_tick, (no_tick, (no_tick, (no_tick, tt))))))));
-}
 
 -- ---- a packet
 

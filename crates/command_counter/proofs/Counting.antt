@@ -1,5 +1,5 @@
 -- What the counter does at its seat, by the rules of the interface and by the definitions.
-use Rattle.std.proofs.Common.{◌≡◌, refl, ap, sym, ◌∙◌, subst, ℕ, ◌+◌, ◌≤◌, Bool, true, false, ◌==◌, List, [], ◌∷◌, length, arith, Option, Some, None, Ok, Err, min, if◌then◌else◌}
+use Rattle.std.proofs.Common.{◌≡◌, refl, ap, sym, ◌∙◌, subst, ℕ, ◌+◌, ◌≤◌, Bool, true, false, ◌==◌, List, [], ◌∷◌, arith, Option, Some, None, Ok, Err, min, if◌then◌else◌}
 use Rattle.std.specs.Prelude.{IfSome, IsSomeAnd, codes}
 use Rattle.lc_model.specs.declared.rule.EventKind.{EventKind}
 use Rattle.lc_model.specs.declared.rule.EventKind.TheVariants.{Information}
@@ -13,15 +13,15 @@ use Rattle.lc_model.specs.Kept.Next.{next_answer, next_count}
 use Rattle.lc_model.specs.Kept.Call.{with_mids, counter_subscriptions, counter_told, silent, registered, next_start, next_on_packet, next_retire}
 use Rattle.lc_model.specs.Services.Events.{Sender, sender_at}
 use Rattle.lc_model.specs.Services.Tables.{tables_at}
-use Rattle.lc_model.specs.Services.Interface.{MayBeStarted, MayBeGiven, IsGiven, IsRetired}
+use Rattle.lc_model.specs.Services.Interface.{MayBeStarted, MayBeGiven, IsRetired}
 use Rattle.lc_model.proofs.Facts.{tested_equal, map_none}
-use Rattle.lc_model.specs.Services.Settled.{IsSettled, form_of}
+use Rattle.lc_model.specs.Services.Settled.{form_of}
 use Rattle.app_host.specs.declared.services.Services.{Services}
 use Rattle.app_host.specs.Shared.{on_board, held_by, shared}
 use Rattle.app_host.specs.Telling.{Tells}
 use Rattle.app_host.specs.Seating.{IsOpened, IsClosed}
 use Rattle.app_host.specs.Calls.{IsAtHome, Leaves, LeavesEmpty}
-use Rattle.app_host.specs.Statements.{OpeningLeaves, TellingIsByName, TellingAnswers, TellingLeaves, TellingSettles, SilenceAnswers, SilenceLeaves, ClosingRetires, ClosingLeaves, NoTablesGo}
+use Rattle.app_host.specs.Statements.{OpeningLeaves, TellingIsByName, TellingLeaves, SilenceLeaves, ClosingRetires, ClosingLeaves, NoTablesGo}
 
 -- ---- the start
 
@@ -48,20 +48,9 @@ another_id mid n is two = by_test (mid == 6337) refl
 abbrev pub IsHome : Option ℕ → ℕ → Services → Type 0
 IsHome place count s = IsSomeAnd place (λ seat. IsAtHome (CounterState count) counter_name seat s)
 
-abbrev pub IsGivenThere : Option ℕ → List ℕ → Services → Services → Type 0
-IsGivenThere place packet before after = IfSome place (λ seat. IsGiven seat counter_name packet (held_by before) (held_by after))
-
 abbrev pub LeavesThere : Option ℕ → (old new : ℕ) → List ℕ → Services → Services → Type 0
 LeavesThere place old new packet before after = IfSome place (λ seat. IfSome (next_on_packet on_board before.moment (CounterState old) packet (shared before))
     (Leaves seat (CounterState new) before after))
-
-abbrev pub SettlesThere : Option ℕ → ℕ → Services → Type 0
-SettlesThere place count s = IfSome place (λ seat. IsSettled (CounterState count) seat (held_by s))
-
-pub silent_rules : SilenceAnswers → (place : Option ℕ) (count : ℕ) (s : Services) (packet : List ℕ) → IsHome place count s →
-    IfSome place (λ seat. MayBeGiven seat counter_name packet (held_by s)) → IsGivenThere place packet s s
-silent_rules law None count s packet home given = tt
-silent_rules law (Some seat) count s packet home given = law seat counter_name s packet home.belongs given.idle
 
 pub silent_exact : SilenceLeaves → (place : Option ℕ) (count : ℕ) (s : Services) (packet : List ℕ) → (message_id packet == counter_mid) ≡ false → IsHome place count s →
     IfSome place (λ seat. MayBeGiven seat counter_name packet (held_by s)) → LeavesThere place count count packet s s
@@ -80,21 +69,6 @@ module _ (place : Option ℕ) (old new : ℕ) (packet : List ℕ) (id : ℕ) (ki
   tells : (seat : ℕ) → place ≡ Some seat → IsAtHome (CounterState old) counter_name seat before → Tells (Some seat) counter_name (Event counter_name id kind text ∷ []) before after
   tells seat e home = by_name (Some seat) counter_name (λ name. Event name id kind text ∷ []) before after home.settled.sender
       (subst (λ p. IfSome (sender_at p before.events) (λ (sender : Sender). Tells p sender.name (Event sender.name id kind text ∷ []) before after)) e told)
-
-  pub answer_rules : TellingAnswers → length after.outgoing ≤ length before.outgoing + 168 → IsGivenThere place packet before after
-  answer_rules law little = by_place place refl home given
-    where
-      by_place : (p : Option ℕ) → place ≡ p → IsHome p old before → IfSome p (λ seat. MayBeGiven seat counter_name packet (held_by before)) → IsGivenThere p packet before after
-      by_place None e home given = tt
-      by_place (Some seat) e home given = law seat counter_name (Event counter_name id kind text ∷ []) before after (tells seat e home) packet home.belongs
-          (let none : length before.outgoing ≡ 0 = ap length given.idle in omega (arith, little, none))
-
-  pub answer_settles : TellingSettles → SettlesThere place new after
-  answer_settles law = by_place place refl home
-    where
-      by_place : (p : Option ℕ) → place ≡ p → IsHome p old before → SettlesThere p new after
-      by_place None e home = tt
-      by_place (Some seat) e home = law seat counter_name (Event counter_name id kind text ∷ []) before after (tells seat e home) (CounterState old) (CounterState new) refl refl refl home.settled
 
   pub answer_exact : TellingLeaves → (message_id packet == counter_mid) ≡ true → next_count packet old ≡ (new, Event counter_name id kind text ∷ []) → LeavesThere place old new packet before after
   answer_exact law own counts = by_place place refl home given

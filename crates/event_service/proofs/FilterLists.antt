@@ -96,11 +96,6 @@ hinted id k filters found own inside at h =
 
 -- ---- what is found
 
-pub first_is_inside : (id k : ℕ) (filters : List Filter) → IsFirst id filters k → k < length filters
-first_is_inside id k [] h = absurd h
-first_is_inside id zero (filter ∷ filters) h = omega arith
-first_is_inside id (suc k) (filter ∷ filters) h = let below : k < length filters = first_is_inside id k filters h.1 in omega arith
-
 pub first_is_found : (id k : ℕ) (filters : List Filter) (d : Filter) → IsFirst id filters k → filter_of id filters ≡ Some (slice_index_or filters k d)
 first_is_found id k [] d h = absurd h
 first_is_found id zero (filter ∷ filters) d h = ap (λ t. cond t (Some filter) (find (λ (other : Filter). id == other.id) filters)) h

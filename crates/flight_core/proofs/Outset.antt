@@ -10,7 +10,7 @@ use Rattle.lc_model.specs.Tables.Half.{IsFileOfHalf}
 use Rattle.lc_model.specs.Host.Schedule.{Schedule, IsSchedule}
 use Rattle.lc_model.specs.Host.Stream.{records_of}
 use Rattle.lc_model.specs.Host.Run.{size_in}
-use Rattle.lc_model.specs.Host.Outcome.{Devices, Ending, IsUntouched, IsOutcome}
+use Rattle.lc_model.specs.Host.Outcome.{Devices, Ending, IsOutcome}
 use Rattle.lc_model.specs.Host.Promise.{Mission, IsRun, EndsBy, IsRunByBytes, output_by_bytes}
 use Rattle.lc_model.specs.Kept.Summary.{AppState, LcState, SchState, CounterState, Other}
 use Rattle.lc_model.specs.Kept.Executive.{Member, first_executive, written_from}
@@ -31,7 +31,7 @@ use Rattle.flight_core.specs.declared.error.Report.{Report}
 use Rattle.flight_core.specs.declared.error.RunError.{RunError}
 use Rattle.flight_core.specs.declared.error.RunError.TheVariants as error
 use Rattle.flight_core.specs.Brought.{meanings_of, AreWhole}
-use Rattle.flight_core.specs.Compiled.{edition, sources_of, file_in, AreAllCompiled, IsNotCompiled}
+use Rattle.flight_core.specs.Compiled.{edition, sources_of, file_in, AreAllCompiled}
 use Rattle.flight_core.specs.Ending.{ending_of}
 use Rattle.flight_core.specs.Flight.{AreAllKnown, FliesSo}
 use Rattle.flight_core.specs.Run.{members_of, mission_of, IsOfProfile, IsOutputFrom, EndsSo, RunsSo}
@@ -127,19 +127,6 @@ module _ (pairs : List TablePair) (most : ℕ) (d : Devices) (members : List Mem
 module _ (texts : List (Bor (List ℕ))) (schedule : Schedule) (stock : List Object) (most : ℕ) (d : Devices) where
   abbrev m : Mission
   m = mission_of texts schedule stock most
-
-  -- a text that does not compile
-  pub refused_run : (e : RunError) → IsNotCompiled (sources_of texts) e → IsUntouched d → d.source_after.reads ≤ most → IsRun m d (ending_of (Err e))
-  refused_run (error.Compile number e) first untouched few = record {
-    ends = record { texts = first.texts; before = first.before; source = first.source; there = first.there; why = first.why; is = first.is; refused = first.refused; untouched = untouched };
-    few_reads = few;
-  }
-  refused_run error.Memory first untouched few = record { ends = untouched; few_reads = few }
-  refused_run (error.BadRecord number) first untouched few = absurd first
-  refused_run (error.Truncated number) first untouched few = absurd first
-  refused_run error.Read first untouched few = absurd first
-  refused_run (error.Write sent) first untouched few = absurd first
-  refused_run error.ReadBound first untouched few = absurd first
 
   module _ (writes : WritesByBytes m) (is_schedule : IsSchedule schedule) (profile : IsOfProfile schedule stock) (pairs : List TablePair) (all : AreAllCompiled (sources_of texts) pairs) where
     known : AreTexts (sources_of texts) pairs

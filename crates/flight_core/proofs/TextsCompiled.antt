@@ -1,5 +1,5 @@
 -- The texts of a run, compiled one after the other.
-use Rattle.std.proofs.Common.{◌≡◌, refl, sym, ap, subst, inl, inr, ℕ, zero, suc, ◌+◌, ◌<◌, get_or, List, [], ◌∷◌, ◌++◌, length, take, slice_get, Some, arith, Bor}
+use Rattle.std.proofs.Common.{◌≡◌, refl, sym, ap, subst, inl, inr, ℕ, zero, suc, ◌+◌, ◌<◌, List, [], ◌∷◌, ◌++◌, length, take, slice_get, Some, arith}
 use Rattle.lc_model.specs.declared.kind.Kind.{Kind}
 use Rattle.lc_model.specs.declared.kind.Kind.TheVariants.{Wdt, Adt}
 use Rattle.lc_model.specs.Tables.Compiling.{IsRefused}
@@ -13,14 +13,7 @@ use Rattle.rpn_compiler.specs.declared.files.TablePair.{TablePair}
 use Rattle.rpn_compiler.specs.Naming.{NamesTheNumberIn}
 use Rattle.rpn_compiler.specs.Fault.{Refuses, refusal_of}
 use Rattle.flight_core.specs.declared.error.RunError.{RunError}
-use Rattle.flight_core.specs.Compiled.{edition, sources_of, file_in, IsCompiled, AreAllCompiled, refusal_for, IsNotCompiled}
-
--- ---- the text with a number
-
-pub source_at : (texts : List (Bor (List ℕ))) (n : ℕ) (text : Bor (List ℕ)) → n < length texts → text ≡ get_or texts n text → slice_get (sources_of texts) n ≡ Some text.now
-source_at [] n text less is = absurd (omega (arith, less))
-source_at (first ∷ texts) zero text less is = ap (λ (t : Bor (List ℕ)). Some t.now) (sym is)
-source_at (first ∷ texts) (suc n) text less is = source_at texts n text (omega (arith, less)) is
+use Rattle.flight_core.specs.Compiled.{edition, file_in, IsCompiled, AreAllCompiled, refusal_for, IsNotCompiled}
 
 -- ---- one text more
 

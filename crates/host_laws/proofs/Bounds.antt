@@ -28,7 +28,7 @@ use Rattle.lc_model.specs.Tables.Slot.{Slot, Asked, waiting_at}
 use Rattle.lc_model.specs.Tables.Interpretation.{FileMeaning, Interpretation, Pair}
 use Rattle.lc_model.specs.Tables.HalvesAndBytes.{as_bytes}
 use Rattle.lc_model.specs.Events.Request.{Request, Event, Sequence, numbered, hex_word, turned_to_fail, turned_to_pass, failed_passive, failed_lc_passive, rule_failed, lc_command_done, lc_command_refused, short_packet, counted, counter_refused}
-use Rattle.lc_model.specs.Command.{LcCommand, NoOperation, SetMode, SetState, TurnPermanentlyOff, lc_command, mode_numbered, state_numbered, all_points, bare_request, sample_request, is_range, takes}
+use Rattle.lc_model.specs.Command.{LcCommand, NoOperation, SetMode, SetState, TurnPermanentlyOff, lc_command, mode_numbered, state_numbered, all_points, bare_request, sample_request, is_range, takes, lc_command_in}
 use Rattle.lc_model.specs.declared.command.SampleRequest.{SampleRequest}
 use Rattle.lc_model.specs.LimitChecker.Past.{is_result}
 use Rattle.lc_model.specs.LimitChecker.Reaction.{Reaction}
@@ -211,7 +211,7 @@ module _ {Image : Type 0} (images : Interpretation Image) (has : HasShortRules i
   either_step false x y h k = k
 
   command_bounded : (packet : List ℕ) (lc : LcNow Image) → StepBounded (unless_refused lc (lc_commanded packet lc))
-  command_bounded packet lc = by_command (lc_command (function_code packet) (payload packet)) (command_one (function_code packet) (payload packet))
+  command_bounded packet lc = by_command (lc_command_in packet) (command_one (function_code packet) (payload packet))
     where
       done : Bounded 63184 (lc_command_done (function_code packet) ∷ [])
       done =

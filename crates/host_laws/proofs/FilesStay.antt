@@ -3,13 +3,13 @@ use Rattle.std.proofs.Common.{◌≡◌, refl, ap, ap₂, sym, ◌∙◌, subst,
 use Rattle.std.specs.Option.{option_map_or}
 use Rattle.std.proofs.lemmas.Bool.{leb-false}
 use Rattle.lc_model.specs.Name.{Name, is_named, lc_name, sch_name, counter_name, host_name, held}
-use Rattle.lc_model.specs.Packet.{stream_fault, function_code, payload, message_id, event_services_mid, table_services_mid, executive_services_mid, counter_mid}
+use Rattle.lc_model.specs.Packet.{stream_fault, message_id, event_services_mid, table_services_mid, executive_services_mid, counter_mid}
 use Rattle.lc_model.specs.Refusal.{Refusal, ◌>>=◌, found, provided}
 use Rattle.lc_model.specs.Tables.Slot.{loaded, moved}
 use Rattle.lc_model.specs.Tables.Interpretation.{FileMeaning, Interpretation}
 use Rattle.lc_model.specs.Events.Request.{Service, event_services, table_services, executive_services, bad_packet}
 use Rattle.lc_model.specs.Events.Log.{Log, joined}
-use Rattle.lc_model.specs.Command.{event_command, TableCommand, Load, Manage, table_command, Order, Start, Stop, Restart, Reload, app_command}
+use Rattle.lc_model.specs.Command.{TableCommand, Load, Manage, Order, Start, Stop, Restart, Reload, event_command_in, table_command_in, order_in}
 use Rattle.lc_model.specs.LimitChecker.Steps.{by_lists, lc_start, lc_packet}
 use Rattle.lc_model.specs.Host.Schedule.{Schedule, entry_packet, slot_number, entries_at}
 use Rattle.lc_model.specs.Host.World.{max_files, World, Application, Running, Lc, IsFileMap, logged, changed_at, runs, spares_of, log_of, with_log, begun, become, ended, with_one_spare_less}
@@ -68,7 +68,7 @@ module _ {Image : Type 0} where
 
   event_same : (packet : List ℕ) (w : World Image) → IfOk (Same w) (event_service packet w)
   event_same packet w =
-      ok_after (Same w) (event_command (function_code packet) (payload packet)) _ (λ command.
+      ok_after (Same w) (event_command_in packet) _ (λ command.
       ok_after (Same w) (found (log_of w command.0) 101) _ (λ log.
       ok_after (Same w) (joined command.1 log) _ (λ longer. kept_log command.0 longer w)))
 
@@ -89,7 +89,7 @@ module _ {Image : Type 0} (images : Interpretation Image) where
 
   table_same : (packet : List ℕ) (w : World Image) → IfOk (Same w) (table_service images packet w)
   table_same packet w =
-      ok_after (Same w) (table_command (function_code packet) (payload packet)) _ (λ command. by_managed (managed images command w) (managed_same command w))
+      ok_after (Same w) (table_command_in packet) _ (λ command. by_managed (managed images command w) (managed_same command w))
     where
       by_managed : (r : Result (World Image) Refusal) → IfOk (λ (after : World Image). after.files ≡ w.files) r → IfOk (Same w) (r >>= (λ after. Ok (after, [])))
       by_managed (Ok after) same = same
@@ -123,7 +123,7 @@ module _ {Image : Type 0} (images : Interpretation Image) where
       (λ y. started_same name (spare_taken name (left name w)) ∙ spare_same name (left name w) ∙ left_same name w))
 
   executive_same : (packet : List ℕ) (w : World Image) → IfOk (Same w) (executive_service images packet w)
-  executive_same packet w = ok_after (Same w) (app_command (function_code packet) (payload packet)) _ (λ command. ordered_same command.0 command.1 w)
+  executive_same packet w = ok_after (Same w) (order_in packet) _ (λ command. ordered_same command.0 command.1 w)
 
   to_lc_same : (packet : List ℕ) (w : World Image) → Same w (to_lc images packet w)
   to_lc_same packet w = by_running w.lc.running

@@ -8,7 +8,7 @@ use Rattle.lc_model.specs.Refusal.{Refusal, ◌>>=◌, found}
 use Rattle.lc_model.specs.Tables.Interpretation.{FileMeaning, Interpretation}
 use Rattle.lc_model.specs.Events.Request.{bad_packet, file_stored, file_refused}
 use Rattle.lc_model.specs.Events.Log.{Log, LogItem, joined}
-use Rattle.lc_model.specs.Command.{event_command}
+use Rattle.lc_model.specs.Command.{event_command, event_command_in}
 use Rattle.lc_model.specs.Host.Schedule.{Schedule}
 use Rattle.lc_model.specs.Host.World.{World, log_of, with_log}
 use Rattle.lc_model.specs.Host.React.{stored, filed, on_file, event_service}
@@ -117,7 +117,7 @@ module _ {Image : Type 0} (images : Interpretation Image) (schedule : Schedule) 
   pub event_service_kept : (packet : List ℕ) →
       BothKept images schedule moment (event_service packet w)
       (with_services (kept images schedule effort stock order w) (event_service_now packet (numbers_of images schedule effort w).services))
-  event_service_kept packet = by_command (event_command (function_code packet) (payload packet)) (four_types (function_code packet) (payload packet))
+  event_service_kept packet = by_command (event_command_in packet) (four_types (function_code packet) (payload packet))
     where
       by_command : (r : Result (Name × LogItem) Refusal) → IfOk (λ (command : Name × LogItem). IsOfFourTypes command.1) r →
           BothKept images schedule moment

@@ -15,7 +15,7 @@ use Rattle.lc_model.specs.Tables.File.{table_name}
 use Rattle.lc_model.specs.Tables.Slot.{Slot, Waiting, Stage, Loaded, Asked, Valid, Activated, Move, Validate, Activate, Abort, waiting_at, with_waiting, loaded, moved, taken}
 use Rattle.lc_model.specs.Tables.Interpretation.{FileMeaning, Opened, Unreadable, Interpretation, Pair, default_file}
 use Rattle.lc_model.specs.Events.Request.{Request, lc_command_done}
-use Rattle.lc_model.specs.Command.{LcCommand, NoOperation, SetMode, SetState, TurnPermanentlyOff, lc_command, mode_numbered, bare_request, sample_request}
+use Rattle.lc_model.specs.Command.{LcCommand, NoOperation, SetMode, SetState, TurnPermanentlyOff, mode_numbered, bare_request, sample_request, lc_command_in}
 use Rattle.lc_model.specs.declared.command.SampleRequest.{SampleRequest}
 use Rattle.lc_model.specs.LimitChecker.Steps.{Point, in_force, paired, is_disabled, sound_image, default_image, told_verdict, validated, pair_to_adopt, one_set, turned_permanently_off, states_set, lc_obeyed, lc_commanded, unless_refused, started_with, lc_start, watched, lc_telemetry, sampled_by, lc_sample, housekeeping_of, adopted, lc_housekeeping, lc_packet}
 use Rattle.lc_model.specs.Kept.Summary.{WatchResult, Tally, LcNow}
@@ -162,7 +162,7 @@ module _ {Image : Type 0} (images : Interpretation Image) where
     same_tables mode watch points results count = record { results = results ∙ h.results; points = count ∙ h.points; wdt = h.wdt; adt = h.adt }
 
     command_in_step : (packet : List ℕ) → IsInStep images (unless_refused lc (lc_commanded packet lc)).0
-    command_in_step packet = of_command (lc_command (function_code packet) (payload packet))
+    command_in_step packet = of_command (lc_command_in packet)
       where
         Stays : Result (LcNow Image) Refusal → Type 0
         Stays r = IsInStep images (unless_refused lc (r >>= (λ now. Ok (now, lc_command_done (function_code packet) ∷ [])))).0

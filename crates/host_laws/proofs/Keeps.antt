@@ -9,14 +9,14 @@ use Rattle.lc_model.specs.declared.kind.Kind.{Kind}
 use Rattle.lc_model.specs.declared.kind.Kind.TheVariants.{Wdt, Adt}
 use Rattle.lc_model.specs.declared.record.Moment.{Moment}
 use Rattle.lc_model.specs.Name.{Name, is_named, lc_name, sch_name, counter_name, held}
-use Rattle.lc_model.specs.Packet.{function_code, payload, message_id, tick_mid, counter_mid}
+use Rattle.lc_model.specs.Packet.{message_id, tick_mid, counter_mid}
 use Rattle.lc_model.specs.Refusal.{Refusal, ◌>>=◌, provided}
 use Rattle.lc_model.specs.Tables.File.{table_name}
 use Rattle.lc_model.specs.Tables.Slot.{Slot, no_images, loaded, moved}
 use Rattle.lc_model.specs.Tables.Interpretation.{FileMeaning, Interpretation, kind_named}
 use Rattle.lc_model.specs.Events.Request.{Request}
 use Rattle.lc_model.specs.Events.Log.{LogItem}
-use Rattle.lc_model.specs.Command.{event_command, TableCommand, Load, Manage, table_command}
+use Rattle.lc_model.specs.Command.{TableCommand, Load, Manage, event_command_in, table_command_in}
 use Rattle.lc_model.specs.LimitChecker.Steps.{paired, lc_start}
 use Rattle.lc_model.specs.Host.React.{opened_file}
 use Rattle.lc_model.specs.Host.Schedule.{ScheduleEntry, Sample, Housekeeping, AreEntries, entry_packet, entries_at}
@@ -171,7 +171,7 @@ module _ {Image : Type 0} (images : Interpretation Image) where
       IfOk (event_service_now packet services) (λ (after : ServicesNow Image). GoesWith images state after)
   events_keep state services g packet =
       let P : ServicesNow Image → Type 0 = λ after. GoesWith images state after in
-      then_ok P (event_command (function_code packet) (payload packet)) _ (λ (command : Name × LogItem) e.
+      then_ok P (event_command_in packet) _ (λ (command : Name × LogItem) e.
       found_ok P (services.events command.0) 101 _ (λ (events : EventState) there.
       then_ok P (joined_now command.1 events) _ (λ (after : EventState) joined.
       carried state services (record services { events = with_at command.0 (Some after) services.events })
@@ -244,7 +244,7 @@ module _ {Image : Type 0} (images : Interpretation Image) where
   tables_keep : (state : AppState) (services : ServicesNow Image) → GoesWith images state services → (packet : List ℕ) →
       IfOk (table_service_now images packet services) (λ (after : ServicesNow Image). GoesWith images state after)
   tables_keep state services g packet =
-      then_ok (λ (after : ServicesNow Image). GoesWith images state after) (table_command (function_code packet) (payload packet)) _ (λ (command : TableCommand) e. managed_keeps state services g command)
+      then_ok (λ (after : ServicesNow Image). GoesWith images state after) (table_command_in packet) _ (λ (command : TableCommand) e. managed_keeps state services g command)
 
   pub the_host_keeps : TheHostKeeps images
   the_host_keeps state services g = record {

@@ -5,11 +5,11 @@ use Rattle.std.specs.List.{position_from}
 use Rattle.std.proofs.lemmas.Slice.Eq.{bytes_eq-Decides}
 use Rattle.lc_model.specs.declared.record.Moment.{Moment}
 use Rattle.lc_model.specs.Name.{Name}
-use Rattle.lc_model.specs.Packet.{stream_fault, function_code, payload, message_id, tick_mid, counter_mid, event_services_mid, table_services_mid, executive_services_mid}
+use Rattle.lc_model.specs.Packet.{stream_fault, message_id, tick_mid, counter_mid, event_services_mid, table_services_mid, executive_services_mid}
 use Rattle.lc_model.specs.Refusal.{Refusal, ◌>>=◌, refused, found}
 use Rattle.lc_model.specs.Tables.Interpretation.{FileMeaning, Interpretation}
 use Rattle.lc_model.specs.Events.Request.{Service, event_services, table_services, executive_services, bad_packet}
-use Rattle.lc_model.specs.Command.{Order, Start, Stop, Restart, Reload, app_command}
+use Rattle.lc_model.specs.Command.{Order, Start, Stop, Restart, Reload, order_in}
 use Rattle.lc_model.specs.Host.React.{Input, Packet, Tick, File, stored}
 use Rattle.lc_model.specs.Kept.Summary.{LcState, SchState, CounterState, Other}
 use Rattle.lc_model.specs.Kept.Next.{next_tick, next_count}
@@ -183,7 +183,7 @@ module _ {Image : Type 0} (images : Interpretation Image) (moment : Moment) wher
       (found_there (is_seated name) None e.seats k is))))
 
   executive_own : (packet : List ℕ) (e : Executive Image) → HaveOwnNames e.seats → IfOk Own (executive_service_now images moment packet e)
-  executive_own packet e own = by_command (app_command (function_code packet) (payload packet))
+  executive_own packet e own = by_command (order_in packet)
     where
       by_command : (r : Result (Order × Name) Refusal) → IfOk Own (r >>= (λ command. ordered_now images moment command.0 command.1 e))
       by_command (Ok command) = ordered_own command.0 command.1 e own

@@ -3,10 +3,9 @@ use Rattle.std.proofs.Common.{◌≡◌, ℕ, ◌+◌, ◌-◌, Bool, false, con
 use Rattle.std.specs.List.{AllByRecursion, position_from}
 use Rattle.lc_model.specs.declared.record.Moment.{Moment}
 use Rattle.lc_model.specs.Name.{Name, is_named, host_name, lc_name, sch_name, counter_name}
-use Rattle.lc_model.specs.Packet.{function_code, payload}
 use Rattle.lc_model.specs.Refusal.{Refusal, ◌>>=◌, refused, found, provided}
 use Rattle.lc_model.specs.Tables.Interpretation.{Interpretation}
-use Rattle.lc_model.specs.Command.{Order, Start, Stop, Restart, Reload, app_command}
+use Rattle.lc_model.specs.Command.{Order, Start, Stop, Restart, Reload, order_in}
 use Rattle.lc_model.specs.LimitChecker.Steps.{by_lists, lc_start, LcStep}
 use Rattle.lc_model.specs.LimitChecker.Watch.{History}
 use Rattle.lc_model.specs.LimitChecker.Past.{Past}
@@ -280,7 +279,7 @@ module _ {Image : Type 0} (images : Interpretation Image) (schedule : Schedule) 
     -- a command to executive services
     pub executive_service_kept : (w : World Image) (packet : List ℕ) → IsSeated images schedule (standing_of w) stock order →
         BothKept images schedule moment (executive_service images packet w) (executive_service_now images moment packet (kept images schedule effort stock order w))
-    executive_service_kept w packet h = by_command (app_command (function_code packet) (payload packet))
+    executive_service_kept w packet h = by_command (order_in packet)
       where
         by_command : (r : Result (Order × Name) Refusal) → BothKept images schedule moment
             (r >>= (λ command. ordered images command.0 command.1 w)) (r >>= (λ command. ordered_now images moment command.0 command.1 (kept images schedule effort stock order w)))

@@ -17,7 +17,7 @@ use Rattle.lc_model.specs.Tables.Image.{ImageFault}
 use Rattle.lc_model.specs.Tables.Slot.{Slot, Asked, waiting_at}
 use Rattle.lc_model.specs.Tables.Interpretation.{Interpretation, Pair}
 use Rattle.lc_model.specs.Events.Request.{Request, tables_adopted, turned_to_fail, turned_to_pass, failed_passive, short_packet, lc_command_done}
-use Rattle.lc_model.specs.Command.{LcCommand, lc_command, bare_request, sample_request, takes}
+use Rattle.lc_model.specs.Command.{LcCommand, bare_request, sample_request, takes, lc_command_in}
 use Rattle.lc_model.specs.declared.command.SampleRequest.{SampleRequest}
 use Rattle.lc_model.specs.LimitChecker.Watch.{History, result_of}
 use Rattle.lc_model.specs.LimitChecker.Past.{Past, has_turned, turns, run_of_fails, quiet_count}
@@ -98,11 +98,8 @@ module _ {Image : Type 0} (images : Interpretation Image) where
       by_waiting None = tt
       by_waiting (Some image) = verdict_own kind (images.fault_of kind image) slot
 
-  OfOk : Lc Image → Result (LcStep Image History Past) Refusal → Type 0
-  OfOk lc r = AreOf lc_name (unless_refused lc r).1
-
   command_own : (packet : List ℕ) (lc : Lc Image) → AreOf lc_name (unless_refused lc (lc_commanded packet lc)).1
-  command_own packet lc = by_command (lc_command (function_code packet) (payload packet))
+  command_own packet lc = by_command (lc_command_in packet)
     where
       by_after : (r : Result (Lc Image) Refusal) → AreOf lc_name (unless_refused lc (r >>= (λ after. Ok (after, lc_command_done (function_code packet) ∷ [])))).1
       by_after (Ok after) = (refl, tt)

@@ -6,14 +6,14 @@ use Rattle.lc_model.specs.declared.kind.Kind.{Kind}
 use Rattle.lc_model.specs.declared.kind.Kind.TheVariants.{Wdt, Adt}
 use Rattle.lc_model.specs.declared.record.Moment.{Moment}
 use Rattle.lc_model.specs.Name.{Name, is_named, lc_name, sch_name, counter_name, held}
-use Rattle.lc_model.specs.Packet.{stream_fault, function_code, payload, message_id, event_services_mid, table_services_mid, executive_services_mid, counter_mid}
+use Rattle.lc_model.specs.Packet.{stream_fault, message_id, event_services_mid, table_services_mid, executive_services_mid, counter_mid}
 use Rattle.lc_model.specs.Refusal.{Refusal, ◌>>=◌, refused, found, provided}
 use Rattle.lc_model.specs.Tables.Slot.{Slot, loaded, moved}
 use Rattle.lc_model.specs.Tables.Interpretation.{FileMeaning, Interpretation, kind_named}
 use Rattle.lc_model.specs.LimitChecker.Steps.{by_lists, paired, lc_start}
 use Rattle.lc_model.specs.Events.Request.{Service, bad_packet, event_services, table_services, executive_services}
 use Rattle.lc_model.specs.Events.Log.{Log, LogItem, joined}
-use Rattle.lc_model.specs.Command.{event_command, TableCommand, Load, Manage, table_command, Order, Start, Stop, Restart, Reload, app_command}
+use Rattle.lc_model.specs.Command.{TableCommand, Load, Manage, Order, Start, Stop, Restart, Reload, event_command_in, table_command_in, order_in}
 use Rattle.lc_model.specs.Host.Schedule.{Schedule, entry_packet, entries_at, slot_number}
 use Rattle.lc_model.specs.Host.World.{World, Running, Lc, become, begun, ended, with_one_spare_less, runs, spares_of, log_of, with_log}
 use Rattle.lc_model.specs.Host.React.{Input, Packet, Tick, File, Step, stored, filed, answered, event_service, opened_file, slot_of, with_slot, left, spare_taken, lc_begun, counter_packet, counter_become, to_counter, managed, table_service, started, ordered, executive_service, to_lc, routed, on_packet, on_packets, scheduled, react}
@@ -59,7 +59,7 @@ module _ {Image : Type 0} (images : Interpretation Image) where
   event_settled : (packet : List ℕ) (w : World Image) → Settled w → Result_settled (event_service packet w)
   event_settled packet w h =
       let P : Step Image → Type 0 = λ (step : Step Image). Settled step.0 in
-      ok_after P (event_command (function_code packet) (payload packet)) _ (λ (command : Name × LogItem).
+      ok_after P (event_command_in packet) _ (λ (command : Name × LogItem).
       ok_after P (found (log_of w command.0) 101) _ (λ (log : Log).
       ok_after P (joined command.1 log) _ (λ (longer : Log). log_settled command.0 longer w h)))
 
@@ -120,7 +120,7 @@ module _ {Image : Type 0} (images : Interpretation Image) where
 
   table_settled : (packet : List ℕ) (w : World Image) → Settled w → Result_settled (table_service images packet w)
   table_settled packet w h =
-      ok_after (λ (step : Step Image). Settled step.0) (table_command (function_code packet) (payload packet)) _ (λ (command : TableCommand). told (managed images command w) (managed_settled command w h))
+      ok_after (λ (step : Step Image). Settled step.0) (table_command_in packet) _ (λ (command : TableCommand). told (managed images command w) (managed_settled command w h))
     where
       told : (r : Result (World Image) Refusal) → IfOk Settled r → Result_settled (r >>= (λ after. Ok (after, [])))
       told (Ok after) k = k
@@ -153,7 +153,7 @@ module _ {Image : Type 0} (images : Interpretation Image) where
 
   executive_settled : (packet : List ℕ) (w : World Image) → Settled w → Result_settled (executive_service images packet w)
   executive_settled packet w h =
-      ok_after (λ (step : Step Image). Settled step.0) (app_command (function_code packet) (payload packet)) _ (λ (command : Order × Name). ordered_settled command.0 command.1 w h)
+      ok_after (λ (step : Step Image). Settled step.0) (order_in packet) _ (λ (command : Order × Name). ordered_settled command.0 command.1 w h)
 
   counter_settled : (packet : List ℕ) (w : World Image) → Settled w → Settled (to_counter packet w).0
   counter_settled packet w h = by_running w.counter.running

@@ -6,14 +6,14 @@ use Rattle.lc_model.specs.declared.kind.Kind.{Kind}
 use Rattle.lc_model.specs.declared.kind.Kind.TheVariants.{Wdt, Adt}
 use Rattle.lc_model.specs.declared.record.Moment.{Moment}
 use Rattle.lc_model.specs.Name.{Name, is_named, held}
-use Rattle.lc_model.specs.Packet.{function_code, payload, lc_command_mid, lc_housekeeping_request_mid, sample_mid}
+use Rattle.lc_model.specs.Packet.{lc_command_mid, lc_housekeeping_request_mid, sample_mid}
 use Rattle.lc_model.specs.Refusal.{Refusal, ◌>>=◌, refused, found, provided}
 use Rattle.lc_model.specs.Tables.File.{table_name}
 use Rattle.lc_model.specs.Tables.Slot.{Slot, Waiting, Stage, Loaded, Activated, Move, with_waiting, restaged, stage_after, loaded, moved, waiting_at}
 use Rattle.lc_model.specs.Tables.Interpretation.{FileMeaning, Interpretation, Pair, kind_named}
 use Rattle.lc_model.specs.LimitChecker.Steps.{paired}
 use Rattle.lc_model.specs.declared.field.Term.{Term}
-use Rattle.lc_model.specs.Command.{TableCommand, Load, Manage, table_command}
+use Rattle.lc_model.specs.Command.{TableCommand, Load, Manage, table_command_in}
 use Rattle.lc_model.specs.Host.Schedule.{Schedule}
 use Rattle.lc_model.specs.Host.World.{World, Running, Lc, become}
 use Rattle.lc_model.specs.Host.React.{opened_file, slot_of, with_slot, table_named, managed, table_service}
@@ -103,9 +103,6 @@ module _ {Image : Type 0} (images : Interpretation Image) (schedule : Schedule) 
       at false false = refl
   slots_with Adt slot lc i name = by_adt (is_named name (table_name Adt)) refl i
     where
-      Same : Name → Bool → Type 0
-      Same name b = option_map (λ kind. slot_now images schedule kind (with_slot_now Adt slot lc)) (kind_named name)
-          ≡ (if b then Some slot else option_map (λ kind. slot_now images schedule kind lc) (kind_named name))
 
       at : (a : Bool) →
           option_map (λ kind. slot_now images schedule kind (with_slot_now Adt slot lc)) (if a then Some Wdt else None)
@@ -321,7 +318,7 @@ module _ {Image : Type 0} (images : Interpretation Image) (schedule : Schedule) 
     pub table_service_kept : (w : World Image) (packet : List ℕ) → IsSeated images schedule (standing_of w) stock order →
         BothKept images schedule moment (table_service images packet w)
         (with_services (kept images schedule effort stock order w) (table_service_now images packet (numbers_of images schedule effort w).services))
-    table_service_kept w packet seated = by_command (table_command (function_code packet) (payload packet))
+    table_service_kept w packet seated = by_command (table_command_in packet)
       where
         by_command : (r : Result TableCommand Refusal) → BothKept images schedule moment
             (r >>= (λ command. managed images command w >>= (λ after. Ok (after, []))))

@@ -55,9 +55,6 @@ module _ {Image : Type 0} where
       with_tests a b c d log w = if a then record w { host = log } else if b then record w { lc = logged log w.lc } else if c then record w { sch = logged log w.sch }
           else if d then record w { counter = logged log w.counter } else w
 
-      Commutes : World Image → Log → Type 0
-      Commutes w log = event_sent moment sender id kind text log (put_lc lc w) ≡ (put_lc lc (event_sent moment sender id kind text log w).0, (event_sent moment sender id kind text log w).1)
-
       by_log : (w : World Image) (o : Option Log) → ((log : Log) → event_sent moment sender id kind text log (put_lc lc w) ≡ (put_lc lc (event_sent moment sender id kind text log w).0, (event_sent moment sender id kind text log w).1)) →
           option_map_or (λ log. event_sent moment sender id kind text log (put_lc lc w)) o (put_lc lc w, [])
           ≡ (let d : Sent Image = option_map_or (λ log. event_sent moment sender id kind text log w) o (w, []) in (put_lc lc d.0, d.1))

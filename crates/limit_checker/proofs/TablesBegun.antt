@@ -3,7 +3,7 @@ use Rattle.std.proofs.Common.{◌≡◌, refl, ap, sym, ◌∙◌, subst, ℕ, z
 use Rattle.std.specs.Prelude.{IfSome, IsFalse, IsOk, IsTrue, IsSomeAnd, nat_le, is_some, slice_index_or, slice_get, slice_set}
 use Rattle.std.specs.Option.{option_map_or}
 use Rattle.std.specs.List.{AllByRecursion, position_from}
-use Rattle.std.proofs.lemmas.List.{get_or-set_same, set-get_or, set-set}
+use Rattle.std.proofs.lemmas.List.{get_or-set_same, set-set}
 use Rattle.std.proofs.lemmas.Slice.Eq.{bytes_eq-Decides}
 use Rattle.lc_model.specs.declared.kind.Kind.TheVariants.{Wdt, Adt}
 use Rattle.lc_model.specs.Name.{Name, is_named, lc_name}
@@ -146,9 +146,6 @@ module _ (seat : ℕ) (service : TableService) (both : tables_at seat service.pl
       }) (one_there pair.wdt)
       ∙ ap (λ (s : TableService). record s { places = slice_set s.places seat (started_tables (Some pair)) }) (one_in_use pair.wdt)
       ∙ ap (λ (places : Places). record service { places = places }) (set-set service.places seat (record new_wdt { slot = in_use pair.wdt } ∷ new_adt ∷ []) (started_tables (Some pair)))
-
-  pub none_in_use : service ≡ tables_started seat None service
-  none_in_use = λ i. record service { places = (sym (set-get_or service.places seat []) ∙ ap (slice_set service.places seat) both) i }
 
   -- the second table still takes its image
   pub still_fits : (image : List ℕ) (name : Name) (adt : List ℕ) → stored_image name service ≡ Some adt → IsTrue (fits_table new_adt (length adt)) →

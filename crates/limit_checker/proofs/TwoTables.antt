@@ -101,9 +101,6 @@ module _ (seat : ℕ) (service : TableService) (two : HasTwo seat service) where
   pub second_slot_is : slot_at (adt_of seat) service ≡ two.second.slot
   second_slot_is = ap (slot_at (adt_of seat)) as_is ∙ second_slot two.first.slot two.second.slot
 
-  pub first_registered : (w a : Slot (List ℕ)) → IsTrue (is_some (table_at (wdt_of seat) (both w a).places))
-  first_registered w a = ap is_some (first_table w a)
-
   pub second_registered : (w a : Slot (List ℕ)) → IsTrue (is_some (table_at (adt_of seat) (both w a).places))
   second_registered w a = ap is_some (second_table w a)
 

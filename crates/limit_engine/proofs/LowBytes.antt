@@ -84,16 +84,3 @@ counted U16Le packet small start need mask ends few by_four = absurd (cc by_four
 counted I16Le packet small start need mask ends few by_four = absurd (cc by_four)
 counted U32Le packet small start need mask ends few by_four = absurd (cc by_four)
 counted I32Le packet small start need mask ends few by_four = absurd (cc by_four)
-
--- and there are so many
-pub four_there : (k : FieldType) (need : ℕ) → is_by_four k need ≡ true → 4 ≤ need
-four_there U8 need by_four = tested_at_most 4 need by_four
-four_there I8 need by_four = tested_at_most 4 need by_four
-four_there U16Be need by_four = tested_at_most 4 need by_four
-four_there I16Be need by_four = tested_at_most 4 need by_four
-four_there U32Be need by_four = tested_at_most 4 need by_four
-four_there I32Be need by_four = tested_at_most 4 need by_four
-four_there U16Le need by_four = absurd (cc by_four)
-four_there I16Le need by_four = absurd (cc by_four)
-four_there U32Le need by_four = absurd (cc by_four)
-four_there I32Le need by_four = absurd (cc by_four)

@@ -37,9 +37,6 @@ module _ (request : SampleRequest) (terms : List Term) (mode : LcMode) (watch : 
     pub requests_are : requests ++ (rest n points).1 ≡ all.1
     pub steps_are : steps + sampled_words request n (drop n rules) (drop n points) ≡ sampled_words request 0 rules first
 
-  pub none_sampled : SampledBelow 0 first [] 0
-  none_sampled = record { points_are = refl; requests_are = refl; steps_are = omega arith }
-
   module _ (n : ℕ) (points : List (Point Tally)) (requests : List Request) (steps : ℕ) (so_far : SampledBelow n points requests steps)
       (rule : Actionpoint) (point : Point Tally) (in_rules : n < length rules) (in_points : n < length points)
       (rule_at : rule ≡ get_or rules n rule) (point_at : point ≡ get_or points n point) where

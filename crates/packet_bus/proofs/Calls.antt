@@ -1,7 +1,7 @@
 -- What the calls of the model come to, where it is known whether the seat has a pipe.
 use Rattle.std.proofs.Common.{◌≡◌, refl, ℕ, ◌<◌, Bool, true, false, List, [], ◌∷◌, ◌++◌, length, arith}
 use Rattle.std.specs.Prelude.{Option, Some, None, is_some, nat_lt}
-use Rattle.lc_model.specs.Services.Bus.{Queue, Bus, pipe_at, after, with_pipe, new_pipe, pipe_added, is_subscribed, subscribed, unsubscribed, parted, received, without_oldest}
+use Rattle.lc_model.specs.Services.Bus.{Queue, Bus, pipe_at, after, with_pipe, new_pipe, pipe_added, is_subscribed, subscribed}
 use Rattle.packet_bus.specs.Inside.{changed}
 
 -- a pipe that is new
@@ -11,22 +11,6 @@ added_is seat bus none = by_pipe (pipe_at seat bus) refl none
     by_pipe : (o : Option Queue) → pipe_at seat bus ≡ o → is_some o ≡ false → with_pipe seat bus new_pipe ≡ after bus (pipe_added seat bus)
     by_pipe None e lacks = rw e refl
     by_pipe (Some queue) e lacks = cc
-
--- a subscription less
-pub unsubscribed_is : (seat mid : ℕ) (bus : Bus) → is_some (pipe_at seat bus) ≡ true → changed seat (parted mid) bus ≡ after bus (unsubscribed seat mid bus)
-unsubscribed_is seat mid bus some = by_pipe (pipe_at seat bus) refl some
-  where
-    by_pipe : (o : Option Queue) → pipe_at seat bus ≡ o → is_some o ≡ true → changed seat (parted mid) bus ≡ after bus (unsubscribed seat mid bus)
-    by_pipe None e lacks = cc
-    by_pipe (Some queue) e lacks = rw e refl
-
--- a packet less
-pub received_is : (seat : ℕ) (bus : Bus) → is_some (pipe_at seat bus) ≡ true → changed seat without_oldest bus ≡ after bus (received seat bus)
-received_is seat bus some = by_pipe (pipe_at seat bus) refl some
-  where
-    by_pipe : (o : Option Queue) → pipe_at seat bus ≡ o → is_some o ≡ true → changed seat without_oldest bus ≡ after bus (received seat bus)
-    by_pipe None e lacks = cc
-    by_pipe (Some queue) e lacks = rw e refl
 
 -- a pipe with a subscription more
 abbrev pub subscribed_too : ℕ → Queue → Queue

@@ -29,22 +29,6 @@ abbrev pub mids_of : Option Queue → List ℕ
 mids_of None = []
 mids_of (Some queue) = queue.subscriptions
 
--- a packet less, where there is one
-pub fewer_packets : (seat : ℕ) (bus : Bus) → seat < length bus → is_some (oldest_at seat bus) ≡ true →
-    length (packets_of (pipe_at seat (changed seat without_oldest bus))) < length (packets_of (pipe_at seat bus))
-fewer_packets seat bus below some =
-    rw (get_or-set_same bus seat (option_map without_oldest (pipe_at seat bus)) None below) (by_pipe (pipe_at seat bus) some)
-  where
-    by_packets : (packets : List Publication) → is_some (option_map (λ (publication : Publication). publication.bytes) (slice_get packets 0)) ≡ true →
-        length (drop 1 packets) < length packets
-    by_packets [] some = cc
-    by_packets (packet ∷ packets) some = omega arith
-
-    by_pipe : (o : Option Queue) → is_some (option_map (λ (publication : Publication). publication.bytes) (oldest o)) ≡ true →
-        length (packets_of (option_map without_oldest o)) < length (packets_of o)
-    by_pipe None some = cc
-    by_pipe (Some queue) some = by_packets queue.waiting some
-
 -- no packet is left
 pub no_packets : (seat : ℕ) (bus : Bus) → is_some (oldest_at seat bus) ≡ false → changed seat without_oldest bus ≡ changed seat without_packets bus
 no_packets seat bus none = ap (slice_set bus seat) (by_pipe (pipe_at seat bus) none)

@@ -24,9 +24,3 @@ fits n rule short = rw (le-ltb limits.words (size rule.action.condition + 1) (om
 abbrev pub first_from : ℕ → List NamedRule → Option TextRefusal
 first_from n rules =
     slice_get (filter_map (λ (m : ℕ × NamedRule). option_map (λ code. ForRule code m.0) (equation_fault limits m.1)) (enumerate_from n rules)) 0
-
-pub passes : (n : ℕ) (rule : NamedRule) (rules : List NamedRule) → refusal_of_rule n rule ≡ None → first_from n (rule ∷ rules) ≡ first_from (n + 1) rules
-passes n rule rules e = rw e refl
-
-pub stops : (n : ℕ) (rule : NamedRule) (rules : List NamedRule) (r : TextRefusal) → refusal_of_rule n rule ≡ Some r → first_from n (rule ∷ rules) ≡ Some r
-stops n rule rules r e = rw e refl

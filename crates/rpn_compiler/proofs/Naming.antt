@@ -45,10 +45,6 @@ module _ (text : List ℕ) where
   of_all_tables (Ok x) is = is
   of_all_tables (Err error) is = of_tables error is
 
-  pub of_memory : {T : Type 0} (r : Result T CompileError) → IfErr r (λ error. error ≡ Memory) → IfErr r (NamesTheNumberIn text)
-  of_memory (Ok x) is = is
-  of_memory (Err error) is = rw is tt
-
   module _ (tokens : List Token) (items : List Item) (splits : Splits text tokens) (parses : Parses tokens items) where
     said : (error : CheckError) → NamesItsNumber items error → NamesItsNumberIn text error
     said error names = record { tokens = tokens; items = items; splits = splits; parses = parses; names = names }

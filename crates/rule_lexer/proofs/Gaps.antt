@@ -1,5 +1,5 @@
 -- Blanks and comments in front of a text.
-use Rattle.std.proofs.Common.{◌≡◌, refl, sym, ap, subst, ℕ, suc, ◌+◌, ◌≤◌, ◌<◌, Bool, true, false, ◌||◌, ◌==◌, List, [], ◌∷◌, ◌++◌, length, take, drop, get_or, drop-cons, length-drop, length-take-le, drop-drop, take-append-drop, arith}
+use Rattle.std.proofs.Common.{◌≡◌, refl, sym, subst, ℕ, suc, ◌+◌, ◌≤◌, ◌<◌, Bool, true, false, ◌||◌, ◌==◌, List, [], ◌∷◌, ◌++◌, length, take, drop, get_or, drop-cons, length-drop, length-take-le, drop-drop, take-append-drop, arith}
 use Rattle.std.specs.List.{list_all, list_any, prefix_len}
 use Rattle.lc_model.specs.Text.Token.{Cuts, here, blank, comment, IsComment, is_blank, line_feed}
 use Rattle.rule_lexer.specs.Front.{begins, is_line_byte, is_number_sign}
@@ -49,9 +49,6 @@ no_gap_yet text = record {
   within = omega arith;
   cuts = λ at. let none : at ≡ at + 0 = omega arith in subst (λ n. Cuts at text [] n text) none here;
 }
-
-pub begins_at : (test : ℕ → Bool) (text : List ℕ) (i : ℕ) → i < length text → begins test (drop i text) ≡ test (get_or text i 0)
-begins_at test text i within = ap (begins test) (drop-cons text i 0 within)
 
 -- what is cut behind the gap so far joins it
 further : (text : List ℕ) (count k : ℕ) → GapSoFar text count → count + k ≤ length text →

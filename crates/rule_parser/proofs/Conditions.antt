@@ -5,11 +5,11 @@ use Rattle.lc_model.specs.Text.Token.{Token}
 use Rattle.lc_model.specs.Text.Syntax as syntax
 use Rattle.lc_model.specs.Text.Syntax.{Expression}
 use Rattle.lc_model.specs.Text.Class as class
-use Rattle.lc_model.specs.Text.Class.{Class, Name, Number, word, sign, fits, Fits, next, done, comparison}
+use Rattle.lc_model.specs.Text.Class.{Class, Name, Number, word, sign, Fits, next, done, comparison}
 use Rattle.lc_model.specs.Text.Grammar as grammar
-use Rattle.lc_model.specs.Text.Grammar.{Part, Derives, number_of}
+use Rattle.lc_model.specs.Text.Grammar.{Derives, number_of}
 use Rattle.lc_model.specs.Text.Reading.{ParseFault, Expected, TooNested}
-use Rattle.lc_model.proofs.Facts.{or_neither, or_first, or_second}
+use Rattle.lc_model.proofs.Facts.{or_first, or_second}
 use Rattle.rule_lexer.specs.declared.token.TokenKind.{TokenKind}
 use Rattle.rule_parser.specs.declared.error.ParseError.{ParseError}
 use Rattle.rule_parser.specs.declared.error.ParseError.TheVariants as error
@@ -19,7 +19,7 @@ use Rattle.rule_parser.specs.Fault.{Refuses}
 use Rattle.rule_parser.specs.Front.{begins, class_of, place_in}
 use Rattle.rule_parser.specs.Left.{Left, wanting, token_in, operand_name_in, value_in, number_in, comparison_in}
 use Rattle.rule_parser.specs.Stack.{Symbol, one, operand, after, inside, joins, step, fault_at}
-use Rattle.rule_parser.specs.Condition.{Took, Stops, Nested, NoRoom, is_continued, kind_of_operator, operator_of, part_of, operands_of}
+use Rattle.rule_parser.specs.Condition.{Took, Stops, Nested, NoRoom, kind_of_operator, operator_of, part_of, operands_of}
 use Rattle.rule_parser.proofs.Runs.{on_one, on_name, on_not, on_open, on_join, and_joins, xor_joins, or_joins}
 use Rattle.rule_parser.proofs.OneToken.{One, one_token, one_number, one_value}
 use Rattle.rule_parser.proofs.Agrees.{Agrees, agrees_one, agrees_end}
@@ -76,12 +76,6 @@ two_parts Or ts us t a b d fit f = grammar.cond_or t d fit f
 two_parts Xor ts us t a b d fit f = grammar.xors_xor t d fit f
 two_parts And ts us t a b d fit f = grammar.ands_and t d fit f
 
-not_continued : (o : Operator) (ts : List Token) → is_continued (operands_of o) ts ≡ false → begins (class_of (kind_of_operator o)) ts ≡ false →
-    is_continued (part_of o) ts ≡ false
-not_continued Or ts more none = or_neither (begins (word "or") ts) _ none more
-not_continued Xor ts more none = or_neither (begins (word "xor") ts) _ none more
-not_continued And ts more none = none
-
 -- the first part
 pub begin_parts : (o : Operator) (before left : Left) (room rest : ℕ) (e : Expression) → Took (operands_of o) (operands_of o) before left room rest e →
     Took (part_of o) (operands_of o) before left room rest e
@@ -110,19 +104,6 @@ join_parts o before l1 l2 l3 room r1 r2 r3 a b k (t, first, fit, same, room_is) 
       k.goes_on close s
       ∙ behind_nest l1 l2 r1 r2 (after close ∷ s) (operand close ∷ s) t first same room_is (operator_nests o t fit) (on_join t close s (joining o t fit))
       ∙ n.goes_on close s;
-}
-
--- the last part
-pub end_parts : (o : Operator) (before left : Left) (room rest : ℕ) (e : Expression) → Took (part_of o) (operands_of o) before left room rest e →
-    begins (class_of (kind_of_operator o)) left.tokens ≡ false → Took (part_of o) (part_of o) before left room rest e
-end_parts o before left room rest e k none = record {
-  front = k.front;
-  tokens = k.tokens;
-  derives = k.derives;
-  ends = not_continued o left.tokens k.ends none;
-  place = k.place;
-  less = k.less;
-  goes_on = k.goes_on;
 }
 
 -- no room for the operator

@@ -1,5 +1,5 @@
 -- Rules, items and whole texts: what is taken derives, and the first fault stays where it is.
-use Rattle.std.proofs.Common.{◌≡◌, refl, sym, ◌∙◌, ap, subst, ℕ, ◌<◌, Bool, true, false, cond, List, [], ◌∷◌, ◌++◌, length, length-append, Some, None, Ok, Err, arith, append_assoc, append-nil, codes}
+use Rattle.std.proofs.Common.{◌≡◌, refl, sym, ◌∙◌, ap, subst, ℕ, ◌<◌, Bool, true, false, cond, List, [], ◌∷◌, ◌++◌, Some, None, Ok, Err, append_assoc, append-nil, codes}
 use Rattle.lc_model.specs.Text.Token.{Token}
 use Rattle.lc_model.specs.Text.Syntax as syntax
 use Rattle.lc_model.specs.Text.Syntax.{Expression, Item}
@@ -14,7 +14,7 @@ use Rattle.rule_parser.specs.Left.{Left, Takes, place, token_in}
 use Rattle.rule_parser.specs.Condition.{TookCondition, Stops}
 use Rattle.rule_parser.specs.Head.{Head, packet_in, field_in, head_in, rule_with}
 use Rattle.rule_parser.specs.Stack.{Symbol, outside, inside, less, one, operand, packet_left, field_left, rule_left, step, narrowed, fault_at}
-use Rattle.rule_parser.specs.File.{TookItem, TookRule, TookAll, StopsAt, StopsAll}
+use Rattle.rule_parser.specs.File.{TookItem, TookRule, TookAll, StopsAt}
 use Rattle.rule_parser.proofs.Runs.{on_one, on_packet, on_field, on_rule}
 use Rattle.rule_parser.proofs.OneToken.{one_token}
 use Rattle.rule_parser.proofs.Agrees.{Agrees}
@@ -198,21 +198,6 @@ with_item end tokens left more items item s k = record {
   place = k.place ∙ s.place;
   goes_on = s.goes_on ∙ k.goes_on;
 }
-
-pub item_stops : (end : ℕ) (tokens : List Token) (left : Left) (items : List Item) (error : ParseError) → SoFar end tokens left items →
-    Refuses (StopsAt [] left) error → Refuses (StopsAll end tokens) error
-item_stops end tokens left items error s r = refuses_too (StopsAt [] left) (StopsAll end tokens) (λ fault f. s.goes_on ∙ f) error r
-
-item_long : {ts : List Token} {item : Item} → DerivesItem ts item → 0 < length ts
-item_long (DerivesItem.packet p) = omega arith
-item_long (DerivesItem.field {masks = masks} {stales = stales} e p k m s end) = omega (arith, length-append (masks ++ stales) (e ∷ []))
-item_long (DerivesItem.rule {reports = reports} {conditions = conditions} w e p s k r is_when c end) =
-    omega (arith, length-append (reports ++ w ∷ conditions) (e ∷ []))
-
--- each item takes a token
-pub fewer : (left more : Left) (item : Item) → TookItem left more item → length more.tokens < length left.tokens
-fewer left more item k =
-    omega (arith, item_long k.derives, length-append k.front more.tokens, ap length k.tokens)
 
 pub all_taken : (end : ℕ) (tokens : List Token) (left : Left) (items : List Item) → SoFar end tokens left items → is_empty left.tokens ≡ true → TookAll end tokens items
 unfolding fault_at

@@ -1,9 +1,9 @@
 -- A list parted at some of its elements: its first part, and the others.
-use Rattle.std.proofs.Common.{◌≡◌, refl, sym, ◌∙◌, ap, ℕ, suc, ◌+◌, Bool, true, false, not, ◌==◌, List, [], ◌∷◌, ◌++◌, length, take, drop, arith, append-nil}
+use Rattle.std.proofs.Common.{◌≡◌, refl, sym, ◌∙◌, ap, ℕ, suc, ◌+◌, Bool, true, false, not, ◌==◌, List, [], ◌∷◌, ◌++◌, length, take, drop, arith}
 use Rattle.std.specs.Prelude.{filter}
 use Rattle.std.specs.List.{position_or_len, prefix_len}
-use Rattle.lc_model.specs.Host.ScheduleText.{entry_in, is_silent, lines_of, onto_first, parted, slots_in, words_of}
-use Rattle.tick_scheduler.specs.Word.{is_blank, SaySame}
+use Rattle.lc_model.specs.Host.ScheduleText.{lines_of, onto_first, parted, words_of}
+use Rattle.tick_scheduler.specs.Word.{is_blank}
 
 one_more : (n : ℕ) → 1 + n ≡ suc n
 one_more n = omega arith
@@ -110,20 +110,3 @@ more_words line (x ∷ from) word rest n m blanks is some place here left =
     ∙ ap (by_front is_blank) (sym is)
     ∙ (λ i. take (sym place i) (x ∷ from) ∷ words_of (drop (sym place i) (x ∷ from)))
     ∙ (λ i. sym here i ∷ words_of (sym left i))
-
--- ---- as many words as tell what a line says
-
-pub all_say_same : (some all : List (List ℕ)) → some ++ [] ≡ all → SaySame some all
-all_say_same some all are =
-    let same : some ≡ all = sym (append-nil some) ∙ are in
-    record { silent = ap is_silent same; slots = ap slots_in same; entry = ap entry_in same }
-
-pub six_say_same : (some more all : List (List ℕ)) → length some ≡ 6 → some ++ more ≡ all → SaySame some all
-six_say_same (a ∷ b ∷ c ∷ d ∷ e ∷ f ∷ []) more all six are = record { silent = ap is_silent are; slots = ap slots_in are; entry = ap entry_in are }
-six_say_same [] more all six are = absurd (omega (arith, six))
-six_say_same (a ∷ []) more all six are = absurd (omega (arith, six))
-six_say_same (a ∷ b ∷ []) more all six are = absurd (omega (arith, six))
-six_say_same (a ∷ b ∷ c ∷ []) more all six are = absurd (omega (arith, six))
-six_say_same (a ∷ b ∷ c ∷ d ∷ []) more all six are = absurd (omega (arith, six))
-six_say_same (a ∷ b ∷ c ∷ d ∷ e ∷ []) more all six are = absurd (omega (arith, six))
-six_say_same (a ∷ b ∷ c ∷ d ∷ e ∷ f ∷ g ∷ some) more all six are = absurd (omega (arith, six))

@@ -2,7 +2,7 @@
 use Rattle.std.proofs.Common.{◌≡◌, ◌≢◌, refl, ap, sym, ◌∙◌, subst, ℕ, ◌+◌, ◌<◌, ◌≤◌, Bool, true, false, ◌==◌, List, [], ◌∷◌, ◌++◌, length, map, take, drop, arith, Option, Some, None, if◌then◌else◌, get_or}
 use Rattle.std.specs.Prelude.{IfSome, IsSomeAnd}
 use Rattle.std.specs.List.{AllByRecursion}
-use Rattle.std.proofs.lemmas.List.{take_more, take_all, map-append, length-map}
+use Rattle.std.proofs.lemmas.List.{take_more, map-append, length-map}
 use Rattle.lc_model.specs.Name.{sch_name}
 use Rattle.lc_model.specs.Packet.{message_id, header_fault, tick_mid}
 use Rattle.lc_model.specs.Host.Schedule.{Schedule, ScheduleEntry, Sample, Housekeeping, entry_packet}
@@ -85,9 +85,6 @@ one_entry_more law entries k default more before between after far packet same n
 
 pub one_more_waits : (k : ℕ) (bus : Bus) → AreShort (64 + k + 1) bus → AreShort (64 + (k + 1)) bus
 one_more_waits k bus short = subst (λ n. AreShort n bus) (let same : 64 + k + 1 ≡ 64 + (k + 1) = omega arith in same) short
-
-pub all_entries : (entries : List Entry) (k : ℕ) (before after : Services) → length entries ≤ k → Publishes (packets_of (take k entries)) before after → Publishes (packets_of entries) before after
-all_entries entries k before after all far = subst (λ some. Publishes (packets_of some) before after) (take_all k entries all) far
 
 -- ---- the start
 

@@ -1,15 +1,14 @@
 -- Asides can be left out: the same sequence requests are sent.
-use Rattle.std.proofs.Common.{◌≡◌, ℕ, Bool, true, false, not, ◌&&◌, ◌||◌, List, [], ◌∷◌, ◌++◌, ◌==◌, refl, ap, ap₂, sym, ◌∙◌, Option, Some, None, if◌then◌else◌, IsTrue, IsFalse, true≢false}
+use Rattle.std.proofs.Common.{◌≡◌, ℕ, Bool, true, false, not, ◌&&◌, ◌||◌, List, [], ◌∷◌, ◌++◌, ◌==◌, refl, ap, ap₂, sym, ◌∙◌, Option, Some, None, if◌then◌else◌, IsTrue, true≢false}
 use Rattle.std.specs.List.{filter}
 use Rattle.std.specs.Option.{option_map_or}
-use Rattle.std.proofs.lemmas.Bool.{eqb-true}
 use Rattle.std.proofs.lemmas.List.Elements.{filter-append}
 use Rattle.lc_model.specs.declared.record.Moment.{Moment}
 use Rattle.lc_model.specs.Name.{Name}
-use Rattle.lc_model.specs.Packet.{stream_fault, function_code, payload, message_id, event_services_mid, table_services_mid, executive_services_mid, counter_mid}
+use Rattle.lc_model.specs.Packet.{stream_fault, message_id, event_services_mid, table_services_mid, executive_services_mid, counter_mid}
 use Rattle.lc_model.specs.Tables.Interpretation.{FileMeanings, Interpretation}
 use Rattle.lc_model.specs.Events.Request.{event_services, table_services, executive_services, bad_packet}
-use Rattle.lc_model.specs.Command.{app_command}
+use Rattle.lc_model.specs.Command.{order_in}
 use Rattle.lc_model.specs.Host.Schedule.{Schedule}
 use Rattle.lc_model.specs.Host.Stream.{StreamEntry, Contents, Packet, Tick, File, Half}
 use Rattle.lc_model.specs.Host.World.{World, first_world}
@@ -42,19 +41,15 @@ sent_alike moment later s t same =
 
 -- ---- asides
 
--- a service of the message id's own, or none of them
+-- by the service whose message id it is, or by the counter's
 by_mids : {Image : Type 0} (P : Step Image → Type 0) (event table executive counter another : Bool) (a b c d e : Step Image) →
-    (IsTrue table → IsFalse counter) → (IsTrue table → IsFalse executive) → (IsTrue executive → IsFalse counter) →
-    IsTrue (event || counter || executive && another) → P a → (IsTrue another → P c) → P d →
+    IsTrue (if event then true else if table then false else if executive then another else counter) → P a → (IsTrue another → P c) → P d →
     P (if event then a else if table then b else if executive then c else if counter then d else e)
-by_mids P true table executive counter another a b c d e not_tc not_tx not_xc aside at_a at_c at_d = at_a
-by_mids P false true true counter another a b c d e not_tc not_tx not_xc aside at_a at_c at_d = absurd (true≢false (not_tx refl))
-by_mids P false true false true another a b c d e not_tc not_tx not_xc aside at_a at_c at_d = absurd (true≢false (not_tc refl))
-by_mids P false true false false another a b c d e not_tc not_tx not_xc aside at_a at_c at_d = absurd (true≢false (sym aside))
-by_mids P false false true true another a b c d e not_tc not_tx not_xc aside at_a at_c at_d = absurd (true≢false (not_xc refl))
-by_mids P false false true false another a b c d e not_tc not_tx not_xc aside at_a at_c at_d = at_c aside
-by_mids P false false false true another a b c d e not_tc not_tx not_xc aside at_a at_c at_d = at_d
-by_mids P false false false false another a b c d e not_tc not_tx not_xc aside at_a at_c at_d = absurd (true≢false (sym aside))
+by_mids P true table executive counter another a b c d e aside at_a at_c at_d = at_a
+by_mids P false true executive counter another a b c d e aside at_a at_c at_d = absurd (true≢false (sym aside))
+by_mids P false false true counter another a b c d e aside at_a at_c at_d = at_c aside
+by_mids P false false false true another a b c d e aside at_a at_c at_d = at_d
+by_mids P false false false false another a b c d e aside at_a at_c at_d = absurd (true≢false (sym aside))
 
 module _ {Image : Type 0} (images : Interpretation Image) (schedule : Schedule) where
   packet_idle : (bytes : List ℕ) (w : World Image) → IsTrue (is_aside (Packet bytes)) → IsIdle w (on_packet images bytes w)
@@ -64,12 +59,9 @@ module _ {Image : Type 0} (images : Interpretation Image) (schedule : Schedule) 
       goes =
           let mid : ℕ = message_id bytes in
           by_mids (λ (s : Step Image). IsIdle w s) (mid == event_services_mid) (mid == table_services_mid) (mid == executive_services_mid) (mid == counter_mid)
-          (names_another (app_command (function_code bytes) (payload bytes)))
+          (names_another (order_in bytes))
           (answered event_services bytes w (event_service bytes w)) (answered table_services bytes w (table_service images bytes w))
           (answered executive_services bytes w (executive_service images bytes w)) (to_counter bytes w) (to_lc images bytes w)
-          (λ h. ap (λ n. n == counter_mid) (eqb-true mid table_services_mid h))
-          (λ h. ap (λ n. n == executive_services_mid) (eqb-true mid table_services_mid h))
-          (λ h. ap (λ n. n == counter_mid) (eqb-true mid executive_services_mid h))
           aside (events_idle bytes w) (λ other. another_idle images bytes w other) (counter_idle bytes w)
 
       by_fault : (o : Option ℕ) → IsIdle w (option_map_or (λ reason. (w, bad_packet reason ∷ [])) o (routed images bytes w))

@@ -5,13 +5,13 @@ use Rattle.std.proofs.lemmas.Slice.Zip.{AllZip-long}
 use Rattle.lc_model.specs.declared.kind.Kind.{Kind}
 use Rattle.lc_model.specs.declared.kind.Kind.TheVariants.{Wdt, Adt}
 use Rattle.lc_model.specs.Name.{Name, is_named, host_name, lc_name, sch_name, counter_name, held, put}
-use Rattle.lc_model.specs.Packet.{stream_fault, function_code, payload, message_id, event_services_mid, table_services_mid, executive_services_mid, counter_mid}
+use Rattle.lc_model.specs.Packet.{stream_fault, function_code, message_id, event_services_mid, table_services_mid, executive_services_mid, counter_mid}
 use Rattle.lc_model.specs.Refusal.{Refusal, ◌>>=◌, refused, found, provided}
 use Rattle.lc_model.specs.Tables.Slot.{Slot, Move, loaded, moved}
 use Rattle.lc_model.specs.Tables.Interpretation.{FileMeaning, Opened, Unreadable, Interpretation, kind_named}
 use Rattle.lc_model.specs.Events.Request.{Service, event_services, table_services, executive_services, command_done, command_refused, bad_packet, file_refused}
 use Rattle.lc_model.specs.Events.Log.{Log, joined}
-use Rattle.lc_model.specs.Command.{event_command, TableCommand, Load, Manage, table_command, Order, Start, Stop, Restart, Reload, app_command}
+use Rattle.lc_model.specs.Command.{TableCommand, Load, Manage, Order, Start, Stop, Restart, Reload, event_command_in, table_command_in, order_in}
 use Rattle.lc_model.specs.LimitChecker.Steps.{by_lists, lc_start, lc_packet}
 use Rattle.lc_model.specs.Host.Schedule.{Schedule, entry_packet, slot_number, entries_at}
 use Rattle.lc_model.specs.Host.World.{max_files, World, Application, Running, Lc, log_in, logged, become, ended, with_one_spare_less, changed_at, runs, spares_of, log_of, with_log}
@@ -155,7 +155,7 @@ module _ {A B : Type 0} (alike : A → B → Type 0) (images : Interpretation A)
     event_alike : (packet : List ℕ) → SameAnswers Reacts (event_service packet w) (event_service packet (twin w files running))
     event_alike packet =
         let v : World B = twin w files running in
-        after_same Reacts (event_command (function_code packet) (payload packet))
+        after_same Reacts (event_command_in packet)
         (λ command. found (log_of w command.0) 101 >>= (λ log. joined command.1 log >>= (λ longer. Ok (with_log command.0 longer w, []))))
         (λ command. found (log_of v command.0) 101 >>= (λ log. joined command.1 log >>= (λ longer. Ok (with_log command.0 longer v, []))))
         (λ command. subst (λ log. SameAnswers Reacts (found (log_of w command.0) 101 >>= (λ log. joined command.1 log >>= (λ longer. Ok (with_log command.0 longer w, []))))
@@ -233,7 +233,7 @@ module _ {A B : Type 0} (alike : A → B → Type 0) (images : Interpretation A)
     table_alike : (packet : List ℕ) → SameAnswers Reacts (table_service images packet w) (table_service others packet (twin w files running))
     table_alike packet =
         let v : World B = twin w files running in
-        after_same Reacts (table_command (function_code packet) (payload packet))
+        after_same Reacts (table_command_in packet)
         (λ command. managed images command w >>= (λ now. Ok (now, []))) (λ command. managed others command v >>= (λ now. Ok (now, [])))
         (λ command. after Worlds Reacts (managed images command w) (managed others command v) (λ now. Ok (now, [])) (λ now. Ok (now, [])) (managed_alike command)
         (λ s t e. record { world = e; requests = refl }))
@@ -310,7 +310,7 @@ module _ {A B : Type 0} (alike : A → B → Type 0) (images : Interpretation A)
 
     executive_alike : (packet : List ℕ) → SameAnswers Reacts (executive_service images packet w) (executive_service others packet (twin w files running))
     executive_alike packet =
-        after_same Reacts (app_command (function_code packet) (payload packet)) (λ command. ordered images command.0 command.1 w)
+        after_same Reacts (order_in packet) (λ command. ordered images command.0 command.1 w)
         (λ command. ordered others command.0 command.1 (twin w files running)) (λ command. ordered_alike command.0 command.1)
 
     -- ---- packets

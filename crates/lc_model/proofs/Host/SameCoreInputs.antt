@@ -3,13 +3,13 @@ use Rattle.std.proofs.Common.{◌≡◌, ℕ, ◌+◌, ◌-◌, Bool, true, fals
 use Rattle.std.specs.Option.{option_map, option_map_or}
 use Rattle.lc_model.specs.declared.kind.Kind.{Kind}
 use Rattle.lc_model.specs.Name.{Name, is_named, lc_name, sch_name, counter_name, held}
-use Rattle.lc_model.specs.Packet.{stream_fault, function_code, payload, message_id, event_services_mid, table_services_mid, executive_services_mid, counter_mid}
+use Rattle.lc_model.specs.Packet.{stream_fault, message_id, event_services_mid, table_services_mid, executive_services_mid, counter_mid}
 use Rattle.lc_model.specs.Refusal.{Refusal, ◌>>=◌, refused, found, provided}
 use Rattle.lc_model.specs.Tables.Slot.{Slot, loaded, moved}
 use Rattle.lc_model.specs.Tables.Interpretation.{FileMeaning, Interpretation}
 use Rattle.lc_model.specs.Events.Request.{table_services, executive_services, bad_packet}
 use Rattle.lc_model.specs.Events.Log.{Log}
-use Rattle.lc_model.specs.Command.{TableCommand, Load, Manage, table_command, Order, Start, Stop, Restart, Reload, app_command}
+use Rattle.lc_model.specs.Command.{TableCommand, Load, Manage, Order, Start, Stop, Restart, Reload, table_command_in, order_in}
 use Rattle.lc_model.specs.LimitChecker.Steps.{by_lists, lc_start, lc_packet}
 use Rattle.lc_model.specs.Host.Schedule.{Schedule, entry_packet, slot_number, entries_at}
 use Rattle.lc_model.specs.Host.World.{World, Running, Application, Lc}
@@ -148,7 +148,7 @@ module _ {Image : Type 0} (images : Interpretation Image) where
   tables_at packet core r q same =
       answered_same table_services packet (at core r) (at core q) (table_service images packet (at core r)) (table_service images packet (at core q))
       (alike_at core r q same)
-      (both_after SameStep (table_command (function_code packet) (payload packet)) _ _ (λ (command : TableCommand).
+      (both_after SameStep (table_command_in packet) _ _ (λ (command : TableCommand).
       both_then SameCore SameStep (managed images command (at core r)) (managed images command (at core q)) _ _ (managed_at command core r q same)
       (λ (w : World Image) (v : World Image) (alike : SameCore w v). record { alike = alike; numbers = refl })))
 
@@ -217,7 +217,7 @@ module _ {Image : Type 0} (images : Interpretation Image) where
   executive_at : (packet : List ℕ) (core : Core Image) (r q : Rest) → SameSent r q →
       SameStep (answered executive_services packet (at core r) (executive_service images packet (at core r)))
       (answered executive_services packet (at core q) (executive_service images packet (at core q)))
-  executive_at packet core r q same = by_command (app_command (function_code packet) (payload packet))
+  executive_at packet core r q same = by_command (order_in packet)
     where
       by_tests : (a b c : Bool) (order : Order) →
           SameStep (answered executive_services packet (at core r) (ordered_by images a b c order (at core r)))

@@ -7,7 +7,7 @@ use Rattle.lc_model.specs.Refusal.{Refusal, ◌>>=◌, refused, found, provided}
 use Rattle.lc_model.specs.Tables.Interpretation.{Interpretation}
 use Rattle.lc_model.specs.Events.Request.{Request, Event, Sequence, Housekeeping, Service, event_services, executive_services, command_done}
 use Rattle.lc_model.specs.Events.Log.{Log, LogItem, joined}
-use Rattle.lc_model.specs.Command.{event_command, Order, Start, Stop, Restart, Reload, app_command, bare_request}
+use Rattle.lc_model.specs.Command.{Order, Start, Stop, Restart, Reload, bare_request, event_command_in, order_in}
 use Rattle.lc_model.specs.LimitChecker.Steps.{by_lists, lc_start}
 use Rattle.lc_model.specs.Host.World.{World, Running, begun, ended, with_one_spare_less, log_of}
 use Rattle.lc_model.specs.Host.React.{Step, answered, event_service, lc_begun, counter_answer, counter_packet, counter_become, to_counter, ordered, executive_service}
@@ -98,7 +98,7 @@ idle_after w (Err refusal) f h = tt
 pub events_idle : {Image : Type 0} (packet : List ℕ) (w : World Image) → IsIdle w (answered event_services packet w (event_service packet w))
 events_idle packet w =
     answered_idle event_services packet w (event_service packet w)
-    (idle_after w (event_command (function_code packet) (payload packet)) _ (λ (command : Name × LogItem).
+    (idle_after w (event_command_in packet) _ (λ (command : Name × LogItem).
     idle_after w (found (log_of w command.0) 101) _ (λ (log : Log).
     idle_after w (joined command.1 log) _ (λ (longer : Log). record { alike = any_log command.0 longer w; numbers = refl }))))
 
@@ -188,10 +188,10 @@ no_name false false h = (refl, refl)
 
 -- an order that names neither the Limit Checker nor the scheduler
 pub another_idle : {Image : Type 0} (images : Interpretation Image) (packet : List ℕ) (w : World Image) →
-    IsTrue (names_another (app_command (function_code packet) (payload packet))) →
+    IsTrue (names_another (order_in packet)) →
     IsIdle w (answered executive_services packet w (executive_service images packet w))
 another_idle {Image} images packet w other =
-    answered_idle executive_services packet w (executive_service images packet w) (by_command (app_command (function_code packet) (payload packet)) other)
+    answered_idle executive_services packet w (executive_service images packet w) (by_command (order_in packet) other)
   where
     by_command : (r : Result (Order × Name) Refusal) → IsTrue (names_another r) → IdleIfDone w (r >>= (λ (command : Order × Name). ordered images command.0 command.1 w))
     by_command (Err refusal) other = tt

@@ -12,7 +12,7 @@ use Rattle.lc_model.specs.Tables.File.{table_name}
 use Rattle.lc_model.specs.Tables.Slot.{Slot, Stage, Waiting, Move, Validate, Activate, Abort, Loaded, Asked, Valid, Activated, stage_after, is_at, in_use, waiting_at, candidate, with_waiting, restaged, loaded, moved, judged, taken}
 use Rattle.lc_model.specs.Tables.Interpretation.{FileMeaning, Opened, Unreadable, Pair, Interpretation, default_file}
 use Rattle.lc_model.specs.Events.Request.{Request, Housekeeping, short_packet, lc_command_done}
-use Rattle.lc_model.specs.Command.{LcCommand, NoOperation, SetMode, SetState, TurnPermanentlyOff, lc_command, mode_numbered, bare_request, sample_request}
+use Rattle.lc_model.specs.Command.{LcCommand, NoOperation, SetMode, SetState, TurnPermanentlyOff, mode_numbered, bare_request, sample_request, lc_command_in}
 use Rattle.lc_model.specs.declared.command.SampleRequest.{SampleRequest}
 use Rattle.lc_model.specs.LimitChecker.Watch.{History}
 use Rattle.lc_model.specs.LimitChecker.Past.{Past}
@@ -275,7 +275,7 @@ module _ {A B : Type 0} (alike : A → B → Type 0) (images : Interpretation A)
     commanded_alike : (packet : List ℕ) → SameAnswers LcSteps (lc_commanded packet a) (lc_commanded packet (twin a wdt adt))
     commanded_alike packet =
         let done : List Request = lc_command_done (function_code packet) ∷ [] in
-        after_same LcSteps (lc_command (function_code packet) (payload packet)) (λ command. lc_obeyed command a >>= (λ now. Ok (now, done)))
+        after_same LcSteps (lc_command_in packet) (λ command. lc_obeyed command a >>= (λ now. Ok (now, done)))
         (λ command. lc_obeyed command (twin a wdt adt) >>= (λ now. Ok (now, done)))
         (λ command. after States LcSteps (lc_obeyed command a) (lc_obeyed command (twin a wdt adt)) (λ now. Ok (now, done)) (λ now. Ok (now, done)) (obeyed_alike command)
         (λ s t e. (e, refl)))

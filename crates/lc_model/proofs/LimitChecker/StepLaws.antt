@@ -16,7 +16,7 @@ use Rattle.lc_model.specs.Tables.Image.{ImageFault}
 use Rattle.lc_model.specs.Tables.Slot.{Slot, Asked, Activated, waiting_at, candidate, judged, taken}
 use Rattle.lc_model.specs.Tables.Interpretation.{Interpretation, Pair}
 use Rattle.lc_model.specs.Events.Request.{Request, Housekeeping, lc_command_done}
-use Rattle.lc_model.specs.Command.{LcCommand, NoOperation, SetMode, SetState, TurnPermanentlyOff, lc_command, mode_numbered, state_numbered, all_points, bare_request, sample_request, takes}
+use Rattle.lc_model.specs.Command.{LcCommand, NoOperation, SetMode, SetState, TurnPermanentlyOff, mode_numbered, state_numbered, all_points, bare_request, sample_request, takes, lc_command_in}
 use Rattle.lc_model.specs.declared.command.SampleRequest.{SampleRequest}
 use Rattle.lc_model.specs.LimitChecker.Watch.{History, Packet, Aging, result_of}
 use Rattle.lc_model.specs.LimitChecker.Past.{Past, Sample, last_result}
@@ -248,7 +248,7 @@ module _ {Image : Type 0} (images : Interpretation Image) where
   same_command : (packet : List ℕ) (lc : Lc Image) → IsSettled images lc →
       unless_refused (lc_now images lc) (lc_commanded packet (lc_now images lc)) ≡ step_now images (unless_refused lc (lc_commanded packet lc))
   unfolding mapped
-  same_command packet lc settled = of_command (lc_command (function_code packet) (payload packet))
+  same_command packet lc settled = of_command (lc_command_in packet)
     where
       done : Request
       done = lc_command_done (function_code packet)
@@ -510,7 +510,7 @@ module _ {Image : Type 0} (images : Interpretation Image) where
           (sym (ap (λ test. if test then Some pair else None) (matches_of (default_image images Wdt files) (default_image images Adt files) pair e)))
 
   command_settled : (packet : List ℕ) (lc : Lc Image) → IsSettled images lc → IsSettled images (unless_refused lc (lc_commanded packet lc)).0
-  command_settled packet lc settled = of_command (lc_command (function_code packet) (payload packet))
+  command_settled packet lc settled = of_command (lc_command_in packet)
     where
       Settles : Result (Lc Image) Refusal → Type 0
       Settles r = IsSettled images (unless_refused lc (r >>= (λ now. Ok (now, lc_command_done (function_code packet) ∷ [])))).0

@@ -9,7 +9,7 @@ use Rattle.lc_model.specs.Text.Syntax as syntax
 use Rattle.lc_model.specs.Text.Syntax.{Expression, Item, ReportItem}
 use Rattle.lc_model.specs.Text.Class.{Class, Number, word, sign, fits, Fits, Phrase, done, next, field_type}
 use Rattle.lc_model.specs.Text.Grammar as grammar
-use Rattle.lc_model.specs.Text.Grammar.{Part, Derives, DerivesOption, DerivesReport, DerivesItem, DerivesFile, packet_phrase, field_phrase, rule_phrase}
+use Rattle.lc_model.specs.Text.Grammar.{Part, Derives, DerivesOption, DerivesReport, DerivesItem, DerivesFile, field_phrase}
 use Rattle.lc_model.specs.Text.Reading.{IsViable, optional_words, is_optional}
 use Rattle.lc_model.proofs.Texts.Tokens.{piece, phrase}
 use Rattle.lc_model.proofs.Texts.OneClass.{none_of}
@@ -203,10 +203,6 @@ in_report (DerivesReport.present {w = w} {a = a} {b = b} {c = c} parts) xs (x �
     let third : b ≡ z = cc e in
     let fourth : c ≡ v = cc e in
     inr (more, cc (first, second, third, fourth), cc e)
-
--- `;`
-abbrev end_sign : Token
-end_sign = piece 0 (codes ";")
 
 -- a field's item, with other options
 field_goes : {a name b packet k c o : Token} {kind : FieldType} {masks stales : List Token} {mask stale : Option syntax.Number} →

@@ -8,13 +8,13 @@ use Rattle.std.specs.Option.{option_map_or}
 use Rattle.std.specs.List.{list_any, position_from}
 use Rattle.lc_model.specs.declared.record.Moment.{Moment}
 use Rattle.lc_model.specs.Name.{Name, is_named, host_name, held}
-use Rattle.lc_model.specs.Packet.{stream_fault, function_code, payload, message_id, tick_mid, event_services_mid, table_services_mid, executive_services_mid, command}
+use Rattle.lc_model.specs.Packet.{stream_fault, function_code, message_id, tick_mid, command, by_service}
 use Rattle.lc_model.specs.Refusal.{Refusal, ◌>>=◌, refused, found, provided}
 use Rattle.lc_model.specs.Tables.Slot.{loaded, moved}
 use Rattle.lc_model.specs.Tables.Interpretation.{FileMeaning, Interpretation, FileMeanings, kind_named}
 use Rattle.lc_model.specs.Events.Request.{Request, Service, event_services, table_services, executive_services, command_done, command_refused, bad_packet, file_stored, file_refused}
 use Rattle.lc_model.specs.Events.Log.{LogItem, FilterSet}
-use Rattle.lc_model.specs.Command.{event_command, TableCommand, Load, Manage, table_command, Order, Start, Stop, Restart, Reload, app_command}
+use Rattle.lc_model.specs.Command.{TableCommand, Load, Manage, Order, Start, Stop, Restart, Reload, event_command_in, table_command_in, order_in}
 use Rattle.lc_model.specs.Host.Stream.{StreamEntry}
 use Rattle.lc_model.specs.Host.React.{Input, Packet, Tick, File, stored, opened_file}
 use Rattle.lc_model.specs.Host.Run.{input_of}
@@ -235,7 +235,7 @@ module _ {Image : Type 0} where
     -- executive services
     abbrev pub executive_service_now : List ℕ → Executive Image → Result (Written Image) Refusal
     executive_service_now packet e = do
-      command ← app_command (function_code packet) (payload packet)
+      command ← order_in packet
       ordered_now command.0 command.1 e
 
   -- ---- event services
@@ -243,7 +243,7 @@ module _ {Image : Type 0} where
   -- event services: what is asked changes the application that is named
   abbrev pub event_service_now : List ℕ → ServicesNow Image → Result (ServicesNow Image) Refusal
   event_service_now packet services = do
-    command ← event_command (function_code packet) (payload packet)
+    command ← event_command_in packet
     events ← found (services.events command.0) 101
     after ← joined_now command.1 events
     Ok (record services { events = with_at command.0 (Some after) services.events })
@@ -276,7 +276,7 @@ module _ {Image : Type 0} where
     -- table services: a load, or a move of the waiting image
     abbrev pub table_service_now : List ℕ → ServicesNow Image → Result (ServicesNow Image) Refusal
     table_service_now packet services = do
-      command ← table_command (function_code packet) (payload packet)
+      command ← table_command_in packet
       managed_now command services
 
     -- ---- one record
@@ -284,11 +284,11 @@ module _ {Image : Type 0} where
     -- a good packet goes to a service of the host, or to the pipes
     abbrev pub routed_now : Moment → List ℕ → Executive Image → Written Image
     routed_now moment packet e =
-        let mid : ℕ = message_id packet in
-        if mid == event_services_mid then answered_now images moment event_services packet e (with_services e (event_service_now packet e.services))
-        else if mid == table_services_mid then answered_now images moment table_services packet e (with_services e (table_service_now packet e.services))
-        else if mid == executive_services_mid then answered_now images moment executive_services packet e (executive_service_now images moment packet e)
-        else passed_on images moment packet e
+        by_service (message_id packet)
+        (answered_now images moment event_services packet e (with_services e (event_service_now packet e.services)))
+        (answered_now images moment table_services packet e (with_services e (table_service_now packet e.services)))
+        (answered_now images moment executive_services packet e (executive_service_now images moment packet e))
+        (passed_on images moment packet e)
 
     -- what a record leads to
     abbrev pub step_by : Moment → Executive Image → Input Image → Written Image

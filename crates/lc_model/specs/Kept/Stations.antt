@@ -4,7 +4,7 @@ use Rattle.std.specs.Prelude.{ℕ, zero, suc, ◌+◌, ◌-◌, ◌==◌, Bool, 
 use Rattle.std.specs.Option.{option_map_or}
 use Rattle.std.specs.List.{concat}
 use Rattle.lc_model.specs.declared.record.Moment.{Moment}
-use Rattle.lc_model.specs.Packet.{stream_fault, function_code, message_id, event_services_mid, table_services_mid, executive_services_mid}
+use Rattle.lc_model.specs.Packet.{stream_fault, function_code, message_id, by_service}
 use Rattle.lc_model.specs.Refusal.{Refusal}
 use Rattle.lc_model.specs.Tables.Interpretation.{Interpretation}
 use Rattle.lc_model.specs.Events.Request.{event_services, table_services, executive_services, command_done, command_refused, bad_packet}
@@ -63,11 +63,11 @@ module _ {Image : Type 0} where
     -- a packet without a fault
     abbrev pub routed_stations : List ℕ → Executive Image → List (Station Image)
     routed_stations packet e =
-        let mid : ℕ = message_id packet in
-        if mid == event_services_mid then written_once (answered_now images moment event_services packet e (with_services e (event_service_now packet e.services)))
-        else if mid == table_services_mid then written_once (answered_now images moment table_services packet e (with_services e (table_service_now images packet e.services)))
-        else if mid == executive_services_mid then order_stations packet e (executive_service_now images moment packet e)
-        else passing_stations packet e
+        by_service (message_id packet)
+        (written_once (answered_now images moment event_services packet e (with_services e (event_service_now packet e.services))))
+        (written_once (answered_now images moment table_services packet e (with_services e (table_service_now images packet e.services))))
+        (order_stations packet e (executive_service_now images moment packet e))
+        (passing_stations packet e)
 
     -- the writes of a record, in order
     abbrev pub stations_of : Executive Image → Input Image → List (Station Image)

@@ -1,7 +1,7 @@
 use Rattle.std.proofs.Common.{refl, ap, ◌∙◌}
 use Rattle.std.specs.Prelude.{Some, option_map}
-use Rattle.lc_model.specs.Packet.{function_code, payload}
-use Rattle.lc_model.specs.Command.{event_command}
+use Rattle.lc_model.specs.Packet.{function_code}
+use Rattle.lc_model.specs.Command.{event_command_in}
 use Rattle.lc_model.specs.Events.Request.{event_services, command_done, command_refused}
 use Rattle.lc_model.specs.Services.Events.{EventService, sender_at}
 use Rattle.app_host.specs.Telling.{name_of}
@@ -15,7 +15,7 @@ pub tell_alone-requires-clause-whole : goal.tell_alone-requires-clause-whole
 tell_alone-requires-clause-whole g c =
     whole_obeyed tables_are_found commands_by_name _ _ c.args.packet.now c.requires.whole c.is_service.ensures
     (record { stock = refl; seats = refl; is_closed = refl; bus = refl; tables = refl; counts = refl; moment = refl; outgoing = refl })
-    (names_stay (event_command (function_code c.args.packet.now) (payload c.args.packet.now)) c.args.self.now.services.events c.obey.new.events c.in-Ok.ensures.answer)
+    (names_stay (event_command_in c.args.packet.now) c.args.self.now.services.events c.obey.new.events c.in-Ok.ensures.answer)
 
 pub tell_alone-requires-in-Err-clause-whole : goal.tell_alone-requires-in-Err-clause-whole
 tell_alone-requires-in-Err-clause-whole g c =

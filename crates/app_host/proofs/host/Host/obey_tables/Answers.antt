@@ -1,6 +1,6 @@
 use Rattle.std.proofs.Common.{refl, ap, ◌∙◌}
-use Rattle.lc_model.specs.Packet.{function_code, payload}
-use Rattle.lc_model.specs.Command.{table_command}
+use Rattle.lc_model.specs.Packet.{function_code}
+use Rattle.lc_model.specs.Command.{table_command_in}
 use Rattle.lc_model.specs.Events.Request.{table_services, command_done, command_refused}
 use Rattle.app_host.proofs.TablesObeyed.{kept_by, whole_obeyed, whole_refused, is_obeyed, is_not_obeyed}
 use Rattle.app_host.proofs.Responding.{tables_obeyed, tables_refused}
@@ -11,7 +11,7 @@ pub tell_alone-requires-clause-whole : goal.tell_alone-requires-clause-whole
 tell_alone-requires-clause-whole g c =
     whole_obeyed _ _ c.requires.whole (record { stock = refl; seats = refl; is_closed = refl; bus = refl; events = refl; counts = refl; moment = refl; outgoing = refl })
     tables_are_found changing_tables c.is_service.ensures
-    (kept_by c.table_commands_go_by_names.ensures.forms (table_command (function_code c.args.packet.now) (payload c.args.packet.now)) c.args.self.now.services.tables c.obey-obeyed.new.tables
+    (kept_by c.table_commands_go_by_names.ensures.forms (table_command_in c.args.packet.now) c.args.self.now.services.tables c.obey-obeyed.new.tables
     c.in-Ok.ensures.answer)
 
 pub tell_alone-requires-in-Err-clause-whole : goal.tell_alone-requires-in-Err-clause-whole
@@ -23,7 +23,7 @@ pub returns-in-Ok-clause-handled : goal.returns-in-Ok-clause-handled
 returns-in-Ok-clause-handled g c =
     is_obeyed _ _ c.requires.whole (record { stock = refl; seats = refl; is_closed = refl; bus = refl; events = refl; counts = refl; moment = refl; outgoing = refl })
     c.table_commands_go_by_names.ensures.moves c.table_commands_go_by_names.ensures.loads c.is_service.ensures c.args.packet.now c.in-Ok.ensures.answer
-    (kept_by c.table_commands_go_by_names.ensures.forms (table_command (function_code c.args.packet.now) (payload c.args.packet.now)) c.args.self.now.services.tables c.obey-obeyed.new.tables
+    (kept_by c.table_commands_go_by_names.ensures.forms (table_command_in c.args.packet.now) c.args.self.now.services.tables c.obey-obeyed.new.tables
     c.in-Ok.ensures.answer)
     _ (c.command_done-text.ensures ∙ ap (command_done table_services) c.function_code.ensures) _ _ _ c.tell_alone.result c.tell_alone.ensures.handled
 
