@@ -2,7 +2,6 @@ pub mod Fronts
 pub mod Slices
 pub mod Cutting
 mod Counting
-mod Given
 mod TextsCompiled
 mod RecordsBrought
 mod NextHandled
