@@ -15,14 +15,13 @@ ghost use Rattle.app_host.specs.Response.{obeying_orders, Responds};
 ghost use Rattle.app_host.specs.Ordered.{order_of, named_by, outcome_of, Prepares, MakesWay, Takes, MakesWayFor, MayFollow, ComesIn, Enters, next_of, ObeysOrders};
 
 use crate::error::{HostError, WriteFault};
-use crate::event_commands::name_in;
 use crate::host::Host;
 use crate::numbers::{Numbers, of_host};
 use crate::objects::{free_seat, seat_of, spare_of};
 use crate::succession::Successor;
 use crate::texts::{self, Service};
 use lc_model::packet::function_code;
-use lc_model::{ByteSink, EventKind, Seat};
+use lc_model::{ByteSink, EventKind, Seat, name_in};
 
 /// What is to be done with an application.
 #[derive(Clone, Copy, Debug, PartialEq, Eq)]

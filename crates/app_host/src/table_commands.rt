@@ -13,13 +13,12 @@ ghost use Rattle.app_host.specs.Obeyed.{obeyed_by};
 ghost use Rattle.app_host.specs.ObeyedTables.{tables_by};
 
 use crate::error::WriteFault;
-use crate::event_commands::name_in;
 use crate::host::Host;
 use crate::numbers::{Numbers, of_tables};
 use crate::texts::{self, Service};
 use host_laws::table_commands_go_by_names;
 use lc_model::packet::function_code;
-use lc_model::{ByteSink, EventKind};
+use lc_model::{ByteSink, EventKind, name_in};
 use tbl_service::Tables;
 
 /// A file is loaded: 40 bytes of its name.

@@ -2,9 +2,10 @@
 
 use app_host::{HostError, WriteFault};
 use event_service::EventError;
-use flight_core::{RunError, WordsError};
+use flight_core::RunError;
 use limit_engine::StateRefusal;
 use packet_bus::{BusError, HeaderFault};
+use program_words::WordsError;
 use rpn_compiler::CompileError;
 use std::fmt::Display;
 use std::process::Abort;

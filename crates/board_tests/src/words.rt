@@ -1,7 +1,7 @@
 //! The words of a command line: what their plan holds, and some that are none.
 
 use crate::shared::same;
-use flight_core::{Plan, WordsError, read_words};
+use program_words::{Plan, WordsError, read_words};
 use std::process::Abort;
 
 /// The files of a plan, in the order in which the program uses them, behind the name of its command.

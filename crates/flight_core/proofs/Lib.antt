@@ -1,7 +1,6 @@
 pub mod Fronts
 pub mod Slices
 pub mod Cutting
-mod Given
 mod TextsCompiled
 mod RecordsBrought
 mod NextHandled

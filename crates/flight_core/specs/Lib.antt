@@ -1,11 +1,10 @@
--- What the contracts of streams in pieces, and of words, cite.
+-- What the contracts of streams in pieces cite.
 pub mod Window
 pub mod Front
 pub mod Answer
 pub mod Found
 pub mod Records
 pub mod Cutting
-pub mod Words
 pub mod Error
 pub mod Ending
 pub mod Compiled

@@ -1,9 +1,7 @@
-//! However a stream is cut into pieces, the records that are taken off it are those of the whole; and command lines that the
-//! program takes.
+//! However a stream is cut into pieces, the records that are taken off it are those of the whole.
 
 ghost use Rattle.flight_core.specs.Cutting.{Begins, Comes, EndsBadly, EndsCut, EndsWhole, EveryCutting, Goes};
 ghost use Rattle.flight_core.specs.Promises.{RunsKeepTheirPromises};
-ghost use Rattle.flight_core.specs.Words.{GiveAPlan, compile_words, words_lacking_a_file, run_words, run_words_otherwise};
 
 /// Bytes come and records are handed out, one after the other: whatever follows, the records of it all are those handed out,
 /// and then those of what is held and what follows.
@@ -24,14 +22,6 @@ pub fn the_rest_says_the_end()
 /// So it is over every list of calls.
 pub fn every_cutting_has_the_records_of_the_whole()
     ensures { EveryCutting }
-{}
-
-/// Both commands of the program can be said, options before their files or behind them, and not with a file too few.
-pub fn words_give_plans()
-    ensures compile_words { GiveAPlan compile_words }
-    ensures run_words { GiveAPlan run_words }
-    ensures run_words_otherwise { GiveAPlan run_words_otherwise }
-    ensures words_lacking_a_file { GiveAPlan words_lacking_a_file → ⊥ }
 {}
 
 /// All that a run of this profile's applications promises follows from how it ends.

@@ -1,5 +1,4 @@
 //! A run of the host, below its program: rule texts are compiled, and the records of a stream that comes in pieces are handled.
-//! Beside it the program's words.
 #![tactic(auto)]
 
 mod bringing;
@@ -15,10 +14,8 @@ mod pieces;
 mod records;
 mod running;
 mod window;
-mod words;
 
 pub use error::{Report, RunError};
 pub use found::Found;
 pub use records::Records;
 pub use running::{run, run_within};
-pub use words::{Plan, WordsError, read_words};

@@ -7,8 +7,8 @@ use Rattle.tick_scheduler.specs.declared.error.ScheduleError.{ScheduleError}
 use Rattle.tick_scheduler.specs.declared.error.ScheduleError.TheVariants as schedule
 use Rattle.flight_core.specs.declared.error.RunError.{RunError}
 use Rattle.flight_core.specs.declared.error.RunError.TheVariants as run
-use Rattle.flight_core.specs.declared.words.WordsError.{WordsError}
-use Rattle.flight_core.specs.declared.words.WordsError.TheVariants as words
+use Rattle.program_words.specs.declared.words.WordsError.{WordsError}
+use Rattle.program_words.specs.declared.words.WordsError.TheVariants as words
 use Rattle.flight_run.specs.declared.place.Place.{Place}
 use Rattle.flight_run.specs.declared.place.Place.TheVariants.{Whole, At, Rule}
 use Rattle.flight_run.specs.declared.fault.Fault.{Fault}

@@ -5,7 +5,8 @@ ghost use Rattle.flight_run.specs.Cause.{fault_of_run, fault_of_schedule, fault_
 ghost use Rattle.flight_run.specs.Status.{status_of};
 ghost use Rattle.flight_run.specs.declared.fault.Fault.TheVariants.{Memory};
 
-use flight_core::{RunError, WordsError};
+use flight_core::RunError;
+use program_words::WordsError;
 use rpn_compiler::CompileError;
 use std::alloc::{AllocError, AllocFailed};
 use tick_scheduler::ScheduleError;

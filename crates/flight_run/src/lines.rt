@@ -6,7 +6,8 @@ ghost use Rattle.flight_run.specs.Lines.{line_of, run_line, schedule_line, text_
 
 use crate::fault::Fault;
 use crate::place::{Place, place_of};
-use flight_core::{RunError, WordsError};
+use flight_core::RunError;
+use program_words::WordsError;
 use rpn_compiler::CompileError;
 use std::fmt::{self, Display, Formatter, Write};
 use tick_scheduler::ScheduleError;

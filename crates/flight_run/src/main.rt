@@ -16,7 +16,7 @@ mod stored;
 
 use crate::done::Done;
 use crate::fault::Fault;
-use flight_core::{Plan, WordsError, read_words};
+use program_words::{Plan, WordsError, read_words};
 use std::alloc::{AllocError, Global};
 use std::env::{self, Env};
 use std::fs::Files;

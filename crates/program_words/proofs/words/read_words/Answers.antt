@@ -2,10 +2,10 @@ use Rattle.std.proofs.Common.{rules, ◌≡◌, ◌∙◌, ap, sym, subst, map, 
 use Rattle.std.proofs.lemmas.Result.{IfOk-weaker}
 use Rattle.std.specs.Prelude.{IsSomeAnd}
 use Rattle.clap.specs.Words.{FailsBy, app_of, fault_of, is_simple_and_free, subcommand_rows_of}
-use Rattle.flight_core.specs.declared.words.WordsError.TheVariants.{Usage}
-use Rattle.flight_core.specs.Words.{HasWhatItNeeds, command_line}
-use Rattle.flight_core.proofs.Given.{holds, not_taken, rows_given, whole_of}
-use Rattle.flight_core.proofs.words.read_words.Goals as goal
+use Rattle.program_words.specs.declared.words.WordsError.TheVariants.{Usage}
+use Rattle.program_words.specs.Words.{HasWhatItNeeds, command_line}
+use Rattle.program_words.proofs.Given.{holds, not_taken, rows_given, whole_of}
+use Rattle.program_words.proofs.words.read_words.Goals as goal
 
 pub returns-clause-holds : goal.returns-clause-holds
 returns-clause-holds c =

@@ -1,7 +1,7 @@
 use Rattle.std.proofs.Common.{◌∙◌, ap, ap₂, ◌||◌}
 use Rattle.std.proofs.lemmas.Result.{IfOk-weaker}
 use Rattle.clap.specs.Words.{App, with_rule, with_subcommand}
-use Rattle.flight_core.proofs.words.all_words.Goals as goal
+use Rattle.program_words.proofs.words.all_words.Goals as goal
 
 pub returns : goal.returns
 returns c =

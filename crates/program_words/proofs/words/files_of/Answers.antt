@@ -1,7 +1,7 @@
 use Rattle.std.proofs.Common.{rules, ◌∙◌}
 use Rattle.clap.specs.Words.{found_of}
 use Rattle.clap.proofs.WalkLemmas.{raw_values-rows}
-use Rattle.flight_core.proofs.words.files_of.Goals as goal
+use Rattle.program_words.proofs.words.files_of.Goals as goal
 
 pub returns : goal.returns
 returns c =

@@ -3,8 +3,8 @@
 use Rattle.std.specs.Prelude.{◌≡◌, ◌≤◌, ◌⊎◌, List, [], ◌∷◌, length, map, codes, true, Some, Option, IsSome, IsSomeAnd}
 use Rattle.clap.specs.Words.{App, Row, Rule, Text, all_of, fault_of, first_of, new_app, new_rule, subcommand_of, with_rule, with_subcommand}
 use Rattle.clap.specs.declared.builder.action.ArgAction.TheVariants.{Append}
-use Rattle.flight_core.specs.declared.words.Plan.{Plan}
-use Rattle.flight_core.specs.declared.words.Plan.TheVariants.{Stored, Compile, Run}
+use Rattle.program_words.specs.declared.words.Plan.{Plan}
+use Rattle.program_words.specs.declared.words.Plan.TheVariants.{Stored, Compile, Run}
 
 -- a file that has to be named
 abbrev pub file : Text → Rule

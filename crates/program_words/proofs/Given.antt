@@ -5,11 +5,11 @@ use Rattle.clap.specs.Words.{App, FailsBy, HasMatchesOf, IsAmong, Kinds, Row, Te
 use Rattle.clap.specs.declared.error.Error.{Error}
 use Rattle.clap.specs.declared.error.kind.ErrorKind.TheVariants.{OutOfMemory}
 use Rattle.clap.specs.declared.parser.matches.ArgMatches.{ArgMatches}
-use Rattle.flight_core.specs.declared.words.WordsError.{WordsError}
-use Rattle.flight_core.specs.declared.words.WordsError.TheVariants.{Usage}
-use Rattle.flight_core.specs.declared.words.Plan.{Plan}
-use Rattle.flight_core.specs.declared.words.Plan.TheVariants.{Stored, Compile, Run}
-use Rattle.flight_core.specs.Words.{HasWhatItNeeds, HoldsRows, HoldsWords, command_line, given}
+use Rattle.program_words.specs.declared.words.WordsError.{WordsError}
+use Rattle.program_words.specs.declared.words.WordsError.TheVariants.{Usage}
+use Rattle.program_words.specs.declared.words.Plan.{Plan}
+use Rattle.program_words.specs.declared.words.Plan.TheVariants.{Stored, Compile, Run}
+use Rattle.program_words.specs.Words.{HasWhatItNeeds, HoldsRows, HoldsWords, command_line, given}
 
 -- a plan that holds what a command is given holds what the words give
 pub holds : (words : List Text) (found : Option (Text × List Row)) → found ≡ given words → (plan : Plan) → IsSomeAnd found (λ command. HoldsRows command plan) → HoldsWords words plan

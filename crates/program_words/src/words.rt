@@ -3,9 +3,9 @@
 ghost use Rattle.std.specs.Prelude.{◌≡◌, ◌≤◌, ◌<◌, false, length, map, codes, Err, IfOk, IsOk, IsSomeAnd, None, Ok, OnErr, Some};
 ghost use Rattle.clap.specs.Words.{all_of, app_of, first_of, found_of, kind_of, rows_of, rule_of, subcommand_rows_of};
 ghost use Rattle.clap.specs.declared.error.kind.ErrorKind.TheVariants.{OutOfMemory};
-ghost use Rattle.flight_core.specs.declared.words.Plan.TheVariants.{Stored};
-ghost use Rattle.flight_core.specs.declared.words.WordsError.TheVariants.{Memory, Usage};
-ghost use Rattle.flight_core.specs.Words.{GiveAPlan, HasWhatItNeeds, HoldsRows, HoldsWords, command_line, file, files, option};
+ghost use Rattle.program_words.specs.declared.words.Plan.TheVariants.{Stored};
+ghost use Rattle.program_words.specs.declared.words.WordsError.TheVariants.{Memory, Usage};
+ghost use Rattle.program_words.specs.Words.{GiveAPlan, HasWhatItNeeds, HoldsRows, HoldsWords, command_line, file, files, option};
 
 use clap::error::ErrorKind;
 use clap::{Arg, ArgAction, ArgMatches, Command, Error};

@@ -1,8 +1,8 @@
 use Rattle.std.proofs.Common.{◌≡◌, ◌∙◌, refl, ap, sym, Bool, true, false, true≢false, [], ◌∷◌, inl, inr}
 use Rattle.clap.specs.Words.{Kinds, fault_of}
 use Rattle.clap.proofs.OnLiterals.{clap_on_literals}
-use Rattle.flight_core.specs.Words.{GiveAPlan, command_line, compile_words, words_lacking_a_file, run_words, run_words_otherwise}
-use Rattle.flight_core.proofs.laws.words_give_plans.Goals as goal
+use Rattle.program_words.specs.Words.{GiveAPlan, command_line, compile_words, words_lacking_a_file, run_words, run_words_otherwise}
+use Rattle.program_words.proofs.laws.words_give_plans.Goals as goal
 
 abbrev is_none : Kinds → Bool
 is_none [] = true
