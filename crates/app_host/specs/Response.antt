@@ -78,10 +78,10 @@ obeying_orders packet h (Err refusal) = only_telling (command_refused executive_
 abbrev pub routed_to : List ℕ → Hosted → Response
 routed_to packet h =
     by_service (message_id packet)
-        (obeying_events packet h (events_by (event_command_in packet) h.services.events))
-        (obeying_tables packet h (tables_by (table_command_in packet) h.services.tables))
-        (obeying_orders packet h (succession_by packet (roster_of h)))
-        (handing_on h)
+    (obeying_events packet h (events_by (event_command_in packet) h.services.events))
+    (obeying_tables packet h (tables_by (table_command_in packet) h.services.tables))
+    (obeying_orders packet h (succession_by packet (roster_of h)))
+    (handing_on h)
 
 -- any packet
 abbrev pub response_to_packet : List ℕ → Hosted → Response

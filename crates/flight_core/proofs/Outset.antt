@@ -3,7 +3,7 @@ use Rattle.std.proofs.Common.{◌≡◌, ◌≢◌, refl, sym, ◌∙◌, ap, su
 use Rattle.std.specs.Prelude.{option_map, All, IfSome}
 use Rattle.std.specs.List.{AllByRecursion, concat}
 use Rattle.lc_model.specs.Tables.HalvesAndBytes.{as_bytes, meaning_by}
-use Rattle.lc_model.specs.Tables.InForce.{layouts}
+use Rattle.lc_model.specs.Tables.InForce.{layouts, edition}
 use Rattle.lc_model.specs.Bytes.{u32_at}
 use Rattle.lc_model.specs.Tables.File.{TableFile, opened, headers_length, content_type, subtype, file_header_length, fields_of, wrapped}
 use Rattle.lc_model.specs.Tables.Half.{IsFileOfHalf}
@@ -31,7 +31,7 @@ use Rattle.flight_core.specs.declared.error.Report.{Report}
 use Rattle.flight_core.specs.declared.error.RunError.{RunError}
 use Rattle.flight_core.specs.declared.error.RunError.TheVariants as error
 use Rattle.flight_core.specs.Brought.{meanings_of, AreWhole}
-use Rattle.flight_core.specs.Compiled.{edition, sources_of, file_in, AreAllCompiled}
+use Rattle.flight_core.specs.Compiled.{sources_of, file_in, AreAllCompiled}
 use Rattle.flight_core.specs.Ending.{ending_of}
 use Rattle.flight_core.specs.Flight.{AreAllKnown, FliesSo}
 use Rattle.flight_core.specs.Run.{members_of, mission_of, IsOfProfile, IsOutputFrom, EndsSo, RunsSo}

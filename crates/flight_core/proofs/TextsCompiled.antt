@@ -5,7 +5,7 @@ use Rattle.lc_model.specs.declared.kind.Kind.TheVariants.{Wdt, Adt}
 use Rattle.lc_model.specs.Tables.Compiling.{IsRefused}
 use Rattle.lc_model.specs.Tables.Edition.{AreCompiledFiles, IsCompiledFile}
 use Rattle.lc_model.specs.Tables.HalvesAndBytes.{Text}
-use Rattle.lc_model.specs.Tables.InForce.{limits}
+use Rattle.lc_model.specs.Tables.InForce.{limits, edition}
 use Rattle.lc_model.specs.Host.Promise.{AreCompiled}
 use Rattle.rpn_compiler.specs.declared.error.CompileError.{CompileError}
 use Rattle.rpn_compiler.specs.declared.error.CompileError.TheVariants as compiler
@@ -13,7 +13,7 @@ use Rattle.rpn_compiler.specs.declared.files.TablePair.{TablePair}
 use Rattle.rpn_compiler.specs.Naming.{NamesTheNumberIn}
 use Rattle.rpn_compiler.specs.Fault.{Refuses, refusal_of}
 use Rattle.flight_core.specs.declared.error.RunError.{RunError}
-use Rattle.flight_core.specs.Compiled.{edition, file_in, IsCompiled, AreAllCompiled, refusal_for, IsNotCompiled}
+use Rattle.flight_core.specs.Compiled.{file_in, IsCompiled, AreAllCompiled, refusal_for, IsNotCompiled}
 
 -- ---- one text more
 

@@ -8,9 +8,8 @@ use Rattle.lc_model.specs.declared.kind.Kind.TheVariants.{Wdt, Adt}
 use Rattle.lc_model.specs.Rule.{NamedRule}
 use Rattle.lc_model.specs.Text.Reading.{TextRefusal}
 use Rattle.lc_model.specs.Tables.Compiling.{Compiles, IsRefused}
-use Rattle.lc_model.specs.Tables.Edition.{Edition}
 use Rattle.lc_model.specs.Tables.HalvesAndBytes.{Text}
-use Rattle.lc_model.specs.Tables.InForce.{layouts, limits, arranged}
+use Rattle.lc_model.specs.Tables.InForce.{limits, arranged}
 use Rattle.lc_model.specs.Host.Promise.{AreCompiled}
 use Rattle.rpn_compiler.specs.declared.error.CompileError.{CompileError}
 use Rattle.rpn_compiler.specs.declared.error.CompileError.TheVariants as compiler
@@ -20,10 +19,6 @@ use Rattle.rpn_compiler.specs.Naming.{NamesTheNumberIn}
 use Rattle.rpn_compiler.specs.Pair.{AreTables}
 use Rattle.flight_core.specs.declared.error.RunError.{RunError}
 use Rattle.flight_core.specs.declared.error.RunError.TheVariants.{Compile, Memory}
-
--- the edition that is in force
-abbrev pub edition : Edition
-edition = record { layouts = layouts; limits = limits; arranged = arranged }
 
 -- the bytes of these texts
 abbrev pub sources_of : List (Bor (List ℕ)) → List (List ℕ)

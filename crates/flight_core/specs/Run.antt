@@ -3,7 +3,7 @@ use Rattle.std.specs.Prelude.{◌≡◌, ◌≢◌, ℕ, List, map, Result, Err,
 use Rattle.std.specs.List.{AllByRecursion, concat}
 use Rattle.std.specs.Borrow.{Bor}
 use Rattle.lc_model.specs.Tables.HalvesAndBytes.{as_bytes}
-use Rattle.lc_model.specs.Tables.InForce.{layouts}
+use Rattle.lc_model.specs.Tables.InForce.{layouts, edition}
 use Rattle.lc_model.specs.Host.Schedule.{Schedule}
 use Rattle.lc_model.specs.Host.Stream.{StreamEntry, records_of}
 use Rattle.lc_model.specs.Host.Outcome.{Devices, IsUntouched, IsOutcome}
@@ -19,7 +19,7 @@ use Rattle.flight_core.specs.declared.error.Report.{Report}
 use Rattle.flight_core.specs.declared.error.RunError.{RunError}
 use Rattle.flight_core.specs.declared.error.RunError.TheVariants.{Compile, Memory}
 use Rattle.flight_core.specs.Brought.{meanings_of}
-use Rattle.flight_core.specs.Compiled.{edition, sources_of}
+use Rattle.flight_core.specs.Compiled.{sources_of}
 use Rattle.flight_core.specs.Ending.{ending_of}
 
 -- objects without their seats

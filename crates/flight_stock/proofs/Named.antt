@@ -7,10 +7,11 @@ use Rattle.lc_model.specs.Host.Outcome.{Devices}
 use Rattle.lc_model.specs.Host.Promise.{Mission}
 use Rattle.lc_model.specs.Host.Schedule.{Schedule}
 use Rattle.lc_model.specs.Kept.Executive.{Member}
+use Rattle.lc_model.specs.Tables.InForce.{edition}
 use Rattle.app_host.specs.Hosted.{Object}
 use Rattle.flight_core.specs.declared.error.Report.{Report}
 use Rattle.flight_core.specs.declared.error.RunError.{RunError}
-use Rattle.flight_core.specs.Compiled.{edition, sources_of}
+use Rattle.flight_core.specs.Compiled.{sources_of}
 use Rattle.flight_core.specs.Promises.{Promises}
 use Rattle.flight_core.specs.Run.{members_of}
 use Rattle.flight_stock.specs.Stock.{names_of, own_names, own_mission, most_reads}

@@ -4,8 +4,9 @@ use Rattle.std.specs.Borrow.{Bor}
 use Rattle.lc_model.specs.Name.{Name, lc_name, sch_name, counter_name}
 use Rattle.lc_model.specs.Host.Schedule.{Schedule}
 use Rattle.lc_model.specs.Host.Promise.{Mission}
+use Rattle.lc_model.specs.Tables.InForce.{edition}
 use Rattle.app_host.specs.Hosted.{Object}
-use Rattle.flight_core.specs.Compiled.{edition, sources_of}
+use Rattle.flight_core.specs.Compiled.{sources_of}
 
 -- the names of some objects
 abbrev pub names_of : List Object → List Name

@@ -103,7 +103,6 @@ module _ {Image : Type 0} (images : Interpretation Image) (schedule : Schedule) 
       at false false = refl
   slots_with Adt slot lc i name = by_adt (is_named name (table_name Adt)) refl i
     where
-
       at : (a : Bool) →
           option_map (λ kind. slot_now images schedule kind (with_slot_now Adt slot lc)) (if a then Some Wdt else None)
           ≡ option_map (λ kind. slot_now images schedule kind lc) (if a then Some Wdt else None)

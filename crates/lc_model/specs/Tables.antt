@@ -4,7 +4,6 @@ pub mod Compiling
 pub mod Lowering
 pub mod Entry
 pub mod Image
-pub mod InForce
 pub mod File
 pub mod Half
 pub mod Spelled
@@ -12,3 +11,4 @@ pub mod Slot
 pub mod Interpretation
 pub mod HalvesAndBytes
 pub mod Edition
+pub mod InForce

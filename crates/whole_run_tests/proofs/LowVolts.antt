@@ -3,7 +3,7 @@ use Rattle.std.proofs.Common.{◌≡◌, ◌≢◌, refl, ◌∙◌, ap, subst, 
 use Rattle.std.specs.Fmt.{digits}
 use Rattle.std.specs.List.{list_all}
 use Rattle.lc_model.specs.Name.{Name}
-use Rattle.lc_model.specs.Tables.InForce.{layouts, limits}
+use Rattle.lc_model.specs.Tables.InForce.{layouts, limits, edition}
 use Rattle.lc_model.specs.Host.Schedule.{Schedule}
 use Rattle.lc_model.specs.Host.Stream.{StreamEntry, records_of}
 use Rattle.lc_model.specs.Host.Outcome.{Devices, Ending, Complete, Uncompiled, MetNoRecord, MetTheEnd, FailedToRead, FailedToWrite, ReachedTheBound, NoMemory, answer}
@@ -13,7 +13,6 @@ use Rattle.lc_model.proofs.Facts.{not_true}
 use Rattle.app_host.specs.Hosted.{Object}
 use Rattle.worked_examples.proofs.Reading.{low_volts_text, low_volts_rules, low_volts_reads}
 use Rattle.worked_examples.proofs.Missions.{text, own_hashes, is_no_file, carries_none}
-use Rattle.flight_core.specs.Compiled.{edition}
 use Rattle.flight_core.specs.Failures.{TellsFailures}
 use Rattle.flight_core.specs.Run.{members_of}
 use Rattle.flight_core.specs.Fitting.{Fits, RefusesUnfitAlone}

@@ -5,7 +5,7 @@ use Rattle.std.specs.List.{concat}
 use Rattle.lc_model.specs.declared.kind.Kind.TheVariants.{Wdt}
 use Rattle.lc_model.specs.declared.mode.LcMode.TheVariants as mode
 use Rattle.lc_model.specs.Name.{lc_name, sch_name, counter_name}
-use Rattle.lc_model.specs.Tables.Image.{version_1_layouts}
+use Rattle.lc_model.specs.Tables.InForce.{layouts}
 use Rattle.lc_model.specs.Tables.HalvesAndBytes.{TextImage, as_halves}
 use Rattle.lc_model.specs.Host.Schedule.{Schedule, Sample, Housekeeping}
 use Rattle.lc_model.specs.Host.Stream.{StreamEntry}
@@ -32,12 +32,12 @@ spares =
 host_after : ℕ → List StreamEntry → Host TextImage → Host TextImage
 host_after room [] host = host
 host_after room (entry ∷ entries) host =
-    host_after room entries (host_step (as_halves version_1_layouts) entry.moment room host (input_of (meanings (low_text ∷ [])) entry.contents)).0
+    host_after room entries (host_step (as_halves layouts) entry.moment room host (input_of (meanings (low_text ∷ [])) entry.contents)).0
 
 -- what the writer is told of one record more
 told_of : ℕ → List StreamEntry → StreamEntry → Option ℕ
 told_of room entries entry =
-    (host_step (as_halves version_1_layouts) entry.moment room (host_after 65536 entries (first_host spares)) (input_of (meanings (low_text ∷ [])) entry.contents)).1
+    (host_step (as_halves layouts) entry.moment room (host_after 65536 entries (first_host spares)) (input_of (meanings (low_text ∷ [])) entry.contents)).1
 
 effort_in : AppState → Effort
 effort_in (LcState own) = own.effort
@@ -93,14 +93,14 @@ unfolding digits every_other_tick spares host_after told_of stop_at delivery_sta
 whole = refl
 
 -- behind a failed write each record is told of no byte
-closed : (host_step (as_halves version_1_layouts) tick.moment 65536 (host_after 100 prelude (first_host spares)) (input_of (meanings (low_text ∷ [])) tick.contents)).1 ≡ Some 0
+closed : (host_step (as_halves layouts) tick.moment 65536 (host_after 100 prelude (first_host spares)) (input_of (meanings (low_text ∷ [])) tick.contents)).1 ≡ Some 0
 unfolding digits every_other_tick spares host_after stop_at delivery_stations last_calls drained all_published_to with_mids
 closed = refl
 
 -- ---- bytes
 
 -- two failing samples: the last bytes are those of the world
-bytes_of_the_host : drop 672 (concat (written_from (as_halves version_1_layouts) (first_executive spares) (meanings (low_text ∷ [])) (prelude ++ volts 2399 ∷ sample ∷ volts 2399 ∷ sample ∷ [])))
+bytes_of_the_host : drop 672 (concat (written_from (as_halves layouts) (first_executive spares) (meanings (low_text ∷ [])) (prelude ++ volts 2399 ∷ sample ∷ volts 2399 ∷ sample ∷ [])))
     ≡ request_bytes ++ event_bytes
 unfolding digits every_other_tick spares written_from drained all_published_to with_mids
 bytes_of_the_host = refl

@@ -13,11 +13,12 @@ use Rattle.lc_model.specs.declared.mode.LcMode.TheVariants as mode
 use Rattle.lc_model.specs.Bytes.{zero_filled, u16, u32}
 use Rattle.lc_model.specs.Name.{is_named, lc_name, sch_name, counter_name}
 use Rattle.lc_model.specs.Packet.{command, executive_services_mid, sample_mid}
-use Rattle.lc_model.specs.Tables.Image.{Layout, Actionpoints, wdt_image, adt_image, version_1_layouts}
+use Rattle.lc_model.specs.Tables.Image.{Layout, wdt_image, adt_image}
 use Rattle.lc_model.specs.Tables.File.{file_bytes, wrapped}
 use Rattle.lc_model.specs.Tables.Interpretation.{Interpretation, FileMeanings}
 use Rattle.lc_model.specs.Tables.HalvesAndBytes.{Text, as_bytes, byte_meanings}
-use Rattle.lc_model.specs.Tables.Edition.{heavier_first_edition, IsCompiledFile, AreCompiledFiles}
+use Rattle.lc_model.specs.Tables.Edition.{IsCompiledFile, AreCompiledFiles}
+use Rattle.lc_model.specs.Tables.InForce.{layouts, compiled_actionpoints, edition}
 use Rattle.lc_model.specs.Host.Schedule.{IsSchedule}
 use Rattle.lc_model.specs.Host.Stream.{StreamEntry, Contents, Packet, Tick, File, Half, Whole}
 use Rattle.lc_model.specs.Host.World.{World, first_world}
@@ -43,7 +44,7 @@ use Rattle.worked_examples.proofs.Records.{stock, order, volts, sample}
 -- ---- the mission, and the files of its text
 
 abbrev low_volts_mission : Mission
-low_volts_mission = record { edition = heavier_first_edition; sources = low_volts_text ∷ []; schedule = [] ∷ []; stock = stock; most_reads = 2 }
+low_volts_mission = record { edition = edition; sources = low_volts_text ∷ []; schedule = [] ∷ []; stock = stock; most_reads = 2 }
 
 abbrev pub text : Text
 text = record { source = low_volts_text; rules = low_volts_rules }
@@ -56,17 +57,17 @@ schedule_fits = record { some = lit≤ tt; few = lit≤ tt; slots = ((lit≤ tt,
 
 abbrev compiled : Kind → ℕ → List ℕ
 compiled Wdt number = file_bytes (wrapped Wdt (wdt_image hash (low_volts ∷ [])))
-compiled Adt number = file_bytes (wrapped Adt (adt_image Actionpoints hash 1 entries))
+compiled Adt number = file_bytes (wrapped Adt (adt_image compiled_actionpoints hash 1 entries))
 
-wdt_compiled : IsCompiledFile heavier_first_edition Wdt (compiled Wdt 0) text
+wdt_compiled : IsCompiledFile edition Wdt (compiled Wdt 0) text
 unfolding sha256 hash_after compress rounds schedule first_words digest_bytes
 wdt_compiled = (wdt_image hash (low_volts ∷ []), refl, refl, wdt_is_half)
 
-adt_compiled : IsCompiledFile heavier_first_edition Adt (compiled Adt 0) text
+adt_compiled : IsCompiledFile edition Adt (compiled Adt 0) text
 unfolding sha256 hash_after compress rounds schedule first_words digest_bytes
 adt_compiled = (
-  (adt_image Actionpoints hash 1 entries, refl, refl, adt_is_half),
-  (Actionpoints, entries, refl, ((entry_fits, (λ e. absurd (cc e), tt)), tt), ((refl, refl), tt)),
+  (adt_image compiled_actionpoints hash 1 entries, refl, refl, adt_is_half),
+  (compiled_actionpoints, entries, refl, ((entry_fits, (λ e. absurd (cc e), tt)), tt), ((refl, refl), tt)),
 )
 
 -- a list of one has nothing else
@@ -78,9 +79,9 @@ one_text : (a : Text) → Contains (text ∷ []) a → text ≡ a
 one_text a (zero, less, is) = is
 one_text a (suc k, less, is) = absurd (let none : ⊥ = omega (arith, less) in none)
 
-are_compiled : AreCompiledFiles heavier_first_edition (text ∷ []) compiled
-are_compiled Wdt number other is = subst (IsCompiledFile heavier_first_edition Wdt (compiled Wdt 0)) (only text other number is) wdt_compiled
-are_compiled Adt number other is = subst (IsCompiledFile heavier_first_edition Adt (compiled Adt 0)) (only text other number is) adt_compiled
+are_compiled : AreCompiledFiles edition (text ∷ []) compiled
+are_compiled Wdt number other is = subst (IsCompiledFile edition Wdt (compiled Wdt 0)) (only text other number is) wdt_compiled
+are_compiled Adt number other is = subst (IsCompiledFile edition Adt (compiled Adt 0)) (only text other number is) adt_compiled
 
 pub own_hashes : HaveOwnHashes (text ∷ [])
 own_hashes a b in_a in_b same = ap (λ (t : Text). t.source) (sym (one_text a in_a) ∙ one_text b in_b)
@@ -162,8 +163,8 @@ carries_none layouts texts entries all entry name bytes (k, less, there) is =
         second true b e = e
         second false b e = absurd (true≢false (sym e))
 
-carry : CarryHalves version_1_layouts (text ∷ []) (records_in low_volts_mission stream).0
-carry = carries_none version_1_layouts (text ∷ []) (records_in low_volts_mission stream).0 no_files
+carry : CarryHalves layouts (text ∷ []) (records_in low_volts_mission stream).0
+carry = carries_none layouts (text ∷ []) (records_in low_volts_mission stream).0 no_files
 
 -- ---- its stock
 
@@ -216,7 +217,7 @@ undisturbed = record { no_read_failed = refl; no_write_failed = refl; within_bou
 -- ---- what it leads to: a host that keeps to a world in which the Limit Checker runs
 
 abbrev bytes : Interpretation (List ℕ)
-bytes = as_bytes version_1_layouts
+bytes = as_bytes layouts
 
 abbrev meanings : FileMeanings (List ℕ)
 meanings = byte_meanings compiled
@@ -238,7 +239,7 @@ kept_after : (entries : List StreamEntry) (w : World (List ℕ)) → Kept w → 
 unfolding world_after
 kept_after [] w before fit = before
 kept_after (entry ∷ entries) w before fit =
-    let now = each_record_keeps bytes AreBytes low_volts_mission.schedule (bytes_are_sensible version_1_layouts) entry.moment w before.executive
+    let now = each_record_keeps bytes AreBytes low_volts_mission.schedule (bytes_are_sensible layouts) entry.moment w before.executive
     (input_of meanings entry.contents) short before.keeps before.is_whole fit.0 in
     kept_after entries _ (record { executive = _; keeps = now.keeps; is_whole = now.whole }) fit.1
 
@@ -250,7 +251,7 @@ starting = order 1 lc_name ∷ volts 2399 ∷ sample ∷ []
 
 fine : AreFineInputs bytes AreBytes low_volts_mission.schedule meanings starting
 unfolding starting
-fine = records_are_fine heavier_first_edition (text ∷ []) compiled low_volts_mission.schedule starting are_compiled (tt, (tt, (tt, tt)))
+fine = records_are_fine edition (text ∷ []) compiled low_volts_mission.schedule starting are_compiled (tt, (tt, (tt, tt)))
 
 at_last : Kept (world_after (first_world (map (λ (m : Member). m.called) spares)) starting)
 at_last = kept_after starting _ at_first fine

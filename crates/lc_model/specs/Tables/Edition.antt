@@ -5,9 +5,9 @@ use Rattle.lc_model.specs.declared.kind.Kind.{Kind}
 use Rattle.lc_model.specs.declared.kind.Kind.TheVariants.{Wdt, Adt}
 use Rattle.lc_model.specs.Condition.{Condition}
 use Rattle.lc_model.specs.Rule.{actions}
-use Rattle.lc_model.specs.Tables.Equation.{terms_of, heavier_first}
-use Rattle.lc_model.specs.Tables.Compiling.{Limits, version_1_limits}
-use Rattle.lc_model.specs.Tables.Image.{Layout, version_1_layouts}
+use Rattle.lc_model.specs.Tables.Equation.{terms_of}
+use Rattle.lc_model.specs.Tables.Compiling.{Limits}
+use Rattle.lc_model.specs.Tables.Image.{Layout}
 use Rattle.lc_model.specs.Tables.Half.{HasWords, IsFileOfHalf}
 use Rattle.lc_model.specs.Tables.HalvesAndBytes.{Text}
 
@@ -17,10 +17,6 @@ pub record Edition : Type 0 where
   pub layouts : List Layout
   pub limits : Limits
   pub arranged : Condition → Condition
-
--- the heavier operand first
-abbrev pub heavier_first_edition : Edition
-heavier_first_edition = record { layouts = version_1_layouts; limits = version_1_limits; arranged = heavier_first }
 
 -- the file that is compiled for the table of this kind of a text: its half, with words in this order
 abbrev pub IsCompiledFile : Edition → Kind → List ℕ → Text → Type 0
