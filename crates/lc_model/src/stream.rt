@@ -18,23 +18,23 @@ pub const HALF: usize = 43;
 /// The most bytes of a body.
 pub const LONGEST_BODY: usize = 65_536;
 
-/// The moment of a record.
-pub fn moment_of(record: &[u8]) -> Moment
-    requires { header_size ≤ length record.now }
-    ensures { result ≡ moment_of record.now }
+/// The moment of the record in front, as its header says.
+pub fn moment_of(bytes: &[u8]) -> Moment
+    requires { header_size ≤ length bytes.now }
+    ensures { result ≡ moment_of bytes.now }
 {
     Moment {
-        seconds: u32_at(record, 1),
-        subseconds: u16_at(record, 5),
+        seconds: u32_at(bytes, 1),
+        subseconds: u16_at(bytes, 5),
     }
 }
 
-/// How many bytes the body of a record has, as its header says.
-pub fn body_size(record: &[u8]) -> usize
-    requires { header_size ≤ length record.now }
-    ensures { result ≡ body_size record.now }
+/// How many bytes the body of the record in front has, as its header says.
+pub fn body_size(bytes: &[u8]) -> usize
+    requires { header_size ≤ length bytes.now }
+    ensures { result ≡ body_size bytes.now }
 {
-    u32_at(record, 7) as usize
+    u32_at(bytes, 7) as usize
 }
 
 /// Whether a record of this kind may have a body of so many bytes: 1, a packet, any to 65,536; 2, a tick, none; 3, a file, a name

@@ -14,9 +14,8 @@ ghost use Rattle.table_file.specs.Layout.{layout_of};
 use crate::codes::{event_kind_of, state_of};
 use crate::entry::entry_bytes;
 use crate::layout::Layout;
-use crate::name::front_name;
 use lc_model::words::EQUAL;
-use lc_model::{ApMode, EventKind, ReportMaxima, u16_at};
+use lc_model::{ApMode, EventKind, ReportMaxima, name_in, u16_at};
 use std::marker::Model;
 
 /// The bytes before the equation.
@@ -125,7 +124,7 @@ impl<'a> ActionpointEntry<'a> {
     pub fn text(&self) -> &'a [u8]
         ensures { result.now ≡ name_in (text_field self.now) }
     {
-        front_name(self.text_field())
+        name_in(self.text_field())
     }
 
     /// How many words the layout has for the equation.
