@@ -3,6 +3,7 @@ use Rattle.std.specs.Prelude.{◌≡◌, ℕ, ◌≤◌, ◌==◌, ⊤, true, fa
 use Rattle.std.specs.Option.{option_map_or}
 use Rattle.std.specs.List.{concat}
 use Rattle.std.specs.Io.KnownBytes.{Appends}
+use Rattle.lc_model.specs.Name.{name_size}
 use Rattle.lc_model.specs.declared.record.Body.{Body}
 use Rattle.lc_model.specs.declared.record.Body.TheVariants as body
 use Rattle.lc_model.specs.declared.record.Moment.{Moment}
@@ -10,7 +11,6 @@ use Rattle.lc_model.specs.Device.{Sink}
 use Rattle.lc_model.specs.Packet.{stream_fault, message_id, tick_mid, by_service}
 use Rattle.lc_model.specs.Command.{order_in}
 use Rattle.lc_model.specs.Host.React.{Input, Packet, Tick, File}
-use Rattle.lc_model.specs.Host.Stream.{name_size}
 use Rattle.lc_model.specs.Services.Seen.{meaning_of}
 use Rattle.lc_model.specs.Kept.Executive.{Executive, Written, most_deliveries, step_by}
 use Rattle.lc_model.specs.Kept.Stations.{Station, stations_of, last_calls, host_after, host_step}

@@ -1,6 +1,7 @@
 -- What is taken off a stream, as the definitions have it.
 use Rattle.std.specs.Prelude.{ℕ, ◌<◌, ◌≤◌, length, Option, option_map, ⊤}
-use Rattle.lc_model.specs.Host.Stream.{Contents, StreamEntry, name_size}
+use Rattle.lc_model.specs.Name.{name_size}
+use Rattle.lc_model.specs.Host.Stream.{Contents}
 use Rattle.lc_model.specs.Host.Stream as stream
 use Rattle.lc_model.specs.declared.record.Body.{Body}
 use Rattle.lc_model.specs.declared.record.Body.TheVariants as body
