@@ -51,7 +51,7 @@ party_of (File name size meaning) = nobody
 -- ---- inside a step
 
 -- the step has begun: it has its moment, and no call was made
-pub record HasBegun (moment : Moment) (old new : Hosted) : Type 0 where
+pub record StepHasBegun (moment : Moment) (old new : Hosted) : Type 0 where
   pub whole : IsWhole new
   pub stock : new.stock ≡ old.stock
   pub seats : new.seats ≡ old.seats
@@ -60,8 +60,8 @@ pub record HasBegun (moment : Moment) (old new : Hosted) : Type 0 where
   pub calls : new.calls ≡ 0
 
 -- what a record brings is handled, at the moment of the services
-abbrev pub Takes : Input (List ℕ) → Hosted → Hosted → Sink → Sink → Result ℕ WriteFault → Type 0
-Takes input old new before now result =
+abbrev pub HandlesInput : Input (List ℕ) → Hosted → Hosted → Sink → Sink → Result ℕ WriteFault → Type 0
+HandlesInput input old new before now result =
     let e : Executive (List ℕ) = executive_in old in
     let stations : List (Station (List ℕ)) = stations_of on_board old.services.moment e input in
     Handles (party_of input) stations (step_by on_board old.services.moment e input) (last_calls on_board old.services.moment stations) old new before now result

@@ -12,7 +12,7 @@ ghost use Rattle.app_host.specs.Delivered.{executive_in};
 ghost use Rattle.app_host.specs.Roster.{roster_of, seat_in, free_in, first_spare_in, ordered_by, succession_by};
 ghost use Rattle.app_host.specs.Party.{ordered, party_by};
 ghost use Rattle.app_host.specs.Response.{obeying_orders, Responds};
-ghost use Rattle.app_host.specs.Ordered.{order_of, named_by, outcome_of, Prepares, MakesWay, Takes, MakesWayFor, MayFollow, ComesIn, Enters, next_of, ObeysOrders};
+ghost use Rattle.app_host.specs.Ordered.{order_of, named_by, outcome_of, Prepares, MakesWay, PreparesFor, MakesWayFor, MayFollow, ComesIn, Enters, next_of, ObeysOrders};
 
 use crate::error::{HostError, WriteFault};
 use crate::event_commands::name_in;
@@ -209,7 +209,7 @@ impl Host {
     fn take_order(&mut self, packet: &[u8]) -> Result<Successor, Numbers>
         requires whole { IsWhole (shown meaning self.old) }
         requires headers { 8 ≤ length packet.now }
-        ensures prepared { Takes meaning
+        ensures prepared { PreparesFor meaning
             (party_by (app_command (function_code packet.now) (payload packet.now)))
             (executive_service_now on_board self.old.services.moment packet.now
             (executive_in (shown meaning self.old))) (shown meaning self.old)

@@ -13,7 +13,7 @@ use Rattle.lc_model.specs.Kept.Executive.{written_from}
 use Rattle.lc_model.specs.Kept.Stations as model
 use Rattle.lc_model.specs.Kept.Stations.{host_step}
 use Rattle.host_laws.specs.Statements.{AreBrought, StreamsBring, executive_after, RunsGoOn}
-use Rattle.host_laws.specs.Writes.{OpenHostsTake, Takes}
+use Rattle.host_laws.specs.Writes.{OpenHostsTake, TakesAsAnswered}
 use Rattle.app_host.specs.Shared.{on_board}
 use Rattle.app_host.specs.Hosted.{Hosted, in_numbers}
 use Rattle.app_host.specs.Delivered.{executive_in}
@@ -149,8 +149,8 @@ module _ (laws : Laws) (n : ℕ) (meanings : FileMeanings (List ℕ)) (first : H
 
     sent_fewer : sent < length called
     sent_fewer =
-        let takes : Takes on_board entry.moment sent (in_numbers now) (input_of meanings entry.contents) (Some sent) =
-        subst (Takes on_board entry.moment sent (in_numbers now) (input_of meanings entry.contents)) (ap (λ (r : model.Host (List ℕ) × Option ℕ). r.1) stops.host)
+        let takes : TakesAsAnswered on_board entry.moment sent (in_numbers now) (input_of meanings entry.contents) (Some sent) =
+        subst (TakesAsAnswered on_board entry.moment sent (in_numbers now) (input_of meanings entry.contents)) (ap (λ (r : model.Host (List ℕ) × Option ℕ). r.1) stops.host)
         (laws.takes entry.moment sent (in_numbers now) (input_of meanings entry.contents) far.is_open) in
         takes.fewer
 

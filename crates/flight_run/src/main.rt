@@ -45,7 +45,7 @@ fn obey<'a, R: Files + AllocGlobal>(rt: &R, words: &'a [&'a str]) -> Result<Done
             stream,
             out,
             rules,
-        } => flying::fly(rt, schedule, stream, out, rules.as_slice()),
+        } => flying::fly_files(rt, schedule, stream, out, rules.as_slice()),
     }
 }
 

@@ -1,7 +1,7 @@
 //! Where files and tables lie, and what each call of the table services does there.
 
 ghost use Rattle.std.specs.Prelude.{◌≡◌, ◌<◌, ◌≤◌, length, option_map, IfErr, IfOk, IfSome, IsSomeAnd, IsTrue, is_some, Some, None, OnErr};
-ghost use Rattle.lc_model.specs.Name.{held};
+ghost use Rattle.lc_model.specs.Name.{value_under};
 ghost use Rattle.lc_model.specs.Command.{Load, Manage};
 ghost use Rattle.lc_model.specs.Tables.File.{opened};
 ghost use Rattle.lc_model.specs.Tables.Slot.{Activated, Asked, Validate, Activate, Abort, installed, waiting_at};
@@ -89,7 +89,7 @@ impl Registry {
 
     /// The bytes of the file of a name.
     pub fn file(&self, name: &[u8]) -> Option<&[u8]>
-        ensures { option_map (λ bytes. bytes.now) result ≡ held name.now self.now.files }
+        ensures { option_map (λ bytes. bytes.now) result ≡ value_under name.now self.now.files }
     {
         self.files.find(name)
     }

@@ -7,7 +7,7 @@ use Rattle.std.specs.Prelude.{ℕ, zero, suc, ◌==◌, Bool, true, false, not, 
 use Rattle.std.specs.Option.{option_map_or}
 use Rattle.std.specs.List.{list_any, position_from}
 use Rattle.lc_model.specs.declared.record.Moment.{Moment}
-use Rattle.lc_model.specs.Name.{Name, is_named, host_name, held}
+use Rattle.lc_model.specs.Name.{Name, is_named, host_name, value_under}
 use Rattle.lc_model.specs.Packet.{stream_fault, function_code, message_id, tick_mid, command, by_service}
 use Rattle.lc_model.specs.Refusal.{Refusal, ◌>>=◌, refused, found, provided, not_registered, filters_full, no_file, unknown_table, wrong_image_size, not_running, no_spare, already_running, no_free_seat}
 use Rattle.lc_model.specs.Tables.Slot.{loaded, moved}
@@ -261,7 +261,7 @@ module _ {Image : Type 0} where
     -- the services after a table command
     abbrev pub managed_now : TableCommand → ServicesNow Image → Result (ServicesNow Image) Refusal
     managed_now (Load file) services = do
-      meaning ← found (held file services.files) no_file
+      meaning ← found (value_under file services.files) no_file
       contents ← opened_file meaning
       kind ← found (kind_named contents.0) unknown_table
       slot ← found (services.slots contents.0) unknown_table

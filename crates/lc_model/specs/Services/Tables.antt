@@ -4,7 +4,7 @@
 use Rattle.std.specs.Prelude.{◌≡◌, ℕ, ◌+◌, ◌≤◌, Bool, false, ◌&&◌, ◌||◌, ◌==◌, nat_lt, nat_le, List, [], ◌∷◌, ◌++◌, length, map, replicate, slice_get, slice_index_or, slice_set, if◌then◌else◌, Option, Some, None, is_some, is_none, Result, Ok, Err}
 use Rattle.std.specs.Option.{option_map_or}
 use Rattle.std.specs.List.{position_from, AllByRecursion}
-use Rattle.lc_model.specs.Name.{Name, is_named, AreDistinct, name_in, held, put}
+use Rattle.lc_model.specs.Name.{Name, is_named, AreDistinct, name_in, value_under, put}
 use Rattle.lc_model.specs.Refusal.{Refusal, ◌>>=◌, refused, found, provided, no_file, file_fault, unknown_table, wrong_image_size, store_full, file_too_long, no_slot}
 use Rattle.lc_model.specs.Tables.File.{TableFile, opened}
 use Rattle.lc_model.specs.Tables.Slot.{Move, Slot, no_images, loaded, moved, judged, taken, installed}
@@ -39,7 +39,7 @@ first_tables = record { files = []; places = replicate seat_count [] }
 abbrev pub files_with : Name → List ℕ → List (Name × List ℕ) → Result (List (Name × List ℕ)) Refusal
 files_with name bytes files =
     if nat_lt max_file_size (length bytes) then refused file_too_long
-    else if nat_le max_files (length files) && is_none (held name files) then refused store_full
+    else if nat_le max_files (length files) && is_none (value_under name files) then refused store_full
     else Ok (put name bytes files)
 
 -- a file is stored
@@ -141,7 +141,7 @@ image_in (Err fault) = None
 
 -- the image of a stored file, where the file opens
 abbrev pub stored_image : Name → TableService → Option (List ℕ)
-stored_image name service = option_map_or (λ bytes. image_in (opened bytes)) (held name service.files) None
+stored_image name service = option_map_or (λ bytes. image_in (opened bytes)) (value_under name service.files) None
 
 -- the image fits a handle's table
 abbrev pub fits_at : Handle → TableService → List ℕ → Bool
@@ -186,7 +186,7 @@ with_places service r = do
 -- a command to a table
 abbrev pub table_commanded : TableCommand → TableService → Result TableService Refusal
 table_commanded (Load name) service = do
-  bytes ← found (held name service.files) no_file
+  bytes ← found (value_under name service.files) no_file
   with_places service (loaded_among bytes service.places)
 table_commanded (Manage move name) service = with_places service (moved_among move name service.places)
 
