@@ -156,13 +156,13 @@ abbrev pub Prepares : {X : Type 0} {D : X → Type 0} → (DynBox X Global D →
 Prepares meaning party wanted old new (Ok next) = IsPrepared party wanted old new (next_of meaning next)
 Prepares meaning party wanted old new (Err error) = (wanted ≡ Err (refusal_of error)) × (new ≡ old)
 
--- the same of a command that is refused for its code or its length, too
+-- what prepares an order, of a command that may be refused for its code or its length, too
 abbrev pub PreparesFor : {X : Type 0} {D : X → Type 0} → (DynBox X Global D → Object) →
     Party → Result (Written (List ℕ)) Refusal → Hosted → Hosted → Result (Successor X D) Refusal → Type 0
 PreparesFor meaning party wanted old new (Ok next) = IsPrepared party wanted old new (next_of meaning next)
 PreparesFor meaning party wanted old new (Err numbers) = (wanted ≡ Err numbers) × (new ≡ old)
 
--- ---- the same of who is where, whatever the applications are
+-- ---- who is where when an order is prepared, whatever the applications are
 
 -- who leaves has left, and the next one makes of it what is wanted
 pub record HasMadeWay (wanted : Result Succession Refusal) (old new : Hosted) (next : Next) : Type 0 where
@@ -178,7 +178,7 @@ abbrev pub MakesWay : {X : Type 0} {D : X → Type 0} → (DynBox X Global D →
 MakesWay meaning wanted old new (Ok next) = HasMadeWay wanted old new (next_of meaning next)
 MakesWay meaning wanted old new (Err error) = (wanted ≡ Err (refusal_of error)) × (new ≡ old)
 
--- the same of a command that is refused for its code or its length, too
+-- what makes way for an order, of a command that may be refused for its code or its length, too
 abbrev pub MakesWayFor : {X : Type 0} {D : X → Type 0} → (DynBox X Global D → Object) →
     Result Succession Refusal → Hosted → Hosted → Result (Successor X D) Refusal → Type 0
 MakesWayFor meaning wanted old new (Ok next) = HasMadeWay wanted old new (next_of meaning next)

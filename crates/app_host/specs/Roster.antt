@@ -79,7 +79,7 @@ ordered_by Reload name r = do
   place ← found (first_spare_in name r) no_spare
   Ok (record { leaves = Some seat; left = with_seat seat None r; come = with_spare place seat r })
 
--- the same of a command, which may be none
+-- what a command makes of it, which may be no order
 abbrev pub succession_by : List ℕ → Roster → Result Succession Refusal
 succession_by packet r = do
   command ← order_in packet

@@ -89,7 +89,7 @@ pub record StepsSo (moment : Moment) (input : Input (List ℕ)) (old new : Hoste
   pub gains : Appends before now (called_for moment input old)
   pub room : (room : ℕ) → length (called_for moment input old) ≤ room → host_step on_board moment room (in_numbers old) input ≡ (in_numbers new, None)
 
--- the same up to the write that failed
+-- and where a write failed: the host in numbers, and the bytes up to that write
 pub record StopsSo (moment : Moment) (input : Input (List ℕ)) (sent : ℕ) (old new : Hosted) (before now : Option (List ℕ)) : Type 0 where
   pub host : host_step on_board moment sent (in_numbers old) input ≡ (in_numbers new, Some sent)
   pub gains : Appends before now (take sent (called_for moment input old))

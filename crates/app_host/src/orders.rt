@@ -205,7 +205,7 @@ impl Host {
         }
     }
 
-    /// The same for a command, which may be refused as none.
+    /// Prepares the order of a command, which may be refused as none.
     fn take_order(&mut self, packet: &[u8]) -> Result<Successor, Numbers>
         requires whole { IsWhole (shown meaning self.old) }
         requires headers { 8 ≤ length packet.now }

@@ -40,7 +40,7 @@ impl Host {
         }
     }
 
-    /// The same, and answers how many bytes were written, for writers that don't tell.
+    /// Handles a record as `step` does, and answers how many bytes were written, for writers that don't tell.
     pub fn step_counted<W: ByteSink>(
         &mut self,
         entry: &Record<'_>,

@@ -131,7 +131,7 @@ fn perform(
     Ok(first)
 }
 
-/// The same of a host with these spares.
+/// Plays a script on a host with these spares.
 pub fn plays(
     alloc: Global,
     spares: &[Spare],

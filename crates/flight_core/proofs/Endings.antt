@@ -57,7 +57,7 @@ module _ (laws : Laws) (n : ℕ) (meanings : FileMeanings (List ℕ)) (first : H
     output_is : output (records far.come).0 ≡ written_by meanings first far.entries
     output_is = output_all ∙ ap (written_by meanings first) is
 
-  -- the same after a read that took nothing
+  -- what was consumed so far, after a read that took nothing
   rest_is : (source_after : Source) → Consumes source_now.rest source_after.rest [] → Consumes source.rest source_after.rest far.come
   rest_is source_after took = subst (Consumes source.rest source_after.rest) (append-nil far.come) (Consumes-trans _ _ _ _ _ far.took took)
 
@@ -220,7 +220,7 @@ module _ (laws : Laws) (n : ℕ) (meanings : FileMeanings (List ℕ)) (first : H
         (sym (is ∙ ap (λ (h : Held). ended_by h.bytes report) over.same))
         (comes_to_the_end source_after over.took front_is held.bytes refl over.fine over.at_the_end report many long)
 
--- ---- the same as the loop has it
+-- ---- how a run ends, as the loop has it
 
 module _ (laws : Laws) (n : ℕ) (meanings : FileMeanings (List ℕ)) (first : Hosted) (most : ℕ) (source : Source) (sink : Sink) (known : AreAllKnown first)
     (output : List StreamEntry → List ℕ) (same : (entries : List StreamEntry) → AreBrought n entries → written_by meanings first entries ≡ output entries)

@@ -23,7 +23,7 @@ answer_of (Record entry) = answer.Entry (record { moment = entry.moment; content
 answer_of (Half moment name kind text) = answer.Entry (record { moment = moment; contents = stream.Half name.now kind text })
 answer_of (Bad number) = answer.Bad number
 
--- the same where something was
+-- the answer where something was found
 abbrev pub answer_in : Option Found → Option Answer
 answer_in found = option_map answer_of found
 

@@ -36,7 +36,7 @@ fn field_type(word: &[u8]) -> Option<FieldType>
     }
 }
 
-/// The same, which has to be there.
+/// The type that a word names, which has to be one.
 fn some_type(word: &[u8]) -> Result<FieldType, Reason>
     ensures { result ≡ some_type (field_type word.now) }
 {

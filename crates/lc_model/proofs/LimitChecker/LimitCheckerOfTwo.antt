@@ -236,7 +236,7 @@ module _ {A B : Type 0} (alike : A → B → Type 0) (images : Interpretation A)
 
   -- ---- packets
 
-  -- the same but for the slots
+  -- the Limit Checker with other slots
   abbrev twin : Lc A → Slot B → Slot B → Lc B
   twin a wdt adt = record { mode = a.mode; wdt = wdt; adt = adt; watch = a.watch; points = a.points }
 

@@ -67,7 +67,7 @@ offered packet pipe = if hears packet pipe then record pipe { waiting = pipe.wai
 abbrev pub published_to : List (Option Pipe) → List ℕ → List (Option Pipe)
 published_to pipes packet = map (option_map (offered packet)) pipes
 
--- the same of several packets, one after the other
+-- all pipes after several packets, one after the other
 unfoldable pub all_published_to : List (Option Pipe) → List (List ℕ) → List (Option Pipe)
 all_published_to pipes [] = pipes
 all_published_to pipes (packet ∷ packets) = all_published_to (published_to pipes packet) packets

@@ -197,7 +197,7 @@ unfoldable pub times_in : Name → List Table → ℕ
 times_in name [] = 0
 times_in name (table ∷ tables) = (if is_named name table.name then 1 else 0) + times_in name tables
 
--- the same of all seats' tables
+-- how many tables of all seats have a name
 unfoldable pub times_among : Name → Places → ℕ
 times_among name [] = 0
 times_among name (tables ∷ places) = times_in name tables + times_among name places
