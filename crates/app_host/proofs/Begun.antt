@@ -22,7 +22,7 @@ use Rattle.app_host.specs.Objects.{MayStartOn, HasStarted}
 use Rattle.app_host.specs.Whole.{IsRunning, AreSeated, AreKnown, name_at}
 use Rattle.app_host.specs.Roster.{name_of}
 use Rattle.app_host.specs.Delivered.{executive_in, Becomes}
-use Rattle.app_host.specs.Ordered.{MayBegin, HasBegun}
+use Rattle.app_host.specs.Ordered.{MayBegin, ObjectHasBegun}
 use Rattle.app_host.proofs.Found.{placed, nowhere}
 use Rattle.app_host.proofs.Rules.{seen_of_place}
 use Rattle.app_host.proofs.Frames.{fact_at_set, others_stay, seated_with}
@@ -152,7 +152,7 @@ module _ (law : TablesAreFound) (old new : Hosted) (seat : ℕ) (o o' : Object) 
     exact_then : Becomes new (begun_on on_board old.services.moment seat (member_of o) e)
     exact_then = subst (Becomes new) (sym step_is) becomes_so
 
-  begun_so : new.is_closed ≡ old.is_closed → new.calls ≡ old.calls → HasBegun seat o old new
+  begun_so : new.is_closed ≡ old.is_closed → new.calls ≡ old.calls → ObjectHasBegun seat o old new
   begun_so closed calls = record {
     whole = record {
       is_closed = closed;
@@ -179,7 +179,7 @@ module _ (law : TablesAreFound) (old new : Hosted) (seat : ℕ) (o o' : Object) 
 -- by what became of the place
 pub has_begun : TablesAreFound → (old new : Hosted) (seat : ℕ) (o : Object) (place : Option Object) → AreSeated old.seats old.services → IsTableService old.services.tables →
     IsTableService new.services.tables → seat < 8 → IsObject o.state o.called → MayBegin seat old o → IsSomeAnd place (HasStarted seat old.services new.services o) →
-    new.seats ≡ slice_set old.seats seat place → new.stock ≡ old.stock → new.is_closed ≡ old.is_closed → new.calls ≡ old.calls → HasBegun seat o old new
+    new.seats ≡ slice_set old.seats seat place → new.stock ≡ old.stock → new.is_closed ≡ old.is_closed → new.calls ≡ old.calls → ObjectHasBegun seat o old new
 has_begun law old new seat o None seated sound sound' below kind may started seats stock closed calls = absurd started
 has_begun law old new seat o (Some o') seated sound sound' below kind may started seats stock closed calls =
     begun_so law old new seat o o' seated sound sound' below kind.application may started seats stock closed calls

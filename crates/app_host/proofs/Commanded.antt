@@ -3,7 +3,7 @@ use Rattle.std.proofs.Common.{◌≡◌, refl, ap, sym, ◌∙◌, subst, ℕ, L
 use Rattle.std.specs.Prelude.{IfOk}
 use Rattle.std.specs.Option.{option_map_or}
 use Rattle.lc_model.specs.declared.kind.Kind.{Kind}
-use Rattle.lc_model.specs.Name.{Name, held, name_in}
+use Rattle.lc_model.specs.Name.{Name, value_under, name_in}
 use Rattle.lc_model.specs.Refusal.{Refusal, ◌>>=◌, found, provided}
 use Rattle.lc_model.specs.Tables.File.{opened}
 use Rattle.lc_model.specs.Tables.Slot.{Slot, Move, loaded, moved}
@@ -73,7 +73,7 @@ placed_so service (Err refusal) changes = tt
 commands_change : (command : TableCommand) (service : TableService) → IfOk (table_commanded command service) (λ (after : TableService). ChangesOne service.places after.places)
 commands_change (Manage move name) service = placed_so service (moved_among move name service.places) (moves_change service.places move name)
 commands_change (Load name) service =
-    found_ok (λ (after : TableService). ChangesOne service.places after.places) (held name service.files) 111 _ (λ bytes b.
+    found_ok (λ (after : TableService). ChangesOne service.places after.places) (value_under name service.files) 111 _ (λ bytes b.
     placed_so service (loaded_among bytes service.places)
     (then_ok (ChangesOne service.places) (file_refusal (opened bytes)) _ (λ file f. loads_change service.places file.image (name_in file.name_field))))
 

@@ -16,7 +16,7 @@ use Rattle.app_host.specs.Hosted.{Object, Hosted, spare_in, no_object, member_of
 use Rattle.app_host.specs.Whole.{AreSeated, AreSpares, AreKnown}
 use Rattle.app_host.specs.Roster.{name_of}
 use Rattle.app_host.specs.Delivered.{executive_in, Becomes}
-use Rattle.app_host.specs.Ordered.{next_of, Spare, MayBegin, MayFollow, StaysWhole, HasBegun, HasFollowed}
+use Rattle.app_host.specs.Ordered.{next_of, Spare, MayBegin, MayFollow, StaysWhole, ObjectHasBegun, HasFollowed}
 use Rattle.app_host.proofs.Found.{shown_at, shown_in}
 
 -- ---- one thing after the other
@@ -82,11 +82,11 @@ module _ (old mid : Hosted) (place : ℕ) (less : place < length old.stock) (sto
   known_mid : AreKnown old → AreKnown mid
   known_mid known = λ seat. rw seats (known seat)
 
-  pub spare_followed : (seat : ℕ) (o : Object) (new : Hosted) → o ≡ spare_in old.stock place → AreSeated old.seats old.services → old.services.outgoing ≡ [] → AreSpares old.stock → HasBegun seat o mid new →
+  pub spare_followed : (seat : ℕ) (o : Object) (new : Hosted) → o ≡ spare_in old.stock place → AreSeated old.seats old.services → old.services.outgoing ≡ [] → AreSpares old.stock → ObjectHasBegun seat o mid new →
       HasFollowed (Spare place seat) old new
   spare_followed seat o new is seated idle spares begun = record {
     whole = stays_then old mid new (stays_so old mid seated idle seats services closed calls) begun.whole;
-    spares = rw (begun.stock, stock) (all_removed (λ (spare : Object). spare.held ≡ None) old.stock place spares);
+    spares = rw (begun.stock, stock) (all_removed (λ (spare : Object). spare.seat ≡ None) old.stock place spares);
     own = record {
       host = begun.own.host ∙ ap (λ (s : Services). s.events.host) services;
       files = begun.own.files ∙ ap (λ (s : Services). s.tables.files) services;
@@ -104,7 +104,7 @@ module _ (old mid : Hosted) (place : ℕ) (less : place < length old.stock) (sto
 module _ {X : Type 0} {D : X → Type 0} (meaning : DynBox X Global D → Object) where
   pub spare_came : (xs ys : List (DynBox X Global D)) (x : DynBox X Global D) (old mid new : Hosted) (place seat : ℕ) (next : Successor X D) → next ≡ successor.Spare place seat →
       MayFollow old (next_of meaning next) → old.stock ≡ map meaning xs → mid.stock ≡ map meaning ys → x ≡ get_or xs place x → ys ≡ remove xs place → mid.seats ≡ old.seats → mid.services ≡ old.services →
-      mid.is_closed ≡ old.is_closed → mid.calls ≡ old.calls → AreSeated old.seats old.services → old.services.outgoing ≡ [] → AreSpares old.stock → HasBegun seat (meaning x) mid new →
+      mid.is_closed ≡ old.is_closed → mid.calls ≡ old.calls → AreSeated old.seats old.services → old.services.outgoing ≡ [] → AreSpares old.stock → ObjectHasBegun seat (meaning x) mid new →
       HasFollowed (next_of meaning next) old new
   spare_came xs ys x old mid new place seat next is may stock stock' at rest seats services closed calls seated idle spares begun =
       let so : MayFollow old (Spare place seat) = subst (λ (n : Successor X D). MayFollow old (next_of meaning n)) is may in

@@ -71,7 +71,7 @@ module _ (h : Hosted) (name : Name) (whole : IsWhole h) where
   record SpareAt (i : ℕ) : Type 0 where
     less : i < length h.stock
     named : name ≡ (spare_in h.stock i).called
-    holds_none : (spare_in h.stock i).held ≡ None
+    holds_none : (spare_in h.stock i).seat ≡ None
 
   spare_there : (i : ℕ) → Some i ≡ spare_of name e.stock → SpareAt i
   spare_there i is =
@@ -80,7 +80,7 @@ module _ (h : Hosted) (name : Name) (whole : IsWhole h) where
       record {
         less = inside;
         named = (bytes_eq-Decides name (spare_in h.stock i).called).0 (ap (is_called name) (sym (shown_in member_of h.stock i no_object no_member inside)) ∙ there.1);
-        holds_none = All-get_or (λ (spare : Object). spare.held ≡ None) h.stock i no_object inside whole.spares;
+        holds_none = All-get_or (λ (spare : Object). spare.seat ≡ None) h.stock i no_object inside whole.spares;
       }
 
   -- the first one is known, where that is asked for
@@ -169,7 +169,7 @@ module _ (h : Hosted) (name : Name) (whole : IsWhole h) where
             by_test false is = refl
 
         -- an object of the same name may take the seat
-        may_begin : (o : Object) → o.held ≡ None → o.called ≡ runs.o.called → MayBegin k new o
+        may_begin : (o : Object) → o.seat ≡ None → o.called ≡ runs.o.called → MayBegin k new o
         may_begin o none same = record {
           free = ap (λ (seats : List (Option Object)). object_at k seats) left.seats ∙ get_or-set_same h.seats k None None runs.inside;
           spare = none;

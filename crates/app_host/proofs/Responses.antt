@@ -14,7 +14,7 @@ use Rattle.app_host.specs.Obeyed.{events_by}
 use Rattle.app_host.specs.ObeyedTables.{tables_by}
 use Rattle.app_host.specs.Roster.{roster_of, succession_by}
 use Rattle.app_host.specs.Response.{Response, handing_on, only_telling, obeying_events, obeying_tables, obeying_orders, routed_to, response_to_packet, response_to, Responds}
-use Rattle.app_host.specs.Step.{HasBegun}
+use Rattle.app_host.specs.Step.{StepHasBegun}
 use Rattle.app_host.proofs.Responding.{responds_from}
 
 -- ---- a packet
@@ -66,7 +66,7 @@ module _ (moment : Moment) (old new : Hosted) (before now : Option (List ℕ)) (
 
 -- ---- a step
 
-module _ (moment : Moment) (body : Body) (old begun new : Hosted) (began : HasBegun moment old begun) (before now : Option (List ℕ)) (result : Result ℕ WriteFault) where
+module _ (moment : Moment) (body : Body) (old begun new : Hosted) (began : StepHasBegun moment old begun) (before now : Option (List ℕ)) (result : Result ℕ WriteFault) where
   abbrev at_first : Hosted
   at_first = record { stock = old.stock; seats = old.seats; services = at_moment moment old.services; is_closed = old.is_closed; calls = 0 }
 

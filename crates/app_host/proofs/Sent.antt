@@ -224,7 +224,7 @@ housekeeping_written before header mode rules standings rest after count moment 
     ∙ ap (λ bytes. before ++ (bytes ++ payload)) is
     ∙ ap (λ n. before ++ (primary_header lc_housekeeping_mid count n ++ u32 moment.seconds ++ u16 moment.subseconds ++ payload)) (sym whole)
 
--- the same by the numbers that are written
+-- the housekeeping packet is there, by the numbers that are written
 pub housekeeping_there : (before header mode rules standings rest after a b c d : List ℕ) (count number : ℕ) (moment : Moment) →
     header ≡ primary_header lc_housekeeping_mid count 192 ++ u32 moment.seconds ++ u16 moment.subseconds → mode ≡ u16 number → rules ≡ u16 (length standings) →
     length standings ≤ 176 → rest ≡ replicate (176 - length standings) 255 →

@@ -28,7 +28,7 @@ use Rattle.app_host.specs.Delivered.{executive_in}
 use Rattle.app_host.specs.Writing.{IsDone, IsCut, Handles}
 use Rattle.app_host.specs.Told.{TellsAlone, Files, ObeysEvents, ObeysTables}
 use Rattle.app_host.specs.Ordered.{ObeysOrders}
-use Rattle.app_host.specs.Step.{party_of, routed_party, HasBegun, Takes, StepsSo, StopsSo, Steps, without_count, Counts}
+use Rattle.app_host.specs.Step.{party_of, routed_party, StepHasBegun, HandlesInput, StepsSo, StopsSo, Steps, without_count, Counts}
 use Rattle.app_host.proofs.Flushed.{same_shared, same_seated}
 
 -- ---- it begins
@@ -52,7 +52,7 @@ open_step moment room host input stop is_open is =
     (stop_at room (stations_of on_board moment host.executive input)) (host_after on_board moment host input, None)) is_open
     ∙ ap (λ o. option_map_or (λ (station : Station (List ℕ)). (record { executive = station.executive; is_closed = true; calls = station.calls }, Some room)) o (host_after on_board moment host input, None)) is
 
-module _ (moment : Moment) (input : Input (List ℕ)) (old begun : Hosted) (began : HasBegun moment old begun) where
+module _ (moment : Moment) (input : Input (List ℕ)) (old begun : Hosted) (began : StepHasBegun moment old begun) where
   executive_begun : executive_in begun ≡ executive_in old
   executive_begun = λ i. record {
     stock = map member_of (began.stock i);
@@ -124,7 +124,7 @@ module _ (moment : Moment) (input : Input (List ℕ)) (old begun : Hosted) (bega
       after : in_numbers new ≡ record { executive = cut.station.executive; is_closed = true; calls = cut.station.calls }
       after = λ i. record { executive = cut.executive i; is_closed = is_closed i; calls = cut.calls i }
 
-  pub steps : (new : Hosted) (before now : Sink) (result : Result ℕ WriteFault) → old.is_closed ≡ false → Takes input begun new before now result → Steps moment input old new before now (without_count result)
+  pub steps : (new : Hosted) (before now : Sink) (result : Result ℕ WriteFault) → old.is_closed ≡ false → HandlesInput input begun new before now result → Steps moment input old new before now (without_count result)
   steps new before now (Ok total) is_open all = record {
     is_open = all.is_closed ∙ began.is_closed ∙ is_open;
     stock = among_begun new all.stock;
@@ -142,7 +142,7 @@ module _ (moment : Moment) (input : Input (List ℕ)) (old begun : Hosted) (bega
     exact = λ asked. stops_so new fault.sent before.gained now.gained part.is_closed is_open (part.exact (asked_begun (party_of input) asked));
   }
 
-  pub counts_then : (new : Hosted) (before now : Sink) (result : Result ℕ WriteFault) → Takes input begun new before now result → Counts moment input old result
+  pub counts_then : (new : Hosted) (before now : Sink) (result : Result ℕ WriteFault) → HandlesInput input begun new before now result → Counts moment input old result
   counts_then new before now (Ok total) all = λ asked. all.count (asked_begun (party_of input) asked)
       ∙ ap (λ (from : Moment × Executive (List ℕ)). length (concat (step_by on_board from.0 from.1 input).1)) (λ i. (moment_begun i, executive_begun i))
   counts_then new before now (Err fault) part = tt
@@ -171,9 +171,9 @@ module _ (old new : Hosted) (before now : Sink) (result : Result ℕ WriteFault)
   once party step handles = subst (λ last. Handles party (written_once step) step last old new before now result) (sym (no_call moment step)) handles
 
   -- a file
-  pub filed_so : (name : Name) (bytes : List ℕ) (input : Input (List ℕ)) → input ≡ File name (length bytes) (meaning_of bytes) → Files name bytes old new before now result → Takes input old new before now result
+  pub filed_so : (name : Name) (bytes : List ℕ) (input : Input (List ℕ)) → input ≡ File name (length bytes) (meaning_of bytes) → Files name bytes old new before now result → HandlesInput input old new before now result
   filed_so name bytes input is files =
-      subst (λ given. Takes given old new before now result) (sym is)
+      subst (λ given. HandlesInput given old new before now result) (sym is)
       (once nobody (filed_now moment e (stored name (length bytes) (meaning_of bytes) e.services.files)) files)
 
   module _ (packet : List ℕ) where
@@ -187,7 +187,7 @@ module _ (old new : Hosted) (before now : Sink) (result : Result ℕ WriteFault)
         let stations : List (Station (List ℕ)) = option_map_or (λ reason. written_once (told_by_host moment (bad_packet reason ∷ []) e)) fault (routed_stations on_board moment packet e) in
         Handles (option_map_or (λ reason. nobody) fault (routed_party packet)) stations (option_map_or (λ reason. told_by_host moment (bad_packet reason ∷ []) e) fault (routed_now on_board moment packet e)) (last_calls on_board moment stations) old new before now result
 
-    pub refused_so : (reason : ℕ) → stream_fault packet ≡ Some reason → TellsAlone (bad_packet reason) old new before now result → Takes (Packet packet) old new before now result
+    pub refused_so : (reason : ℕ) → stream_fault packet ≡ Some reason → TellsAlone (bad_packet reason) old new before now result → HandlesInput (Packet packet) old new before now result
     refused_so reason is tells = subst ByFault (sym is) (once nobody (told_by_host moment (bad_packet reason ∷ []) e) tells)
 
     -- by its message id
@@ -209,16 +209,16 @@ module _ (old new : Hosted) (before now : Sink) (result : Result ℕ WriteFault)
         (by_service mid events_step tables_step orders_step (passed_on on_board moment packet e)) (last_calls on_board moment stations) old new before now result
 
     module _ (good : stream_fault packet ≡ None) where
-      routed_so : ByMid (message_id packet) → Takes (Packet packet) old new before now result
+      routed_so : ByMid (message_id packet) → HandlesInput (Packet packet) old new before now result
       routed_so routes = subst ByFault (sym good) routes
 
-      pub for_events : message_id packet ≡ event_services_mid → ObeysEvents packet old new before now result → Takes (Packet packet) old new before now result
+      pub for_events : message_id packet ≡ event_services_mid → ObeysEvents packet old new before now result → HandlesInput (Packet packet) old new before now result
       for_events is obeys = routed_so (subst ByMid (sym is) (once nobody events_step obeys))
 
-      pub for_tables : message_id packet ≡ table_services_mid → ObeysTables packet old new before now result → Takes (Packet packet) old new before now result
+      pub for_tables : message_id packet ≡ table_services_mid → ObeysTables packet old new before now result → HandlesInput (Packet packet) old new before now result
       for_tables is obeys = routed_so (subst ByMid (sym is) (once Holders tables_step obeys))
 
-      pub for_orders : message_id packet ≡ executive_services_mid → ObeysOrders packet old new before now result → Takes (Packet packet) old new before now result
+      pub for_orders : message_id packet ≡ executive_services_mid → ObeysOrders packet old new before now result → HandlesInput (Packet packet) old new before now result
       for_orders is obeys = routed_so (subst ByMid (sym is)
           (subst (λ last. Handles party (order_stations on_board moment packet e (executive_service_now on_board moment packet e)) orders_step last old new before now result)
           (sym (no_call_for_orders moment packet e (executive_service_now on_board moment packet e))) obeys))

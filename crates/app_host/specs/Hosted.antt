@@ -14,7 +14,7 @@ use Rattle.app_host.specs.Shared.{shared}
 
 -- no object
 abbrev pub no_object : Object
-no_object = record { called = []; state = Other; held = None }
+no_object = record { called = []; state = Other; seat = None }
 
 -- the object of a seat, and a spare
 abbrev pub object_at : ℕ → List (Option Object) → Option Object

@@ -7,4 +7,4 @@ use Rattle.lc_model.specs.Kept.Summary.{AppState}
 pub record Object : Type 0 where
   pub called : Name
   pub state : AppState
-  pub held : Option ℕ
+  pub seat : Option ℕ

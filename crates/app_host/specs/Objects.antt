@@ -16,39 +16,39 @@ IfBoth (Some a) None P = ⊥
 
 -- a start
 pub record MayStartOn (seat : ℕ) (s : Services) (o : Object) : Type 0 where
-  pub spare : o.held ≡ None
+  pub spare : o.seat ≡ None
   pub kind : IsObject o.state o.called
   pub free : MayBeStarted seat o.called (held_by s)
 
 pub record HasStarted (seat : ℕ) (before after : Services) (old new : Object) : Type 0 where
   pub name : new.called ≡ old.called
-  pub holds : new.held ≡ Some seat
+  pub holds : new.seat ≡ Some seat
   pub rules : IsStarted seat old.called (held_by before) (held_by after)
   pub home : IsAtHome new.state old.called seat after
   pub exact : IfSome (next_start on_board before.moment old.state (shared before)) (Leaves seat new.state before after)
 
 -- a packet
 pub record MayAnswer (seat : ℕ) (packet : List ℕ) (s : Services) (o : Object) : Type 0 where
-  pub holds : o.held ≡ Some seat
+  pub holds : o.seat ≡ Some seat
   pub home : IsAtHome o.state o.called seat s
   pub given : MayBeGiven seat o.called packet (held_by s)
 
 pub record HasAnswered (seat : ℕ) (packet : List ℕ) (before after : Services) (old new : Object) : Type 0 where
   pub name : new.called ≡ old.called
-  pub holds : new.held ≡ Some seat
+  pub holds : new.seat ≡ Some seat
   pub rules : IsGiven seat old.called packet (held_by before) (held_by after)
   pub home : IsAtHome new.state old.called seat after
   pub exact : IfSome (next_on_packet on_board before.moment old.state packet (shared before)) (Leaves seat new.state before after)
 
 -- a retirement
 pub record MayRetire (seat : ℕ) (s : Services) (o : Object) : Type 0 where
-  pub holds : o.held ≡ Some seat
+  pub holds : o.seat ≡ Some seat
   pub home : IsAtHome o.state o.called seat s
   pub idle : s.outgoing ≡ []
 
 pub record HasRetired (seat : ℕ) (before after : Services) (old new : Object) : Type 0 where
   pub name : new.called ≡ old.called
   pub state : new.state ≡ old.state
-  pub holds : new.held ≡ None
+  pub holds : new.seat ≡ None
   pub rules : IsRetired seat old.called (held_by before) (held_by after)
   pub exact : IfSome (next_retire old.state (shared before)) (LeavesEmpty seat before after)

@@ -47,7 +47,7 @@ next_of meaning (successor.Same app seat) = Same (meaning app) seat
 -- an object that holds no seat may begin on this one, which is free: no seat has its name
 pub record MayBegin (seat : ℕ) (h : Hosted) (o : Object) : Type 0 where
   pub free : object_at seat h.seats ≡ None
-  pub spare : o.held ≡ None
+  pub spare : o.seat ≡ None
   pub unused : (k : ℕ) → IfSome (object_at k h.seats) (λ (there : Object). is_named o.called there.called ≡ false)
 
 -- the next one may
@@ -90,7 +90,7 @@ seated_next (Same o seat) r = with_seat seat (Some o.called) r
 -- ---- an object takes a seat, or gives it back
 
 -- the object began on the seat
-pub record HasBegun (seat : ℕ) (o : Object) (old new : Hosted) : Type 0 where
+pub record ObjectHasBegun (seat : ℕ) (o : Object) (old new : Hosted) : Type 0 where
   pub whole : StaysWhole old new
   pub stock : new.stock ≡ old.stock
   pub own : ComesTo (with_seat seat (Some o.called) (roster_of old)) old new
@@ -110,7 +110,7 @@ pub record HasWithdrawn (seat : ℕ) (old new : Hosted) (o : Object) : Type 0 wh
   pub whole : StaysWhole old new
   pub stock : new.stock ≡ old.stock
   pub seats : new.seats ≡ slice_set old.seats seat None
-  pub spare : o.held ≡ None
+  pub spare : o.seat ≡ None
   pub was : IfSome (object_at seat old.seats) (λ (there : Object). member_of there ≡ member_of o)
   pub retired : IsSomeAnd (object_at seat old.seats) (λ (there : Object). HasRetired seat old.services new.services there o)
   pub exact : IsKnown o → LeavesExactly seat old new
@@ -156,13 +156,13 @@ abbrev pub Prepares : {X : Type 0} {D : X → Type 0} → (DynBox X Global D →
 Prepares meaning party wanted old new (Ok next) = IsPrepared party wanted old new (next_of meaning next)
 Prepares meaning party wanted old new (Err error) = (wanted ≡ Err (refusal_of error)) × (new ≡ old)
 
--- the same of a command that is refused for its code or its length, too
-abbrev pub Takes : {X : Type 0} {D : X → Type 0} → (DynBox X Global D → Object) →
+-- what prepares an order, of a command that may be refused for its code or its length, too
+abbrev pub PreparesFor : {X : Type 0} {D : X → Type 0} → (DynBox X Global D → Object) →
     Party → Result (Written (List ℕ)) Refusal → Hosted → Hosted → Result (Successor X D) Refusal → Type 0
-Takes meaning party wanted old new (Ok next) = IsPrepared party wanted old new (next_of meaning next)
-Takes meaning party wanted old new (Err numbers) = (wanted ≡ Err numbers) × (new ≡ old)
+PreparesFor meaning party wanted old new (Ok next) = IsPrepared party wanted old new (next_of meaning next)
+PreparesFor meaning party wanted old new (Err numbers) = (wanted ≡ Err numbers) × (new ≡ old)
 
--- ---- the same of who is where, whatever the applications are
+-- ---- who is where when an order is prepared, whatever the applications are
 
 -- who leaves has left, and the next one makes of it what is wanted
 pub record HasMadeWay (wanted : Result Succession Refusal) (old new : Hosted) (next : Next) : Type 0 where
@@ -178,7 +178,7 @@ abbrev pub MakesWay : {X : Type 0} {D : X → Type 0} → (DynBox X Global D →
 MakesWay meaning wanted old new (Ok next) = HasMadeWay wanted old new (next_of meaning next)
 MakesWay meaning wanted old new (Err error) = (wanted ≡ Err (refusal_of error)) × (new ≡ old)
 
--- the same of a command that is refused for its code or its length, too
+-- what makes way for an order, of a command that may be refused for its code or its length, too
 abbrev pub MakesWayFor : {X : Type 0} {D : X → Type 0} → (DynBox X Global D → Object) →
     Result Succession Refusal → Hosted → Hosted → Result (Successor X D) Refusal → Type 0
 MakesWayFor meaning wanted old new (Ok next) = HasMadeWay wanted old new (next_of meaning next)

@@ -40,7 +40,7 @@ ordered Stop name = Only (Some name) None
 ordered Restart name = Only (Some name) None
 ordered Reload name = Only (Some name) (Some name)
 
--- the same of a command, which may be none
+-- who may take part in a command: in its order, or nobody where it is none
 abbrev pub party_by : Result (Order × Name) Refusal → Party
 party_by (Ok command) = ordered command.0 command.1
 party_by (Err refusal) = nobody

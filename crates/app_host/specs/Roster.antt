@@ -3,7 +3,7 @@
 use Rattle.std.specs.Prelude.{◌≡◌, ℕ, Bool, false, List, map, remove, if◌then◌else◌, Option, Some, None, is_some, is_none, option_map, slice_set, Result, Ok}
 use Rattle.std.specs.List.{position_from}
 use Rattle.lc_model.specs.Name.{Name, is_named}
-use Rattle.lc_model.specs.Refusal.{Refusal, ◌>>=◌, refused, found}
+use Rattle.lc_model.specs.Refusal.{Refusal, ◌>>=◌, refused, found, not_running, no_spare, already_running, no_free_seat}
 use Rattle.lc_model.specs.Command.{Order, Start, Stop, Restart, Reload, order_in}
 use Rattle.app_host.specs.Hosted.{Object, Hosted, spare_in}
 
@@ -63,23 +63,23 @@ pub record Succession : Type 0 where
 -- restart of the object that runs, and a reload of the first spare of the name, on the seat that it had.
 abbrev pub ordered_by : Order → Name → Roster → Result Succession Refusal
 ordered_by Start name r =
-    if is_some (seat_in name r) then refused 123
+    if is_some (seat_in name r) then refused already_running
     else (do
-      place ← found (first_spare_in name r) 122
-      seat ← found (free_in r) 124
+      place ← found (first_spare_in name r) no_spare
+      seat ← found (free_in r) no_free_seat
       Ok (record { leaves = None; left = r; come = with_spare place seat r }))
 ordered_by Stop name r = do
-  seat ← found (seat_in name r) 121
+  seat ← found (seat_in name r) not_running
   Ok (record { leaves = Some seat; left = with_seat seat None r; come = with_seat seat None r })
 ordered_by Restart name r = do
-  seat ← found (seat_in name r) 121
+  seat ← found (seat_in name r) not_running
   Ok (record { leaves = Some seat; left = with_seat seat None r; come = r })
 ordered_by Reload name r = do
-  seat ← found (seat_in name r) 121
-  place ← found (first_spare_in name r) 122
+  seat ← found (seat_in name r) not_running
+  place ← found (first_spare_in name r) no_spare
   Ok (record { leaves = Some seat; left = with_seat seat None r; come = with_spare place seat r })
 
--- the same of a command, which may be none
+-- what a command makes of it, which may be no order
 abbrev pub succession_by : List ℕ → Roster → Result Succession Refusal
 succession_by packet r = do
   command ← order_in packet

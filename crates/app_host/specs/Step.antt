@@ -3,6 +3,7 @@ use Rattle.std.specs.Prelude.{◌≡◌, ℕ, ◌≤◌, ◌==◌, ⊤, true, fa
 use Rattle.std.specs.Option.{option_map_or}
 use Rattle.std.specs.List.{concat}
 use Rattle.std.specs.Io.KnownBytes.{Appends}
+use Rattle.lc_model.specs.Name.{name_size}
 use Rattle.lc_model.specs.declared.record.Body.{Body}
 use Rattle.lc_model.specs.declared.record.Body.TheVariants as body
 use Rattle.lc_model.specs.declared.record.Moment.{Moment}
@@ -10,7 +11,6 @@ use Rattle.lc_model.specs.Device.{Sink}
 use Rattle.lc_model.specs.Packet.{stream_fault, message_id, tick_mid, by_service}
 use Rattle.lc_model.specs.Command.{order_in}
 use Rattle.lc_model.specs.Host.React.{Input, Packet, Tick, File}
-use Rattle.lc_model.specs.Host.Stream.{name_size}
 use Rattle.lc_model.specs.Services.Seen.{meaning_of}
 use Rattle.lc_model.specs.Kept.Executive.{Executive, Written, most_deliveries, step_by}
 use Rattle.lc_model.specs.Kept.Stations.{Station, stations_of, last_calls, host_after, host_step}
@@ -51,7 +51,7 @@ party_of (File name size meaning) = nobody
 -- ---- inside a step
 
 -- the step has begun: it has its moment, and no call was made
-pub record HasBegun (moment : Moment) (old new : Hosted) : Type 0 where
+pub record StepHasBegun (moment : Moment) (old new : Hosted) : Type 0 where
   pub whole : IsWhole new
   pub stock : new.stock ≡ old.stock
   pub seats : new.seats ≡ old.seats
@@ -60,8 +60,8 @@ pub record HasBegun (moment : Moment) (old new : Hosted) : Type 0 where
   pub calls : new.calls ≡ 0
 
 -- what a record brings is handled, at the moment of the services
-abbrev pub Takes : Input (List ℕ) → Hosted → Hosted → Sink → Sink → Result ℕ WriteFault → Type 0
-Takes input old new before now result =
+abbrev pub HandlesInput : Input (List ℕ) → Hosted → Hosted → Sink → Sink → Result ℕ WriteFault → Type 0
+HandlesInput input old new before now result =
     let e : Executive (List ℕ) = executive_in old in
     let stations : List (Station (List ℕ)) = stations_of on_board old.services.moment e input in
     Handles (party_of input) stations (step_by on_board old.services.moment e input) (last_calls on_board old.services.moment stations) old new before now result
@@ -89,7 +89,7 @@ pub record StepsSo (moment : Moment) (input : Input (List ℕ)) (old new : Hoste
   pub gains : Appends before now (called_for moment input old)
   pub room : (room : ℕ) → length (called_for moment input old) ≤ room → host_step on_board moment room (in_numbers old) input ≡ (in_numbers new, None)
 
--- the same up to the write that failed
+-- and where a write failed: the host in numbers, and the bytes up to that write
 pub record StopsSo (moment : Moment) (input : Input (List ℕ)) (sent : ℕ) (old new : Hosted) (before now : Option (List ℕ)) : Type 0 where
   pub host : host_step on_board moment sent (in_numbers old) input ≡ (in_numbers new, Some sent)
   pub gains : Appends before now (take sent (called_for moment input old))

@@ -12,7 +12,7 @@ use Rattle.app_host.specs.Hosted.{Object, Hosted, object_at}
 
 -- an object on its seat: it holds that seat, it has an application's name, and it is at home
 pub record IsRunning (s : Services) (seat : ℕ) (o : Object) : Type 0 where
-  pub holds : o.held ≡ Some seat
+  pub holds : o.seat ≡ Some seat
   pub named : IsApplicationName o.called
   pub home : IsAtHome o.state o.called seat s
 
@@ -29,7 +29,7 @@ pub record AreSeated (seats : List (Option Object)) (s : Services) : Type 0 wher
 
 -- no object in stock holds a seat
 abbrev pub AreSpares : List Object → Type 0
-AreSpares stock = All (λ (spare : Object). spare.held ≡ None) stock
+AreSpares stock = All (λ (spare : Object). spare.seat ≡ None) stock
 
 -- so it is between any two calls of an application; and nothing waits to be written
 pub record IsWhole (h : Hosted) : Type 0 where

@@ -30,10 +30,10 @@ pub trait App: Drop {
     /// Takes a free seat, and begins anew there, with one pipe and registered under its name. Conditions: it holds no seat,
     /// nothing is registered under its name, and nothing waits to be written. It publishes nothing.
     fn start(&mut self, seat: Seat, services: &mut Services)
-        requires spare { (meaning self.old).held ≡ None }
+        requires spare { (meaning self.old).seat ≡ None }
         requires free { MayBeStarted seat (meaning self.old).called (held_by services.old) }
         ensures name { (meaning self.new).called ≡ (meaning self.old).called }
-        ensures seat { (meaning self.new).held ≡ Some seat }
+        ensures seat { (meaning self.new).seat ≡ Some seat }
         ensures rules { IsStarted seat (meaning self.old).called (held_by services.old)
             (held_by services.new) }
         ensures exact { IfSome
@@ -47,37 +47,37 @@ pub trait App: Drop {
     /// each pipe has room for eight packets. It publishes for a tick alone, at most eight packets and no tick. Of an application
     /// of another kind than this profile's, whose state says nothing, the first condition is that what is there is its own.
     fn on_packet(&mut self, services: &mut Services, packet: &[u8])
-        requires home { IsSomeAnd (meaning self.old).held
+        requires home { IsSomeAnd (meaning self.old).seat
             (λ seat. IsAtHome (meaning self.old).state (meaning self.old).called seat
             services.old) }
-        requires given { IfSome (meaning self.old).held
+        requires given { IfSome (meaning self.old).seat
             (λ seat. MayBeGiven seat (meaning self.old).called packet.now (held_by services.old)) }
         ensures name { (meaning self.new).called ≡ (meaning self.old).called }
-        ensures seat { (meaning self.new).held ≡ (meaning self.old).held }
-        ensures rules { IfSome (meaning self.old).held
+        ensures seat { (meaning self.new).seat ≡ (meaning self.old).seat }
+        ensures rules { IfSome (meaning self.old).seat
             (λ seat. IsGiven seat (meaning self.old).called packet.now (held_by services.old)
             (held_by services.new)) }
-        ensures exact { IfSome (meaning self.old).held
+        ensures exact { IfSome (meaning self.old).seat
             (λ seat. IfSome (next_on_packet on_board services.old.moment (meaning self.old).state
             packet.now (shared services.old))
             (Leaves seat (meaning self.new).state services.old services.new)) }
-        ensures settled { IfSome (meaning self.old).held
+        ensures settled { IfSome (meaning self.old).seat
             (λ seat. Settled (meaning self.new).state seat (held_by services.new)) }
         ensures other { (meaning self.old).state ≡ Other → (meaning self.new).state ≡ Other };
 
     /// Gives its seat back: it has no pipe, sender or table afterwards. Conditions as for a packet. It publishes nothing.
     fn retire(&mut self, services: &mut Services)
-        requires home { IsSomeAnd (meaning self.old).held
+        requires home { IsSomeAnd (meaning self.old).seat
             (λ seat. IsAtHome (meaning self.old).state (meaning self.old).called seat
             services.old) }
         requires idle { services.old.outgoing ≡ [] }
         ensures name { (meaning self.new).called ≡ (meaning self.old).called }
-        ensures seat { (meaning self.new).held ≡ None }
+        ensures seat { (meaning self.new).seat ≡ None }
         ensures state { (meaning self.new).state ≡ (meaning self.old).state }
-        ensures rules { IfSome (meaning self.old).held
+        ensures rules { IfSome (meaning self.old).seat
             (λ seat. IsRetired seat (meaning self.old).called (held_by services.old)
             (held_by services.new)) }
-        ensures exact { IfSome (meaning self.old).held
+        ensures exact { IfSome (meaning self.old).seat
             (λ seat. IfSome (next_retire (meaning self.old).state (shared services.old))
             (LeavesEmpty seat services.old services.new)) };
 }

@@ -12,7 +12,7 @@ ghost use Rattle.app_host.specs.Delivered.{executive_in};
 ghost use Rattle.app_host.specs.Roster.{roster_of, seat_in, free_in, first_spare_in, ordered_by, succession_by};
 ghost use Rattle.app_host.specs.Party.{ordered, party_by};
 ghost use Rattle.app_host.specs.Response.{obeying_orders, Responds};
-ghost use Rattle.app_host.specs.Ordered.{order_of, named_by, outcome_of, Prepares, MakesWay, Takes, MakesWayFor, MayFollow, ComesIn, Enters, next_of, ObeysOrders};
+ghost use Rattle.app_host.specs.Ordered.{order_of, named_by, outcome_of, Prepares, MakesWay, PreparesFor, MakesWayFor, MayFollow, ComesIn, Enters, next_of, ObeysOrders};
 
 use crate::error::{HostError, WriteFault};
 use crate::host::Host;
@@ -204,11 +204,11 @@ impl Host {
         }
     }
 
-    /// The same for a command, which may be refused as none.
+    /// Prepares the order of a command, which may be refused as none.
     fn take_order(&mut self, packet: &[u8]) -> Result<Successor, Numbers>
         requires whole { IsWhole (shown meaning self.old) }
         requires headers { 8 ≤ length packet.now }
-        ensures prepared { Takes meaning
+        ensures prepared { PreparesFor meaning
             (party_by (app_command (function_code packet.now) (payload packet.now)))
             (executive_service_now on_board self.old.services.moment packet.now
             (executive_in (shown meaning self.old))) (shown meaning self.old)

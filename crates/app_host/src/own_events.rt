@@ -28,7 +28,7 @@ impl Host {
         self.services.ask(None, id, kind, text.as_bytes());
     }
 
-    /// The same, and it is written, which is all that a record leads to.
+    /// Tells an event of `HOST` and writes it, which is all that a record leads to.
     pub(crate) fn tell_alone<W: ByteSink>(
         &mut self,
         id: u16,

@@ -65,7 +65,7 @@ impl Services {
         self.ask(from, id, kind, text);
     }
 
-    /// The same; contracts see by seats what the event services become, too.
+    /// Asks for an event as `tell` does; contracts see by seats what the event services become, too.
     pub(crate) fn ask(&mut self, from: Option<Seat>, id: u16, kind: EventKind, text: &[u8])
         requires text { length text.now ≤ 121 }
         requires room { length self.old.outgoing + 168 ≤ 65536 }

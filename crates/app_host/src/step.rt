@@ -6,7 +6,7 @@ ghost use Rattle.lc_model.specs.Host.React.{Packet};
 ghost use Rattle.app_host.specs.Hosted.{shown};
 ghost use Rattle.app_host.specs.Whole.{IsWhole, IsQuiet};
 ghost use Rattle.app_host.specs.Response.{response_to, response_to_packet, routed_to, Responds};
-ghost use Rattle.app_host.specs.Step.{input_by, IsNamed, HasBegun, Takes, IsBetween, IsTurnedAway, Steps, Counts, without_count};
+ghost use Rattle.app_host.specs.Step.{input_by, IsNamed, StepHasBegun, HandlesInput, IsBetween, IsTurnedAway, Steps, Counts, without_count};
 
 use crate::error::WriteFault;
 use crate::host::Host;
@@ -39,7 +39,7 @@ impl Host {
         }
     }
 
-    /// The same, and answers how many bytes were written, for writers that don't tell.
+    /// Handles a record as `step` does, and answers how many bytes were written, for writers that don't tell.
     pub fn step_counted<W: ByteSink>(
         &mut self,
         entry: &Record<'_>,
@@ -71,7 +71,7 @@ impl Host {
     /// A step begins, at this moment: no call was made in it.
     fn begin_step(&mut self, moment: Moment)
         requires whole { IsWhole (shown meaning self.old) }
-        ensures { HasBegun moment (shown meaning self.old) (shown meaning self.new) }
+        ensures { StepHasBegun moment (shown meaning self.old) (shown meaning self.new) }
     {
         // For the proof: tables and files are within their bounds, each under a name of its own.
         self.services.tables.is_service();
@@ -85,7 +85,7 @@ impl Host {
         requires quiet { IsQuiet (shown meaning self.old) }
         requires none_yet { self.old.calls ≡ 0 }
         requires named { IsNamed body.now }
-        ensures handled { Takes (input_by body.now) (shown meaning self.old)
+        ensures handled { HandlesInput (input_by body.now) (shown meaning self.old)
             (shown meaning self.new) (W.sink out.old) (W.sink out.new) result }
         ensures own { Responds self.old.services.moment
             (response_to body.now (shown meaning self.old)) (shown meaning self.old)
@@ -103,7 +103,7 @@ impl Host {
         requires whole { IsWhole (shown meaning self.old) }
         requires quiet { IsQuiet (shown meaning self.old) }
         requires none_yet { self.old.calls ≡ 0 }
-        ensures handled { Takes (Packet packet.now) (shown meaning self.old)
+        ensures handled { HandlesInput (Packet packet.now) (shown meaning self.old)
             (shown meaning self.new) (W.sink out.old) (W.sink out.new) result }
         ensures own { Responds self.old.services.moment
             (response_to_packet packet.now (shown meaning self.old)) (shown meaning self.old)
@@ -122,7 +122,7 @@ impl Host {
         requires none_yet { self.old.calls ≡ 0 }
         requires good { stream_fault packet.now ≡ None }
         requires headers { 8 ≤ length packet.now }
-        ensures handled { Takes (Packet packet.now) (shown meaning self.old)
+        ensures handled { HandlesInput (Packet packet.now) (shown meaning self.old)
             (shown meaning self.new) (W.sink out.old) (W.sink out.new) result }
         ensures own { Responds self.old.services.moment
             (routed_to packet.now (shown meaning self.old)) (shown meaning self.old)

@@ -5,7 +5,7 @@ ghost use Rattle.app_host.specs.Calls.{IsObject};
 ghost use Rattle.app_host.specs.Hosted.{Object, object_at, shown};
 ghost use Rattle.app_host.specs.Objects.{MayStartOn, HasStarted, MayRetire, HasRetired};
 ghost use Rattle.app_host.specs.Whole.{AreSeated, AreSpares};
-ghost use Rattle.app_host.specs.Ordered.{MayBegin, MayFollow, HasBegun, HasFollowed, HasWithdrawn, next_of};
+ghost use Rattle.app_host.specs.Ordered.{MayBegin, MayFollow, ObjectHasBegun, HasFollowed, HasWithdrawn, next_of};
 
 use crate::app::App;
 use crate::host::Host;
@@ -119,7 +119,7 @@ impl Host {
             (shown meaning self.old).services }
         requires idle { self.old.services.outgoing ≡ [] }
         requires may { MayBegin seat (shown meaning self.old) (meaning app) }
-        ensures { HasBegun seat (meaning app) (shown meaning self.old) (shown meaning self.new) }
+        ensures { ObjectHasBegun seat (meaning app) (shown meaning self.old) (shown meaning self.new) }
     {
         // For the proof: the object is of the kind that goes by its name, and tables and files are within their bounds, each
         // under a name of its own.

@@ -29,6 +29,6 @@ written_from e =
     let begun : Written (List ℕ) = step_by on_board now e (Packet start) in
     concat begun.1 ++ counted_from begun.0
 
--- the same of a host that begins with a counter and another application in stock
+-- what both call for of a host that begins with a counter and another application in stock
 abbrev pub written_beside : Member → List ℕ
 written_beside other = written_from (first_executive (record { called = counter_name; state = CounterState 0 } ∷ other ∷ []))

@@ -37,8 +37,8 @@ fn stock_of(
     counter: Box<dyn App>,
     other: Box<dyn App>,
 ) -> Result<Vec<Box<dyn App>>, AllocError>
-    requires counter { (meaning counter).held ≡ None }
-    requires other { (meaning other).held ≡ None }
+    requires counter { (meaning counter).seat ≡ None }
+    requires other { (meaning other).seat ≡ None }
     ensures spares { IfOk result (λ stock. AreSpares (map meaning stock.items)) }
     ensures items { IfOk result
         (λ stock. map meaning stock.items ≡ meaning counter ∷ meaning other ∷ []) }
@@ -107,8 +107,8 @@ pub fn counts_beside<W: ByteSink>(
 ) -> Result<Result<(), WriteFault>, AllocError>
     requires named { (meaning counter).called ≡ counter_name }
     requires counts { (meaning counter).state ≡ CounterState 0 }
-    requires counter { (meaning counter).held ≡ None }
-    requires other { (meaning other).held ≡ None }
+    requires counter { (meaning counter).seat ≡ None }
+    requires other { (meaning other).seat ≡ None }
     ensures { IfOk result
         (λ answer. OnOk answer
         (Appends (W.sink out.old).gained (W.sink out.new).gained

@@ -62,7 +62,7 @@ impl Named {
 impl App for Named {
     ghost use Rattle.lc_model.specs.Kept.Summary.{Other};
 
-    ghost meaning = { λ n. record { called = n.name; state = Other; held = n.seat } };
+    ghost meaning = { λ n. record { called = n.name; state = Other; seat = n.seat } };
 
     fn name(&self) -> &[u8] {
         &self.name

@@ -98,7 +98,7 @@ fn follow(host: &mut Host, tally: &Tally, script: &[Line<'_>]) -> Option<usize>
 /// One spare more. Condition: it holds no seat.
 fn add(stock: &mut Vec<Box<dyn App>>, app: Box<dyn App>) -> Result<(), AllocError>
     requires spares { AreSpares (map meaning stock.old.items) }
-    requires spare { (meaning app).held ≡ None }
+    requires spare { (meaning app).seat ≡ None }
     ensures { OnOk result (AreSpares (map meaning stock.new.items)) }
 {
     stock.push(app)?;
@@ -131,7 +131,7 @@ fn perform(
     Ok(first)
 }
 
-/// The same of a host with these spares.
+/// Plays a script on a host with these spares.
 pub fn plays(
     alloc: Global,
     spares: &[Spare],

@@ -32,7 +32,7 @@ impl Speaking {
 impl App for Speaking {
     ghost use Rattle.lc_model.specs.Kept.Summary.{Other};
 
-    ghost meaning = { λ s. record { called = s.name; state = Other; held = s.seat } };
+    ghost meaning = { λ s. record { called = s.name; state = Other; seat = s.seat } };
 
     fn name(&self) -> &[u8] {
         &self.name

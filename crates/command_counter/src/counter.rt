@@ -43,7 +43,7 @@ impl App for Counter {
     ghost use Rattle.lc_model.specs.Kept.Summary.{CounterState};
 
     ghost meaning = { λ c.
-        record { called = counter_name; state = CounterState c.count; held = c.seat } };
+        record { called = counter_name; state = CounterState c.count; seat = c.seat } };
 
     fn name(&self) -> &[u8] {
         NAME

@@ -59,7 +59,7 @@ updated {X} name old new value updates text = by_test (bytes_eq name text) refl
 pub compares_as : (name : List ℕ) (key : ℕ × Bor (List ℕ)) → key.0 ≡ spread name → key.1.now ≡ name → keys_compared key ≡ compared name
 compares_as name key number bytes = λ i other. ordering_then (nat_cmp (number i) other.0) (slice_cmp nat_cmp (bytes i) other.1.now)
 
--- the same where the change is at the name's key
+-- what is found at a name where the change is at the name's key
 pub updated_at : {X : Type 0} (name : List ℕ) (key : ℕ × Bor (List ℕ)) (old new : BTreeMap (ℕ × Bor (List ℕ)) X) (value : Option X) → key.0 ≡ spread name → key.1.now ≡ name →
     UpdatesBy keys_compared (keys_compared key) old new value → (text : List ℕ) → at_name new text ≡ cond (bytes_eq name text) value (at_name old text)
 updated_at {X} name key old new value number bytes updates =

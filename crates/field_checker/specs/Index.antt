@@ -51,7 +51,7 @@ both first behind = record {
   field = option_or first.field behind.field;
 }
 
--- the same where there may be none
+-- what both declare, where either may be none
 abbrev pub joined : Option Declared → Option Declared → Option Declared
 joined None behind = behind
 joined (Some first) None = Some first

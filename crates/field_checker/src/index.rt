@@ -66,7 +66,7 @@ impl<'f, 'a> Declared<'f, 'a> {
         }
     }
 
-    /// The same with what items behind them declare.
+    /// What these items declare together with those behind them.
     fn with(self, behind: Declared<'f, 'a>) -> Declared<'f, 'a>
         ensures { result ≡ both self.entry behind.entry }
     {

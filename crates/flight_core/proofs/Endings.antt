@@ -13,7 +13,7 @@ use Rattle.lc_model.specs.Kept.Executive.{written_from}
 use Rattle.lc_model.specs.Kept.Stations as model
 use Rattle.lc_model.specs.Kept.Stations.{host_step}
 use Rattle.host_laws.specs.Statements.{AreBrought, StreamsBring, executive_after, RunsGoOn}
-use Rattle.host_laws.specs.Writes.{OpenHostsTake, Takes}
+use Rattle.host_laws.specs.Writes.{OpenHostsTake, TakesAsAnswered}
 use Rattle.app_host.specs.Shared.{on_board}
 use Rattle.app_host.specs.Hosted.{Hosted, in_numbers}
 use Rattle.app_host.specs.Delivered.{executive_in}
@@ -57,7 +57,7 @@ module _ (laws : Laws) (n : ℕ) (meanings : FileMeanings (List ℕ)) (first : H
     output_is : output (records far.come).0 ≡ written_by meanings first far.entries
     output_is = output_all ∙ ap (written_by meanings first) is
 
-  -- the same after a read that took nothing
+  -- what was consumed so far, after a read that took nothing
   rest_is : (source_after : Source) → Consumes source_now.rest source_after.rest [] → Consumes source.rest source_after.rest far.come
   rest_is source_after took = subst (Consumes source.rest source_after.rest) (append-nil far.come) (Consumes-trans _ _ _ _ _ far.took took)
 
@@ -149,8 +149,8 @@ module _ (laws : Laws) (n : ℕ) (meanings : FileMeanings (List ℕ)) (first : H
 
     sent_fewer : sent < length called
     sent_fewer =
-        let takes : Takes on_board entry.moment sent (in_numbers now) (input_of meanings entry.contents) (Some sent) =
-        subst (Takes on_board entry.moment sent (in_numbers now) (input_of meanings entry.contents)) (ap (λ (r : model.Host (List ℕ) × Option ℕ). r.1) stops.host)
+        let takes : TakesAsAnswered on_board entry.moment sent (in_numbers now) (input_of meanings entry.contents) (Some sent) =
+        subst (TakesAsAnswered on_board entry.moment sent (in_numbers now) (input_of meanings entry.contents)) (ap (λ (r : model.Host (List ℕ) × Option ℕ). r.1) stops.host)
         (laws.takes entry.moment sent (in_numbers now) (input_of meanings entry.contents) far.is_open) in
         takes.fewer
 
@@ -220,7 +220,7 @@ module _ (laws : Laws) (n : ℕ) (meanings : FileMeanings (List ℕ)) (first : H
         (sym (is ∙ ap (λ (h : Held). ended_by h.bytes report) over.same))
         (comes_to_the_end source_after over.took front_is held.bytes refl over.fine over.at_the_end report many long)
 
--- ---- the same as the loop has it
+-- ---- how a run ends, as the loop has it
 
 module _ (laws : Laws) (n : ℕ) (meanings : FileMeanings (List ℕ)) (first : Hosted) (most : ℕ) (source : Source) (sink : Sink) (known : AreAllKnown first)
     (output : List StreamEntry → List ℕ) (same : (entries : List StreamEntry) → AreBrought n entries → written_by meanings first entries ≡ output entries)

@@ -21,7 +21,7 @@ use Rattle.flight_core.specs.declared.error.RunError.TheVariants.{Compile, BadRe
 use Rattle.flight_core.specs.Compiled.{AreAllCompiled, IsFirstRefused, IsNotCompiled, NamesTheNumber}
 use Rattle.flight_core.specs.Ending.{ending_of}
 use Rattle.flight_core.specs.Fitting.{Fits, FitsWithFewWaiting, IsFirstUnfit, IsUnfit, RefusesUnfitAlone}
-use Rattle.flight_core.specs.Flight.{HasBegun}
+use Rattle.flight_core.specs.Flight.{RunHasBegun}
 use Rattle.flight_core.specs.Run.{RefusesNone}
 
 -- ---- tests
@@ -133,7 +133,7 @@ compiled_fit (source ∷ sources) [] are = absurd are
 compiled_fit (source ∷ sources) (pair ∷ pairs) are = (fits source are.0.rules are.0.compiles, compiled_fit sources pairs are.1)
 
 -- a run that has begun refuses none
-pub begun : (d : Devices) (result : Result Report RunError) → HasBegun result → RefusesNone d result
+pub begun : (d : Devices) (result : Result Report RunError) → RunHasBegun result → RefusesNone d result
 begun d (Ok report) is = tt
 begun d (Err (Compile number error)) is = absurd is
 begun d (Err Memory) is = absurd is

@@ -22,7 +22,7 @@ module _ (m : Mission) where
   abbrev pub packets_by_texts : List Text → List StreamEntry → List (List ℕ)
   packets_by_texts texts entries = sent_from (as_halves m.edition.layouts) m.schedule (first_world m.stock) (text_meanings m.edition.layouts texts) entries
 
-  -- the same where files are no more than their bytes
+  -- those that are called for where files are no more than their bytes
   abbrev pub packets_by_bytes : (Kind → ℕ → List ℕ) → List StreamEntry → List (List ℕ)
   packets_by_bytes compiled entries = sent_from (as_bytes m.edition.layouts) m.schedule (first_world m.stock) (byte_meanings compiled) entries
 
@@ -39,7 +39,7 @@ module _ (m : Mission) where
         without_asides others ≡ without_asides (records_in m stream).0 →
         WritesRequests before (packets_by_texts texts (records_in m stream).0) (sequences_among (packets_by_texts texts others))
 
-    -- the same without premises on hashes and raw files
+    -- asides can't touch the requests, without premises on hashes and raw files
     abbrev pub IsNotTouchedByAsidesInBytes : Ending → Type 0
     IsNotTouchedByAsidesInBytes ending = (texts : List Text) (stream before : List ℕ) → IsOfTexts m texts →
         d.source.rest ≡ Some stream → d.sink.gained ≡ Some before → IsUndisturbed m d ending →

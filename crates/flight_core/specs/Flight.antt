@@ -32,10 +32,10 @@ ended_by [] report = Ok report
 ended_by (byte ∷ bytes) report = Err (error.Truncated (report.records + 1))
 
 -- a run that has begun refuses no text, and lacks no memory
-abbrev pub HasBegun : Result Report RunError → Type 0
-HasBegun (Err (error.Compile text refusal)) = ⊥
-HasBegun (Err error.Memory) = ⊥
-HasBegun other = ⊤
+abbrev pub RunHasBegun : Result Report RunError → Type 0
+RunHasBegun (Err (error.Compile text refusal)) = ⊥
+RunHasBegun (Err error.Memory) = ⊥
+RunHasBegun other = ⊤
 
 -- what the host writes over these records
 abbrev pub written_by : FileMeanings (List ℕ) → Hosted → List StreamEntry → List ℕ

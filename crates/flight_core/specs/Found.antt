@@ -1,6 +1,7 @@
 -- What is taken off a stream, as the definitions have it.
 use Rattle.std.specs.Prelude.{ℕ, ◌<◌, ◌≤◌, length, Option, option_map, ⊤}
-use Rattle.lc_model.specs.Host.Stream.{Contents, StreamEntry, name_size}
+use Rattle.lc_model.specs.Name.{name_size}
+use Rattle.lc_model.specs.Host.Stream.{Contents}
 use Rattle.lc_model.specs.Host.Stream as stream
 use Rattle.lc_model.specs.declared.record.Body.{Body}
 use Rattle.lc_model.specs.declared.record.Body.TheVariants as body
@@ -22,7 +23,7 @@ answer_of (Record entry) = answer.Entry (record { moment = entry.moment; content
 answer_of (Half moment name kind text) = answer.Entry (record { moment = moment; contents = stream.Half name.now kind text })
 answer_of (Bad number) = answer.Bad number
 
--- the same where something was
+-- the answer where something was found
 abbrev pub answer_in : Option Found → Option Answer
 answer_in found = option_map answer_of found
 

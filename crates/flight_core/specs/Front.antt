@@ -1,7 +1,7 @@
 -- What is judged of the front of a stream. The format of streams is this project's own.
 use Rattle.std.specs.Prelude.{◌≡◌, ℕ, ◌-◌, ◌<◌, ◌≤◌, List, [], ◌∷◌, length, take, drop, ⊤}
-use Rattle.lc_model.specs.Name.{name_in}
-use Rattle.lc_model.specs.Host.Stream.{Contents, StreamEntry, header_size, name_size, all_kinds, moment_of, front}
+use Rattle.lc_model.specs.Name.{name_in, name_size}
+use Rattle.lc_model.specs.Host.Stream.{Contents, StreamEntry, header_size, all_kinds, moment_of, front}
 use Rattle.lc_model.specs.Host.Stream as stream
 use Rattle.flight_core.specs.declared.front.Shape.{Shape}
 use Rattle.flight_core.specs.declared.front.Shape.TheVariants as shape

@@ -27,7 +27,7 @@ pub record PromisesOfProfile (m : Mission) (d : Devices) (ending : Ending) : Typ
   -- commands to event services, to the counter and to other applications can't touch the sequence requests: with others,
   -- or with none, these are the same
   pub asides : IsNotTouchedByAsides m d ending
-  -- the same without premises on hashes and raw files
+  -- asides can't touch them without premises on hashes and raw files, either
   pub asides_in_bytes : IsNotTouchedByAsidesInBytes m d ending
 
 -- what a run promises, whatever is in stock, and where the stock is of this profile

@@ -4,7 +4,7 @@ ghost use Rattle.std.specs.Prelude.{◌≡◌, ◌+◌, ◌*◌, ◌^◌, ◌<�
 ghost use Rattle.lc_model.specs.Host.Outcome.{devices};
 ghost use Rattle.app_host.specs.Hosted.{shown};
 ghost use Rattle.flight_core.specs.Brought.{AreWhole};
-ghost use Rattle.flight_core.specs.Flight.{FliesSo, HasBegun, ended_by, stopped_by};
+ghost use Rattle.flight_core.specs.Flight.{FliesSo, RunHasBegun, ended_by, stopped_by};
 ghost use Rattle.flight_core.specs.Records.{nothing_held};
 ghost use Rattle.app_host.specs.Step.{IsBetween};
 
@@ -23,7 +23,7 @@ fn stopped(halt: Halt, report: Report) -> RunError
     requires records { report.records + 1 < 2 ^ 64 }
     requires bytes { report.bytes + 2 ^ 64 < 2 ^ 128 }
     ensures so { result ≡ stopped_by halt report.records report.bytes }
-    ensures begun { HasBegun (Err result) }
+    ensures begun { RunHasBegun (Err result) }
 {
     let Report { records, bytes } = report;
     match halt {
@@ -63,7 +63,7 @@ pub(crate) fn fly<R: ByteSource, W: ByteSink>(
         (W.sink writer.new)) result }
     ensures between { let seen = shown (λ b. (⟦<dyn App as App>⟧ b.vtable).meaning b.value) in
         IsBetween (seen host.new) }
-    ensures begun { HasBegun result }
+    ensures begun { RunHasBegun result }
     ensures bounded { (R.source reader.new).reads ≤ most }
 {
     // For the proof: what is written for one record more comes behind all else; a stream of bytes brings files of bytes; what
@@ -95,7 +95,7 @@ pub(crate) fn fly<R: ByteSource, W: ByteSink>(
 fn ended(records: &Records, report: Report) -> Result<Report, RunError>
     requires records { report.records + 1 < 2 ^ 64 }
     ensures so { result ≡ ended_by records.now.bytes report }
-    ensures begun { HasBegun result }
+    ensures begun { RunHasBegun result }
 {
     if records.held() == 0 {
         return Ok(report);

@@ -68,7 +68,7 @@ fn run_compiled<R: ByteSource, W: ByteSink>(
     }
 }
 
-/// The same as `run` with at most so many reads, 2^32 at most.
+/// Runs as `run` does, with at most so many reads, 2^32 at most.
 pub fn run_within<R: ByteSource, W: ByteSink>(
     alloc: Global,
     texts: &[&[u8]],

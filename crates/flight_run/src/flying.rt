@@ -51,7 +51,7 @@ fn launch_between<I: Read + Drop, O: Write + Drop>(
 
 /// The files of rule texts, a schedule and a stream are opened in this order: the schedule, the texts, the stream, and what is
 /// written. Then the host runs.
-pub fn fly<'a, R: Files + AllocGlobal>(
+pub fn fly_files<'a, R: Files + AllocGlobal>(
     rt: &R,
     schedule: &'a str,
     stream: &'a str,

@@ -45,7 +45,7 @@ fn obey<'a, R: Files + AllocGlobal>(rt: &R, words: &'a [&'a str]) -> Result<Done
             stream,
             out,
             rules,
-        } => flying::fly(rt, schedule, stream, out, rules.as_slice()),
+        } => flying::fly_files(rt, schedule, stream, out, rules.as_slice()),
     }
 }
 
@@ -81,7 +81,7 @@ fn words_of<R: Env + AllocGlobal>(rt: &R) -> Result<Vec<String>, Fault<'static>>
     Ok(words)
 }
 
-/// The same, lent.
+/// The words, lent.
 fn lent<'a>(alloc: Global, words: &'a [String]) -> Result<Vec<&'a str>, AllocError> {
     let mut lent = Vec::new(alloc);
     for word in words {

@@ -16,7 +16,7 @@ use std::alloc::{AllocError, Global};
 use tick_scheduler::{Schedule, Scheduler};
 
 /// Puts eight spares into stock, and runs. Out of memory for these is the outer error, before anything is read.
-fn fly<R: ByteSource, W: ByteSink>(
+fn run_with_stock<R: ByteSource, W: ByteSink>(
     alloc: Global,
     texts: &[&[u8]],
     schedule: &Schedule,
@@ -77,7 +77,7 @@ pub fn launch<R: ByteSource, W: ByteSink>(
 {
     // For the proof: each promise follows from how the run ends.
     runs_keep_their_promises();
-    match fly(alloc, texts, schedule, reader, writer) {
+    match run_with_stock(alloc, texts, schedule, reader, writer) {
         Ok(answer) => answer,
         Err(_) => Err(RunError::Memory),
     }

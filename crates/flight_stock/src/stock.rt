@@ -23,7 +23,7 @@ pub fn add(
 ) -> Result<(), AllocError>
     requires spares { AreSpares (map meaning stock.old.items) }
     requires profile { IsOfProfile schedule.now (map meaning stock.old.items) }
-    requires free { (meaning app).held ≡ None }
+    requires free { (meaning app).seat ≡ None }
     requires named { (meaning app).called ≡ name.now }
     requires kind { IsSpare (as_bytes layouts) schedule.now (member_of (meaning app)) }
     ensures spares { OnOk result (AreSpares (map meaning stock.new.items)) }

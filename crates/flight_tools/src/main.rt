@@ -24,7 +24,7 @@ fn words_of<R: Env + AllocGlobal>(rt: &R) -> Result<Vec<String>, Fault<'static>>
     Ok(words)
 }
 
-/// The same, lent.
+/// The words, lent.
 fn lent<'a>(alloc: Global, words: &'a [String]) -> Result<Vec<&'a str>, AllocError> {
     let mut lent = Vec::new(alloc);
     for word in words {

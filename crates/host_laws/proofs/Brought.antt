@@ -1,9 +1,9 @@
 -- What a stream of bytes brings.
 use Rattle.std.proofs.Common.{◌≡◌, refl, subst, ℕ, zero, suc, ◌+◌, Bool, true, false, not, cond, nat_lt, ◌==◌, List, [], ◌∷◌, length, take, drop, slice_index, Option, Some, None}
 use Rattle.lc_model.specs.declared.kind.Kind.TheVariants.{Wdt, Adt}
-use Rattle.lc_model.specs.Name.{Name, name_in}
+use Rattle.lc_model.specs.Name.{Name, name_in, name_size}
 use Rattle.lc_model.specs.Bytes.{u16_at}
-use Rattle.lc_model.specs.Host.Stream.{StreamEntry, Contents, Packet, Tick, File, Half, Front, EndOfStream, Record, NoRecord, CutRecord, all_kinds, header_size, name_size, body_size, fits_body, half_contents, contents_of, moment_of, record_of, front, records_by_front, records_from}
+use Rattle.lc_model.specs.Host.Stream.{StreamEntry, Contents, Packet, Tick, File, Half, Front, EndOfStream, Record, NoRecord, CutRecord, all_kinds, header_size, body_size, fits_body, half_contents, contents_of, moment_of, record_of, front, records_by_front, records_from}
 use Rattle.lc_model.proofs.Host.WholeRuns.{IsHalfBelow, contents_below}
 use Rattle.lc_model.proofs.Tables.SaidLaws.{bytes_in_front}
 use Rattle.host_laws.specs.Statements.{AreBytes, IsBrought, AreBrought, StreamsBring}

@@ -5,7 +5,7 @@ use Rattle.std.specs.Option.{option_map_or, option_or}
 use Rattle.std.specs.List.{AllByRecursion, position_from}
 use Rattle.lc_model.specs.declared.kind.Kind.{Kind}
 use Rattle.lc_model.specs.declared.kind.Kind.TheVariants.{Wdt, Adt}
-use Rattle.lc_model.specs.Name.{Name, is_named, held, name_in}
+use Rattle.lc_model.specs.Name.{Name, is_named, value_under, name_in}
 use Rattle.lc_model.specs.Refusal.{Refusal, ◌>>=◌, refused, found, provided}
 use Rattle.lc_model.specs.Tables.File.{TableFile, opened}
 use Rattle.lc_model.specs.Tables.HalvesAndBytes.{as_bytes, meaning_by}
@@ -218,7 +218,7 @@ pub commands_keep_forms : CommandsKeepForms
 commands_keep_forms (Manage move name) service = placed_keeps service (moved_among move name service.places) (moves_keep service.places move name)
 commands_keep_forms (Load name) service =
     then_ok (λ (after : TableService). (map (map form_of) after.places ≡ map (map form_of) service.places) × (after.files ≡ service.files))
-    (found (held name service.files) 111) _ (λ bytes b. placed_keeps service (loaded_among bytes service.places)
+    (found (value_under name service.files) 111) _ (λ bytes b. placed_keeps service (loaded_among bytes service.places)
     (then_ok (HasItsForms service.places) (file_refusal (opened bytes)) _ (λ file f. loads_keep service.places file.image (name_in file.name_field))))
 
 -- ---- commands
@@ -229,12 +229,12 @@ in_turn (Ok a) next last = refl
 in_turn (Err refusal) next last = refl
 
 -- a stored file by what it means
-pub held_meaning : (name : Name) (files : List (Name × List ℕ)) → held name (files_seen files) ≡ option_map meaning_of (held name files)
-held_meaning name [] = refl
-held_meaning name (file ∷ files) = by_test (is_named name file.0) (held_meaning name files)
+pub value_meaning : (name : Name) (files : List (Name × List ℕ)) → value_under name (files_seen files) ≡ option_map meaning_of (value_under name files)
+value_meaning name [] = refl
+value_meaning name (file ∷ files) = by_test (is_named name file.0) (value_meaning name files)
   where
-    by_test : (test : Bool) → held name (files_seen files) ≡ option_map meaning_of (held name files) →
-        (if test then Some (meaning_of file.1) else held name (files_seen files)) ≡ option_map meaning_of (if test then Some file.1 else held name files)
+    by_test : (test : Bool) → value_under name (files_seen files) ≡ option_map meaning_of (value_under name files) →
+        (if test then Some (meaning_of file.1) else value_under name (files_seen files)) ≡ option_map meaning_of (if test then Some file.1 else value_under name files)
     by_test true behind = refl
     by_test false behind = behind
 
@@ -323,12 +323,12 @@ module _ (tables_are_found : TablesAreFound) (changing_tables : ChangingTables) 
     placed_out (Err refusal) = refl
 
     pub load_by_name : (file : Name) → services.files ≡ files_seen service.files →
-        (found (held file services.files) 111 >>= (λ meaning. opened_file meaning >>= (λ contents. comes contents.0 contents.1 contents.2 (kind_named contents.0))))
+        (found (value_under file services.files) 111 >>= (λ meaning. opened_file meaning >>= (λ contents. comes contents.0 contents.1 contents.2 (kind_named contents.0))))
         ≡ (table_commanded (Load file) service >>= (λ after. Ok (leave (slot_among after.places))))
     load_by_name file files =
-        ap (λ fs. found (held file fs) 111 >>= (λ meaning. opened_file meaning >>= (λ contents. comes contents.0 contents.1 contents.2 (kind_named contents.0)))) files
-        ∙ ap (λ o. found o 111 >>= (λ meaning. opened_file meaning >>= (λ contents. comes contents.0 contents.1 contents.2 (kind_named contents.0)))) (held_meaning file service.files)
-        ∙ by_file (held file service.files)
+        ap (λ fs. found (value_under file fs) 111 >>= (λ meaning. opened_file meaning >>= (λ contents. comes contents.0 contents.1 contents.2 (kind_named contents.0)))) files
+        ∙ ap (λ o. found o 111 >>= (λ meaning. opened_file meaning >>= (λ contents. comes contents.0 contents.1 contents.2 (kind_named contents.0)))) (value_meaning file service.files)
+        ∙ by_file (value_under file service.files)
       where
         by_file : (o : Option (List ℕ)) →
             (found (option_map meaning_of o) 111 >>= (λ meaning. opened_file meaning >>= (λ contents. comes contents.0 contents.1 contents.2 (kind_named contents.0))))

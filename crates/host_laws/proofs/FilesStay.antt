@@ -2,7 +2,7 @@
 use Rattle.std.proofs.Common.{◌≡◌, refl, ap, ap₂, sym, ◌∙◌, subst, ℕ, ◌+◌, ◌<◌, Bool, true, false, ◌&&◌, not, ◌==◌, nat_lt, nat_le, List, [], ◌∷◌, map, length, arith, if◌then◌else◌, Option, Some, None, is_none, Result, Ok, Err, true≢false}
 use Rattle.std.specs.Option.{option_map_or}
 use Rattle.std.proofs.lemmas.Bool.{leb-false}
-use Rattle.lc_model.specs.Name.{Name, is_named, lc_name, sch_name, counter_name, host_name, held}
+use Rattle.lc_model.specs.Name.{Name, is_named, lc_name, sch_name, counter_name, host_name, value_under}
 use Rattle.lc_model.specs.Packet.{stream_fault, message_id, event_services_mid, table_services_mid, executive_services_mid, counter_mid}
 use Rattle.lc_model.specs.Refusal.{Refusal, ◌>>=◌, found, provided}
 use Rattle.lc_model.specs.Tables.Slot.{loaded, moved}
@@ -31,10 +31,10 @@ module _ {Image : Type 0} where
   stored_map : (name : Name) (size : ℕ) (meaning : FileMeaning Image) (files : List (Name × FileMeaning Image)) → IsFileMap files → IfOk IsFileMap (stored name size meaning files)
   stored_map name size meaning files is =
       one_or_other IsFileMap (nat_lt max_file_size size) _ _ (λ x. tt)
-      (λ short. one_or_other IsFileMap (nat_le max_files (length files) && is_none (held name files)) _ _ (λ x. tt)
+      (λ short. one_or_other IsFileMap (nat_le max_files (length files) && is_none (value_under name files)) _ _ (λ x. tt)
       (λ room. record { few = put_length name meaning files max_files is.few (there room); names = put_distinct name meaning files is.names }))
     where
-      there : (nat_le max_files (length files) && is_none (held name files)) ≡ false → is_none (held name files) ≡ true → length files < max_files
+      there : (nat_le max_files (length files) && is_none (value_under name files)) ≡ false → is_none (value_under name files) ≡ true → length files < max_files
       there room none = by_test (nat_le max_files (length files)) refl
         where
           by_test : (b : Bool) → nat_le max_files (length files) ≡ b → length files < max_files
@@ -82,7 +82,7 @@ module _ {Image : Type 0} where
 module _ {Image : Type 0} (images : Interpretation Image) where
   managed_same : (command : TableCommand) (w : World Image) → IfOk (λ (after : World Image). after.files ≡ w.files) (managed images command w)
   managed_same (Load file) w =
-      ok_after _ (found (held file w.files) 111) _ (λ meaning. ok_after _ (opened_file meaning) _ (λ contents. ok_after _ (table_named contents.0 w) _ (λ table.
+      ok_after _ (found (value_under file w.files) 111) _ (λ meaning. ok_after _ (opened_file meaning) _ (λ contents. ok_after _ (table_named contents.0 w) _ (λ table.
       ok_after _ (provided (images.has_size table.0 contents.1) 114 contents.2) _ (λ image. ok_after _ (loaded image (slot_of table.0 table.1)) _ (λ slot. refl)))))
   managed_same (Manage move name) w =
       ok_after _ (table_named name w) _ (λ table. ok_after _ (moved move (slot_of table.0 table.1)) _ (λ slot. refl))

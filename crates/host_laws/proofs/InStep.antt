@@ -6,7 +6,7 @@ use Rattle.lc_model.specs.declared.kind.Kind.{Kind}
 use Rattle.lc_model.specs.declared.kind.Kind.TheVariants.{Wdt, Adt}
 use Rattle.lc_model.specs.declared.field.Term.{Term}
 use Rattle.lc_model.specs.declared.mode.LcMode.{LcMode}
-use Rattle.lc_model.specs.Name.{Name, is_named, held}
+use Rattle.lc_model.specs.Name.{Name, is_named, value_under}
 use Rattle.lc_model.specs.Packet.{function_code, payload, is_telemetry_mid, message_id, lc_command_mid, lc_housekeeping_request_mid, sample_mid}
 use Rattle.lc_model.specs.Refusal.{Refusal, ◌>>=◌, found, provided}
 use Rattle.lc_model.specs.Rule.{Actionpoint}
@@ -117,7 +117,7 @@ module _ {Image : Type 0} (images : Interpretation Image) where
       by_fault (Some fault) e false = tt
 
   sound_default : (kind : Kind) (files : List (Name × FileMeaning Image)) → IfSome (default_image images kind files) (Sound kind)
-  sound_default kind files = by_file (held (default_file kind) files)
+  sound_default kind files = by_file (value_under (default_file kind) files)
     where
       by_file : (o : Option (FileMeaning Image)) → IfSome (option_map_or (sound_image images kind) o None) (Sound kind)
       by_file None = tt

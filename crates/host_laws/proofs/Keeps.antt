@@ -8,7 +8,7 @@ use Rattle.std.proofs.lemmas.Slice.Eq.{bytes_eq-Decides}
 use Rattle.lc_model.specs.declared.kind.Kind.{Kind}
 use Rattle.lc_model.specs.declared.kind.Kind.TheVariants.{Wdt, Adt}
 use Rattle.lc_model.specs.declared.record.Moment.{Moment}
-use Rattle.lc_model.specs.Name.{Name, is_named, lc_name, sch_name, counter_name, held}
+use Rattle.lc_model.specs.Name.{Name, is_named, lc_name, sch_name, counter_name, value_under}
 use Rattle.lc_model.specs.Packet.{message_id, tick_mid, counter_mid}
 use Rattle.lc_model.specs.Refusal.{Refusal, ◌>>=◌, provided}
 use Rattle.lc_model.specs.Tables.File.{table_name}
@@ -230,7 +230,7 @@ module _ {Image : Type 0} (images : Interpretation Image) where
       IfOk (managed_now images command services) (λ (after : ServicesNow Image). GoesWith images state after)
   managed_keeps state services g (Load file) =
       let P : ServicesNow Image → Type 0 = λ after. GoesWith images state after in
-      found_ok P (held file services.files) 111 _ (λ (meaning : FileMeaning Image) is.
+      found_ok P (value_under file services.files) 111 _ (λ (meaning : FileMeaning Image) is.
       then_ok P (opened_file meaning) _ (λ (contents : Name × ℕ × Image) opens.
       found_ok P (kind_named contents.0) 113 _ (λ (kind : Kind) named.
       found_ok P (services.slots contents.0) 113 _ (λ (slot : Slot Image) there.

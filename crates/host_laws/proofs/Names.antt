@@ -35,7 +35,7 @@ four h l s c n name =
     if is_named name host_name then h else if is_named name lc_name then l
     else if is_named name sch_name then s else if is_named name counter_name then c else n
 
--- the same by tests
+-- one of five by four tests
 abbrev by_tests : {X : Type 0} → X → X → X → X → X → Bool → Bool → Bool → Bool → X
 by_tests h l s c n a b d e = if a then h else if b then l else if d then s else if e then c else n
 

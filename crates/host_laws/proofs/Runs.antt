@@ -67,7 +67,7 @@ module _ {Image : Type 0} (images : Interpretation Image) (IsFine : Image → Ty
 
   module _ (agree : Agrees (IsOne images IsFine) images images) (pairs : PairsAreSensible images IsFine)
       (stays : (moment : Moment) (w : World Image) (input : Input Image) → IsWhole images IsFine w → IsFineInput images IsFine input → IsWhole images IsFine (handled images schedule moment input w).0) where
-    -- the same packets over all records
+    -- host and world send the same packets over all records
     pub runs_alike : (meanings : FileMeanings Image) (entries : List StreamEntry) (w : World Image) (e : Executive Image) → IsShort schedule → KeepsTo images schedule w e → IsWhole images IsFine w →
         AreFineInputs images IsFine schedule meanings entries → written_from images e meanings entries ≡ sent_from images schedule w meanings entries
     unfolding written_from

@@ -12,7 +12,7 @@ use Rattle.lc_model.specs.Events.Request.{event_services, table_services, execut
 use Rattle.lc_model.specs.Host.React.{Input, Packet, Tick, File, stored}
 use Rattle.lc_model.specs.Kept.Executive.{Executive, Written, with_services, told_by_host, event_service_now, table_service_now, filed_now, ready_seat, published_to, tick_packet, most_deliveries, delivered_at, drained, passed_on, answered_now, executive_service_now, routed_now, step_by}
 use Rattle.lc_model.specs.Kept.Stations.{Station, size_at, stop_at, Host, written_once, delivery_stations, passing_stations, order_stations, routed_stations, stations_of, last_calls, host_after, host_step}
-use Rattle.host_laws.specs.Writes.{packets_at, StopsWhereItMust, Takes}
+use Rattle.host_laws.specs.Writes.{packets_at, StopsWhereItMust, TakesAsAnswered}
 
 -- ---- rooms
 
@@ -155,21 +155,21 @@ module _ {Image : Type 0} (images : Interpretation Image) (moment : Moment) wher
     output : length (concat (packets_at (stations_of images moment executive input))) ≡ length (concat (step_by images moment executive input).1)
     output = ap (λ (packets : List (List ℕ)). length (concat packets)) (writes_are_the_steps executive input)
 
-    stopped : (o : Option (Station Image)) → stop_at room (stations_of images moment executive input) ≡ o → Takes images moment room open_host input (host_step images moment room open_host input).1
+    stopped : (o : Option (Station Image)) → stop_at room (stations_of images moment executive input) ≡ o → TakesAsAnswered images moment room open_host input (host_step images moment room open_host input).1
     stopped None e =
-        subst (λ (answer : Option ℕ). Takes images moment room open_host input answer) (sym (ap (λ o. (by_stop o).1) e)) (record {
+        subst (λ (answer : Option ℕ). TakesAsAnswered images moment room open_host input answer) (sym (ap (λ o. (by_stop o).1) e)) (record {
           enough = omega (arith, output, (stops_where_it_must room (stations_of images moment executive input)).whole e);
           executive = ap (λ o. (by_stop o).0.executive) e;
           stays_open = ap (λ o. (by_stop o).0.is_closed) e;
         })
     stopped (Some station) e =
-        subst (λ (answer : Option ℕ). Takes images moment room open_host input answer) (sym (ap (λ o. (by_stop o).1) e)) (record {
+        subst (λ (answer : Option ℕ). TakesAsAnswered images moment room open_host input answer) (sym (ap (λ o. (by_stop o).1) e)) (record {
           all_the_room = refl;
           fewer = omega (arith, output, (stops_where_it_must room (stations_of images moment executive input)).short station e);
         })
 
-  pub open_hosts_take : (room : ℕ) (host : Host Image) (input : Input Image) → host.is_closed ≡ false → Takes images moment room host input (host_step images moment room host input).1
+  pub open_hosts_take : (room : ℕ) (host : Host Image) (input : Input Image) → host.is_closed ≡ false → TakesAsAnswered images moment room host input (host_step images moment room host input).1
   open_hosts_take room host input is =
-      subst (λ (h : Host Image). Takes images moment room h input (host_step images moment room h input).1)
+      subst (λ (h : Host Image). TakesAsAnswered images moment room h input (host_step images moment room h input).1)
       (λ i. record { executive = host.executive; is_closed = sym is i; calls = host.calls })
       (stopped room host.executive host.calls input (stop_at room (stations_of images moment host.executive input)) refl)

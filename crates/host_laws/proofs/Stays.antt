@@ -5,7 +5,7 @@ use Rattle.std.specs.List.{AllZip}
 use Rattle.lc_model.specs.declared.kind.Kind.{Kind}
 use Rattle.lc_model.specs.declared.kind.Kind.TheVariants.{Wdt, Adt}
 use Rattle.lc_model.specs.declared.record.Moment.{Moment}
-use Rattle.lc_model.specs.Name.{Name, is_named, lc_name, sch_name, counter_name, held}
+use Rattle.lc_model.specs.Name.{Name, is_named, lc_name, sch_name, counter_name, value_under}
 use Rattle.lc_model.specs.Packet.{stream_fault, message_id, event_services_mid, table_services_mid, executive_services_mid, counter_mid}
 use Rattle.lc_model.specs.Refusal.{Refusal, ◌>>=◌, refused, found, provided}
 use Rattle.lc_model.specs.Tables.Slot.{Slot, loaded, moved}
@@ -92,10 +92,10 @@ module _ {Image : Type 0} (images : Interpretation Image) where
   managed_settled (Load file) =
       by_lc (λ w. Settled w → IfOk Settled (managed images (Load file) w))
       (λ w spares h. let v : World Image = record w { lc = record { running = None; spares = spares } } in
-      ok_after Settled (found (held file w.files) 111) _ (λ (meaning : FileMeaning Image).
+      ok_after Settled (found (value_under file w.files) 111) _ (λ (meaning : FileMeaning Image).
       ok_after Settled (opened_file meaning) _ (λ (contents : Name × ℕ × Image). off v contents (kind_named contents.0))))
       (λ w spares r h.
-      ok_after Settled (found (held file w.files) 111) _ (λ (meaning : FileMeaning Image).
+      ok_after Settled (found (value_under file w.files) 111) _ (λ (meaning : FileMeaning Image).
       ok_after Settled (opened_file meaning) _ (λ (contents : Name × ℕ × Image). on w spares r h contents (kind_named contents.0))))
     where
       off : (v : World Image) (contents : Name × ℕ × Image) (o : Option Kind) →

@@ -5,7 +5,7 @@ use Rattle.std.proofs.lemmas.Slice.Eq.{bytes_eq-Decides}
 use Rattle.lc_model.specs.declared.kind.Kind.{Kind}
 use Rattle.lc_model.specs.declared.kind.Kind.TheVariants.{Wdt, Adt}
 use Rattle.lc_model.specs.declared.record.Moment.{Moment}
-use Rattle.lc_model.specs.Name.{Name, is_named, held}
+use Rattle.lc_model.specs.Name.{Name, is_named, value_under}
 use Rattle.lc_model.specs.Packet.{lc_command_mid, lc_housekeeping_request_mid, sample_mid}
 use Rattle.lc_model.specs.Refusal.{Refusal, ◌>>=◌, refused, found, provided}
 use Rattle.lc_model.specs.Tables.File.{table_name}
@@ -222,7 +222,7 @@ module _ {Image : Type 0} (images : Interpretation Image) (schedule : Schedule) 
             (Err (113 ∷ []))
         by_kind None = refl
         by_kind (Some kind) = refl
-    none_managed w spares (Load file) = by_file (held file w.files)
+    none_managed w spares (Load file) = by_file (value_under file w.files)
       where
         v : World Image
         v = record w { lc = record { running = None; spares = spares } }
@@ -266,7 +266,7 @@ module _ {Image : Type 0} (images : Interpretation Image) (schedule : Schedule) 
         by_kind None is = refl
         by_kind (Some Wdt) is = placed_or_refused w spares r Wdt name (moved move r.state.wdt) seated is (moved_active move r.state.wdt)
         by_kind (Some Adt) is = placed_or_refused w spares r Adt name (moved move r.state.adt) seated is (moved_active move r.state.adt)
-    some_managed w spares r (Load file) seated = by_file (held file w.files)
+    some_managed w spares r (Load file) seated = by_file (value_under file w.files)
       where
         v : World Image
         v = lc_at w spares r

@@ -38,10 +38,10 @@ module _ {Image : Type 0} (images : Interpretation Image) where
     pub fewer : sent < length (concat (step_by images moment host.executive input).1)
 
   -- by what it answers
-  abbrev pub Takes : Moment → ℕ → Host Image → Input Image → Option ℕ → Type 0
-  Takes moment room host input None = TakesAll moment room host input
-  Takes moment room host input (Some sent) = TakesTheFirst moment room host input sent
+  abbrev pub TakesAsAnswered : Moment → ℕ → Host Image → Input Image → Option ℕ → Type 0
+  TakesAsAnswered moment room host input None = TakesAll moment room host input
+  TakesAsAnswered moment room host input (Some sent) = TakesTheFirst moment room host input sent
 
   abbrev pub OpenHostsTake : Type 0
   OpenHostsTake = (moment : Moment) (room : ℕ) (host : Host Image) (input : Input Image) → host.is_closed ≡ false →
-      Takes moment room host input (host_step images moment room host input).1
+      TakesAsAnswered moment room host input (host_step images moment room host input).1

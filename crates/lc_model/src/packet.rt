@@ -1,7 +1,7 @@
 //! Packets: why they are refused, what is read of them, and sequence requests (CCSDS 133.0-B and the cFE user's guide; the
 //! time code and the checks on what comes in are this project's own).
 
-ghost use Rattle.std.specs.Prelude.{◌≡◌, ◌≤◌, ◌+◌, ◌++◌, ◌%◌, ◌<◌, ◌^◌, ◌&&◌, None, IfSome, is_some, length, nat_le};
+ghost use Rattle.std.specs.Prelude.{◌≡◌, ◌≤◌, ◌+◌, ◌++◌, ◌%◌, ◌<◌, ◌&&◌, None, IfSome, is_some, length, nat_le};
 ghost use Rattle.lc_model.specs.Bytes as number;
 ghost use Rattle.lc_model.specs.Packet.{function_code, header_fault, is_own_mid, message_id, parity, stream_fault};
 ghost use Rattle.lc_model.specs.Events.Outgoing.{sequence_request};
@@ -25,7 +25,7 @@ pub const LONGEST_PACKET: usize = 2_048;
 pub const REQUEST_SIZE: usize = 12;
 
 /// Sequence counts are below this number.
-const COUNT_END: u16 = 16_384;
+pub const COUNT_END: u16 = 16_384;
 
 // ---- reading
 
@@ -65,7 +65,7 @@ pub fn header_fault(bytes: &[u8]) -> Option<u8>
         Some(2)
     } else if mid / 2048 % 2 != 1 {
         Some(3)
-    } else if u16_at(bytes, 2) / 16384 != 3 {
+    } else if u16_at(bytes, 2) / COUNT_END != 3 {
         Some(4)
     } else if u16_at(bytes, 4) as usize + 7 != size {
         Some(5)
@@ -117,9 +117,9 @@ pub fn first_packet(packets: &[u8]) -> Option<(&[u8], &[u8])>
 
 /// The sequence count behind this one.
 pub fn next_count(count: u16) -> u16
-    requires { count < 2 ^ 14 }
-    ensures next { result ≡ (count + 1) % 16384 }
-    ensures below { result < 2 ^ 14 }
+    requires { count < COUNT_END }
+    ensures next { result ≡ (count + 1) % COUNT_END }
+    ensures below { result < COUNT_END }
 {
     (count + 1) % COUNT_END
 }
@@ -134,7 +134,7 @@ fn parity(bytes: &[u8]) -> u8
 /// The packet that requests a command sequence: message id 0x18A9, whole (flags 3) with this sequence count, code 4, a
 /// checksum that makes the exclusive or of all bytes 0xFF, the sequence's number and two zeros.
 pub fn sequence_request(count: u16, number: u16) -> [u8; REQUEST_SIZE]
-    requires { count < 2 ^ 14 }
+    requires { count < COUNT_END }
     ensures { result ≡ sequence_request count number }
 {
     let [count_high, count_low] = (0xC000 + count).to_be_bytes();

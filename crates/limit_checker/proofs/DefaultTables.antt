@@ -5,7 +5,7 @@ use Rattle.std.specs.Option.{option_map_or}
 use Rattle.std.proofs.lemmas.Slice.Eq.{bytes_eq-Decides}
 use Rattle.lc_model.specs.declared.kind.Kind.{Kind}
 use Rattle.lc_model.specs.declared.kind.Kind.TheVariants.{Wdt, Adt}
-use Rattle.lc_model.specs.Name.{Name, is_named, name_in, held}
+use Rattle.lc_model.specs.Name.{Name, is_named, name_in, value_under}
 use Rattle.lc_model.specs.Codes.{is_kind}
 use Rattle.lc_model.specs.Tables.File.{TableFile, opened, table_name}
 use Rattle.lc_model.specs.Tables.Image.{Layout, Watchpoints, Actionpoints, WideActionpoints, kind_of, image_length, ImageFault, fault_of, IsSound, hash_of, watchpoint_count}
@@ -17,7 +17,7 @@ use Rattle.lc_model.specs.Tables.Spelled.{spelled_terms, spelled_rules}
 use Rattle.lc_model.specs.LimitChecker.Steps.{sound_image, paired}
 use Rattle.lc_model.specs.Services.Seen.{meaning_of}
 use Rattle.lc_model.specs.Services.Tables.{TableService, fits_table, image_in}
-use Rattle.host_laws.proofs.Commands.{held_meaning}
+use Rattle.host_laws.proofs.Commands.{value_meaning}
 use Rattle.lc_model.proofs.Facts.{and_first, and_second, and_second_false, tested_equal}
 use Rattle.lc_model.proofs.Tables.SoundImages.{sound_parts}
 use Rattle.table_file.specs.declared.error.FileError.{FileError}
@@ -56,21 +56,21 @@ by_opening kind (Ok file) = refl
 by_opening kind (Err fault) = refl
 
 module _ (kind : Kind) (service : TableService) (name : Name) (default : name ≡ default_file kind) where
-  by_bytes : (bytes : Option (List ℕ)) → bytes ≡ held name service.files →
+  by_bytes : (bytes : Option (List ℕ)) → bytes ≡ value_under name service.files →
       start_image kind service ≡ option_map_or (λ b. sound_image on_board kind (meaning_of b)) bytes None
   by_bytes bytes is =
       ap (λ (meaning : Option (FileMeaning (List ℕ))). option_map_or (sound_image on_board kind) meaning None)
-      (held_meaning (default_file kind) service.files ∙ ap (λ file. option_map meaning_of (held file service.files)) (sym default) ∙ ap (option_map meaning_of) (sym is))
+      (value_meaning (default_file kind) service.files ∙ ap (λ file. option_map meaning_of (value_under file service.files)) (sym default) ∙ ap (option_map meaning_of) (sym is))
       ∙ by_held bytes
     where
       by_held : (bytes : Option (List ℕ)) → option_map_or (sound_image on_board kind) (option_map meaning_of bytes) None ≡ option_map_or (λ b. sound_image on_board kind (meaning_of b)) bytes None
       by_held None = refl
       by_held (Some b) = refl
 
-  pub no_file : None ≡ held name service.files → None ≡ start_image kind service
+  pub no_file : None ≡ value_under name service.files → None ≡ start_image kind service
   no_file none = sym (by_bytes None none)
 
-  module _ (bytes : List ℕ) (is : Some bytes ≡ held name service.files) where
+  module _ (bytes : List ℕ) (is : Some bytes ≡ value_under name service.files) where
     opened_so : (r : Result TableFile ℕ) → opened bytes ≡ r → start_image kind service ≡ image_in_file kind r
     opened_so r opens = by_bytes (Some bytes) is ∙ by_opening kind (opened bytes) ∙ ap (λ (r : Result TableFile ℕ). image_in_file kind r) opens
 
@@ -98,7 +98,7 @@ module _ (kind : Kind) (service : TableService) (name : Name) (default : name �
 
         pub is_default : (valid : TableImage) → valid ≡ record { kind = kind; bytes = file.image } → IsDefault service valid
         is_default valid lends = subst (IsDefault service) (sym lends) (record {
-          stored = ap (λ file. option_map_or (λ b. image_in (opened b)) (held file service.files) None) (sym default)
+          stored = ap (λ file. option_map_or (λ b. image_in (opened b)) (value_under file service.files) None) (sym default)
               ∙ ap (λ b. option_map_or (λ b. image_in (opened b)) b None) (sym is) ∙ ap image_in opens;
           fits = fits_new kind file.image (sym sound);
         })

@@ -163,7 +163,7 @@ size_so_far rules asked k default more now new first far one =
     let sum = size_of_more rules asked k default more in
     omega (arith, sum, far, one)
 
--- the same mode is told
+-- what is told of one mode is told of an equal one
 pub tells_mode : (from : Origin) (points : List Standing) (before after : Services) {mode told : LcMode} → told ≡ mode → Tells from lc_name (Housekeeping told points ∷ []) before after →
     Tells from lc_name (Housekeeping mode points ∷ []) before after
 tells_mode from points before after is tells = subst (λ m. Tells from lc_name (Housekeeping m points ∷ []) before after) is tells

@@ -124,7 +124,7 @@ fn deliver_to_each(
     slot
 }
 
-/// The same, with what is ready. Most packets have one hearer.
+/// Delivers a packet to these seats, which are ready then. Most packets have one hearer.
 fn deliver(
     hearers: SeatSet,
     packet: &[u8],
@@ -280,7 +280,7 @@ impl Bus {
         }
     }
 
-    /// The same for who has judged the packet already: 92 alone is answered. Condition: its header has no fault.
+    /// Publishes a packet that was judged already: 92 alone is answered. Condition: its header has no fault.
     #[inline]
     pub fn publish_judged(&mut self, packet: &[u8]) -> Result<(), BusError>
         requires good { header_fault packet.now ≡ None }
@@ -292,7 +292,7 @@ impl Bus {
         self.publish_as(judged_message_id(packet), packet)
     }
 
-    /// The same of a packet with this message id.
+    /// Publishes a packet with this message id, which was judged already.
     #[inline]
     fn publish_as(&mut self, mid: u16, packet: &[u8]) -> Result<(), BusError>
         requires good { header_fault packet.now ≡ None }

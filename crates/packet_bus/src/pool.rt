@@ -156,7 +156,7 @@ impl Pool {
         }
     }
 
-    /// The same, and the packet is copied to the front of a buffer. Answers how many bytes it has.
+    /// A reader takes the packet: it is copied to the front of a buffer, and released. Answers how many bytes it has.
     pub fn take(&mut self, number: u16, buffer: &mut [u8; PACKET_SIZE]) -> usize
         requires within { number < length self.old }
         requires waiting { 0 < (slot_at self.old number).readers }

@@ -32,7 +32,7 @@ impl SeatSet {
         SeatSet { bits: 0 }
     }
 
-    /// The same seats.
+    /// A copy of these seats.
     pub fn copy(&self) -> SeatSet
         ensures { result ≡ self.now }
     {

@@ -10,7 +10,7 @@ use Rattle.program_words.specs.declared.words.Plan.TheVariants.{Stored, Compile,
 abbrev pub file : Text → Rule
 file name = record (new_rule name) { required = true }
 
--- the same behind an option of that name
+-- a file that has to be named, behind an option of that name
 abbrev pub option : Text → Rule
 option name = record (file name) { long = Some name }
 

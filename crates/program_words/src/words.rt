@@ -69,7 +69,7 @@ fn file_word<'a>(alloc: Global, name: &'a str) -> Arg<'a>
     Arg::new(alloc, name).required(true)
 }
 
-/// The same behind an option of that name.
+/// The word of a file that has to be named, behind an option of that name.
 fn option_word<'a>(alloc: Global, name: &'a str) -> Arg<'a>
     ensures rule { rule_of result ≡ option name.entry.now }
     ensures local { result.global ≡ false }

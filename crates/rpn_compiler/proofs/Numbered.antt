@@ -48,7 +48,7 @@ small_need c ns need is enough few = omega (arith, is, (need_within c ns enough)
 abbrev emitted : List Term → Condition → Emitted
 emitted terms c = record { words = words terms c; need = need c }
 
--- the same in either order
+-- two operands that are put in turn, in either order
 in_either : (terms : List Term) (o : Operator) (a b : Condition) (turned : Bool) →
     (if turned then in_turn (operator_word o) (emitted terms b) (emitted terms a) else in_turn (operator_word o) (emitted terms a) (emitted terms b))
     ≡ emitted terms (if turned then Join o b a else Join o a b)
@@ -73,7 +73,7 @@ words_are terms (Join o a b) rest =
     ∙ ap (λ (r : Emitted × List ℕ). (joined (operator_word o) first r.0, r.1)) (words_are terms b rest)
     ∙ ap (λ (e : Emitted). (e, rest)) (in_either terms o (heavier_first a) (heavier_first b) (nat_lt (need (heavier_first a)) (need (heavier_first b))))
 
--- the same where no numbers are left
+-- the words by the numbers of the mentions alone
 pub words_alone : (terms : List Term) (c : Condition) → (by_numbers c (map (number_in terms) (mentions c))).0.words ≡ words terms (heavier_first c)
 words_alone terms c =
     ap (λ ns. (by_numbers c ns).0.words) (sym (append-nil (map (number_in terms) (mentions c))))

@@ -16,7 +16,7 @@ pub record NamesItsNumberIn (text : List ℕ) (error : CheckError) : Type 0 wher
   pub parses : Parses tokens items
   pub names : NamesItsNumber items error
 
--- the same of the compiler's error
+-- the compiler's error names its number, where it has one
 abbrev pub NamesTheNumberIn : List ℕ → CompileError → Type 0
 NamesTheNumberIn text (Check error) = NamesItsNumberIn text error
 NamesTheNumberIn text error = ⊤

@@ -14,7 +14,7 @@ pub record Emitted : Type 0 where
 abbrev pub in_turn : (operator : ℕ) → Emitted → Emitted → Emitted
 in_turn operator a b = record { words = a.words ++ b.words ++ operator ∷ []; need = max a.need (b.need + 1) }
 
--- the same with the operand of greater need first, and as they stand where they have the same
+-- the words with the operand of greater need first, and as they stand where both need as much
 abbrev pub joined : (operator : ℕ) → Emitted → Emitted → Emitted
 joined operator a b = if nat_lt a.need b.need then in_turn operator b a else in_turn operator a b
 

@@ -111,7 +111,7 @@ no_string_front (c ∷ cs) begun none (d ∷ ds) rest e = not_true (is_lexeme (d
         let short : prefix_len is_text_byte cs ≤ 31 = rw (sym behind) (grind (arith, run.0, few)) in
         none short (rw (sym behind) run.1)
 
--- the same, by the parts that a program finds: what is behind the first quote, how many text bytes stand there, and what is
+-- strings by the parts that a program finds: what is behind the first quote, how many text bytes stand there, and what is
 -- behind them
 module _ (text inside behind : List ℕ) (count : ℕ) (begun : begins is_quote text ≡ true) (inside_is : inside ≡ drop 1 text)
     (count_is : count ≡ prefix_len is_text_byte inside) (behind_is : behind ≡ drop count inside) where

@@ -56,7 +56,7 @@ agrees_one room narrow narrower from between to D wanted what R before (Some x) 
     agrees_behind room narrow narrower from between to D before (record before { tokens = x.1 }) is.0 is.1 refl (λ y. steps y is.0 is.2)
     (narrows is.0 is.2) (f (x.0, record before { tokens = x.1 })) (others is.0 x.0 (record before { tokens = x.1 }) is.2 is.3)
 
--- the same where the stack wants one token, outside of conditions
+-- reading agrees with the stack where that wants one token, outside of conditions
 pub agrees_plain : {X A B : Type 0} (narrower : Room) (s to : X → List Symbol) (D : List Token → B → Type 0)
     (wanted : Class) (R : Token → A → Type 0) (before : Left) (o : Option (A × List Token)) (f : A × Left → Reading B) →
     One wanted R before.tokens o → fits wanted (codes "when") ≡ false →

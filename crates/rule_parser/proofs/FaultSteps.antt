@@ -40,7 +40,7 @@ unfolding begins
 fault_of_one end room c s [] none = fault_at_end end room (one c ∷ s) refl
 fault_of_one end room c s (t ∷ ts) none = fault_here end room (one c ∷ s) t ts (ap (λ b. cond b (Some s) None) none)
 
--- the same where an operand is wanted
+-- where they begin no operand, and one is wanted
 pub fault_of_operand : (end : ℕ) (room : Room) (c : Class) (s : List Symbol) (ts : List Token) →
     begins Name ts ≡ false → begins (word "not") ts ≡ false → begins (sign "(") ts ≡ false →
     fault_at end room (operand c ∷ s) ts ≡ Some (Expected (place_in end ts) class.Operand)

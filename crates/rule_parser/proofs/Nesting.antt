@@ -17,7 +17,7 @@ first_is wanted left e = go left.tokens refl e
     go [] is e = absurd (cc e)
     go (t ∷ ts) is e = (t, ts, is, e, ap (λ ts. place (record left { tokens = ts })) is)
 
--- the same where it was taken
+-- the wanted token stood in front where it was taken
 pub taken : (wanted : Class) (before left : List model.Token) (o : Option Token) → IsNext before left o → begins wanted before ≡ true →
     (t : model.Token) × (before ≡ t ∷ left) × Fits wanted t
 unfolding begins

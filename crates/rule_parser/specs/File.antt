@@ -31,7 +31,7 @@ pub record TookItem (before left : Left) (item : Item) : Type 0 where
   pub place : left.end ≡ before.end
   pub goes_on : fault_at before.end outside [] before.tokens ≡ fault_at left.end outside [] left.tokens
 
--- the same of a rule behind this token
+-- a rule was taken, whose word is this token
 pub record TookRule (t : Token) (before left : Left) (item : Item) : Type 0 where
   pub front : List Token
   pub tokens : before.tokens ≡ front ++ left.tokens

@@ -96,7 +96,7 @@ reports_in left = do
   c ← number_in b.1
   Ok (Some (record { passive = a.0; pass_to_fail = b.0; fail_to_pass = c.0 }), c.1)
 
--- the same, or nothing
+-- a report, or nothing where `report` doesn't stand next
 unfoldable pub report_in : Left → Reading (Option syntax.ReportItem)
 report_in left = if begins (word "report") left.tokens then reports_in left else Ok (None, left)
 

@@ -240,7 +240,7 @@ impl<'t, 'a> Reader<'t, 'a> {
         }))
     }
 
-    /// The same, or nothing where `report` doesn't stand next.
+    /// A report, or nothing where `report` doesn't stand next.
     #[tactic(auto, unfolding(crate::specs::Left::report_in))]
     pub fn report(&mut self) -> Result<Option<ReportItem>, ParseError>
         ensures { Reads (option_map report_of) self.new result (report_in self.old) }

@@ -271,7 +271,7 @@ fn sequence_of(account: &Account<'_>, entry: usize) -> Option<u16> {
 /// The room of a number above a mark, in tenths of a point.
 const NUMBER_ROOM: u64 = 360;
 
-/// The same with how many requests more there are.
+/// The room of a number with how many requests more there are.
 const NUMBERS_ROOM: u64 = 540;
 
 /// Writes the number of a sequence that is requested, and how many requests more stand in its column.

@@ -63,7 +63,7 @@ order_shown mid packet =
     else if mid == executive_services_mid then app_order (function_code packet) ++ name_shown (name_in (take 20 (drop 8 packet)))
     else codes " code " ++ decimal (function_code packet)
 
--- the same, but nothing of telemetry
+-- what a command says, and nothing of telemetry
 abbrev pub any_order_shown : ℕ → List ℕ → List ℕ
 any_order_shown mid packet = if is_telemetry_mid mid then [] else order_shown mid packet
 
@@ -124,7 +124,7 @@ lines_within (suc most) number bytes = lines_by (lines_within most) number bytes
 abbrev pub lines_from : ℕ → List ℕ → List ℕ
 lines_from number stream = lines_within (length stream) number stream
 
--- the same of what is left, where something is
+-- the lines of what is left, where something is
 abbrev pub lines_of_rest : ℕ → Option (Bor (List ℕ)) → List ℕ
 lines_of_rest number None = []
 lines_of_rest number (Some bytes) = lines_from number bytes.now

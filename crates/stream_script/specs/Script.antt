@@ -33,7 +33,7 @@ record_bytes moment kind body = kind_number kind ∷ u32 moment.seconds ++ u16 m
 abbrev pub recorded : RecordKind → List ℕ → Said → Said
 recorded kind body said = record { moment = said.moment; bytes = said.bytes ++ record_bytes said.moment kind body }
 
--- the same, where a record of this kind may have this body
+-- a record more, where one of this kind may have this body
 abbrev pub brought : RecordKind → List ℕ → Said → Result Said Reason
 brought kind body said = if may_bring kind body then Ok (recorded kind body said) else Err BadBody
 
@@ -233,7 +233,7 @@ fields_said said words = Err UnknownStatement
 abbrev pub statement : Said → List (List ℕ) → Result Said Reason
 statement said words = if sets_fields words then fields_said said words else some_words said words
 
--- the same, where a line without words or with `#` in front says nothing
+-- what a line says, where one without words or with `#` in front says nothing
 abbrev pub line_said : Said → List (List ℕ) → Result Said Reason
 line_said said words = if is_silent words then Ok said else statement said words
 

@@ -17,7 +17,7 @@ use std::alloc::Global;
 /// The bytes of telemetry's headers.
 const HEADERS: usize = 12;
 
-/// The type that the word names, which has to be there.
+/// The type that a word names, which has to be there.
 fn some_type(word: &[u8]) -> Result<FieldType, Reason>
     ensures { result ≡ some_type (field_type word.now) }
 {

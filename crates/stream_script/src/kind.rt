@@ -105,7 +105,7 @@ fn kind_in(word: &[u8]) -> Option<RecordKind>
     }
 }
 
-/// The same, which has to be there.
+/// The kind that a word names, which has to be one.
 pub(crate) fn some_kind(word: &[u8]) -> Result<RecordKind, Reason>
     ensures { result ≡ some_kind (kind_in word.now) }
 {

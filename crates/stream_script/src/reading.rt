@@ -24,7 +24,7 @@ fn line_said(alloc: Global, script: Script, line: &[u8]) -> Result<Script, Fault
     statement(alloc, script, words.as_slice())
 }
 
-/// The same, with the line's number where it is at fault.
+/// What a line adds to the script, or its fault with the line's number.
 fn read_line(alloc: Global, script: Script, line: &[u8], n: usize) -> Result<Script, ScriptError>
     ensures said { IfOk result (λ after. (lines : List (List ℕ)) →
         lines_said script n (line.now ∷ lines) ≡ lines_said after (n + 1) lines) }

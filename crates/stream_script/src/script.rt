@@ -90,7 +90,7 @@ impl Script {
         Ok(Script { moment, bytes })
     }
 
-    /// The same, where a record of this kind may have this body.
+    /// A record more, where one of this kind may have this body.
     pub(crate) fn bring(self, kind: RecordKind, body: &[u8]) -> Result<Script, Fault>
         ensures said { IfOk result (λ after. brought kind body.now self ≡ Ok after) }
         ensures refused { IfErr result (IsRefused (brought kind body.now self)) }

@@ -114,7 +114,7 @@ fn with_order(text: Vec<u8>, mid: u16, packet: &[u8]) -> Result<Vec<u8>, AllocEr
     }
 }
 
-/// The same, where the packet is no telemetry.
+/// What a command says behind the text, and nothing where the packet is telemetry.
 fn with_any_order(text: Vec<u8>, mid: u16, packet: &[u8]) -> Result<Vec<u8>, AllocError>
     requires { 8 ≤ length packet.now }
     ensures { IfOk result (λ after. after.items ≡ text.items ++ any_order_shown mid packet.now) }

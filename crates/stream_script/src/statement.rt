@@ -158,7 +158,7 @@ fn telemetry_brought(
     telemetry_fits(script, mid, count as u16, payload.as_slice())
 }
 
-/// The same, where it has at most 2,048 bytes.
+/// A telemetry packet more, where it has at most 2,048 bytes.
 fn telemetry_fits(script: Script, mid: u16, count: u16, payload: &[u8]) -> Result<Script, Fault>
     requires { count < 16384 }
     ensures said { IfOk result (λ after. telemetry_fits mid count payload.now script ≡ Ok after) }
@@ -220,7 +220,7 @@ fn command_brought(
     command_fits(script, mid, code as u8, payload.as_slice())
 }
 
-/// The same, where it has at most 2,048 bytes.
+/// A command more, where it has at most 2,048 bytes.
 fn command_fits(script: Script, mid: u16, code: u8, payload: &[u8]) -> Result<Script, Fault>
     ensures said { IfOk result (λ after. command_fits mid code payload.now script ≡ Ok after) }
     ensures refused { IfErr result (IsRefused (command_fits mid code payload.now script)) }

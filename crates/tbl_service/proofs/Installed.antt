@@ -3,12 +3,12 @@ use Rattle.std.proofs.Common.{◌≡◌, ap, ap₂, sym, ◌∙◌, subst, List,
 use Rattle.std.specs.Option.{option_map_or}
 use Rattle.std.proofs.Math.ListN.{drop_of_length-le}
 use Rattle.std.proofs.Math.Seq.{take-length}
-use Rattle.lc_model.specs.Name.{Name, held}
+use Rattle.lc_model.specs.Name.{Name, value_under}
 use Rattle.lc_model.specs.Tables.File.{opened}
 use Rattle.lc_model.specs.Tables.Slot.{installed}
 use Rattle.lc_model.specs.Services.Tables.{Places, Handle, TableService, changed_among, image_in, stored_image, image_installed}
 
-pub installed_so : (file : Name) (now new : TableService) (bytes : List ℕ) (slot : Handle) (lent places : Places) → Some bytes ≡ held file now.files → lent ≡ now.places →
+pub installed_so : (file : Name) (now new : TableService) (bytes : List ℕ) (slot : Handle) (lent places : Places) → Some bytes ≡ value_under file now.files → lent ≡ now.places →
     IfSome (image_in (opened bytes)) (λ image. places ≡ changed_among (installed image) slot lent) → new ≡ record { files = now.files; places = places } →
     IfSome (stored_image file now) (λ image. new ≡ image_installed slot image now)
 installed_so file now new bytes slot lent places is from changed made =

@@ -3,7 +3,7 @@ use Rattle.std.proofs.Common.{◌≡◌, ℕ, zero, suc, ◌<◌, ◌≤◌, Boo
 use Rattle.std.specs.List.{position_from}
 use Rattle.std.proofs.lemmas.Bool.{le-ltb, leb-true, leb-false}
 use Rattle.std.proofs.lemmas.Slice.Eq.{bytes_eq-Decides}
-use Rattle.lc_model.specs.Name.{Name, is_named, held, put}
+use Rattle.lc_model.specs.Name.{Name, is_named, value_under, put}
 use Rattle.lc_model.specs.Refusal.{refused}
 use Rattle.lc_model.specs.Services.Tables.{files_with}
 use Rattle.tbl_service.specs.Store.{NamedFile}
@@ -13,14 +13,14 @@ module _ (name : Name) where
   abbrev test : NamedFile → Bool
   test file = is_named name file.0
 
-  held_none : (files : List NamedFile) → NonePasses test files → held name files ≡ None
-  held_none [] no_one = refl
-  held_none (file ∷ files) no_one = ap (λ b. if b then Some file.1 else held name files) no_one.0 ∙ held_none files no_one.1
+  value_none : (files : List NamedFile) → NonePasses test files → value_under name files ≡ None
+  value_none [] no_one = refl
+  value_none (file ∷ files) no_one = ap (λ b. if b then Some file.1 else value_under name files) no_one.0 ∙ value_none files no_one.1
 
-  held_first : (k : ℕ) (files : List NamedFile) (d : NamedFile) → IsFirst test files k → held name files ≡ Some (slice_index_or files k d).1
-  held_first k [] d is = absurd is
-  held_first zero (file ∷ files) d is = ap (λ b. if b then Some file.1 else held name files) is
-  held_first (suc k) (file ∷ files) d is = ap (λ b. if b then Some file.1 else held name files) is.0 ∙ held_first k files d is.1
+  value_first : (k : ℕ) (files : List NamedFile) (d : NamedFile) → IsFirst test files k → value_under name files ≡ Some (slice_index_or files k d).1
+  value_first k [] d is = absurd is
+  value_first zero (file ∷ files) d is = ap (λ b. if b then Some file.1 else value_under name files) is
+  value_first (suc k) (file ∷ files) d is = ap (λ b. if b then Some file.1 else value_under name files) is.0 ∙ value_first k files d is.1
 
   put_none : (bytes : List ℕ) (files : List NamedFile) → NonePasses test files → put name bytes files ≡ files ++ (name, bytes) ∷ []
   put_none bytes [] no_one = refl
@@ -35,19 +35,19 @@ module _ (name : Name) where
 
   -- ---- a look-up
 
-  pub not_there : (slice now : List NamedFile) → slice ≡ now → None ≡ position_from test 0 slice → None ≡ held name now
-  not_there slice now lent is = sym (ap (held name) (sym lent) ∙ held_none slice (none test slice (sym is)))
+  pub not_there : (slice now : List NamedFile) → slice ≡ now → None ≡ position_from test 0 slice → None ≡ value_under name now
+  not_there slice now lent is = sym (ap (value_under name) (sym lent) ∙ value_none slice (none test slice (sym is)))
 
   pub there : (slice now : List NamedFile) (k : ℕ) (file d : NamedFile) (bytes : List ℕ) → slice ≡ now → Some k ≡ position_from test 0 slice → file ≡ slice_index_or now k d → bytes ≡ file.1 →
-      Some bytes ≡ held name now
+      Some bytes ≡ value_under name now
   there slice now k file d bytes lent is at its =
-      sym (held_first k now d (first test k now (ap (position_from test 0) (sym lent) ∙ sym is)) ∙ ap (λ (f : NamedFile). Some f.1) (sym at) ∙ ap Some (sym its))
+      sym (value_first k now d (first test k now (ap (position_from test 0) (sym lent) ∙ sym is)) ∙ ap (λ (f : NamedFile). Some f.1) (sym at) ∙ ap Some (sym its))
 
   -- ---- a file more
 
   within : (bytes : List ℕ) (files : List NamedFile) → length bytes ≤ 32768 →
-      files_with name bytes files ≡ (if nat_le 8 (length files) && is_none (held name files) then refused 118 else Ok (put name bytes files))
-  within bytes files fits = ap (λ b. if b then refused 119 else if nat_le 8 (length files) && is_none (held name files) then refused 118 else Ok (put name bytes files)) (le-ltb 32768 (length bytes) fits)
+      files_with name bytes files ≡ (if nat_le 8 (length files) && is_none (value_under name files) then refused 118 else Ok (put name bytes files))
+  within bytes files fits = ap (λ b. if b then refused 119 else if nat_le 8 (length files) && is_none (value_under name files) then refused 118 else Ok (put name bytes files)) (le-ltb 32768 (length bytes) fits)
 
   -- eight files, and none of this name
   pub no_room : (bytes : List ℕ) (slice now : List NamedFile) → length bytes ≤ 32768 → slice ≡ now → None ≡ position_from test 0 slice → 8 ≤ length now →
@@ -68,7 +68,7 @@ module _ (name : Name) where
   replaced bytes slice now after k old new d fits lent is at changed written =
       let here : IsFirst test now k = first test k now (ap (position_from test 0) (sym lent) ∙ sym is) in
       ap Ok (written ∙ ap (λ (f : NamedFile). slice_set now k f) (changed ∙ ap (λ (f : NamedFile). (f.0, bytes)) at) ∙ sym (put_first bytes k now d here))
-      ∙ sym (within bytes now fits ∙ ap (λ (o : Option (List ℕ)). if nat_le 8 (length now) && is_none o then refused 118 else Ok (put name bytes now)) (held_first k now d here)
+      ∙ sym (within bytes now fits ∙ ap (λ (o : Option (List ℕ)). if nat_le 8 (length now) && is_none o then refused 118 else Ok (put name bytes now)) (value_first k now d here)
       ∙ ap (λ (b : Bool). if b then refused 118 else Ok (put name bytes now)) (and_false (nat_le 8 (length now))))
     where
       and_false : (b : Bool) → (b && false) ≡ false
@@ -80,7 +80,7 @@ module _ (name : Name) where
       file ≡ (name, bytes) → after ≡ now ++ file ∷ [] → Ok after ≡ files_with name bytes now
   added bytes slice now after file fits lent is room same pushed =
       ap Ok (pushed ∙ ap (λ f. now ++ f ∷ []) same ∙ sym (ap (put name bytes) (sym lent) ∙ put_none bytes slice (none test slice (sym is)) ∙ ap (λ xs. xs ++ (name, bytes) ∷ []) lent))
-      ∙ sym (within bytes now fits ∙ ap (λ (b : Bool). if b && is_none (held name now) then refused 118 else Ok (put name bytes now)) fewer)
+      ∙ sym (within bytes now fits ∙ ap (λ (b : Bool). if b && is_none (value_under name now) then refused 118 else Ok (put name bytes now)) fewer)
     where
       fewer : nat_le 8 (length now) ≡ false
       fewer = by_test (nat_le 8 (length now)) refl

@@ -20,7 +20,7 @@ abbrev pub with_images_at : ℕ → (Slot (List ℕ) → Slot (List ℕ)) → Ta
 with_images_at number change d tables =
     slice_set tables number (with_images (change (slice_index_or tables number d).slot) (slice_index_or tables number d))
 
--- the same where the change may be refused
+-- the tables with one changed, where the change may be refused
 abbrev pub changed_by : (Slot (List ℕ) → Result (Slot (List ℕ)) Refusal) → ℕ → Table → List Table → Result (List Table) Refusal
 changed_by change number d tables = do
   slot ← change (slice_index_or tables number d).slot

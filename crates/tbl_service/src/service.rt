@@ -2,7 +2,7 @@
 //! the limits, are this project's own).
 
 ghost use Rattle.std.specs.Prelude.{◌≡◌, ◌≤◌, length, option_map, IfErr, IfOk, IfSome, IsSomeAnd, IsTrue, is_some, OnErr, Some};
-ghost use Rattle.lc_model.specs.Name.{held};
+ghost use Rattle.lc_model.specs.Name.{value_under};
 ghost use Rattle.lc_model.specs.Command.{Load, Manage};
 ghost use Rattle.lc_model.specs.Tables.Slot.{Activated, Asked, Validate, Activate, Abort, waiting_at};
 ghost use Rattle.lc_model.specs.Services.Tables.{IsTableService, file_put, first_tables, fits_at, image_installed, image_taken, new_handle, slot_at, stored_image, table_at, table_commanded, table_registered, tables_unregistered, verdict_set};
@@ -63,7 +63,7 @@ impl Tables {
 
     /// The bytes of the file of a name.
     pub fn file(&self, name: &[u8]) -> Option<&[u8]>
-        ensures { option_map (λ bytes. bytes.now) result ≡ held name.now self.now.files }
+        ensures { option_map (λ bytes. bytes.now) result ≡ value_under name.now self.now.files }
     {
         self.files.find(name)
     }

@@ -2,7 +2,7 @@
 
 ghost use Rattle.std.specs.Prelude.{◌≡◌, ◌<◌, ◌≤◌, [], length, option_map, IfErr, IfOk, IfSome, OnErr};
 ghost use Rattle.std.specs.List.{position_from};
-ghost use Rattle.lc_model.specs.Name.{held, is_named};
+ghost use Rattle.lc_model.specs.Name.{value_under, is_named};
 ghost use Rattle.lc_model.specs.Services.Tables.{files_with};
 ghost use Rattle.tbl_service.specs.declared.error.TableError.TheVariants.{Memory};
 ghost use Rattle.tbl_service.specs.Error.{answered};
@@ -125,7 +125,7 @@ impl Files {
 
     /// The bytes of the file of a name.
     pub(crate) fn find(&self, name: &[u8]) -> Option<&[u8]>
-        ensures bytes { option_map (λ bytes. bytes.now) result ≡ held name.now self.now }
+        ensures bytes { option_map (λ bytes. bytes.now) result ≡ value_under name.now self.now }
         ensures fits { IfSome result (λ bytes. length bytes.now ≤ 32768) }
     {
         match place_of(self.list.as_slice(), name) {

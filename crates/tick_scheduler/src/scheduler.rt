@@ -93,7 +93,7 @@ impl App for Scheduler {
     ghost use Rattle.lc_model.specs.Kept.Summary.{SchState};
 
     ghost meaning = { λ s.
-        record { called = sch_name; state = SchState s.schedule s.slot; held = s.seat } };
+        record { called = sch_name; state = SchState s.schedule s.slot; seat = s.seat } };
 
     fn name(&self) -> &[u8] {
         // For the proof: what is scheduled is a schedule that a text can say.

@@ -27,7 +27,7 @@ const ACTIONPOINTS: Table = (
     110,
 );
 
-/// The same of version 1, with words that need parentheses.
+/// An actionpoint of version 1, with words that need parentheses.
 const FIRST_VERSION: Table = (
     [0, 1, 0, 2, 0, 1, 0, 5],
     b"\x01\x00\x00\x00\x00\x00\x00\x07\x00\x02\x00\x03\x03\xE9low volts\0\0\0\0\0\0\0\0\0\0\0\0\0\0\0\0\0\0\0\0\0\0\0\x00\x00\x00\x01\xFF\x02\x00\x02\xFF\x04\xFF\x01\xFF\x05",

@@ -1,7 +1,7 @@
 //! The two failing samples in pieces, and with a fault in each place: each read and each write fails in turn, the writer ends
 //! behind each byte, and the stream behind each byte.
 
-use crate::flying::{Answer, Devices, fly};
+use crate::flying::{Answer, Devices, run_texts};
 use crate::low_volts::LOW_VOLTS;
 use crate::two_failures::{NO_ENTRIES, OUTPUT, STREAM};
 use flight_core::{Report, RunError};
@@ -16,7 +16,7 @@ fn ends<R: Abort + AllocGlobal>(rt: &R, devices: Devices, answer: Answer, size: 
     let mut room = [0; 852];
     let mut source = Pieces::failing_at(&STREAM[..length.min(STREAM.len())], piece.max(1), read);
     let mut sink = Limited::failing_at(&mut room, limit.min(852), write);
-    let found = fly(
+    let found = run_texts(
         rt.alloc(),
         &[LOW_VOLTS],
         &schedule,

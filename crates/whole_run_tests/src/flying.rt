@@ -28,7 +28,7 @@ pub type Answer = Result<Report, RunError>;
 
 /// Runs these texts with two Limit Checkers, a scheduler and a counter in stock. Out of memory for these is the outer error. At
 /// most so many reads are made, or as many as `run` makes. Conditions: nothing was read or failed yet.
-pub fn fly(
+pub fn run_texts(
     alloc: Global,
     texts: &[&[u8]],
     schedule: &Schedule,

@@ -1,7 +1,7 @@
 //! What a packet of telemetry costs the host and the application `LC`: `valgrind --tool=callgrind` on this test, over
 //! `on_packet`, which is called through its object's table and so stays a function of its own.
 
-use crate::flying::fly;
+use crate::flying::run_texts;
 use crate::low_volts::LOW_VOLTS;
 use crate::two_failures::{NO_ENTRIES, STREAM};
 use flight_core::Report;
@@ -24,7 +24,7 @@ fn a_hundred_thousand_packets(rt: HostRuntime) {
     let mut source = Pieces::new(stream.as_slice(), 8_192);
     let mut room = [0; 672];
     let mut sink = Limited::new(&mut room, 672);
-    let answer = fly(
+    let answer = run_texts(
         rt.alloc(),
         &[LOW_VOLTS],
         &schedule,

@@ -4,7 +4,7 @@ use Rattle.std.specs.List.{AllZip}
 use Rattle.std.proofs.lemmas.Slice.Zip.{AllZip-long}
 use Rattle.lc_model.specs.declared.kind.Kind.{Kind}
 use Rattle.lc_model.specs.declared.kind.Kind.TheVariants.{Wdt, Adt}
-use Rattle.lc_model.specs.Name.{Name, is_named, host_name, lc_name, sch_name, counter_name, held, put}
+use Rattle.lc_model.specs.Name.{Name, is_named, host_name, lc_name, sch_name, counter_name, value_under, put}
 use Rattle.lc_model.specs.Packet.{stream_fault, function_code, message_id, event_services_mid, table_services_mid, executive_services_mid, counter_mid}
 use Rattle.lc_model.specs.Refusal.{Refusal, ◌>>=◌, refused, found, provided}
 use Rattle.lc_model.specs.Tables.Slot.{Slot, Move, loaded, moved}
@@ -17,7 +17,7 @@ use Rattle.lc_model.specs.Host.Schedule.{Schedule, entry_packet, slot_number, en
 use Rattle.lc_model.specs.Host.World.{max_files, World, Application, Running, Lc, log_in, logged, become, ended, with_one_spare_less, changed_at, runs, spares_of, log_of, with_log}
 use Rattle.lc_model.specs.Host.React.{Input, Packet, Tick, File, max_file_size, counter_packet, Step, stored, filed, on_file, answered, event_service, opened_file, slot_of, with_slot, table_named, left, spare_taken, lc_become, counter_become, to_counter, managed, table_service, started, ordered, executive_service, to_lc, routed, on_packet, on_packets, scheduled, on_tick, react}
 use Rattle.lc_model.specs.Laws.Correspondence.{BothOrNone, Agrees, SlotAlike, LcAlike, MeaningAlike, WorldAlike, InputAlike, StepAlike, EachInputKeeps}
-use Rattle.lc_model.proofs.Host.TwoReadings.{SameAnswers, Entry, branch, both_map, both_map_or, same_map_or, both_none, both_some, after, after_same, found_alike, provided_alike, held_alike, put_alike}
+use Rattle.lc_model.proofs.Host.TwoReadings.{SameAnswers, Entry, branch, both_map, both_map_or, same_map_or, both_none, both_some, after, after_same, found_alike, provided_alike, value_alike, put_alike}
 use Rattle.lc_model.proofs.LimitChecker.LimitCheckerOfTwo.{States, loaded_alike, moved_alike, start_alike, packet_alike}
 
 -- an image put into the slot of a kind, where it has the size
@@ -114,11 +114,11 @@ module _ {A B : Type 0} (alike : A → B → Type 0) (images : Interpretation A)
   stored_alike name size m n fs gs meaning h =
       branch (SameAnswers Stored) (nat_lt max_file_size size) (refused 119) _ (refused 119) _ refl
       (subst (λ test. SameAnswers Stored (if full then refused 118 else Ok (put name m fs)) (if test then refused 118 else Ok (put name n gs)))
-      (ap₂ (λ k none. nat_le max_files k && none) (sym (AllZip-long (Entry Meanings) fs gs h)) (both_none Meanings (held name fs) (held name gs) (held_alike Meanings name fs gs h)))
+      (ap₂ (λ k none. nat_le max_files k && none) (sym (AllZip-long (Entry Meanings) fs gs h)) (both_none Meanings (value_under name fs) (value_under name gs) (value_alike Meanings name fs gs h)))
       (branch (SameAnswers Stored) full (refused 118) (Ok (put name m fs)) (refused 118) (Ok (put name n gs)) refl (put_alike Meanings name m n fs gs meaning h)))
     where
       full : Bool
-      full = nat_le max_files (length fs) && is_none (held name fs)
+      full = nat_le max_files (length fs) && is_none (value_under name fs)
 
   module _ (w : World A) (files : List (Name × FileMeaning B)) (running : Option (Running (Lc B))) (h : Stored w.files files) (r : BothOrNone Runs w.lc.running running) where
     pub unchanged : Worlds w (twin w files running)
@@ -213,10 +213,10 @@ module _ {A B : Type 0} (alike : A → B → Type 0) (images : Interpretation A)
     managed_alike : (command : TableCommand) → SameAnswers Worlds (managed images command w) (managed others command (twin w files running))
     managed_alike (Load file) =
         let v : World B = twin w files running in
-        after Meanings Worlds (found (held file w.files) 111) (found (held file files) 111)
+        after Meanings Worlds (found (value_under file w.files) 111) (found (value_under file files) 111)
         (λ m. opened_file m >>= (λ c. table_named c.0 w >>= (λ table. placed images w table.1 c.2 table.0 c.1)))
         (λ m. opened_file m >>= (λ c. table_named c.0 v >>= (λ table. placed others v table.1 c.2 table.0 c.1)))
-        (found_alike Meanings (held file w.files) (held file files) 111 (held_alike Meanings file w.files files h))
+        (found_alike Meanings (value_under file w.files) (value_under file files) 111 (value_alike Meanings file w.files files h))
         (λ m n meaning. after Contents Worlds (opened_file m) (opened_file n)
         (λ c. table_named c.0 w >>= (λ table. placed images w table.1 c.2 table.0 c.1))
         (λ c. table_named c.0 v >>= (λ table. placed others v table.1 c.2 table.0 c.1)) (opened_alike m n meaning)

@@ -2,7 +2,7 @@
 use Rattle.std.proofs.Common.{◌≡◌, ℕ, ◌+◌, ◌-◌, Bool, true, false, List, [], ◌∷◌, ◌==◌, map, refl, sym, ◌∙◌, subst, Option, Some, None, Result, Ok, Err, if◌then◌else◌}
 use Rattle.std.specs.Option.{option_map, option_map_or}
 use Rattle.lc_model.specs.declared.kind.Kind.{Kind}
-use Rattle.lc_model.specs.Name.{Name, is_named, lc_name, sch_name, counter_name, held}
+use Rattle.lc_model.specs.Name.{Name, is_named, lc_name, sch_name, counter_name, value_under}
 use Rattle.lc_model.specs.Packet.{stream_fault, message_id, event_services_mid, table_services_mid, executive_services_mid, counter_mid}
 use Rattle.lc_model.specs.Refusal.{Refusal, ◌>>=◌, refused, found, provided}
 use Rattle.lc_model.specs.Tables.Slot.{Slot, loaded, moved}
@@ -120,14 +120,14 @@ module _ {Image : Type 0} (images : Interpretation Image) where
       by_state : (lc : Option (Lc Image)) (command : TableCommand) →
           Both SameCore (managed images command (at (record core { lc = lc }) r)) (managed images command (at (record core { lc = lc }) q))
       by_state None (Load file) =
-          both_after SameCore (found (held file core.files) 111) _ _ (λ (meaning : FileMeaning Image).
+          both_after SameCore (found (value_under file core.files) 111) _ _ (λ (meaning : FileMeaning Image).
           both_after SameCore (opened_file meaning) _ _ (λ (contents : Name × ℕ × Image).
           both_after SameCore (table_named contents.0 (at (record core { lc = None }) r)) _ _ (λ (table : Kind × Lc Image).
           both_after SameCore (provided (images.has_size table.0 contents.1) 114 contents.2) _ _ (λ (image : Image).
           both_after SameCore (loaded image (slot_of table.0 table.1)) _ _ (λ (slot : Slot Image).
           alike_at (record core { lc = None }) r q same)))))
       by_state (Some lc) (Load file) =
-          both_after SameCore (found (held file core.files) 111) _ _ (λ (meaning : FileMeaning Image).
+          both_after SameCore (found (value_under file core.files) 111) _ _ (λ (meaning : FileMeaning Image).
           both_after SameCore (opened_file meaning) _ _ (λ (contents : Name × ℕ × Image).
           both_after SameCore (table_named contents.0 (at (record core { lc = Some lc }) r)) _ _ (λ (table : Kind × Lc Image).
           both_after SameCore (provided (images.has_size table.0 contents.1) 114 contents.2) _ _ (λ (image : Image).

@@ -3,7 +3,7 @@ use Rattle.std.proofs.Common.{◌≡◌, ℕ, Bool, true, false, List, [], ◌�
 use Rattle.std.specs.Option.{option_map_or, option_or}
 use Rattle.std.specs.List.{AllZip}
 use Rattle.lc_model.specs.Refusal.{Refusal, ◌>>=◌, found, provided}
-use Rattle.lc_model.specs.Name.{Name, is_named, held, put}
+use Rattle.lc_model.specs.Name.{Name, is_named, value_under, put}
 use Rattle.lc_model.specs.Laws.Correspondence.{BothOrNone}
 
 -- both done, and alike; or both refused for one reason
@@ -87,13 +87,13 @@ abbrev pub Entry : {A B : Type 0} → (A → B → Type 0) → Name × A → Nam
 Entry R f g = (f.0 ≡ g.0) × R f.1 g.1
 
 module _ {A B : Type 0} (R : A → B → Type 0) where
-  pub held_alike : (name : Name) (fs : List (Name × A)) (gs : List (Name × B)) → AllZip (Entry R) fs gs → BothOrNone R (held name fs) (held name gs)
-  held_alike name [] [] h = tt
-  held_alike name [] (g ∷ gs) h = absurd h
-  held_alike name (f ∷ fs) [] h = absurd h
-  held_alike name (f ∷ fs) (g ∷ gs) h =
-      subst (λ n. BothOrNone R (if is_named name f.0 then Some f.1 else held name fs) (if is_named name n then Some g.1 else held name gs)) h.0.0
-      (branch (BothOrNone R) (is_named name f.0) (Some f.1) (held name fs) (Some g.1) (held name gs) h.0.1 (held_alike name fs gs h.1))
+  pub value_alike : (name : Name) (fs : List (Name × A)) (gs : List (Name × B)) → AllZip (Entry R) fs gs → BothOrNone R (value_under name fs) (value_under name gs)
+  value_alike name [] [] h = tt
+  value_alike name [] (g ∷ gs) h = absurd h
+  value_alike name (f ∷ fs) [] h = absurd h
+  value_alike name (f ∷ fs) (g ∷ gs) h =
+      subst (λ n. BothOrNone R (if is_named name f.0 then Some f.1 else value_under name fs) (if is_named name n then Some g.1 else value_under name gs)) h.0.0
+      (branch (BothOrNone R) (is_named name f.0) (Some f.1) (value_under name fs) (Some g.1) (value_under name gs) h.0.1 (value_alike name fs gs h.1))
 
   pub put_alike : (name : Name) (a : A) (b : B) (fs : List (Name × A)) (gs : List (Name × B)) → R a b → AllZip (Entry R) fs gs →
       AllZip (Entry R) (put name a fs) (put name b gs)

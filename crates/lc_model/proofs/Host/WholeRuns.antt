@@ -4,14 +4,14 @@ use Rattle.std.specs.List.{concat, AllByRecursion}
 use Rattle.std.proofs.lemmas.List.Elements.{Contains-append_right}
 use Rattle.lc_model.specs.declared.kind.Kind.{Kind}
 use Rattle.lc_model.specs.declared.kind.Kind.TheVariants.{Wdt, Adt}
-use Rattle.lc_model.specs.Name.{Name, name_in}
+use Rattle.lc_model.specs.Name.{Name, name_in, name_size}
 use Rattle.lc_model.specs.Bytes.{u16_at}
 use Rattle.lc_model.specs.Tables.Image.{Layout}
 use Rattle.lc_model.specs.Tables.File.{headers_length}
 use Rattle.lc_model.specs.Tables.Interpretation.{FileMeaning, Opened, Unreadable}
 use Rattle.lc_model.specs.Tables.HalvesAndBytes.{Text, TextImage, as_bytes, as_halves, byte_meanings, text_meanings}
 use Rattle.lc_model.specs.Host.Schedule.{Schedule}
-use Rattle.lc_model.specs.Host.Stream.{StreamEntry, Contents, Packet, Tick, File, Half, Front, EndOfStream, Record, NoRecord, CutRecord, all_kinds, header_size, name_size, body_size, fits_body, half_contents, contents_of, moment_of, record_of, front, records_by_front, records_from}
+use Rattle.lc_model.specs.Host.Stream.{StreamEntry, Contents, Packet, Tick, File, Half, Front, EndOfStream, Record, NoRecord, CutRecord, all_kinds, header_size, body_size, fits_body, half_contents, contents_of, moment_of, record_of, front, records_by_front, records_from}
 use Rattle.lc_model.specs.Host.World.{first_world}
 use Rattle.lc_model.specs.Host.Run.{size_in, input_of, packets_of}
 use Rattle.lc_model.specs.Host.Promise.{HaveOwnHashes, CarriesHalf, CarryHalves}

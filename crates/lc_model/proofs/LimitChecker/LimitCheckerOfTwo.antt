@@ -4,7 +4,7 @@ use Rattle.std.specs.Option.{option_map_or}
 use Rattle.std.specs.List.{AllZip}
 use Rattle.lc_model.specs.declared.kind.Kind.{Kind}
 use Rattle.lc_model.specs.declared.kind.Kind.TheVariants.{Wdt, Adt}
-use Rattle.lc_model.specs.Name.{Name, is_named, held}
+use Rattle.lc_model.specs.Name.{Name, is_named, value_under}
 use Rattle.lc_model.specs.Packet.{function_code, payload, is_telemetry_mid, message_id, lc_command_mid, lc_housekeeping_request_mid, sample_mid}
 use Rattle.lc_model.specs.Refusal.{Refusal, ◌>>=◌, found, provided}
 use Rattle.lc_model.specs.Tables.Image.{ImageFault}
@@ -19,7 +19,7 @@ use Rattle.lc_model.specs.LimitChecker.Past.{Past}
 use Rattle.lc_model.specs.LimitChecker.Steps.{LcStep, by_lists, is_disabled, paired, in_force, sound_image, default_image, default_pair, told_verdict, validated, pair_to_adopt, one_set, turned_permanently_off, states_set, lc_obeyed, lc_commanded, unless_refused, is_short, sampled_points, started_with, lc_start, watched, lc_telemetry, sampled_by, lc_sample, standing, housekeeping_of, adopted, lc_housekeeping, lc_packet}
 use Rattle.lc_model.specs.Host.World.{Lc}
 use Rattle.lc_model.specs.Laws.Correspondence.{BothOrNone, SoundAlike, Agrees, IsFound, WaitingAlike, SlotAlike, MeaningAlike}
-use Rattle.lc_model.proofs.Host.TwoReadings.{SameAnswers, Entry, branch, both_map_or, both_or, both_none, both_some, after, after_same, found_alike, provided_alike, held_alike}
+use Rattle.lc_model.proofs.Host.TwoReadings.{SameAnswers, Entry, branch, both_map_or, both_or, both_none, both_some, after, after_same, found_alike, provided_alike, value_alike}
 use Rattle.lc_model.proofs.LimitChecker.Reordered.{same_points, same_fresh}
 
 module _ {A B : Type 0} (alike : A → B → Type 0) (images : Interpretation A) (others : Interpretation B) (agree : Agrees alike images others) where
@@ -194,7 +194,7 @@ module _ {A B : Type 0} (alike : A → B → Type 0) (images : Interpretation A)
       BothOrNone (Sound kind) (default_image images kind fs) (default_image others kind gs)
   default_alike kind fs gs h =
       both_map_or (MeaningAlike alike images others) (BothOrNone (Sound kind)) (sound_image images kind) (sound_image others kind)
-      (held (default_file kind) fs) (held (default_file kind) gs) None None (held_alike (MeaningAlike alike images others) (default_file kind) fs gs h)
+      (value_under (default_file kind) fs) (value_under (default_file kind) gs) None None (value_alike (MeaningAlike alike images others) (default_file kind) fs gs h)
       (sound_image_alike kind) tt
 
   -- a running Limit Checker and its twin
@@ -236,7 +236,7 @@ module _ {A B : Type 0} (alike : A → B → Type 0) (images : Interpretation A)
 
   -- ---- packets
 
-  -- the same but for the slots
+  -- the Limit Checker with other slots
   abbrev twin : Lc A → Slot B → Slot B → Lc B
   twin a wdt adt = record { mode = a.mode; wdt = wdt; adt = adt; watch = a.watch; points = a.points }
 

@@ -2,7 +2,7 @@
 use Rattle.std.proofs.Common.{◌≡◌, refl, sym, subst, ℕ, zero, suc, ◌≤◌, ◌<◌, Bool, true, false, ◌||◌, List, [], ◌∷◌, map, length, arith, if◌then◌else◌, Option, Some, is_none, IsFalse, true≢false}
 use Rattle.std.specs.List.{list_any}
 use Rattle.std.proofs.lemmas.Slice.Eq.{bytes_eq-Decides}
-use Rattle.lc_model.specs.Name.{Name, is_named, AreDistinct, held, put}
+use Rattle.lc_model.specs.Name.{Name, is_named, AreDistinct, value_under, put}
 use Rattle.lc_model.proofs.Facts.{or_neither}
 use Rattle.lc_model.proofs.Services.SenderNames.{other_way}
 
@@ -35,12 +35,12 @@ module _ {X : Type 0} where
       by_test behind true same = (subst (λ first. IsFalse (list_any (is_named first) (names files))) (sym ((bytes_eq-Decides name file.0).0 same)) all.0, all.1)
       by_test behind false two = (put_names file.0 name x files (other_way name file.0 two) all.0, behind)
 
-  pub put_length : (name : Name) (x : X) (files : List (Name × X)) (count : ℕ) → length files ≤ count → (is_none (held name files) ≡ true → length files < count) → length (put name x files) ≤ count
+  pub put_length : (name : Name) (x : X) (files : List (Name × X)) (count : ℕ) → length files ≤ count → (is_none (value_under name files) ≡ true → length files < count) → length (put name x files) ≤ count
   put_length name x [] count few room = omega (arith, room refl)
   put_length name x (file ∷ files) count few room = by_test (λ count. put_length name x files count) (is_named name file.0) count few room
     where
-      by_test : ((count : ℕ) → length files ≤ count → (is_none (held name files) ≡ true → length files < count) → length (put name x files) ≤ count) → (test : Bool) → (count : ℕ) → suc (length files) ≤ count →
-          (is_none (let o : Option X = if test then Some file.1 else held name files in o) ≡ true → suc (length files) < count) →
+      by_test : ((count : ℕ) → length files ≤ count → (is_none (value_under name files) ≡ true → length files < count) → length (put name x files) ≤ count) → (test : Bool) → (count : ℕ) → suc (length files) ≤ count →
+          (is_none (let o : Option X = if test then Some file.1 else value_under name files in o) ≡ true → suc (length files) < count) →
           length (if test then (name, x) ∷ files else file ∷ put name x files) ≤ count
       by_test behind true count few room = few
       by_test behind false zero few room = absurd (let none : ⊥ = omega arith in none)

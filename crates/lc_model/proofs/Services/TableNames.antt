@@ -3,7 +3,7 @@ use Rattle.std.proofs.Common.{◌≡◌, refl, ap, sym, ◌∙◌, ℕ, zero, su
 use Rattle.std.specs.Prelude.{IfOk, Result, Ok, is_none, is_some, nat_le, nat_lt, ◌&&◌, ◌||◌}
 use Rattle.std.specs.Option.{option_or, option_map_or}
 use Rattle.std.specs.List.{list_any, position_from}
-use Rattle.lc_model.specs.Name.{Name, is_named, held, put}
+use Rattle.lc_model.specs.Name.{Name, is_named, value_under, put}
 use Rattle.lc_model.specs.Refusal.{Refusal, ◌>>=◌, refused}
 use Rattle.lc_model.specs.Tables.Slot.{Slot, no_images}
 use Rattle.lc_model.specs.Tables.Interpretation.{FileMeaning}
@@ -291,11 +291,11 @@ registering_tables seat name size other service inside is = by_tests (nat_le tab
 
 -- ---- files
 
-held_seen : (name : Name) (files : List (Name × List ℕ)) → is_none (held name (files_seen files)) ≡ is_none (held name files)
-held_seen name [] = refl
-held_seen name (file ∷ files) = by_test (held_seen name files) (is_named name file.0)
+value_seen : (name : Name) (files : List (Name × List ℕ)) → is_none (value_under name (files_seen files)) ≡ is_none (value_under name files)
+value_seen name [] = refl
+value_seen name (file ∷ files) = by_test (value_seen name files) (is_named name file.0)
   where
-    by_test : is_none (held name (files_seen files)) ≡ is_none (held name files) → (t : Bool) → is_none (if t then Some (meaning_of file.1) else held name (files_seen files)) ≡ is_none (if t then Some file.1 else held name files)
+    by_test : is_none (value_under name (files_seen files)) ≡ is_none (value_under name files) → (t : Bool) → is_none (if t then Some (meaning_of file.1) else value_under name (files_seen files)) ≡ is_none (if t then Some file.1 else value_under name files)
     by_test others true = refl
     by_test others false = others
 
@@ -322,18 +322,18 @@ storing_files name bytes service = by_length (nat_lt max_file_size (length bytes
     seen_after : Result (List (Name × List ℕ)) Refusal → Stored
     seen_after r = (r >>= (λ files. Ok (record service { files = files }))) >>= (λ (after : TableService). Ok (files_seen after.files))
 
-    counted : (nat_le max_files (length (files_seen service.files)) && is_none (held name (files_seen service.files)))
-        ≡ (nat_le max_files (length service.files) && is_none (held name service.files))
-    counted = λ i. nat_le max_files (seen_length service.files i) && held_seen name service.files i
+    counted : (nat_le max_files (length (files_seen service.files)) && is_none (value_under name (files_seen service.files)))
+        ≡ (nat_le max_files (length service.files) && is_none (value_under name service.files))
+    counted = λ i. nat_le max_files (seen_length service.files i) && value_seen name service.files i
 
     by_room : (test : Bool) → seen_after (if test then refused 118 else Ok (put name bytes service.files))
         ≡ (if test then refused 118 else Ok (put name (meaning_of bytes) (files_seen service.files)))
     by_room true = refl
     by_room false = ap Ok (put_seen name bytes service.files)
 
-    by_length : (test : Bool) → seen_after (if test then refused 119 else if nat_le max_files (length service.files) && is_none (held name service.files) then refused 118 else Ok (put name bytes service.files))
-        ≡ (let r : Stored = if test then refused 119 else if nat_le max_files (length (files_seen service.files)) && is_none (held name (files_seen service.files)) then refused 118
+    by_length : (test : Bool) → seen_after (if test then refused 119 else if nat_le max_files (length service.files) && is_none (value_under name service.files) then refused 118 else Ok (put name bytes service.files))
+        ≡ (let r : Stored = if test then refused 119 else if nat_le max_files (length (files_seen service.files)) && is_none (value_under name (files_seen service.files)) then refused 118
         else Ok (put name (meaning_of bytes) (files_seen service.files)) in r)
     by_length true = refl
-    by_length false = by_room (nat_le max_files (length service.files) && is_none (held name service.files))
+    by_length false = by_room (nat_le max_files (length service.files) && is_none (value_under name service.files))
         ∙ (let P : Bool → Stored = λ b. if b then refused 118 else Ok (put name (meaning_of bytes) (files_seen service.files)) in ap P (sym counted))

@@ -5,7 +5,7 @@ use Rattle.std.specs.List.{position_from, AllByRecursion}
 use Rattle.std.proofs.lemmas.Bool.{ltb-false, leb-false}
 use Rattle.std.proofs.lemmas.List.{length-set}
 use Rattle.std.proofs.lemmas.Slice.Eq.{bytes_eq-Decides}
-use Rattle.lc_model.specs.Name.{Name, is_named, name_in, held, put}
+use Rattle.lc_model.specs.Name.{Name, is_named, name_in, value_under, put}
 use Rattle.lc_model.specs.Refusal.{Refusal, ◌>>=◌, refused, found, provided}
 use Rattle.lc_model.specs.Tables.File.{opened}
 use Rattle.lc_model.specs.Tables.Slot.{Move, Slot, loaded, moved}
@@ -29,7 +29,7 @@ put_fits name bytes (file ∷ files) fits all = by_test (put_fits name bytes fil
     by_test others false = (all.0, others)
 
 -- where a new name finds room
-room_there : (files : List (Name × List ℕ)) (name : Name) → (nat_le max_files (length files) && is_none (held name files)) ≡ false → is_none (held name files) ≡ true → length files < max_files
+room_there : (files : List (Name × List ℕ)) (name : Name) → (nat_le max_files (length files) && is_none (value_under name files)) ≡ false → is_none (value_under name files) ≡ true → length files < max_files
 room_there files name room new = by_test (nat_le max_files (length files)) refl
   where
     by_test : (b : Bool) → nat_le max_files (length files) ≡ b → length files < max_files
@@ -42,7 +42,7 @@ files_stay_sound name bytes service is = by_length (nat_lt max_file_size (length
     with_files : Result (List (Name × List ℕ)) Refusal → Result TableService Refusal
     with_files r = r >>= (λ files. Ok (record service { files = files }))
 
-    by_room : length bytes ≤ max_file_size → (test : Bool) → (nat_le max_files (length service.files) && is_none (held name service.files)) ≡ test →
+    by_room : length bytes ≤ max_file_size → (test : Bool) → (nat_le max_files (length service.files) && is_none (value_under name service.files)) ≡ test →
         IfOk (with_files (if test then refused 118 else Ok (put name bytes service.files))) IsTableService
     by_room fits true room = tt
     by_room fits false room = record {
@@ -55,9 +55,9 @@ files_stay_sound name bytes service is = by_length (nat_lt max_file_size (length
     }
 
     by_length : (test : Bool) → nat_lt max_file_size (length bytes) ≡ test →
-        IfOk (with_files (if test then refused 119 else if nat_le max_files (length service.files) && is_none (held name service.files) then refused 118 else Ok (put name bytes service.files))) IsTableService
+        IfOk (with_files (if test then refused 119 else if nat_le max_files (length service.files) && is_none (value_under name service.files) then refused 118 else Ok (put name bytes service.files))) IsTableService
     by_length true long = tt
-    by_length false short = by_room (ltb-false max_file_size (length bytes) short) (nat_le max_files (length service.files) && is_none (held name service.files)) refl
+    by_length false short = by_room (ltb-false max_file_size (length bytes) short) (nat_le max_files (length service.files) && is_none (value_under name service.files)) refl
 
 -- ---- tables
 
@@ -229,7 +229,7 @@ module _ (service : TableService) (is : IsTableService service) where
 pub commands_stay_sound : CommandsStaySound
 commands_stay_sound (Manage move name) service is = placed service is (moved_among move name service.places) (moved_sound service is move name)
 commands_stay_sound (Load name) service is =
-    then_ok IsTableService (found (held name service.files) 111) _ (λ bytes b. placed service is (loaded_among bytes service.places)
+    then_ok IsTableService (found (value_under name service.files) 111) _ (λ bytes b. placed service is (loaded_among bytes service.places)
     (then_ok (Sound service is) (file_refusal (opened bytes)) _ (λ file f. image_loaded_sound service is file.image (name_in file.name_field))))
 
 pub first_is_sound : FirstIsSound

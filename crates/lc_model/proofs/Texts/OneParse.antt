@@ -19,7 +19,7 @@ shallow_front xs ys shallow front inside back w e is_when closed = shallow front
 viable_front : (xs ys : List Token) → IsViable (xs ++ ys) → IsViable xs
 viable_front xs ys v = (ys ++ v.0, v.1, subst (λ ts. DerivesFile ts v.1) (append_assoc xs ys v.0) v.2)
 
--- the same of a token at the end of the front
+-- a front with a token at its end is viable, too
 viable_with : (front : List Token) (t : Token) (back : List Token) → IsViable (front ++ t ∷ back) → IsViable (front ++ t ∷ [])
 viable_with front t back v = viable_front (front ++ t ∷ []) back (subst IsViable (sym (append_assoc front (t ∷ []) back)) v)
 

@@ -7,9 +7,9 @@ use Rattle.std.specs.Prelude.{ℕ, zero, suc, ◌==◌, Bool, true, false, not, 
 use Rattle.std.specs.Option.{option_map_or}
 use Rattle.std.specs.List.{list_any, position_from}
 use Rattle.lc_model.specs.declared.record.Moment.{Moment}
-use Rattle.lc_model.specs.Name.{Name, is_named, host_name, held}
+use Rattle.lc_model.specs.Name.{Name, is_named, host_name, value_under}
 use Rattle.lc_model.specs.Packet.{stream_fault, function_code, message_id, tick_mid, command, by_service}
-use Rattle.lc_model.specs.Refusal.{Refusal, ◌>>=◌, refused, found, provided}
+use Rattle.lc_model.specs.Refusal.{Refusal, ◌>>=◌, refused, found, provided, not_registered, filters_full, no_file, unknown_table, wrong_image_size, not_running, no_spare, already_running, no_free_seat}
 use Rattle.lc_model.specs.Tables.Slot.{loaded, moved}
 use Rattle.lc_model.specs.Tables.Interpretation.{FileMeaning, Interpretation, FileMeanings, kind_named}
 use Rattle.lc_model.specs.Events.Request.{Request, Service, event_services, table_services, executive_services, command_done, command_refused, bad_packet, file_stored, file_refused}
@@ -67,7 +67,7 @@ offered packet pipe = if hears packet pipe then record pipe { waiting = pipe.wai
 abbrev pub published_to : List (Option Pipe) → List ℕ → List (Option Pipe)
 published_to pipes packet = map (option_map (offered packet)) pipes
 
--- the same of several packets, one after the other
+-- all pipes after several packets, one after the other
 unfoldable pub all_published_to : List (Option Pipe) → List (List ℕ) → List (Option Pipe)
 all_published_to pipes [] = pipes
 all_published_to pipes (packet ∷ packets) = all_published_to (published_to pipes packet) packets
@@ -119,7 +119,7 @@ spare_at stock i = slice_index_or stock i no_member
 -- a sender after an item of its log, unless a filter finds no place
 abbrev pub joined_now : LogItem → EventState → Result EventState Refusal
 joined_now (FilterSet id mask) events =
-    if next_is_full id events then refused 102 else Ok (events_after (FilterSet id mask) events)
+    if next_is_full id events then refused filters_full else Ok (events_after (FilterSet id mask) events)
 joined_now item events = Ok (events_after item events)
 
 -- the packet that a tick publishes
@@ -216,20 +216,20 @@ module _ {Image : Type 0} where
     -- an application starts, stops, or is replaced
     abbrev pub ordered_now : Order → Name → Executive Image → Result (Written Image) Refusal
     ordered_now Start name e =
-        if not (is_none (seat_of name e.seats)) then refused 123
+        if not (is_none (seat_of name e.seats)) then refused already_running
         else (do
-          i ← found (spare_of name e.stock) 122
-          k ← found (free_seat e.seats) 124
+          i ← found (spare_of name e.stock) no_spare
+          k ← found (free_seat e.seats) no_free_seat
           Ok (begun_on k (spare_at e.stock i) (without_spare i e)))
     ordered_now Stop name e = do
-      k ← found (seat_of name e.seats) 121
+      k ← found (seat_of name e.seats) not_running
       Ok (left_from k e, [])
     ordered_now Restart name e = do
-      k ← found (seat_of name e.seats) 121
+      k ← found (seat_of name e.seats) not_running
       Ok (begun_on k (seated e.seats k) (left_from k e))
     ordered_now Reload name e = do
-      k ← found (seat_of name e.seats) 121
-      i ← found (spare_of name e.stock) 122
+      k ← found (seat_of name e.seats) not_running
+      i ← found (spare_of name e.stock) no_spare
       Ok (begun_on k (spare_at e.stock i) (without_spare i (left_from k e)))
 
     -- executive services
@@ -244,7 +244,7 @@ module _ {Image : Type 0} where
   abbrev pub event_service_now : List ℕ → ServicesNow Image → Result (ServicesNow Image) Refusal
   event_service_now packet services = do
     command ← event_command_in packet
-    events ← found (services.events command.0) 101
+    events ← found (services.events command.0) not_registered
     after ← joined_now command.1 events
     Ok (record services { events = with_at command.0 (Some after) services.events })
 
@@ -261,15 +261,15 @@ module _ {Image : Type 0} where
     -- the services after a table command
     abbrev pub managed_now : TableCommand → ServicesNow Image → Result (ServicesNow Image) Refusal
     managed_now (Load file) services = do
-      meaning ← found (held file services.files) 111
+      meaning ← found (value_under file services.files) no_file
       contents ← opened_file meaning
-      kind ← found (kind_named contents.0) 113
-      slot ← found (services.slots contents.0) 113
-      image ← provided (images.has_size kind contents.1) 114 contents.2
+      kind ← found (kind_named contents.0) unknown_table
+      slot ← found (services.slots contents.0) unknown_table
+      image ← provided (images.has_size kind contents.1) wrong_image_size contents.2
       after ← loaded image slot
       Ok (record services { slots = with_at contents.0 (Some after) services.slots })
     managed_now (Manage move name) services = do
-      slot ← found (services.slots name) 113
+      slot ← found (services.slots name) unknown_table
       after ← moved move slot
       Ok (record services { slots = with_at name (Some after) services.slots })
 

@@ -1,7 +1,7 @@
 -- What applications see of the bus, after each of its calls.
 use Rattle.std.specs.Prelude.{◌≡◌, ℕ, ◌+◌, ◌≤◌, ◌<◌, false, List, length, drop, slice_set, Option, Some, None}
 use Rattle.lc_model.specs.Kept.Executive.{published_to}
-use Rattle.lc_model.specs.Services.Bus.{Queue, Bus, seen, seen_pipe, with_pipe, pipe_at, without_oldest, is_blocked, IsPublished}
+use Rattle.lc_model.specs.Services.Bus.{Queue, Bus, seen, seen_pipe, with_pipe, pipe_at, without_oldest, is_blocked, IsPublished, pipe_depth}
 
 -- a publication is what the host's definitions say: each subscriber has the packet once, behind what waits
 abbrev pub PublicationIsSeen : Type 0
@@ -27,7 +27,7 @@ IsShort n (Some queue) = length queue.waiting ≤ n
 -- where at most so many wait in each place, a packet is not blocked, and at most one more waits in each place afterwards; so
 -- with n in each place, n' more packets are taken where n + n' is at most 72
 abbrev pub HasRoom : Type 0
-HasRoom = (n : ℕ) (packet : List ℕ) (bus : Bus) → ((seat : ℕ) → IsShort n (pipe_at seat bus)) → n < 72 → is_blocked packet bus ≡ false
+HasRoom = (n : ℕ) (packet : List ℕ) (bus : Bus) → ((seat : ℕ) → IsShort n (pipe_at seat bus)) → n < pipe_depth → is_blocked packet bus ≡ false
 
 abbrev pub FillsByOne : Type 0
 FillsByOne = (n : ℕ) (packet : List ℕ) (old new : Bus) → ((seat : ℕ) → IsShort n (pipe_at seat old)) → IsPublished packet old new → (seat : ℕ) → IsShort (n + 1) (pipe_at seat new)

@@ -5,7 +5,7 @@ use Rattle.lc_model.specs.declared.record.Moment.{Moment}
 use Rattle.lc_model.specs.declared.rule.EventKind.{EventKind}
 use Rattle.lc_model.specs.Name.{Name}
 use Rattle.lc_model.specs.Packet.{event_mid}
-use Rattle.lc_model.specs.Refusal.{◌>>=◌, found}
+use Rattle.lc_model.specs.Refusal.{◌>>=◌, found, not_registered}
 use Rattle.lc_model.specs.Events.Log.{LogItem}
 use Rattle.lc_model.specs.Events.Request.{Event}
 use Rattle.lc_model.specs.Kept.Summary.{EventState}
@@ -54,7 +54,7 @@ UnregisteringByName = (seat : ℕ) (sender : Sender) (service : EventService) �
 abbrev pub CommandsByName : Type 0
 CommandsByName = (name : Name) (item : LogItem) (service : EventService) →
     (commanded name item service >>= (λ after. Ok (sender_named after)))
-    ≡ (found (sender_named service name) 101 >>= (λ events. joined_now item events >>= (λ after. Ok (with_at name (Some after) (sender_named service)))))
+    ≡ (found (sender_named service name) not_registered >>= (λ events. joined_now item events >>= (λ after. Ok (with_at name (Some after) (sender_named service)))))
 
 -- a sender's event is sent as the host in numbers sends it, with the same packet
 abbrev pub EventsByName : (Image : Type 0) → Type 0

@@ -4,7 +4,7 @@ use Rattle.std.specs.Prelude.{◌≡◌, ℕ, ◌-◌, ◌+◌, ◌==◌, nat_lt
 use Rattle.std.specs.Option.{option_or, option_map_or}
 use Rattle.std.specs.List.{list_any, flat_map}
 use Rattle.lc_model.specs.Packet.{header_fault, message_id}
-use Rattle.lc_model.specs.Refusal.{Refusal, ◌>>=◌, refused, found, provided}
+use Rattle.lc_model.specs.Refusal.{Refusal, ◌>>=◌, refused, found, provided, faulty_packet, pipe_full, no_pipe, second_pipe, too_many_subscriptions}
 use Rattle.lc_model.specs.Kept.Call.{with_mid}
 use Rattle.lc_model.specs.Kept.Executive.{Pipe, seat_count}
 
@@ -109,12 +109,12 @@ with_pipe seat bus queue = slice_set bus seat (Some queue)
 
 -- a seat has a new pipe
 abbrev pub pipe_added : ℕ → Bus → Result Bus Refusal
-pipe_added seat bus = option_map_or (λ (queue : Queue). refused 94) (pipe_at seat bus) (Ok (with_pipe seat bus new_pipe))
+pipe_added seat bus = option_map_or (λ (queue : Queue). refused second_pipe) (pipe_at seat bus) (Ok (with_pipe seat bus new_pipe))
 
 -- a seat's pipe goes, with its subscriptions and what waits in it
 abbrev pub pipe_removed : ℕ → Bus → Result Bus Refusal
 pipe_removed seat bus = do
-  queue ← found (pipe_at seat bus) 93
+  queue ← found (pipe_at seat bus) no_pipe
   Ok (slice_set bus seat None)
 
 -- ---- subscriptions
@@ -126,7 +126,7 @@ is_subscribed mid queue = list_any (λ other. mid == other) queue.subscriptions
 -- one message id more among the subscriptions, unless that makes too many
 abbrev pub joined : ℕ → Queue → Result Queue Refusal
 joined mid queue =
-    provided (is_subscribed mid queue || nat_lt (length queue.subscriptions) most_subscriptions) 95
+    provided (is_subscribed mid queue || nat_lt (length queue.subscriptions) most_subscriptions) too_many_subscriptions
     (record queue { subscriptions = with_mid mid queue.subscriptions })
 
 -- a message id less
@@ -136,14 +136,14 @@ parted mid queue = record queue { subscriptions = filter (λ other. not (mid == 
 -- a seat's pipe is subscribed to a message id
 abbrev pub subscribed : ℕ → ℕ → Bus → Result Bus Refusal
 subscribed seat mid bus = do
-  queue ← found (pipe_at seat bus) 93
+  queue ← found (pipe_at seat bus) no_pipe
   more ← joined mid queue
   Ok (with_pipe seat bus more)
 
 -- a seat's pipe is no longer subscribed to it. What waits stays.
 abbrev pub unsubscribed : ℕ → ℕ → Bus → Result Bus Refusal
 unsubscribed seat mid bus = do
-  queue ← found (pipe_at seat bus) 93
+  queue ← found (pipe_at seat bus) no_pipe
   Ok (with_pipe seat bus (parted mid queue))
 
 -- ---- packets
@@ -165,7 +165,7 @@ is_blocked packet bus = list_any (λ place. hears_packet packet place && is_full
 -- why a packet isn't published
 abbrev pub publish_refusal : List ℕ → Bus → Option Refusal
 publish_refusal packet bus =
-    option_or (option_map (λ reason. 91 ∷ reason ∷ []) (header_fault packet)) (if is_blocked packet bus then Some (92 ∷ []) else None)
+    option_or (option_map (λ reason. faulty_packet ∷ reason ∷ []) (header_fault packet)) (if is_blocked packet bus then Some (pipe_full ∷ []) else None)
 
 -- a pipe after a publication with this number
 abbrev pub offered_as : ℕ → List ℕ → Queue → Queue
@@ -190,5 +190,5 @@ without_oldest queue = record queue { waiting = drop 1 queue.waiting }
 -- a seat received: its oldest packet is taken, if there is one
 abbrev pub received : ℕ → Bus → Result Bus Refusal
 received seat bus = do
-  queue ← found (pipe_at seat bus) 93
+  queue ← found (pipe_at seat bus) no_pipe
   Ok (with_pipe seat bus (without_oldest queue))

@@ -7,12 +7,13 @@ use Rattle.std.specs.List.{position_from}
 use Rattle.lc_model.specs.declared.record.Moment.{Moment}
 use Rattle.lc_model.specs.declared.rule.EventKind.{EventKind}
 use Rattle.lc_model.specs.Name.{Name, is_named, host_name}
-use Rattle.lc_model.specs.Refusal.{Refusal, ◌>>=◌, refused, found}
-use Rattle.lc_model.specs.Events.Log.{Log, LogItem, Requested, FilterSet, FiltersReset, TypesSet, chosen, joined}
+use Rattle.lc_model.specs.Refusal.{Refusal, ◌>>=◌, refused, found, not_registered, sender_taken}
+use Rattle.lc_model.specs.Events.Log.{Log, LogItem, Requested, FilterSet, FiltersReset, TypesSet, chosen, joined, sets_of_types}
 use Rattle.lc_model.specs.Events.Outgoing.{event_packet}
 use Rattle.lc_model.specs.Kept.Summary.{event_state}
 use Rattle.lc_model.specs.Kept.Executive.{seat_count}
 use Rattle.lc_model.specs.Services.Events.{Sender, EventService, Origin, registered_at, unregistered_at, commanded, event_asked}
+use Rattle.lc_model.specs.Packet.{count_end}
 
 -- a call of the event services
 pub data EventCall : Type 0 where
@@ -29,7 +30,7 @@ Answer = Result (Option (List ℕ)) Refusal
 
 -- a set of types has four bits
 abbrev pub HasFourTypes : EventCall → Type 0
-HasFourTypes (SetTypes name bits on) = bits < 16
+HasFourTypes (SetTypes name bits on) = bits < sets_of_types
 HasFourTypes call = ⊤
 
 -- what there is after a call, with its answer; a call that is refused changes nothing
@@ -98,20 +99,20 @@ with_log_at (Some seat) sender log history =
 -- a seat begins a log under a name
 abbrev pub begun_at : ℕ → Name → EventHistory → Result EventHistory Refusal
 begun_at seat name history =
-    if is_some (slice_index_or history.places seat None) || is_some (origin_in name history) then refused 103
+    if is_some (slice_index_or history.places seat None) || is_some (origin_in name history) then refused sender_taken
     else Ok (record history { places = slice_set history.places seat (Some (record { name = name; log = [] })) })
 
 -- a seat's log ends
 abbrev pub ended_at : ℕ → EventHistory → Result EventHistory Refusal
 ended_at seat history =
     if is_some (slice_index_or history.places seat None) then Ok (record history { places = slice_set history.places seat None })
-    else refused 101
+    else refused not_registered
 
 -- a command joins the log of a name
 abbrev pub joined_at : Name → LogItem → EventHistory → Result EventHistory Refusal
 joined_at name item history = do
-  origin ← found (origin_in name history) 101
-  sender ← found (remembered_at origin history) 101
+  origin ← found (origin_in name history) not_registered
+  sender ← found (remembered_at origin history) not_registered
   log ← joined item sender.log
   Ok (with_log_at origin sender log history)
 
@@ -120,7 +121,7 @@ joined_at name item history = do
 abbrev pub sent_by_log : Origin → Remembered → Moment → ℕ → EventKind → List ℕ → EventHistory → EventHistory × Option (List ℕ)
 sent_by_log origin sender moment id kind text history =
     let after : EventHistory = with_log_at origin sender (Requested id kind ∷ sender.log) history in
-    let packet : List ℕ = event_packet (length history.sent % 16384) moment sender.name id kind text in
+    let packet : List ℕ = event_packet (length history.sent % count_end) moment sender.name id kind text in
     if chosen id kind sender.log then (record after { sent = packet ∷ history.sent }, Some packet) else (after, None)
 
 abbrev pub asked_at : Origin → Moment → ℕ → EventKind → List ℕ → EventHistory → EventHistory × Option (List ℕ)
@@ -146,5 +147,5 @@ abbrev pub service_of : EventHistory → EventService
 service_of history = record {
   host = event_state history.host;
   places = map (option_map sender_of) history.places;
-  sent = length history.sent % 16384;
+  sent = length history.sent % count_end;
 }

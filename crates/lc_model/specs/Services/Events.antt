@@ -6,8 +6,8 @@ use Rattle.std.specs.List.{position_from}
 use Rattle.lc_model.specs.declared.record.Moment.{Moment}
 use Rattle.lc_model.specs.declared.rule.EventKind.{EventKind}
 use Rattle.lc_model.specs.Name.{Name, is_named, AreDistinct, host_name}
-use Rattle.lc_model.specs.Packet.{event_mid}
-use Rattle.lc_model.specs.Refusal.{Refusal, ◌>>=◌, refused, found}
+use Rattle.lc_model.specs.Packet.{event_mid, count_end}
+use Rattle.lc_model.specs.Refusal.{Refusal, ◌>>=◌, refused, found, not_registered, sender_taken}
 use Rattle.lc_model.specs.Events.Log.{LogItem, Requested}
 use Rattle.lc_model.specs.Events.Outgoing.{event_packet}
 use Rattle.lc_model.specs.Kept.Summary.{EventState}
@@ -83,7 +83,7 @@ names_of (Some sender ∷ places) = sender.name ∷ names_of places
 pub record IsEventService (service : EventService) : Type 0 where
   pub seats : length service.places ≡ seat_count
   pub names : AreDistinct (host_name ∷ names_of service.places)
-  pub count : service.sent < 16384
+  pub count : service.sent < count_end
 
 -- ---- senders come and go
 
@@ -91,22 +91,22 @@ pub record IsEventService (service : EventService) : Type 0 where
 -- refused.
 abbrev pub registered_at : ℕ → Name → EventService → Result EventService Refusal
 registered_at seat name service =
-    if is_some (slice_index_or service.places seat None) || is_some (origin_named name service) then refused 103
+    if is_some (slice_index_or service.places seat None) || is_some (origin_named name service) then refused sender_taken
     else Ok (record service { places = slice_set service.places seat (Some (record { name = name; events = new_sender })) })
 
 -- a seat sends events no more, and its filters are gone
 abbrev pub unregistered_at : ℕ → EventService → Result EventService Refusal
 unregistered_at seat service =
     if is_some (slice_index_or service.places seat None) then Ok (record service { places = slice_set service.places seat None })
-    else refused 101
+    else refused not_registered
 
 -- ---- types and filters
 
 -- a filter is set, filters are reset, or types are set, of the sender of a name
 abbrev pub commanded : Name → LogItem → EventService → Result EventService Refusal
 commanded name item service = do
-  origin ← found (origin_named name service) 101
-  sender ← found (sender_at origin service) 101
+  origin ← found (origin_named name service) not_registered
+  sender ← found (sender_at origin service) not_registered
   events ← joined_now item sender.events
   Ok (with_events origin sender events service)
 
@@ -123,7 +123,7 @@ pub record Asked : Type 0 where
 abbrev pub asked_by : Sender → Moment → ℕ → EventKind → List ℕ → ℕ → Asked
 asked_by sender moment id kind text sent = record {
   events = events_after (Requested id kind) sender.events;
-  sent = if next_chosen id kind sender.events then (sent + 1) % 16384 else sent;
+  sent = if next_chosen id kind sender.events then (sent + 1) % count_end else sent;
   packet = if next_chosen id kind sender.events then Some (event_packet sent moment sender.name id kind text) else None;
 }
 

@@ -4,7 +4,7 @@
 use Rattle.std.specs.Prelude.{◌≡◌, ◌≢◌, ℕ, ◌+◌, ◌<◌, ◌≤◌, ◌⊎◌, Bool, List, [], ◌∷◌, ◌++◌, length, filter, slice_index_or, Option, Some, None, option_map, IsTrue, IsFalse, IfSome, bytes_eq, take}
 use Rattle.std.specs.List.{AllByRecursion}
 use Rattle.lc_model.specs.declared.record.Moment.{Moment}
-use Rattle.lc_model.specs.Name.{Name, is_named, host_name}
+use Rattle.lc_model.specs.Name.{Name, is_named, host_name, app_name_size}
 use Rattle.lc_model.specs.Packet.{message_id, header_fault, tick_mid}
 use Rattle.lc_model.specs.Kept.Executive.{Pipe, seat_count, hears}
 use Rattle.lc_model.specs.Services.Bus.{Bus, pipe_depth, seen, pipe_at}
@@ -29,7 +29,7 @@ dot = 46
 -- 1 to 20 bytes, none of them zero or a dot, and another name than HOST's
 pub record IsApplicationName (name : Name) : Type 0 where
   pub some : 1 ≤ length name
-  pub few : length name ≤ 20
+  pub few : length name ≤ app_name_size
   pub bytes : AllByRecursion (λ byte. (byte ≢ 0) × (byte ≢ dot)) name
   pub own : IsFalse (is_named name host_name)
 

@@ -4,8 +4,8 @@
 use Rattle.std.specs.Prelude.{◌≡◌, ℕ, ◌+◌, ◌≤◌, Bool, false, ◌&&◌, ◌||◌, ◌==◌, nat_lt, nat_le, List, [], ◌∷◌, ◌++◌, length, map, replicate, slice_get, slice_index_or, slice_set, if◌then◌else◌, Option, Some, None, is_some, is_none, Result, Ok, Err}
 use Rattle.std.specs.Option.{option_map_or}
 use Rattle.std.specs.List.{position_from, AllByRecursion}
-use Rattle.lc_model.specs.Name.{Name, is_named, AreDistinct, name_in, held, put}
-use Rattle.lc_model.specs.Refusal.{Refusal, ◌>>=◌, refused, found, provided}
+use Rattle.lc_model.specs.Name.{Name, is_named, AreDistinct, name_in, value_under, put}
+use Rattle.lc_model.specs.Refusal.{Refusal, ◌>>=◌, refused, found, provided, no_file, file_fault, unknown_table, wrong_image_size, store_full, file_too_long, no_slot}
 use Rattle.lc_model.specs.Tables.File.{TableFile, opened}
 use Rattle.lc_model.specs.Tables.Slot.{Move, Slot, no_images, loaded, moved, judged, taken, installed}
 use Rattle.lc_model.specs.Command.{TableCommand, Load, Manage}
@@ -38,8 +38,8 @@ first_tables = record { files = []; places = replicate seat_count [] }
 -- the files with one more, in place of another of its name. One that is too long, or finds no place, is refused.
 abbrev pub files_with : Name → List ℕ → List (Name × List ℕ) → Result (List (Name × List ℕ)) Refusal
 files_with name bytes files =
-    if nat_lt max_file_size (length bytes) then refused 119
-    else if nat_le max_files (length files) && is_none (held name files) then refused 118
+    if nat_lt max_file_size (length bytes) then refused file_too_long
+    else if nat_le max_files (length files) && is_none (value_under name files) then refused store_full
     else Ok (put name bytes files)
 
 -- a file is stored
@@ -95,7 +95,7 @@ new_table name size other = record { name = name; size = size; other = other; sl
 abbrev pub table_registered : ℕ → Name → ℕ → Option ℕ → TableService → Result TableService Refusal
 table_registered seat name size other service =
     let tables : List Table = tables_at seat service.places in
-    if nat_le tables_a_seat (length tables) || is_some (handle_named name service.places) then refused 120
+    if nat_le tables_a_seat (length tables) || is_some (handle_named name service.places) then refused no_slot
     else Ok (record service { places = slice_set service.places seat (tables ++ new_table name size other ∷ []) })
 
 -- its handle: it comes behind the seat's others
@@ -141,7 +141,7 @@ image_in (Err fault) = None
 
 -- the image of a stored file, where the file opens
 abbrev pub stored_image : Name → TableService → Option (List ℕ)
-stored_image name service = option_map_or (λ bytes. image_in (opened bytes)) (held name service.files) None
+stored_image name service = option_map_or (λ bytes. image_in (opened bytes)) (value_under name service.files) None
 
 -- the image fits a handle's table
 abbrev pub fits_at : Handle → TableService → List ℕ → Bool
@@ -152,22 +152,22 @@ fits_at handle service image = option_map_or (λ (table : Table). fits_table tab
 -- a file's fault, as a refusal
 abbrev pub file_refusal : Result TableFile ℕ → Result TableFile Refusal
 file_refusal (Ok file) = Ok file
-file_refusal (Err fault) = Err (112 ∷ fault ∷ [])
+file_refusal (Err fault) = Err (file_fault ∷ fault ∷ [])
 
 -- the tables after a command that moves the waiting image of one
 abbrev pub moved_among : Move → Name → Places → Result Places Refusal
 moved_among move name places = do
-  handle ← found (handle_named name places) 113
-  table ← found (table_at handle places) 113
+  handle ← found (handle_named name places) unknown_table
+  table ← found (table_at handle places) unknown_table
   slot ← moved move table.slot
   Ok (with_slot handle table places slot)
 
 -- the tables after an image is loaded onto one
 abbrev pub image_loaded_among : List ℕ → Name → Places → Result Places Refusal
 image_loaded_among image name places = do
-  handle ← found (handle_named name places) 113
-  table ← found (table_at handle places) 113
-  fitting ← provided (fits_table table (length image)) 114 image
+  handle ← found (handle_named name places) unknown_table
+  table ← found (table_at handle places) unknown_table
+  fitting ← provided (fits_table table (length image)) wrong_image_size image
   slot ← loaded fitting table.slot
   Ok (with_slot handle table places slot)
 
@@ -186,7 +186,7 @@ with_places service r = do
 -- a command to a table
 abbrev pub table_commanded : TableCommand → TableService → Result TableService Refusal
 table_commanded (Load name) service = do
-  bytes ← found (held name service.files) 111
+  bytes ← found (value_under name service.files) no_file
   with_places service (loaded_among bytes service.places)
 table_commanded (Manage move name) service = with_places service (moved_among move name service.places)
 
@@ -197,7 +197,7 @@ unfoldable pub times_in : Name → List Table → ℕ
 times_in name [] = 0
 times_in name (table ∷ tables) = (if is_named name table.name then 1 else 0) + times_in name tables
 
--- the same of all seats' tables
+-- how many tables of all seats have a name
 unfoldable pub times_among : Name → Places → ℕ
 times_among name [] = 0
 times_among name (tables ∷ places) = times_in name tables + times_among name places

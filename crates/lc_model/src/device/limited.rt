@@ -45,7 +45,7 @@ impl<'a> Limited<'a> {
         }
     }
 
-    /// The same, but the write of this number fails. Writes count from 1.
+    /// Takes `limit` bytes as `new` does, but the write of this number fails. Writes count from 1.
     pub fn failing_at(room: &'a mut [u8], limit: usize, write: u64) -> Limited<'a>
         requires { limit ≤ length room.old }
         ensures room { result.room.now ≡ room.old }

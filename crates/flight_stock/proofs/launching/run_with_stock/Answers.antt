@@ -1,5 +1,5 @@
 use Rattle.flight_stock.proofs.Named.{eight, keeps}
-use Rattle.flight_stock.proofs.launching.fly.Goals as goal
+use Rattle.flight_stock.proofs.launching.run_with_stock.Goals as goal
 
 pub returns-clause-promises : goal.returns-clause-promises
 returns-clause-promises g c =
