@@ -119,7 +119,8 @@ impl Host {
             (shown meaning self.old).services }
         requires idle { self.old.services.outgoing ≡ [] }
         requires may { MayBegin seat (shown meaning self.old) (meaning app) }
-        ensures { ObjectHasBegun seat (meaning app) (shown meaning self.old) (shown meaning self.new) }
+        ensures { ObjectHasBegun seat (meaning app) (shown meaning self.old)
+            (shown meaning self.new) }
     {
         // For the proof: the object is of the kind that goes by its name, and tables and files are within their bounds, each
         // under a name of its own.
