@@ -1,5 +1,5 @@
 -- A command to a table changes one table's images, and what goes with the services still does.
-use Rattle.std.proofs.Common.{◌≡◌, refl, ap, sym, ◌∙◌, subst, ℕ, List, length, Option, Some, None, Result, Ok, Err}
+use Rattle.std.proofs.Common.{◌≡◌, refl, ap, sym, ◌∙◌, subst, ℕ, List, length, Some, Result, Ok, Err}
 use Rattle.std.specs.Prelude.{IfOk}
 use Rattle.std.specs.Option.{option_map_or}
 use Rattle.lc_model.specs.declared.kind.Kind.{Kind}
@@ -15,11 +15,8 @@ use Rattle.lc_model.specs.Laws.TablesByName.{TablesAreFound, ChangingTables}
 use Rattle.lc_model.specs.Services.Events.{counts_with, sender_named}
 use Rattle.lc_model.specs.Services.Seen.{files_seen, slot_among, count_among}
 use Rattle.lc_model.specs.Services.Tables.{Table, TableService, Places, Handle, IsTableService, table_at, handle_named, fits_table, with_slot, with_places, file_refusal, moved_among, image_loaded_among, loaded_among, table_commanded}
+use Rattle.lc_model.proofs.LimitChecker.Slots.{loaded_judged, moved_judged, loaded_active, moved_active, placed}
 use Rattle.lc_model.proofs.Services.TableServiceLaws.{then_ok, found_ok}
-use Rattle.host_laws.proofs.HostRecords as host
-use Rattle.host_laws.proofs.InStep.{loaded_judged, moved_judged}
-use Rattle.host_laws.proofs.TableRecords.{loaded_active, moved_active}
-use Rattle.host_laws.proofs.Keeps.{placed}
 use Rattle.app_host.specs.declared.services.Services.{Services}
 use Rattle.app_host.specs.Shared.{on_board, shared}
 
@@ -45,7 +42,7 @@ module _ (places : Places) where
   changed handle table (Ok slot) there follows = record { handle = handle; table = table; slot = slot; there = there; follows = follows; is = refl }
   changed handle table (Err refusal) there follows = tt
 
-  follows_so : (before : Slot (List ℕ)) (r : Result (Slot (List ℕ)) Refusal) → host.IfOk (λ (after : Slot (List ℕ)). after.active ≡ before.active) r →
+  follows_so : (before : Slot (List ℕ)) (r : Result (Slot (List ℕ)) Refusal) → IfOk r (λ (after : Slot (List ℕ)). after.active ≡ before.active) →
       ((kind : Kind) → IsJudged on_board kind before → IfOk r (λ (after : Slot (List ℕ)). IsJudged on_board kind after)) → IfOk r (FollowsSlot before)
   follows_so before (Ok after) active judged = record { active = active; judged = judged }
   follows_so before (Err refusal) active judged = tt

@@ -1,6 +1,6 @@
 -- The subscriptions of a pipe change, and what waits in it stays.
-use Rattle.std.proofs.Common.{◌≡◌, refl, ap, sym, ◌∙◌, subst, ℕ, zero, suc, ◌+◌, ◌≤◌, ◌<◌, Bool, true, false, not, ◌&&◌, ◌||◌, ◌==◌, List, [], ◌∷◌, ◌++◌, length, length-append, arith, pos, if◌then◌else◌, Option, Some, None, Ok, true≢false, get_or}
-use Rattle.std.specs.Prelude.{IfSome, IsSomeAnd, drop, filter, IsTrue, is_some, slice_index_or, slice_set}
+use Rattle.std.proofs.Common.{◌≡◌, refl, ap, sym, ◌∙◌, subst, ℕ, ◌+◌, ◌≤◌, ◌<◌, Bool, true, false, not, ◌&&◌, ◌||◌, ◌==◌, List, [], ◌∷◌, ◌++◌, length, arith, pos, if◌then◌else◌, Option, Some, None, Ok, true≢false, get_or}
+use Rattle.std.specs.Prelude.{IfSome, IsSomeAnd, drop, filter, IsTrue, is_some, slice_set}
 use Rattle.std.specs.List.{list_any}
 use Rattle.std.proofs.lemmas.List.{get_or-set_same, set-get_or, set-set, drop_all, drop_more, get_or-map, length-map}
 use Rattle.std.proofs.lemmas.List.Folds.{list_any-append}
@@ -11,7 +11,8 @@ use Rattle.lc_model.specs.declared.field.Term.{Term}
 use Rattle.lc_model.specs.Refusal.{◌>>=◌, found}
 use Rattle.lc_model.specs.Kept.Call.{with_mid, with_mids}
 use Rattle.lc_model.specs.Services.Bus.{Bus, Queue, pipe_at, with_pipe, unsubscribed, parted, after, refusal_of}
-use Rattle.lc_model.proofs.Facts.{equal_itself, or_false, or_true, test_equal, tested_equal, equal_either_way, or_assoc}
+use Rattle.lc_model.proofs.Facts.{equal_itself, or_false, or_true, tested_equal, equal_either_way, or_assoc}
+use Rattle.lc_model.proofs.Services.Subscriptions.{inside_of, is_there, still_there}
 use Rattle.app_host.specs.Resubscribing.{mids_of, without_mids}
 use Rattle.app_host.proofs.Seats.{with_mid_length}
 
@@ -116,11 +117,6 @@ unsubscribed_after seat mid all left first now new queue far is = record {
   inside = far.inside;
 }
 
-inside_of : {A : Type 0} (places : List (Option A)) (k : ℕ) → IsTrue (is_some (slice_index_or places k None)) → k < length places
-inside_of [] k there = absurd (true≢false (sym there))
-inside_of (place ∷ places) zero there = omega arith
-inside_of (place ∷ places) (suc k) there = let further = inside_of places k there in omega (arith, further)
-
 -- at the seat's pipe, so many of these subscriptions are gone
 abbrev pub AreUnsubscribed : (seat k : ℕ) (all : List ℕ) (first now : Bus) → Type 0
 AreUnsubscribed seat k all first now = IsSomeAnd (pipe_at seat first) (λ (queue : Queue). UnsubscribedSoFar seat all (drop k all) first now queue)
@@ -184,38 +180,6 @@ pub all_done : (k : ℕ) (terms : List Term) → length terms ≤ k → drop k (
 all_done k terms over = let same : length (mids_of terms) ≡ length terms = length-map terms (λ (t : Term). t.mid) in drop_all k (mids_of terms) (omega (arith, over, same))
 
 -- ---- requests and watchpoints together
-
-pub still_there : (seat : ℕ) (first now : Bus) (subscriptions : Queue → List ℕ) → IsTrue (is_some (pipe_at seat first)) →
-    IfSome (pipe_at seat first) (λ (queue : Queue). now ≡ with_pipe seat first (record queue { subscriptions = subscriptions queue })) →
-    (queue : Queue) → pipe_at seat first ≡ Some queue → pipe_at seat now ≡ Some (record queue { subscriptions = subscriptions queue })
-still_there seat first now subscriptions there is queue e =
-    ap (pipe_at seat) (subst (λ (place : Option Queue). IfSome place (λ (queue : Queue). now ≡ with_pipe seat first (record queue { subscriptions = subscriptions queue }))) e is)
-    ∙ get_or-set_same first seat (Some (record queue { subscriptions = subscriptions queue })) None (inside_of first seat there)
-
--- one change after the other
-pub both_changes : (seat : ℕ) (first between last : Bus) (one other : List ℕ → List ℕ) → IsTrue (is_some (pipe_at seat first)) →
-    IfSome (pipe_at seat first) (λ (queue : Queue). between ≡ with_pipe seat first (record queue { subscriptions = one queue.subscriptions })) →
-    IfSome (pipe_at seat between) (λ (queue : Queue). last ≡ with_pipe seat between (record queue { subscriptions = other queue.subscriptions })) →
-    IfSome (pipe_at seat first) (λ (queue : Queue). last ≡ with_pipe seat first (record queue { subscriptions = other (one queue.subscriptions) }))
-both_changes seat first between last one other there was is = by_place (pipe_at seat first) refl
-  where
-    with_queue : (queue : Queue) → pipe_at seat first ≡ Some queue → last ≡ with_pipe seat first (record queue { subscriptions = other (one queue.subscriptions) })
-    with_queue queue e =
-        let middle : Queue = record queue { subscriptions = one queue.subscriptions } in
-        let changed : between ≡ with_pipe seat first middle = subst (λ (place : Option Queue). IfSome place (λ (q : Queue). between ≡ with_pipe seat first (record q { subscriptions = one q.subscriptions }))) e was in
-        subst (λ (place : Option Queue). IfSome place (λ (q : Queue). last ≡ with_pipe seat between (record q { subscriptions = other q.subscriptions })))
-        (still_there seat first between (λ q. one q.subscriptions) there was queue e) is
-        ∙ ap (λ b. with_pipe seat b (record middle { subscriptions = other middle.subscriptions })) changed
-        ∙ set-set first seat (Some middle) (Some (record middle { subscriptions = other middle.subscriptions }))
-
-    by_place : (place : Option Queue) → pipe_at seat first ≡ place → IfSome place (λ (queue : Queue). last ≡ with_pipe seat first (record queue { subscriptions = other (one queue.subscriptions) }))
-    by_place None e = tt
-    by_place (Some queue) e = with_queue queue e
-
--- the pipe is there, with room
-pub is_there : (P : Queue → Type 0) (place : Option Queue) → IsSomeAnd place P → IsTrue (is_some place)
-is_there P None has = absurd has
-is_there P (Some queue) has = refl
 
 with_mids_length : (ids mids : List ℕ) → length (with_mids ids mids) ≤ length mids + length ids
 unfolding with_mids

@@ -7,7 +7,7 @@ use Rattle.lc_model.specs.Name.{Name, is_named, host_name}
 use Rattle.lc_model.specs.Refusal.{Refusal, ◌>>=◌, refused, found}
 use Rattle.lc_model.specs.Kept.Call.{with_mid, with_mids, with_at, new_sender}
 use Rattle.lc_model.specs.Kept.Executive.{seat_count}
-use Rattle.lc_model.specs.Laws.Senders.{RegisteringByName, UnregisteringByName}
+use Rattle.lc_model.specs.Laws.Senders.{RegisteringByName}
 use Rattle.lc_model.specs.Services.Bus.{Bus, Queue, new_pipe, pipe_at, with_pipe, pipe_added, pipe_removed, subscribed, joined, is_subscribed, most_subscriptions, after, refusal_of}
 use Rattle.lc_model.specs.Services.Events.{Sender, EventService, IsEventService, is_sender, events_among, sender_named, origin_named, sender_at, registered_at, unregistered_at}
 use Rattle.lc_model.proofs.Facts.{or_true, test_less}
@@ -17,6 +17,8 @@ use Rattle.packet_bus.specs.declared.error.BusError.{BusError}
 use Rattle.packet_bus.specs.Error.{refusal_in}
 use Rattle.event_service.specs.declared.error.EventError.{EventError}
 use Rattle.event_service.specs.Error.{answered}
+use Rattle.lc_model.proofs.Services.SenderLaws.{without_sender}
+use Rattle.lc_model.proofs.Services.Subscriptions.{no_more}
 use Rattle.app_host.specs.declared.services.Services.{Services}
 use Rattle.app_host.specs.Shared.{shared}
 use Rattle.app_host.specs.Seating.{IsOpened}
@@ -66,10 +68,6 @@ subscribed_next seat mid all left first now queue far =
 pub one_subscription_more : (mid : ℕ) (left mids all : List ℕ) → with_mids (mid ∷ left) mids ≡ all → with_mids left (with_mid mid mids) ≡ all
 unfolding with_mids
 one_subscription_more mid left mids all e = e
-
-pub no_more : (mids : List ℕ) → with_mids [] mids ≡ mids
-unfolding with_mids
-no_more mids = refl
 
 pub subscribed_after : (seat mid : ℕ) (all left : List ℕ) (first now new : Bus) (queue : Queue) → SubscribedSoFar seat all (mid ∷ left) first now queue →
     new ≡ after now (subscribed seat mid now) → SubscribedSoFar seat all left first new queue
@@ -205,21 +203,8 @@ pipe_is_removed seat bus has = by_place (pipe_at seat bus) refl has
     by_place None e has = absurd (true≢false (sym has))
     by_place (Some queue) e has = cc
 
-abbrev pub without : ℕ → EventService → EventService
-without seat service = record service { places = slice_set service.places seat None }
-
-pub may_unregister : (seat : ℕ) (service : EventService) → IsTrue (is_some (sender_at (Some seat) service)) → unregistered_at seat service ≡ Ok (without seat service)
-may_unregister seat service has = ap (λ b. if b then Ok (without seat service) else refused 101) has
-
-pub name_is_gone : (seat : ℕ) (service now : EventService) → UnregisteringByName → IsEventService service → now ≡ without seat service →
-    unregistered_at seat service ≡ Ok (without seat service) →
-    IfSome (sender_at (Some seat) service) (λ (sender : Sender). sender_named now ≡ with_at sender.name None (sender_named service))
-name_is_gone seat service now law sound is goes = by_place (sender_at (Some seat) service) refl
-  where
-    by_place : (place : Option Sender) → sender_at (Some seat) service ≡ place → IfSome place (λ (sender : Sender). sender_named now ≡ with_at sender.name None (sender_named service))
-    by_place None e = tt
-    by_place (Some sender) e = ap sender_named is
-        ∙ subst (λ r. IfOk r (λ after. sender_named after ≡ with_at sender.name None (sender_named service))) goes (law seat sender service sound e)
+pub may_unregister : (seat : ℕ) (service : EventService) → IsTrue (is_some (sender_at (Some seat) service)) → unregistered_at seat service ≡ Ok (without_sender seat service)
+may_unregister seat service has = ap (λ b. if b then Ok (without_sender seat service) else refused 101) has
 
 -- ---- the answers of the event services
 

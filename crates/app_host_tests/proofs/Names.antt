@@ -14,13 +14,13 @@ use Rattle.lc_model.specs.Services.Interface.{Held, MayBeGiven, MayPublish, IsGi
 use Rattle.lc_model.specs.Kept.Call.{with_at}
 use Rattle.event_service.specs.Error.{answered}
 use Rattle.event_service.specs.declared.error.EventError.{EventError}
+use Rattle.lc_model.proofs.Services.SenderLaws.{without_sender, name_is_gone}
 use Rattle.app_host.specs.declared.services.Services.{Services}
 use Rattle.app_host.specs.Shared.{held_by}
 use Rattle.app_host.specs.Calls.{IsAtHome}
 use Rattle.app_host.specs.Seating.{IsClosed}
 use Rattle.app_host.specs.Publishing.{AreShort, Publishes, PublishingGoesOn, PublishingAnswers, TicksHaveRoom}
 use Rattle.app_host.specs.Statements.{ClosingRetires}
-use Rattle.app_host.proofs.Seats.{without, name_is_gone, answered_by}
 use Rattle.app_host_tests.specs.Naming.{heard}
 
 -- ---- publishing
@@ -100,19 +100,23 @@ closes seat before now r law sound bus answer kept tables counts moment outgoing
         stays ∙ sym (ap (slice_set before.bus seat) (sym e) ∙ set-get_or before.bus seat None)
     no_pipe (Some queue) e = cc
 
-    goes : (sender : Sender) → sender_at (Some seat) before.events ≡ Some sender → unregistered_at seat before.events ≡ Ok (without seat before.events)
-    goes sender e = ap (λ (place : Option Sender). if is_some place then Ok (without seat before.events) else refused 101) e
+    goes : (sender : Sender) → sender_at (Some seat) before.events ≡ Some sender → unregistered_at seat before.events ≡ Ok (without_sender seat before.events)
+    goes sender e = ap (λ (place : Option Sender). if is_some place then Ok (without_sender seat before.events) else refused 101) e
 
     stays_in : (r : Result (Unit {0}) EventError) → answered r now.events ≡ refused 101 → OnErr r (now.events ≡ before.events) → now.events ≡ before.events
     stays_in (Ok done) e same = cc
     stays_in (Err error) e same = same
 
-    no_sender : (place : Option Sender) → sender_at (Some seat) before.events ≡ place → now.events ≡ without seat before.events
+    answered_by : (r : Result (Unit {0}) EventError) (now x : EventService) → answered r now ≡ Ok x → now ≡ x
+    answered_by (Ok done) now x e = cc
+    answered_by (Err error) now x e = cc
+
+    no_sender : (place : Option Sender) → sender_at (Some seat) before.events ≡ place → now.events ≡ without_sender seat before.events
     no_sender None e =
-        stays_in r (answer ∙ ap (λ (place : Option Sender). if is_some place then Ok (without seat before.events) else refused 101) e) kept
+        stays_in r (answer ∙ ap (λ (place : Option Sender). if is_some place then Ok (without_sender seat before.events) else refused 101) e) kept
         ∙ ap (λ (places : List (Option Sender)). record before.events { places = places })
         (sym (ap (slice_set before.events.places seat) (sym e) ∙ set-get_or before.events.places seat None))
-    no_sender (Some sender) e = answered_by r now.events (without seat before.events) (answer ∙ goes sender e)
+    no_sender (Some sender) e = answered_by r now.events (without_sender seat before.events) (answer ∙ goes sender e)
 
     no_name : (place : Option Sender) → sender_at (Some seat) before.events ≡ place →
         IfSome place (λ (sender : Sender). sender_named now.events ≡ with_at sender.name None (sender_named before.events))

@@ -1,7 +1,7 @@
 -- Commands to tables, by seats and under names.
 use Rattle.std.proofs.Common.{◌≡◌, refl, ap, sym, ◌∙◌, subst, ℕ, zero, suc, ◌+◌, arith, Bool, true, false, ◌||◌, ◌==◌, List, [], ◌∷◌, map, length, if◌then◌else◌, Option, Some, None, option_map, slice_get, slice_set, Result, Ok, Err, inl, inr, cond}
 use Rattle.std.specs.Prelude.{IfOk}
-use Rattle.std.specs.Option.{option_map_or, option_or}
+use Rattle.std.specs.Option.{option_map_or}
 use Rattle.std.specs.List.{AllByRecursion, position_from}
 use Rattle.lc_model.specs.declared.kind.Kind.{Kind}
 use Rattle.lc_model.specs.declared.kind.Kind.TheVariants.{Wdt, Adt}
@@ -17,11 +17,11 @@ use Rattle.lc_model.specs.Host.React.{opened_file}
 use Rattle.lc_model.specs.Kept.Call.{ServicesNow, with_at}
 use Rattle.lc_model.specs.Kept.Executive.{managed_now}
 use Rattle.lc_model.specs.Laws.TablesByName.{TablesAreFound, ChangingTables}
-use Rattle.lc_model.specs.Services.Seen.{files_seen, meaning_of, slot_in, slot_among}
+use Rattle.lc_model.specs.Services.Seen.{files_seen, meaning_of, slot_among}
 use Rattle.lc_model.specs.Services.Settled.{Form, form_of}
 use Rattle.lc_model.specs.Services.Tables.{Table, TableService, Places, Handle, IsTableService, tables_at, table_at, number_named, handle_from, handle_named, fits_table, with_slot, with_places, file_refusal, moved_among, image_loaded_among, loaded_among, table_commanded}
 use Rattle.lc_model.proofs.Services.SenderNames.{same_name}
-use Rattle.lc_model.proofs.Services.TableNames.{no_handle}
+use Rattle.lc_model.proofs.Services.TableNames.{no_handle, value_meaning}
 use Rattle.lc_model.proofs.Services.TableServiceLaws.{then_ok}
 use Rattle.lc_model.proofs.Facts.{equal_either_way}
 use Rattle.host_laws.specs.Commands.{HasKnownForm, MovesByName, LoadsByName, CommandsKeepForms}
@@ -227,16 +227,6 @@ commands_keep_forms (Load name) service =
 in_turn : {A B C : Type 0} (r : Result A Refusal) (next : A → Result B Refusal) (last : B → Result C Refusal) → (r >>= (λ a. next a >>= last)) ≡ ((r >>= next) >>= last)
 in_turn (Ok a) next last = refl
 in_turn (Err refusal) next last = refl
-
--- a stored file by what it means
-pub value_meaning : (name : Name) (files : List (Name × List ℕ)) → value_under name (files_seen files) ≡ option_map meaning_of (value_under name files)
-value_meaning name [] = refl
-value_meaning name (file ∷ files) = by_test (is_named name file.0) (value_meaning name files)
-  where
-    by_test : (test : Bool) → value_under name (files_seen files) ≡ option_map meaning_of (value_under name files) →
-        (if test then Some (meaning_of file.1) else value_under name (files_seen files)) ≡ option_map meaning_of (if test then Some file.1 else value_under name files)
-    by_test true behind = refl
-    by_test false behind = behind
 
 module _ (tables_are_found : TablesAreFound) (changing_tables : ChangingTables) where
   pub moves_by_name : MovesByName

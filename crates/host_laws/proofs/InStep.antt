@@ -1,5 +1,5 @@
 -- The Limit Checker in numbers stays in step with its tables, and what was found sound stays so.
-use Rattle.std.proofs.Common.{◌≡◌, ℕ, suc, Bool, true, false, ◌&&◌, ◌==◌, List, [], ◌∷◌, ◌++◌, map, length, refl, ap, ap₂, sym, ◌∙◌, arith, Option, Some, None, is_none, Result, Ok, Err, IfSome, IfOk, if◌then◌else◌}
+use Rattle.std.proofs.Common.{◌≡◌, ℕ, suc, Bool, true, false, ◌&&◌, ◌==◌, List, [], ◌∷◌, ◌++◌, map, length, refl, ap, ap₂, sym, ◌∙◌, arith, Option, Some, None, is_none, Result, Ok, Err, IfSome, if◌then◌else◌}
 use Rattle.std.specs.Option.{option_map_or}
 use Rattle.std.proofs.lemmas.List.{length-map}
 use Rattle.lc_model.specs.declared.kind.Kind.{Kind}
@@ -8,19 +8,20 @@ use Rattle.lc_model.specs.declared.field.Term.{Term}
 use Rattle.lc_model.specs.declared.mode.LcMode.{LcMode}
 use Rattle.lc_model.specs.Name.{Name, is_named, value_under}
 use Rattle.lc_model.specs.Packet.{function_code, payload, is_telemetry_mid, message_id, lc_command_mid, lc_housekeeping_request_mid, sample_mid}
-use Rattle.lc_model.specs.Refusal.{Refusal, ◌>>=◌, found, provided}
+use Rattle.lc_model.specs.Refusal.{Refusal, ◌>>=◌, found}
 use Rattle.lc_model.specs.Rule.{Actionpoint}
 use Rattle.lc_model.specs.Tables.Image.{ImageFault}
 use Rattle.lc_model.specs.Tables.File.{table_name}
-use Rattle.lc_model.specs.Tables.Slot.{Slot, Waiting, Stage, Loaded, Asked, Valid, Activated, Move, Validate, Activate, Abort, waiting_at, with_waiting, loaded, moved, taken}
+use Rattle.lc_model.specs.Tables.Slot.{Slot}
 use Rattle.lc_model.specs.Tables.Interpretation.{FileMeaning, Opened, Unreadable, Interpretation, Pair, default_file}
 use Rattle.lc_model.specs.Events.Request.{Request, lc_command_done}
 use Rattle.lc_model.specs.Command.{LcCommand, NoOperation, SetMode, SetState, TurnPermanentlyOff, mode_numbered, bare_request, sample_request, lc_command_in}
 use Rattle.lc_model.specs.declared.command.SampleRequest.{SampleRequest}
-use Rattle.lc_model.specs.LimitChecker.Steps.{Point, in_force, paired, is_disabled, sound_image, default_image, told_verdict, validated, pair_to_adopt, one_set, turned_permanently_off, states_set, lc_obeyed, lc_commanded, unless_refused, started_with, lc_start, watched, lc_telemetry, sampled_by, lc_sample, housekeeping_of, adopted, lc_housekeeping, lc_packet}
+use Rattle.lc_model.specs.LimitChecker.Steps.{Point, in_force, paired, is_disabled, sound_image, default_image, validated, pair_to_adopt, one_set, turned_permanently_off, states_set, lc_obeyed, lc_commanded, unless_refused, started_with, lc_start, watched, lc_telemetry, sampled_by, lc_sample, housekeeping_of, adopted, lc_housekeeping, lc_packet}
 use Rattle.lc_model.specs.Kept.Summary.{WatchResult, Tally, LcNow}
 use Rattle.lc_model.specs.Kept.Next.{unseen_result, seen_result, aged_result, results_by, by_counts}
-use Rattle.lc_model.specs.Kept.GoesWith.{IsFoundSound, IsJudged, IsInStep}
+use Rattle.lc_model.specs.Kept.GoesWith.{IsJudged, IsInStep}
+use Rattle.lc_model.proofs.LimitChecker.Slots.{taken_judged, validated_judged}
 use Rattle.lc_model.proofs.LimitChecker.StepLaws.{AsLong, one_as_long, states_as_long, sampled_as_long, validated_active, adopted_pair}
 
 -- as many results as watchpoints stay as many
@@ -31,78 +32,8 @@ as_many_results f (t ∷ terms) [] many = absurd (omega (arith, many))
 as_many_results f (t ∷ terms) (result ∷ results) many = ap suc (as_many_results f terms results (omega (arith, many)))
 
 module _ {Image : Type 0} (images : Interpretation Image) where
-  -- ---- slots
-
   abbrev Sound : Kind → Image → Type 0
   Sound kind image = images.fault_of kind image ≡ None
-
-  abbrev Found : Kind → Waiting Image → Type 0
-  Found kind waiting = IsFoundSound images kind waiting.stage waiting.image
-
-  abbrev slot_with : Option Image → Stage → Image → Slot Image
-  slot_with active stage image = record { active = active; waiting = Some (record { stage = stage; image = image }) }
-
-  pub taken_judged : (kind : Kind) (slot : Slot Image) → IsJudged images kind slot → IsJudged images kind (taken slot)
-  taken_judged kind slot h = by_waiting slot.active slot.waiting h.active h.waiting
-    where
-      by_stage : (active : Option Image) (stage : Stage) (image : Image) → IfSome active (Sound kind) → IsFoundSound images kind stage image →
-          IsJudged images kind (taken (slot_with active stage image))
-      by_stage active Loaded image a w = record { active = a; waiting = w }
-      by_stage active Asked image a w = record { active = a; waiting = w }
-      by_stage active Valid image a w = record { active = a; waiting = w }
-      by_stage active Activated image a w = record { active = w; waiting = tt }
-
-      by_waiting : (active : Option Image) (o : Option (Waiting Image)) → IfSome active (Sound kind) → IfSome o (Found kind) →
-          IsJudged images kind (taken (record { active = active; waiting = o }))
-      by_waiting active None a w = record { active = a; waiting = tt }
-      by_waiting active (Some waiting) a w = by_stage active waiting.stage waiting.image a w
-
-  pub validated_judged : (kind : Kind) (slot : Slot Image) → IsJudged images kind slot → IsJudged images kind (validated images kind slot).0
-  validated_judged kind slot h = by_waiting slot.active slot.waiting h.active h.waiting
-    where
-      by_fault : (active : Option Image) (image : Image) (fault : Option ImageFault) → images.fault_of kind image ≡ fault → IfSome active (Sound kind) →
-          IsJudged images kind (told_verdict images kind fault (slot_with active Asked image)).0
-      by_fault active image None e a = record { active = a; waiting = e }
-      by_fault active image (Some fault) e a = record { active = a; waiting = tt }
-
-      by_stage : (active : Option Image) (stage : Stage) (image : Image) → IfSome active (Sound kind) → IsFoundSound images kind stage image →
-          IsJudged images kind (validated images kind (slot_with active stage image)).0
-      by_stage active Loaded image a w = record { active = a; waiting = w }
-      by_stage active Asked image a w = by_fault active image (images.fault_of kind image) refl a
-      by_stage active Valid image a w = record { active = a; waiting = w }
-      by_stage active Activated image a w = record { active = a; waiting = w }
-
-      by_waiting : (active : Option Image) (o : Option (Waiting Image)) → IfSome active (Sound kind) → IfSome o (Found kind) →
-          IsJudged images kind (validated images kind (record { active = active; waiting = o })).0
-      by_waiting active None a w = record { active = a; waiting = tt }
-      by_waiting active (Some waiting) a w = by_stage active waiting.stage waiting.image a w
-
-  pub loaded_judged : (kind : Kind) (image : Image) (slot : Slot Image) → IsJudged images kind slot → IfOk (loaded image slot) (λ (after : Slot Image). IsJudged images kind after)
-  loaded_judged kind image slot h = by_test (is_none (waiting_at Activated slot))
-    where
-      by_test : (test : Bool) → IfOk (provided test 115 (with_waiting Loaded image slot)) (λ (after : Slot Image). IsJudged images kind after)
-      by_test true = record { active = h.active; waiting = tt }
-      by_test false = tt
-
-  pub moved_judged : (kind : Kind) (move : Move) (slot : Slot Image) → IsJudged images kind slot → IfOk (moved move slot) (λ (after : Slot Image). IsJudged images kind after)
-  moved_judged kind move slot h = by_waiting slot.active slot.waiting h.active h.waiting
-    where
-      by_stage : (active : Option Image) (stage : Stage) (image : Image) (move : Move) → IfSome active (Sound kind) → IsFoundSound images kind stage image →
-          IfOk (moved move (slot_with active stage image)) (λ (after : Slot Image). IsJudged images kind after)
-      by_stage active stage image Abort a w = record { active = a; waiting = tt }
-      by_stage active Loaded image Validate a w = record { active = a; waiting = tt }
-      by_stage active Asked image Validate a w = record { active = a; waiting = tt }
-      by_stage active Valid image Validate a w = record { active = a; waiting = tt }
-      by_stage active Activated image Validate a w = tt
-      by_stage active Loaded image Activate a w = tt
-      by_stage active Asked image Activate a w = tt
-      by_stage active Valid image Activate a w = record { active = a; waiting = w }
-      by_stage active Activated image Activate a w = tt
-
-      by_waiting : (active : Option Image) (o : Option (Waiting Image)) → IfSome active (Sound kind) → IfSome o (Found kind) →
-          IfOk (moved move (record { active = active; waiting = o })) (λ (after : Slot Image). IsJudged images kind after)
-      by_waiting active None a w = tt
-      by_waiting active (Some waiting) a w = by_stage active waiting.stage waiting.image move a w
 
   -- ---- the start
 
@@ -235,11 +166,11 @@ module _ {Image : Type 0} (images : Interpretation Image) where
         by_pair : (o : Option (Pair Image)) → pair_to_adopt images wdt.0 adt.0 ≡ o → IsInStep images (option_map_or (adopted by_counts images now) o (now, [])).0
         by_pair None e =
             in_step_by now (in_force images lc) (ap₂ (paired images) (validated_active images Wdt lc.wdt) (validated_active images Adt lc.adt)) h.results h.points
-            (validated_judged Wdt lc.wdt h.wdt) (validated_judged Adt lc.adt h.adt)
+            (validated_judged images Wdt lc.wdt h.wdt) (validated_judged images Adt lc.adt h.adt)
         by_pair (Some pair) e =
             in_step_by (adopted by_counts images now pair).0 (Some pair) (adopted_pair images wdt.0 adt.0 pair e)
             (length-map (images.terms pair) (λ (t : Term). unseen_result)) (length-map (images.rules pair) (λ (rule : Actionpoint). record { state = rule.mode; past = by_counts.unsampled }))
-            (taken_judged Wdt wdt.0 (validated_judged Wdt lc.wdt h.wdt)) (taken_judged Adt adt.0 (validated_judged Adt lc.adt h.adt))
+            (taken_judged images Wdt wdt.0 (validated_judged images Wdt lc.wdt h.wdt)) (taken_judged images Adt adt.0 (validated_judged images Adt lc.adt h.adt))
 
         by_request : (r : Result (Unit {0}) Refusal) →
             IsInStep images (unless_refused lc (r >>= (λ _. let after : LcNow Image × List Request = option_map_or (adopted by_counts images now) (pair_to_adopt images wdt.0 adt.0) (now, []) in Ok (after.0, wdt.1 ++ adt.1 ++ after.1 ++ housekeeping_of by_counts after.0 ∷ [])))).0

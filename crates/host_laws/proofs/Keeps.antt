@@ -1,23 +1,20 @@
 -- What goes with the services of the host stays so by every call and command.
-use Rattle.std.proofs.Common.{◌≡◌, ◌≢◌, ℕ, zero, suc, ◌+◌, ◌≤◌, Bool, true, false, ◌==◌, List, [], ◌∷◌, map, length, refl, ap, ap₂, sym, ◌∙◌, subst, arith, mod-lt, slice_index_or, Option, Some, None, is_some, unwrap_or, Result, Ok, Err, IfOk, IsTrue, IsFalse, true≢false, if◌then◌else◌}
+use Rattle.std.proofs.Common.{◌≡◌, ◌≢◌, ℕ, zero, suc, ◌+◌, ◌≤◌, Bool, true, false, ◌==◌, List, [], ◌∷◌, map, length, refl, sym, ◌∙◌, subst, arith, mod-lt, slice_index_or, Option, Some, None, is_some, Result, Ok, Err, IfOk, IsTrue, IsFalse, true≢false, if◌then◌else◌}
 use Rattle.std.specs.Option.{option_map_or}
 use Rattle.std.specs.List.{AllByRecursion}
 use Rattle.std.proofs.lemmas.List.{length-map}
 use Rattle.std.proofs.lemmas.Bool.Decides.{Decides-eqb}
-use Rattle.std.proofs.lemmas.Slice.Eq.{bytes_eq-Decides}
 use Rattle.lc_model.specs.declared.kind.Kind.{Kind}
-use Rattle.lc_model.specs.declared.kind.Kind.TheVariants.{Wdt, Adt}
 use Rattle.lc_model.specs.declared.record.Moment.{Moment}
 use Rattle.lc_model.specs.Name.{Name, is_named, lc_name, sch_name, counter_name, value_under}
 use Rattle.lc_model.specs.Packet.{message_id, tick_mid, counter_mid}
 use Rattle.lc_model.specs.Refusal.{Refusal, ◌>>=◌, provided}
-use Rattle.lc_model.specs.Tables.File.{table_name}
-use Rattle.lc_model.specs.Tables.Slot.{Slot, no_images, loaded, moved}
+use Rattle.lc_model.specs.Tables.Slot.{Slot, loaded, moved}
 use Rattle.lc_model.specs.Tables.Interpretation.{FileMeaning, Interpretation, kind_named}
 use Rattle.lc_model.specs.Events.Request.{Request}
 use Rattle.lc_model.specs.Events.Log.{LogItem}
 use Rattle.lc_model.specs.Command.{TableCommand, Load, Manage, event_command_in, table_command_in}
-use Rattle.lc_model.specs.LimitChecker.Steps.{paired, lc_start}
+use Rattle.lc_model.specs.LimitChecker.Steps.{lc_start}
 use Rattle.lc_model.specs.Host.React.{opened_file}
 use Rattle.lc_model.specs.Host.Schedule.{ScheduleEntry, Sample, Housekeeping, AreEntries, entry_packet, entries_at}
 use Rattle.lc_model.specs.Kept.Effort.{Effort, no_effort}
@@ -27,12 +24,12 @@ use Rattle.lc_model.specs.Kept.Call.{effort_after, with_at, ServicesNow, Called,
 use Rattle.lc_model.specs.Kept.Next.{next_all_delivered}
 use Rattle.lc_model.specs.Kept.Executive.{joined_now, event_service_now, managed_now, table_service_now}
 use Rattle.lc_model.specs.Kept.GoesWith.{own_name, IsSender, IsJudged, IsInStep, LcGoesWith, GoesWith}
+use Rattle.lc_model.proofs.LimitChecker.Slots.{loaded_judged, moved_judged, loaded_active, moved_active, placed}
 use Rattle.lc_model.proofs.Services.TableServiceLaws.{then_ok, found_ok}
 use Rattle.host_laws.specs.Calls.{StartsGoWith, PacketsKeep, CallsKeepOthers, TheHostKeeps, CopiesServe, IsPublication, PublishesFew}
 use Rattle.host_laws.proofs.Copies.{packet_so}
 use Rattle.host_laws.proofs.HostRecords as host
-use Rattle.host_laws.proofs.InStep.{loaded_judged, moved_judged, start_in_step, packet_in_step}
-use Rattle.host_laws.proofs.TableRecords.{loaded_active, moved_active}
+use Rattle.host_laws.proofs.InStep.{start_in_step, packet_in_step}
 
 -- ---- senders
 
@@ -177,53 +174,11 @@ module _ {Image : Type 0} (images : Interpretation Image) where
       carried state services (record services { events = with_at command.0 (Some after) services.events })
       (record { slots = refl; senders = λ name h. kept_at name command.0 after services.events h }) g)))
 
-  -- one slot more or less, by its name
-  record SlotStays (kind : Kind) (before held : Option (Slot Image)) : Type 0 where
-    there : IsTrue (is_some before) → IsTrue (is_some held)
-    active : (unwrap_or held no_images).active ≡ (unwrap_or before no_images).active
-    judged : IsJudged images kind (unwrap_or before no_images) → IsJudged images kind (unwrap_or held no_images)
-
-  slot_stays : (kind : Kind) (services : ServicesNow Image) (name : Name) (slot after : Slot Image) → services.slots name ≡ Some slot → after.active ≡ slot.active →
-      ((kind : Kind) → IsJudged images kind slot → IsJudged images kind after) →
-      SlotStays kind (services.slots (table_name kind)) (with_at name (Some after) services.slots (table_name kind))
-  slot_stays kind services name slot after there active judged = by_test (is_named (table_name kind) name) refl
-    where
-      by_test : (test : Bool) → is_named (table_name kind) name ≡ test →
-          SlotStays kind (services.slots (table_name kind)) (if test then Some after else services.slots (table_name kind))
-      by_test true e =
-          let known : services.slots (table_name kind) ≡ Some slot = ap services.slots ((bytes_eq-Decides (table_name kind) name).0 e) ∙ there in
-          subst (λ before. SlotStays kind before (Some after)) (sym known) (record { there = λ h. refl; active = active; judged = judged kind })
-      by_test false e = record { there = λ h. h; active = refl; judged = λ h. h }
-
-  pub placed : (state : AppState) (services : ServicesNow Image) (name : Name) (slot after : Slot Image) → services.slots name ≡ Some slot → after.active ≡ slot.active →
-      ((kind : Kind) → IsJudged images kind slot → IsJudged images kind after) → GoesWith images state services →
-      GoesWith images state (record services { slots = with_at name (Some after) services.slots })
-  placed (LcState own) services name slot after there active judged g =
-      let wdt = slot_stays Wdt services name slot after there active judged in
-      let adt = slot_stays Adt services name slot after there active judged in
-      let force = ap₂ (paired images) (sym wdt.active) (sym adt.active) in
-      record {
-        wdt = wdt.there g.wdt;
-        adt = adt.there g.adt;
-        terms = g.terms ∙ ap (λ o. option_map_or images.terms o []) force;
-        rules = g.rules ∙ ap (λ o. option_map_or images.rules o []) force;
-        in_step = record {
-          results = g.in_step.results ∙ ap (λ o. length (option_map_or images.terms o [])) force;
-          points = g.in_step.points ∙ ap (λ o. length (option_map_or images.rules o [])) force;
-          wdt = wdt.judged g.in_step.wdt;
-          adt = adt.judged g.in_step.adt;
-        };
-        sender = g.sender;
-      }
-  placed (SchState schedule at) services name slot after there active judged g = record { schedule_fits = g.schedule_fits; inside = g.inside; sender = g.sender }
-  placed (CounterState count) services name slot after there active judged g = g
-  placed Other services name slot after there active judged g = tt
-
   -- a changed slot, or a refusal
   tables_placed : (state : AppState) (services : ServicesNow Image) (name : Name) (slot : Slot Image) (r : Result (Slot Image) Refusal) → services.slots name ≡ Some slot →
-      host.IfOk (λ (after : Slot Image). after.active ≡ slot.active) r → ((kind : Kind) → IsJudged images kind slot → IfOk r (λ (after : Slot Image). IsJudged images kind after)) → GoesWith images state services →
+      IfOk r (λ (after : Slot Image). after.active ≡ slot.active) → ((kind : Kind) → IsJudged images kind slot → IfOk r (λ (after : Slot Image). IsJudged images kind after)) → GoesWith images state services →
       IfOk (r >>= (λ after. Ok (record services { slots = with_at name (Some after) services.slots }))) (λ (after : ServicesNow Image). GoesWith images state after)
-  tables_placed state services name slot (Ok after) there active judged g = placed state services name slot after there active judged g
+  tables_placed state services name slot (Ok after) there active judged g = placed images state services name slot after there active judged g
   tables_placed state services name slot (Err refusal) there active judged g = tt
 
   managed_keeps : (state : AppState) (services : ServicesNow Image) → GoesWith images state services → (command : TableCommand) →

@@ -1,5 +1,6 @@
 -- What is asked of a world stays so by every record.
 use Rattle.std.proofs.Common.{◌≡◌, ℕ, Bool, true, false, not, ◌==◌, List, [], ◌∷◌, length, map, refl, ap, sym, ◌∙◌, subst, Option, Some, None, option_map, if◌then◌else◌, Result, Ok, Err, IfSome}
+use Rattle.std.specs.Prelude as prelude
 use Rattle.std.specs.Option.{option_map_or}
 use Rattle.std.specs.List.{AllZip}
 use Rattle.lc_model.specs.declared.kind.Kind.{Kind}
@@ -24,9 +25,9 @@ use Rattle.lc_model.proofs.Host.CorrespondenceLaws.{each_input_keeps}
 use Rattle.lc_model.proofs.LimitChecker.StepLaws.{stays_settled, starts_settled}
 use Rattle.host_laws.specs.Keeping.{state_of, Standing, standing_of}
 use Rattle.host_laws.specs.Statements.{IsOne, IsWhole, IsFineInput}
+use Rattle.lc_model.proofs.LimitChecker.Slots.{loaded_active, moved_active}
 use Rattle.host_laws.proofs.Deliveries.{log_stands, all_stand}
 use Rattle.host_laws.proofs.HostRecords.{IfOk, either_ok}
-use Rattle.host_laws.proofs.TableRecords.{loaded_active, moved_active}
 use Rattle.host_laws.proofs.Steps.{by_lc}
 
 pub ok_after : {A B : Type 0} (P : B → Type 0) (r : Result A Refusal) (f : A → Result B Refusal) → ((x : A) → IfOk P (f x)) → IfOk P (r >>= f)
@@ -78,7 +79,7 @@ module _ {Image : Type 0} (images : Interpretation Image) where
       off v None = tt
       off v (Some kind) = tt
 
-      placed : (w : World Image) (spares : ℕ) (r : Running (Lc Image)) → IsSettled images r.state → (kind : Kind) (q : Result (Slot Image) Refusal) → IfOk (λ (after : Slot Image). after.active ≡ (slot_of kind r.state).active) q →
+      placed : (w : World Image) (spares : ℕ) (r : Running (Lc Image)) → IsSettled images r.state → (kind : Kind) (q : Result (Slot Image) Refusal) → prelude.IfOk q (λ (after : Slot Image). after.active ≡ (slot_of kind r.state).active) →
           let v : World Image = record w { lc = record { running = Some r; spares = spares } } in
           IfOk Settled (q >>= (λ slot. Ok (record v { lc = become (with_slot kind slot r.state) v.lc })))
       placed w spares r h kind (Ok slot) same = slot_settled kind slot r.state h same
@@ -104,7 +105,7 @@ module _ {Image : Type 0} (images : Interpretation Image) where
       off v contents None = tt
       off v contents (Some kind) = tt
 
-      placed : (w : World Image) (spares : ℕ) (r : Running (Lc Image)) → IsSettled images r.state → (kind : Kind) (q : Result (Slot Image) Refusal) → IfOk (λ (after : Slot Image). after.active ≡ (slot_of kind r.state).active) q →
+      placed : (w : World Image) (spares : ℕ) (r : Running (Lc Image)) → IsSettled images r.state → (kind : Kind) (q : Result (Slot Image) Refusal) → prelude.IfOk q (λ (after : Slot Image). after.active ≡ (slot_of kind r.state).active) →
           let v : World Image = record w { lc = record { running = Some r; spares = spares } } in
           IfOk Settled (q >>= (λ slot. Ok (record v { lc = become (with_slot kind slot r.state) v.lc })))
       placed w spares r h kind (Ok slot) same = slot_settled kind slot r.state h same

@@ -1,5 +1,5 @@
 -- Commands to table services, in numbers and over the world.
-use Rattle.std.proofs.Common.{◌≡◌, ℕ, Bool, true, false, List, [], ◌∷◌, map, refl, ap, sym, ◌∙◌, subst, Option, Some, None, option_map, is_none, is_some, if◌then◌else◌, Result, Ok, Err, true≢false}
+use Rattle.std.proofs.Common.{◌≡◌, ℕ, Bool, true, false, List, [], ◌∷◌, map, refl, ap, sym, ◌∙◌, subst, Option, Some, None, option_map, is_some, if◌then◌else◌, Result, Ok, Err, IfOk, true≢false}
 use Rattle.std.specs.Option.{option_map_or}
 use Rattle.std.proofs.lemmas.Slice.Eq.{bytes_eq-Decides}
 use Rattle.lc_model.specs.declared.kind.Kind.{Kind}
@@ -9,7 +9,7 @@ use Rattle.lc_model.specs.Name.{Name, is_named, value_under}
 use Rattle.lc_model.specs.Packet.{lc_command_mid, lc_housekeeping_request_mid, sample_mid}
 use Rattle.lc_model.specs.Refusal.{Refusal, ◌>>=◌, refused, found, provided}
 use Rattle.lc_model.specs.Tables.File.{table_name}
-use Rattle.lc_model.specs.Tables.Slot.{Slot, Waiting, Stage, Loaded, Activated, Move, with_waiting, restaged, stage_after, loaded, moved, waiting_at}
+use Rattle.lc_model.specs.Tables.Slot.{Slot, loaded, moved}
 use Rattle.lc_model.specs.Tables.Interpretation.{FileMeaning, Interpretation, Pair, kind_named}
 use Rattle.lc_model.specs.LimitChecker.Steps.{paired}
 use Rattle.lc_model.specs.declared.field.Term.{Term}
@@ -21,33 +21,9 @@ use Rattle.lc_model.specs.Kept.Effort.{Effort}
 use Rattle.lc_model.specs.Kept.Summary.{LcNow, LcOwn, AppState, LcState, SchState, CounterState, Other, now_by, lc_now, lc_own}
 use Rattle.lc_model.specs.Kept.Call.{with_at, with_mids, lc_subscriptions, sch_subscriptions, counter_subscriptions, ServicesNow}
 use Rattle.lc_model.specs.Kept.Executive.{Member, with_services, managed_now, table_service_now}
+use Rattle.lc_model.proofs.LimitChecker.Slots.{loaded_active, moved_active}
 use Rattle.host_laws.specs.Keeping.{App, LimitChecker, Scheduler, Counter, no_packets, executive_by, standing_of, Numbers, numbers_of, slot_now, slots_in, IsSeated}
-use Rattle.host_laws.proofs.HostRecords.{IfOk}
 use Rattle.host_laws.proofs.Steps.{by_lc, kept, StepKept, BothKept}
-
-module _ {Image : Type 0} where
-  -- what is in use stays by a load and by a move of what waits
-  pub loaded_active : (image : Image) (slot : Slot Image) → IfOk (λ (after : Slot Image). after.active ≡ slot.active) (loaded image slot)
-  loaded_active image slot = by_test (is_none (waiting_at Activated slot))
-    where
-      by_test : (test : Bool) → IfOk (λ (after : Slot Image). after.active ≡ slot.active) (provided test 115 (with_waiting Loaded image slot))
-      by_test true = refl
-      by_test false = tt
-
-  pub moved_active : (move : Move) (slot : Slot Image) → IfOk (λ (after : Slot Image). after.active ≡ slot.active) (moved move slot)
-  moved_active move slot = by_waiting slot.waiting
-    where
-      by_stage : (waiting : Waiting Image) (r : Result (Option Stage) Refusal) →
-          IfOk (λ (after : Slot Image). after.active ≡ slot.active) (r >>= (λ stage. Ok (restaged stage waiting.image slot)))
-      by_stage waiting (Err refusal) = tt
-      by_stage waiting (Ok None) = refl
-      by_stage waiting (Ok (Some stage)) = refl
-
-      by_waiting : (o : Option (Waiting Image)) →
-          IfOk (λ (after : Slot Image). after.active ≡ slot.active)
-          (found o 116 >>= (λ (waiting : Waiting Image). stage_after move waiting.stage >>= (λ stage. Ok (restaged stage waiting.image slot))))
-      by_waiting None = tt
-      by_waiting (Some waiting) = by_stage waiting (stage_after move waiting.stage)
 
 -- the states and subscriptions of all, with these of the Limit Checker
 abbrev pub states_with : {Image : Type 0} → Schedule → Numbers Image → LcOwn → App → AppState
@@ -198,7 +174,7 @@ module _ {Image : Type 0} (images : Interpretation Image) (schedule : Schedule) 
 
     -- a changed slot of the running Limit Checker, or one refusal
     placed_or_refused : (w : World Image) (spares : ℕ) (r : Running (Lc Image)) (kind : Kind) (name : Name) (q : Result (Slot Image) Refusal) →
-        IsSeated images schedule (standing_of (lc_at w spares r)) stock order → kind_named name ≡ Some kind → IfOk (λ (after : Slot Image). after.active ≡ (slot_of kind r.state).active) q →
+        IsSeated images schedule (standing_of (lc_at w spares r)) stock order → kind_named name ≡ Some kind → IfOk q (λ (after : Slot Image). after.active ≡ (slot_of kind r.state).active) →
         BothKept images schedule moment
         ((q >>= (λ slot. Ok (lc_at w spares (record r { state = with_slot kind slot r.state })))) >>= (λ after. Ok (after, [])))
         (with_services (kept images schedule effort stock order (lc_at w spares r))

@@ -4,5 +4,6 @@ pub mod ResultLaws
 pub mod PastLaws
 pub mod EffortLaws
 pub mod StepLaws
+pub mod Slots
 pub mod Reordered
 pub mod LimitCheckerOfTwo

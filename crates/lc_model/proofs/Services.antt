@@ -3,6 +3,7 @@ pub mod SenderNames
 pub mod SenderLaws
 pub mod SenderLogs
 pub mod BusLaws
+pub mod Subscriptions
 pub mod NamedLists
 pub mod TableServiceLaws
 pub mod TableNames

@@ -23,7 +23,7 @@ use Rattle.table_validator.specs.declared.fault.TableFault.{TableFault}
 use Rattle.table_validator.specs.Fault.{refusal}
 use Rattle.table_validator.specs.Sound.{TableImage}
 use Rattle.app_host.specs.Shared.{on_board}
-use Rattle.app_host.proofs.Resubscribed.{both_changes, is_there, still_there}
+use Rattle.lc_model.proofs.Services.Subscriptions.{both_changes, is_there, still_there}
 use Rattle.limit_checker.specs.Adoption.{are_matching, pair_of, HasSoundSlot}
 use Rattle.limit_engine.specs.Engine.{with_tables}
 use Rattle.limit_checker.specs.Housekeeping.{adt_of, wdt_of, own_adopted, pair_at}

@@ -17,7 +17,7 @@ use Rattle.lc_model.specs.Tables.Spelled.{spelled_terms, spelled_rules}
 use Rattle.lc_model.specs.LimitChecker.Steps.{sound_image, paired}
 use Rattle.lc_model.specs.Services.Seen.{meaning_of}
 use Rattle.lc_model.specs.Services.Tables.{TableService, fits_table, image_in}
-use Rattle.host_laws.proofs.Commands.{value_meaning}
+use Rattle.lc_model.proofs.Services.TableNames.{value_meaning}
 use Rattle.lc_model.proofs.Facts.{and_first, and_second, and_second_false, tested_equal}
 use Rattle.lc_model.proofs.Tables.SoundImages.{sound_parts}
 use Rattle.table_file.specs.declared.error.FileError.{FileError}

@@ -9,7 +9,7 @@ use Rattle.lc_model.specs.Kept.Summary.{LcOwn, LcState}
 use Rattle.lc_model.specs.Services.Bus.{Queue, pipe_at, with_pipe}
 use Rattle.lc_model.specs.Services.Settled.{form_of}
 use Rattle.lc_model.specs.Services.Tables.{TableService, Handle, tables_at, slot_at, slot_changed}
-use Rattle.host_laws.proofs.InStep.{validated_judged}
+use Rattle.lc_model.proofs.LimitChecker.Slots.{validated_judged}
 use Rattle.app_host.specs.declared.services.Services.{Services}
 use Rattle.app_host.specs.Shared.{on_board}
 use Rattle.limit_checker.specs.declared.verdict.Verdict.{Verdict}

@@ -36,7 +36,7 @@ use Rattle.app_host.specs.Seating.{IsOpened}
 use Rattle.app_host.specs.Statements.{OpeningStarts, OpeningLeaves, TellingIsByName}
 use Rattle.app_host.specs.Calls.{Leaves}
 use Rattle.app_host.proofs.Rules.{seen_of_place, host_in}
-use Rattle.app_host.proofs.Seats.{no_more}
+use Rattle.lc_model.proofs.Services.Subscriptions.{no_more}
 use Rattle.limit_checker.specs.Starting.{new_wdt, new_adt, with_both, start_pair, own_started, tables_started, started_wdt, started_adt, started_tables}
 use Rattle.limit_checker.proofs.TablesBegun.{AreOthers, no_number, others_among}
 

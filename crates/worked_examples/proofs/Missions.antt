@@ -30,12 +30,8 @@ use Rattle.lc_model.specs.Kept.Summary.{AppState, LcState, SchState, CounterStat
 use Rattle.lc_model.specs.Kept.GoesWith.{own_name, GoesWith}
 use Rattle.lc_model.specs.Kept.Executive.{Member, Executive}
 use Rattle.host_laws.specs.Keeping.{KeepsTo, runs_in, standing_of, LimitChecker}
-use Rattle.host_laws.specs.Statements.{AreBytes, IsStock, IsShort, IsWhole, AreFineInputs}
+use Rattle.host_laws.specs.Statements.{AreBytes, IsStock, IsShort, IsWhole, EachRecordKeeps, BeginsSo, SeatsGoWith, AreFineInputs, RecordsAreFine}
 use Rattle.host_laws.specs.Calls.{AreTwo}
-use Rattle.host_laws.proofs.Laws.{each_record_keeps, bytes_are_sensible}
-use Rattle.host_laws.proofs.Runs.{begins_so}
-use Rattle.host_laws.proofs.SeatsGo.{seats_go_with}
-use Rattle.host_laws.proofs.FineFiles.{records_are_fine}
 use Rattle.worked_examples.proofs.Watchpoints.{low_volts}
 use Rattle.worked_examples.proofs.Reading.{low_volts_text, low_volts_rules, low_volts_compiles}
 use Rattle.worked_examples.proofs.Halves.{hash, entries, entry_fits, wdt_is_half, adt_is_half}
@@ -235,34 +231,40 @@ record Kept (w : World (List ℕ)) : Type 0 where
   keeps : KeepsTo bytes low_volts_mission.schedule w executive
   is_whole : IsWhole bytes AreBytes w
 
-kept_after : (entries : List StreamEntry) (w : World (List ℕ)) → Kept w → AreFineInputs bytes AreBytes low_volts_mission.schedule meanings entries → Kept (world_after w entries)
-unfolding world_after
-kept_after [] w before fit = before
-kept_after (entry ∷ entries) w before fit =
-    let now = each_record_keeps bytes AreBytes low_volts_mission.schedule (bytes_are_sensible layouts) entry.moment w before.executive
-    (input_of meanings entry.contents) short before.keeps before.is_whole fit.0 in
-    kept_after entries _ (record { executive = _; keeps = now.keeps; is_whole = now.whole }) fit.1
-
-at_first : Kept (first_world (map (λ (m : Member). m.called) spares))
-at_first = let begun = begins_so bytes AreBytes low_volts_mission.schedule spares is_stock.profile in record { executive = _; keeps = begun.0; is_whole = begun.1 }
-
 starting : List StreamEntry
 starting = order 1 lc_name ∷ volts 2399 ∷ sample ∷ []
 
-fine : AreFineInputs bytes AreBytes low_volts_mission.schedule meanings starting
-unfolding starting
-fine = records_are_fine edition (text ∷ []) compiled low_volts_mission.schedule starting are_compiled (tt, (tt, (tt, tt)))
+abbrev last_world : World (List ℕ)
+last_world = world_after (first_world (map (λ (m : Member). m.called) spares)) starting
 
-at_last : Kept (world_after (first_world (map (λ (m : Member). m.called) spares)) starting)
-at_last = kept_after starting _ at_first fine
-
-it_runs : runs_in (standing_of (world_after (first_world (map (λ (m : Member). m.called) spares)) starting)) LimitChecker ≡ true
+it_runs : runs_in (standing_of last_world) LimitChecker ≡ true
 unfolding world_after starting digits
 it_runs = refl
 
--- its object goes with the services, and is another than the scheduler's
-goes_with : AllByRecursion (λ seat. IfSome seat (λ (member : Member). GoesWith bytes member.state at_last.executive.services)) at_last.executive.seats
-goes_with = seats_go_with bytes AreBytes low_volts_mission.schedule _ at_last.executive schedule_fits at_last.keeps at_last.is_whole
+-- by the laws that `host_laws` promises
+module _ (record_keeps : EachRecordKeeps bytes AreBytes low_volts_mission.schedule) (begins : BeginsSo bytes AreBytes low_volts_mission.schedule)
+    (are_fine : RecordsAreFine) (seats_go : SeatsGoWith bytes AreBytes low_volts_mission.schedule) where
+  kept_after : (entries : List StreamEntry) (w : World (List ℕ)) → Kept w → AreFineInputs bytes AreBytes low_volts_mission.schedule meanings entries → Kept (world_after w entries)
+  unfolding world_after
+  kept_after [] w before fit = before
+  kept_after (entry ∷ entries) w before fit =
+      let now = record_keeps entry.moment w before.executive (input_of meanings entry.contents) short before.keeps before.is_whole fit.0 in
+      kept_after entries _ (record { executive = _; keeps = now.keeps; is_whole = now.whole }) fit.1
 
+  at_first : Kept (first_world (map (λ (m : Member). m.called) spares))
+  at_first = let begun = begins spares is_stock.profile in record { executive = _; keeps = begun.0; is_whole = begun.1 }
+
+  fine : AreFineInputs bytes AreBytes low_volts_mission.schedule meanings starting
+  unfolding starting
+  fine = are_fine edition (text ∷ []) compiled low_volts_mission.schedule starting are_compiled (tt, (tt, (tt, tt)))
+
+  at_last : Kept last_world
+  at_last = kept_after starting _ at_first fine
+
+  -- its object goes with the services
+  goes_with : AllByRecursion (λ seat. IfSome seat (λ (member : Member). GoesWith bytes member.state at_last.executive.services)) at_last.executive.seats
+  goes_with = seats_go _ at_last.executive schedule_fits at_last.keeps at_last.is_whole
+
+-- the Limit Checker's object is another than the scheduler's
 two : (state : AppState) → own_name state ≡ lc_name → AreTwo state (SchState low_volts_mission.schedule 0)
 two state is = ap (λ name. is_named sch_name name) is

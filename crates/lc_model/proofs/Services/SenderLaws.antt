@@ -1,6 +1,6 @@
 -- The calls of the event services keep what is so between them, and go by names.
 use Rattle.std.proofs.Common.{◌≡◌, ℕ, ◌+◌, ◌%◌, ◌<◌, ◌==◌, Bool, true, false, ◌||◌, List, [], ◌∷◌, ◌++◌, length, refl, ap, sym, ◌∙◌, subst, arith, Option, Some, None, is_some, option_map, Result, Ok, Err, if◌then◌else◌, IsFalse, true≢false, IfOk}
-use Rattle.std.specs.Prelude.{slice_index_or, slice_set, option_to_list}
+use Rattle.std.specs.Prelude.{slice_index_or, slice_set, option_to_list, IfSome}
 use Rattle.std.specs.Option.{option_map_or}
 use Rattle.std.specs.List.{position_from}
 use Rattle.std.proofs.lemmas.List.{length-set}
@@ -17,7 +17,7 @@ use Rattle.lc_model.specs.Kept.Summary.{EventState}
 use Rattle.lc_model.specs.Kept.Next.{next_chosen, events_after, counts_after, Accounts, next_all_delivered}
 use Rattle.lc_model.specs.Kept.Call.{ServicesNow, with_at, new_sender, accounted}
 use Rattle.lc_model.specs.Kept.Executive.{joined_now}
-use Rattle.lc_model.specs.Services.Events.{counts_with, Sender, EventService, Origin, IsEventService, is_sender, events_among, sender_named, origin_named, sender_at, with_events, registered_at, asked_by, accounted_at, event_asked}
+use Rattle.lc_model.specs.Services.Events.{counts_with, Sender, EventService, Origin, IsEventService, is_sender, events_among, sender_named, origin_named, sender_at, with_events, registered_at, unregistered_at, asked_by, accounted_at, event_asked}
 use Rattle.lc_model.specs.Laws.Senders.{ChangesKeep, RegisteringKeeps, UnregisteringKeeps, CommandsKeep, EventsKeep, RegisteringByName, UnregisteringByName, CommandsByName, EventsByName}
 use Rattle.lc_model.proofs.Services.SenderNames.{same_name, other_way, IsAbsent, IsFirst, alone_is_first, absent_at, alone, set_first, set_free, set_gone, absent_has_nothing, first, not_found, first_has, first_is_some, same_names, absent_without, distinct_without, absent_with, distinct_with}
 use Rattle.lc_model.proofs.Facts.{or_first, or_second}
@@ -306,3 +306,20 @@ events_by_name {Image} origin sender moment id kind text service services h at n
 
     answer : Option Sender → EventService × Option (List ℕ)
     answer o = option_map_or (λ (s : Sender). accounted_at origin s (asked_by s moment id kind text service.sent) service) o (service, None)
+
+-- ---- a seat gives its sender back
+
+-- the senders without that of a seat
+abbrev pub without_sender : ℕ → EventService → EventService
+without_sender seat service = record service { places = slice_set service.places seat None }
+
+-- and nothing is held under its name then
+pub name_is_gone : (seat : ℕ) (service now : EventService) → UnregisteringByName → IsEventService service → now ≡ without_sender seat service →
+    unregistered_at seat service ≡ Ok (without_sender seat service) →
+    IfSome (sender_at (Some seat) service) (λ (sender : Sender). sender_named now ≡ with_at sender.name None (sender_named service))
+name_is_gone seat service now law sound is goes = by_place (sender_at (Some seat) service) refl
+  where
+    by_place : (place : Option Sender) → sender_at (Some seat) service ≡ place → IfSome place (λ (sender : Sender). sender_named now ≡ with_at sender.name None (sender_named service))
+    by_place None e = tt
+    by_place (Some sender) e = ap sender_named is
+        ∙ subst (λ r. IfOk r (λ after. sender_named after ≡ with_at sender.name None (sender_named service))) goes (law seat sender service sound e)

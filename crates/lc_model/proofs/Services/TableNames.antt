@@ -1,5 +1,5 @@
 -- Tables under their names, by the seats that they are kept at.
-use Rattle.std.proofs.Common.{◌≡◌, refl, ap, sym, ◌∙◌, ℕ, zero, suc, ◌+◌, ◌≤◌, ◌<◌, Bool, true, false, List, [], ◌∷◌, ◌++◌, map, length, arith, if◌then◌else◌, Option, Some, None, slice_get, slice_index_or, slice_set, true≢false}
+use Rattle.std.proofs.Common.{◌≡◌, refl, ap, sym, ◌∙◌, ℕ, zero, suc, ◌+◌, ◌≤◌, ◌<◌, Bool, true, false, List, [], ◌∷◌, ◌++◌, map, length, arith, if◌then◌else◌, Option, Some, None, option_map, slice_get, slice_index_or, slice_set, true≢false}
 use Rattle.std.specs.Prelude.{IfOk, Result, Ok, is_none, is_some, nat_le, nat_lt, ◌&&◌, ◌||◌}
 use Rattle.std.specs.Option.{option_or, option_map_or}
 use Rattle.std.specs.List.{list_any, position_from}
@@ -290,6 +290,16 @@ registering_tables seat name size other service inside is = by_tests (nat_le tab
     by_tests false None named = λ i. λ n. added_among n service.places seat new (let eight = is.seats in omega (arith, eight, inside)) (no_handle name 0 service.places named) i
 
 -- ---- files
+
+-- a stored file by what it means
+pub value_meaning : (name : Name) (files : List (Name × List ℕ)) → value_under name (files_seen files) ≡ option_map meaning_of (value_under name files)
+value_meaning name [] = refl
+value_meaning name (file ∷ files) = by_test (is_named name file.0) (value_meaning name files)
+  where
+    by_test : (test : Bool) → value_under name (files_seen files) ≡ option_map meaning_of (value_under name files) →
+        (if test then Some (meaning_of file.1) else value_under name (files_seen files)) ≡ option_map meaning_of (if test then Some file.1 else value_under name files)
+    by_test true behind = refl
+    by_test false behind = behind
 
 value_seen : (name : Name) (files : List (Name × List ℕ)) → is_none (value_under name (files_seen files)) ≡ is_none (value_under name files)
 value_seen name [] = refl

@@ -2,7 +2,8 @@ use Rattle.std.proofs.Common.{length}
 use Rattle.lc_model.specs.Kept.Call.{with_mids}
 use Rattle.lc_model.specs.Services.Bus.{pipe_at}
 use Rattle.app_host.specs.Resubscribing.{mids_of}
-use Rattle.app_host.proofs.Resubscribed.{all_heard, both_changes, is_there, room_left}
+use Rattle.lc_model.proofs.Services.Subscriptions.{both_changes, is_there}
+use Rattle.app_host.proofs.Resubscribed.{all_heard, room_left}
 use Rattle.app_host.proofs.resubscribing.subscribe_to.Goals as goal
 
 pub watch-requires : goal.watch-requires

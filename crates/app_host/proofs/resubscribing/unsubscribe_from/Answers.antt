@@ -1,6 +1,7 @@
 use Rattle.lc_model.specs.Services.Bus.{pipe_at}
 use Rattle.app_host.specs.Resubscribing.{mids_of, without_mids}
-use Rattle.app_host.proofs.Resubscribed.{both_changes, is_there, nothing_heard}
+use Rattle.lc_model.proofs.Services.Subscriptions.{both_changes, is_there}
+use Rattle.app_host.proofs.Resubscribed.{nothing_heard}
 use Rattle.app_host.proofs.resubscribing.unsubscribe_from.Goals as goal
 
 pub returns : goal.returns

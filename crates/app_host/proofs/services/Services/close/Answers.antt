@@ -1,7 +1,7 @@
 use Rattle.std.proofs.Common.{◌∙◌, ap, refl}
 use Rattle.lc_model.specs.Services.Bus.{after}
-use Rattle.app_host.proofs.Seats.{pipe_is_removed, may_unregister, answered_by, name_is_gone}
-use Rattle.lc_model.proofs.Services.SenderLaws.{unregistering_by_name}
+use Rattle.lc_model.proofs.Services.SenderLaws.{name_is_gone, unregistering_by_name}
+use Rattle.app_host.proofs.Seats.{pipe_is_removed, may_unregister, answered_by}
 use Rattle.app_host.proofs.services.Services.close.Goals as goal
 
 pub returns : goal.returns
