@@ -1,30 +1,76 @@
-//! A run closes its host: what runs then retires.
+//! A run closes its host however it ends: what runs then retires, once.
 
 use crate::leaving::retirements_of;
 use crate::two_failures::NO_ENTRIES;
+use flight_core::{Report, RunError};
 use lc_model::{Limited, Pieces};
+use std::process::Abort;
 use tick_scheduler::parse_schedule;
 
-/// An order to start the counter.
+/// An order to start the counter, and HOST's event is 168 bytes.
 const START: &[u8] =
     b"\x01\0\0\0d\0\0\0\0\0\x1C\x18\x06\xC0\0\0\x15\x01\0COUNTER\0\0\0\0\0\0\0\0\0\0\0\0\0";
 
-#[test]
-fn what_runs_retires_at_the_end_of_the_run(rt: HostRuntime) {
-    let schedule = parse_schedule(rt.alloc(), NO_ENTRIES).expect(&rt, "a schedule");
-    let mut source = Pieces::new(START, 99);
+/// The order, and behind it a record of kind 9.
+const START_AND_NO_RECORD: &[u8] =
+    b"\x01\0\0\0d\0\0\0\0\0\x1C\x18\x06\xC0\0\0\x15\x01\0COUNTER\0\0\0\0\0\0\0\0\0\0\0\0\0\
+\x09\0\0\0d\0\0\0\0\0\0";
+
+/// The order, and behind it the first two bytes of a record.
+const START_AND_CUT: &[u8] =
+    b"\x01\0\0\0d\0\0\0\0\0\x1C\x18\x06\xC0\0\0\x15\x01\0COUNTER\0\0\0\0\0\0\0\0\0\0\0\0\0\
+\x02\0";
+
+/// A stream, the read that fails or 0, the bytes that the writer takes, the most reads, and how the run ends.
+struct Row(&'static [u8], u64, usize, u32, Result<Report, RunError>);
+
+/// One row for each ending behind the first read.
+const ROWS: &[Row] = &[
+    Row(
+        START,
+        0,
+        168,
+        9,
+        Ok(Report {
+            records: 1,
+            bytes: 168,
+        }),
+    ),
+    Row(
+        START_AND_NO_RECORD,
+        0,
+        168,
+        9,
+        Err(RunError::BadRecord { n: 2 }),
+    ),
+    Row(START_AND_CUT, 0, 168, 9, Err(RunError::Truncated { n: 2 })),
+    Row(START, 2, 168, 9, Err(RunError::Read)),
+    Row(START, 0, 100, 9, Err(RunError::Write { sent: 100 })),
+    Row(START, 0, 168, 1, Err(RunError::ReadBound)),
+];
+
+/// The run of a row ends so, and the counter retired once.
+fn retires<R: Abort + AllocGlobal>(rt: &R, row: &Row) {
+    let Row(stream, read, limit, reads, expected) = row;
+    let schedule = parse_schedule(rt.alloc(), NO_ENTRIES).expect(rt, "a schedule");
+    let mut source = Pieces::failing_at(stream, 99, *read);
     let mut room = [0; 168];
-    let mut sink = Limited::new(&mut room, 168);
-    let (answer, retirements) = retirements_of(
-        rt.alloc(),
-        &schedule,
-        &mut source,
-        &mut sink,
-    ).expect(&rt, "memory for the stock");
-    let records = answer.map(|report| report.records).ok();
-    assert_eq!(rt;
-        (records, retirements),
-        (Some(1), 1),
-        "records, retirements"
+    let mut sink = Limited::new(&mut room, (*limit).min(168));
+    let found = retirements_of(rt.alloc(), &schedule, &mut source, &mut sink, *reads).expect(
+        rt,
+        "memory for the stock",
     );
+    assert_eq!(rt; found, (*expected, 1), "ending, retirements");
+}
+
+/// Each row, in turn.
+fn retire<R: Abort + AllocGlobal>(rt: &R, rows: &[Row]) {
+    for row in rows {
+        retires(rt, row);
+    }
+}
+
+#[test]
+fn what_runs_retires_however_the_run_ends(rt: HostRuntime) {
+    retire(&rt, ROWS);
 }

@@ -4,7 +4,7 @@ ghost use Rattle.std.specs.Prelude.{◌≡◌, false, None};
 
 use app_host::{App, Services};
 use command_counter::Counter;
-use flight_core::{Report, RunError, run};
+use flight_core::{Report, RunError, run_within};
 use flight_stock::add;
 use lc_model::{Limited, Pieces, Seat};
 use std::alloc::{AllocError, Global};
@@ -54,13 +54,14 @@ impl App for Watched {
     }
 }
 
-/// A run without texts, with a counter in stock: how it ends, and how often the counter retired. Out of memory for the stock is
-/// the outer error. Conditions: nothing was read or failed yet.
+/// A run without texts, with a counter in stock and at most so many reads: how it ends, and how often the counter retired. Out of
+/// memory for the stock is the outer error. Conditions: nothing was read or failed yet.
 pub fn retirements_of(
     alloc: Global,
     schedule: &Schedule,
     source: &mut Pieces<'_>,
     sink: &mut Limited<'_>,
+    reads: u32,
 ) -> Result<(Result<Report, RunError>, u32), AllocError>
     requires unread { source.old.reads ≡ 0 }
     requires readable { source.old.failed ≡ false }
@@ -70,6 +71,6 @@ pub fn retirements_of(
     let mut stock: Vec<Box<dyn App>> = Vec::new(alloc);
     let counter = Box::new(alloc, Watched::new(retirements.clone()?))?;
     add(&mut stock, schedule, b"COUNTER", counter)?;
-    let answer = run(alloc, &[], schedule, stock, source, sink);
+    let answer = run_within(alloc, &[], schedule, stock, source, sink, u64::from(reads));
     Ok((answer, retirements.get()))
 }
