@@ -148,6 +148,12 @@ module _ (old mid new : Hosted) (stock : mid.stock ≡ old.stock) (seats : mid.s
         by_request (command_refused event_services refusal) told (obeying_events packet old answer)
         (ap (obeying_events packet old) (sym is) ∙ (λ i. record (only_telling (command_refused event_services refusal) old) { events = sym events i; tables = sym tables i }))
 
+    pub orders_refused : mid.services.events ≡ old.services.events → (packet : List ℕ) (answer : Result Succession Refusal) (refusal : Refusal) → answer ≡ Err refusal → asked ≡ command_refused executive_services refusal →
+        By (obeying_orders packet old answer)
+    orders_refused events packet answer refusal is told =
+        by_request (command_refused executive_services refusal) told (obeying_orders packet old answer)
+        (ap (obeying_orders packet old) is ∙ (λ i. record (only_telling (command_refused executive_services refusal) old) { events = sym events i; tables = sym tables i }))
+
   module _ (events : mid.services.events ≡ old.services.events) where
     pub tables_obeyed : (packet : List ℕ) (answer : Result TableService Refusal) → Ok mid.services.tables ≡ answer → asked ≡ command_done table_services (function_code packet) → By (obeying_tables packet old answer)
     tables_obeyed packet answer is done =

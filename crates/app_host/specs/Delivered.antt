@@ -3,6 +3,7 @@ use Rattle.std.specs.Prelude.{◌≡◌, ℕ, ◌+◌, ◌<◌, ◌≤◌, List,
 use Rattle.std.specs.List.{concat}
 use Rattle.lc_model.specs.Kept.Executive.{Executive, Written, delivered_at}
 use Rattle.lc_model.specs.Services.Bus.{seen}
+use Rattle.lc_model.specs.Services.Interface.{outgoing_room}
 use Rattle.app_host.specs.Shared.{on_board}
 use Rattle.app_host.specs.Hosted.{Hosted, executive_of}
 use Rattle.app_host.specs.Whole.{AreSeated, AreKnown}
@@ -28,7 +29,7 @@ pub record HasDelivered (seat : ℕ) (old new : Hosted) : Type 0 where
   pub calls : new.calls ≡ old.calls + 1
   pub light : IsLight (seen new.services.bus)
   pub falls : load (seen new.services.bus) < load (seen old.services.bus)
-  pub fits : length new.services.outgoing ≤ 65536
+  pub fits : length new.services.outgoing ≤ outgoing_room
   pub own : ComesTo (roster_of old) old new
   pub known : AreKnown old → AreKnown new
   pub determined : IsDetermined old → IsDetermined new

@@ -3,7 +3,7 @@ use Rattle.std.specs.Prelude.{◌≡◌, ◌≢◌, ℕ, ◌≤◌, List, [], le
 use Rattle.lc_model.specs.Kept.Summary.{Other}
 use Rattle.lc_model.specs.Kept.Call.{next_retire}
 use Rattle.lc_model.specs.Kept.Executive.{left_from}
-use Rattle.lc_model.specs.Services.Interface.{IsRetired}
+use Rattle.lc_model.specs.Services.Interface.{IsRetired, outgoing_room}
 use Rattle.app_host.specs.declared.services.Services.{Services}
 use Rattle.app_host.specs.Shared.{held_by, shared}
 use Rattle.app_host.specs.Calls.{LeavesEmpty}
@@ -35,7 +35,7 @@ pub record HasVacated (seat : ℕ) (old new : Hosted) : Type 0 where
   pub calls : new.calls ≡ old.calls
   pub moment : new.services.moment ≡ old.services.moment
   pub seated : AreSeated new.seats new.services
-  pub fits : length new.services.outgoing ≤ 65536
+  pub fits : length new.services.outgoing ≤ outgoing_room
   pub exact : IfSome (object_at seat old.seats) (λ (o : Object). o.state ≢ Other → LeavesExactly seat old new)
 
 -- the object of a seat was retired, and holds none from then on

@@ -3,7 +3,7 @@ use Rattle.std.specs.Prelude.{◌≡◌, ℕ, ◌+◌, ◌*◌, ◌≤◌, ◌==
 use Rattle.std.specs.List.{sum_by}
 use Rattle.lc_model.specs.Packet.{message_id, tick_mid}
 use Rattle.lc_model.specs.Kept.Executive.{Pipe, seat_count}
-use Rattle.lc_model.specs.Services.Interface.{waiting_in}
+use Rattle.lc_model.specs.Services.Interface.{waiting_in, most_published}
 
 -- a tick
 abbrev pub is_tick : List ℕ → Bool
@@ -30,4 +30,4 @@ load pipes = sum_by weight_of pipes
 -- no pipe becomes full, whatever the ticks bring
 pub record IsLight (pipes : List (Option Pipe)) : Type 0 where
   pub eight : length pipes ≡ seat_count
-  pub short : (seat : ℕ) → packets_in (slice_index_or pipes seat None) + 8 * all_ticks pipes ≤ 65
+  pub short : (seat : ℕ) → packets_in (slice_index_or pipes seat None) + most_published * all_ticks pipes ≤ 65

@@ -1,5 +1,5 @@
 -- What an order to an application asks for and leaves.
-use Rattle.std.specs.Prelude.{◌≡◌, ◌⊎◌, ℕ, ◌<◌, ◌≤◌, ⊤, true, false, List, [], length, take, Option, Some, None, option_to_list, Result, Ok, Err, IfSome, IsSomeAnd, slice_set}
+use Rattle.std.specs.Prelude.{◌≡◌, ◌⊎◌, ℕ, ◌*◌, ◌<◌, ◌≤◌, ⊤, true, false, List, [], length, take, Option, Some, None, option_to_list, Result, Ok, Err, IfSome, IsSomeAnd, slice_set}
 use Rattle.std.specs.Global.{Global}
 use Rattle.std.specs.List.{concat}
 use Rattle.std.specs.declared.dyn_box.DynBox.{DynBox}
@@ -7,12 +7,13 @@ use Rattle.std.specs.Io.KnownBytes.{Appends}
 use Rattle.lc_model.specs.declared.record.Moment.{Moment}
 use Rattle.lc_model.specs.Device.{Sink}
 use Rattle.lc_model.specs.Packet.{payload}
-use Rattle.lc_model.specs.Name.{Name, is_named, name_in}
+use Rattle.lc_model.specs.Name.{Name, is_named}
 use Rattle.lc_model.specs.Refusal.{Refusal}
 use Rattle.lc_model.specs.Command as model
 use Rattle.lc_model.specs.Events.Request.{executive_services}
 use Rattle.lc_model.specs.Kept.Executive.{Executive, Written, spare_at, begun_on, without_spare, ordered_now, answered_now, executive_service_now}
 use Rattle.lc_model.specs.Kept.Stations.{order_stations}
+use Rattle.lc_model.specs.Services.Interface.{outgoing_room}
 use Rattle.app_host.specs.declared.orders.Order.{Order}
 use Rattle.app_host.specs.declared.orders.Order.TheVariants as given
 use Rattle.app_host.specs.declared.succession.Successor.{Successor}
@@ -77,7 +78,7 @@ pub record StaysWhole (old new : Hosted) : Type 0 where
   pub moment : new.services.moment ≡ old.services.moment
   pub seated : AreSeated new.seats new.services
   pub quiet : IsQuiet old → IsQuiet new
-  pub fits : length new.services.outgoing ≤ 65536
+  pub fits : length new.services.outgoing ≤ outgoing_room
 
 -- ---- who is where
 
@@ -128,9 +129,9 @@ order_of given.Stop = model.Stop
 order_of given.Restart = model.Restart
 order_of given.Reload = model.Reload
 
--- an order and the name in a payload of 20 bytes
+-- an order and the name in its payload
 abbrev pub named_by : Order → List ℕ → Result (model.Order × Name) Refusal
-named_by order payload = model.of_length 20 payload (order_of order, name_in payload)
+named_by order payload = model.order_named (order_of order) payload
 
 -- the numbers of a refusal
 abbrev pub refusal_of : HostError → Refusal
@@ -207,7 +208,7 @@ pub record HasComeIn (next : Next) (sent : ℕ) (old new : Hosted) (before now :
   pub whole : StaysWhole old new
   pub spares : AreSpares new.stock
   pub idle : new.services.outgoing ≡ []
-  pub small : sent ≤ 131072
+  pub small : sent ≤ 2 * outgoing_room
   pub fine : now.failed ≡ before.failed
   pub known : AreKnown old → IsKnownNext old.stock next → AreKnown new
   pub exact : IfExact old next (IsWritten (followed_by old.services.moment next (executive_in old)) sent new before.gained now.gained)
@@ -236,7 +237,7 @@ pub record HasEntered (next : Next) (sent : ℕ) (old new : Hosted) (before now 
 -- the first bytes only, and the next one has its seat, or nobody has it
 pub record HasNotEntered (next : Next) (sent : ℕ) (old new : Hosted) (before now : Option (List ℕ)) : Type 0 where
   pub theirs : List ℕ
-  pub small : length theirs ≤ 131072
+  pub small : length theirs ≤ 2 * outgoing_room
   pub fewer : sent < length theirs
   pub gains : Appends before now (take sent theirs)
   pub own : ComesTo (seated_next next (roster_of old)) old new ⊎ ComesTo (roster_of old) old new

@@ -13,6 +13,7 @@ use Rattle.lc_model.specs.Command.{event_command_in, table_command_in}
 use Rattle.lc_model.specs.Events.Request.{Request, Event, Sequence, Housekeeping, bad_packet, file_stored, file_refused, event_services, table_services, executive_services, command_done, command_refused}
 use Rattle.lc_model.specs.Services.Events.{EventService, event_asked}
 use Rattle.lc_model.specs.Services.Tables.{TableService, file_put}
+use Rattle.lc_model.specs.Services.Interface.{outgoing_room}
 use Rattle.app_host.specs.declared.error.WriteFault.{WriteFault}
 use Rattle.app_host.specs.Shared.{at_moment}
 use Rattle.app_host.specs.Hosted.{Hosted}
@@ -119,7 +120,7 @@ pub record HasCalled (moment : Moment) (response : Response) (old new : Hosted) 
   pub theirs : List ℕ
   pub behind : EventService
   pub own : behind.host ≡ response.events.host
-  pub few : length theirs ≤ 65536 * (new.calls + response.changes)
+  pub few : length theirs ≤ outgoing_room * (new.calls + response.changes)
   pub none_given : response.delivers ≡ false → new.calls ≡ 0
   pub alone : new.calls + response.changes ≡ 0 → IsAlone response old new theirs behind
   pub gone : IfSome response.leaves (λ seat. HasGone seat old.seats (at_moment moment old.services))

@@ -11,7 +11,7 @@ use Rattle.lc_model.specs.Services.Tables.{tables_at, tables_unregistered}
 use Rattle.lc_model.specs.Kept.GoesWith.{own_name, subscriptions_of}
 use Rattle.lc_model.specs.Services.Settled.{IsSettled, Settled, own_forms}
 use Rattle.lc_model.specs.Services.Seen.{slot_among}
-use Rattle.lc_model.specs.Services.Interface.{MayBeStarted, IsStarted, IsGiven, IsRetired, BelongsTo, seen_at}
+use Rattle.lc_model.specs.Services.Interface.{MayBeStarted, IsStarted, IsGiven, IsRetired, BelongsTo, seen_at, outgoing_room}
 use Rattle.app_host.specs.declared.services.Services.{Services}
 use Rattle.app_host.specs.Shared.{on_board, held_by, shared}
 use Rattle.app_host.specs.Telling.{Tells, name_of}
@@ -42,7 +42,7 @@ TellingIsByName = (origin : Origin) (name : Name) (requests : Name → List Requ
 -- an object that answers a packet with events of its own alone
 abbrev pub TellingAnswers : Type 0
 TellingAnswers = (seat : ℕ) (name : Name) (requests : List Request) (before after : Services) → Tells (Some seat) name requests before after →
-    (packet : List ℕ) → BelongsTo seat name (held_by before) → length after.outgoing ≤ 65536 → IsGiven seat name packet (held_by before) (held_by after)
+    (packet : List ℕ) → BelongsTo seat name (held_by before) → length after.outgoing ≤ outgoing_room → IsGiven seat name packet (held_by before) (held_by after)
 
 abbrev pub TellingLeaves : Type 0
 TellingLeaves = (seat : ℕ) (name : Name) (requests : List Request) (before after : Services) → Tells (Some seat) name requests before after →

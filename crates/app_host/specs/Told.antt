@@ -9,6 +9,7 @@ use Rattle.lc_model.specs.Events.Request.{Request, event_services, table_service
 use Rattle.lc_model.specs.Kept.Executive.{Executive, Written, told_by_host, filed_now, answered_now, with_services, event_service_now, table_service_now}
 use Rattle.lc_model.specs.Kept.Stations.{written_once}
 use Rattle.lc_model.specs.Services.Bus.{seen}
+use Rattle.lc_model.specs.Services.Interface.{outgoing_room}
 use Rattle.app_host.specs.declared.error.WriteFault.{WriteFault}
 use Rattle.app_host.specs.Shared.{on_board}
 use Rattle.app_host.specs.Hosted.{Hosted}
@@ -30,7 +31,7 @@ pub record HasTold (request : Request) (old new : Hosted) : Type 0 where
   pub calls : new.calls ≡ old.calls
   pub seated : AreSeated new.seats new.services
   pub pipes : seen new.services.bus ≡ seen old.services.bus
-  pub fits : length new.services.outgoing ≤ 65536
+  pub fits : length new.services.outgoing ≤ outgoing_room
   pub executive : executive_in new ≡ (telling request old).0
   pub outgoing : new.services.outgoing ≡ concat (telling request old).1
   pub tables : new.services.tables ≡ old.services.tables

@@ -12,6 +12,7 @@ use Rattle.lc_model.specs.Kept.Next.{by_counts}
 use Rattle.lc_model.specs.Kept.Call.{ServicesNow, Called, lc_with, next_lc_packet, next_start, next_on_packet, next_retire, sent_by}
 use Rattle.lc_model.specs.Kept.Executive.{event_service_now, table_service_now}
 use Rattle.lc_model.specs.Kept.GoesWith.{own_name, MayStart, LcGoesWith, GoesWith}
+use Rattle.lc_model.specs.Services.Interface.{outgoing_room, most_published}
 
 -- two applications
 abbrev pub AreTwo : AppState → AppState → Type 0
@@ -19,7 +20,7 @@ AreTwo state other = IsFalse (is_named (own_name other) (own_name state))
 
 -- at most eight packets are published, for a tick alone, and none of them is a tick
 pub record IsPublication (packet : List ℕ) (published : List (List ℕ)) : Type 0 where
-  pub few : length published ≤ 8
+  pub few : length published ≤ most_published
   pub for_ticks : published ≢ [] → message_id packet ≡ tick_mid
   pub no_ticks : AllByRecursion (λ (other : List ℕ). message_id other ≢ tick_mid) published
 
@@ -68,8 +69,8 @@ module _ {Image : Type 0} (images : Interpretation Image) where
   -- what a call asks to be written fits into what the host holds for writing
   abbrev pub WritesLittle : Type 0
   WritesLittle = (moment : Moment) (state : AppState) (packet : List ℕ) (services : ServicesNow Image) → GoesWith images state services →
-      IfSome (next_on_packet images moment state packet services) (λ (called : Called Image). length (concat called.outgoing) ≤ 65536)
+      IfSome (next_on_packet images moment state packet services) (λ (called : Called Image). length (concat called.outgoing) ≤ outgoing_room)
 
   abbrev pub StartsWriteLittle : Type 0
   StartsWriteLittle = (moment : Moment) (state : AppState) (services : ServicesNow Image) →
-      IfSome (next_start images moment state services) (λ (called : Called Image). length (concat called.outgoing) ≤ 65536)
+      IfSome (next_start images moment state services) (λ (called : Called Image). length (concat called.outgoing) ≤ outgoing_room)

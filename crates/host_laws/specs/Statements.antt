@@ -12,7 +12,7 @@ use Rattle.lc_model.specs.Tables.HalvesAndBytes.{Text, as_bytes, byte_meanings}
 use Rattle.lc_model.specs.Tables.Edition.{Edition, AreCompiledFiles}
 use Rattle.lc_model.specs.declared.kind.Kind.{Kind}
 use Rattle.lc_model.specs.Tables.Interpretation.{Interpretation, Pair, FileMeanings}
-use Rattle.lc_model.specs.Host.Schedule.{Schedule, ScheduleEntry, IsSchedule}
+use Rattle.lc_model.specs.Host.Schedule.{Schedule, ScheduleEntry, IsSchedule, most_entries}
 use Rattle.lc_model.specs.Host.ScheduleText.{schedule_in}
 use Rattle.lc_model.specs.Host.Stream.{StreamEntry, Contents, File, Half, records_of}
 use Rattle.lc_model.specs.Host.World.{World, Running, Lc, first_world}
@@ -48,7 +48,7 @@ module _ {Image : Type 0} (images : Interpretation Image) (IsFine : Image → Ty
 
 -- a slot of a schedule has at most eight entries
 abbrev pub IsShort : Schedule → Type 0
-IsShort schedule = AllByRecursion (λ (entries : List ScheduleEntry). length entries ≤ 8) schedule
+IsShort schedule = AllByRecursion (λ (entries : List ScheduleEntry). length entries ≤ most_entries) schedule
 
 module _ {Image : Type 0} (images : Interpretation Image) (IsFine : Image → Type 0) (schedule : Schedule) where
   -- both end together, with the same packets written
