@@ -5,8 +5,10 @@ mod Counting
 mod TextsCompiled
 mod RecordsBrought
 mod NextHandled
+mod HeldOutput
 mod Courses
 mod Endings
+mod Exits
 mod Outset
 mod Failures
 mod Fitting
