@@ -225,6 +225,34 @@ module _ (n : ℕ) (meanings : FileMeanings (List ℕ)) (first : Hosted) where
             (record { spares = still_known now.stock new.stock e.known.spares done.steps.stock; seated = done.steps.known e.known.seated those }) (done.count those);
       }
 
+  -- ---- the same where the output is told of another sink
+
+  pub told_of : (source : Source) (sink : Sink) (now : Hosted) (source_now : Source) (sink_now : Sink) (held : Held) (count bytes : ℕ) → SoFar source sink now source_now sink_now held count bytes →
+      (other : Sink) → other.failed ≡ sink_now.failed →
+      ((written : List ℕ) → bytes ≡ length written → Appends sink.gained sink_now.gained written → Appends sink.gained other.gained written) →
+      SoFar source sink now source_now other held count bytes
+  told_of source sink now source_now sink_now held count bytes far other fine tells = record {
+    between = far.between;
+    is_open = far.is_open;
+    readable = far.readable;
+    writable = fine ∙ far.writable;
+    of_texts = far.of_texts;
+    good = far.good;
+    come = far.come;
+    entries = far.entries;
+    took = far.took;
+    handed = far.handed;
+    are = far.are;
+    many = far.many;
+    each = far.each;
+    few = far.few;
+    pieces = far.pieces;
+    small = far.small;
+    exact = λ known.
+        let e = far.exact known in
+        record { known = e.known; executive = e.executive; wrote = tells (written_by meanings first far.entries) e.long e.wrote; long = e.long };
+  }
+
   -- ---- nothing more is held, and a piece comes
 
   pub idle : (source : Source) (sink : Sink) (now : Hosted) (source_now : Source) (sink_now : Sink) (held : Held) (count bytes : ℕ) → SoFar source sink now source_now sink_now held count bytes →

@@ -1,8 +1,9 @@
 -- How a run ends.
-use Rattle.std.proofs.Common.{◌≡◌, refl, sym, ◌∙◌, ap, subst, ℕ, ◌+◌, ◌<◌, true, List, [], ◌∷◌, ◌++◌, length, take, Option, Some, Result, Err, arith, append-nil, length-append}
+use Rattle.std.proofs.Common.{◌≡◌, refl, sym, ◌∙◌, ap, subst, ℕ, ◌+◌, ◌-◌, ◌<◌, true, List, [], ◌∷◌, ◌++◌, length, take, take-take, Option, Some, Result, Err, arith, append-nil, length-append}
 use Rattle.std.specs.List.{concat}
-use Rattle.std.specs.Io.KnownBytes.{Appends, Consumes, IsAtEnd}
+use Rattle.std.specs.Io.KnownBytes.{Appends, Consumes, IsAtEnd, Keeps, append_known}
 use Rattle.std.proofs.KnownBytes.{Appends-trans, Consumes-nil, Consumes-trans}
+use Rattle.std.proofs.lemmas.List.{length-take-le}
 use Rattle.std.proofs.lemmas.List.Folds.{concat-append}
 use Rattle.lc_model.specs.Device.{Source, Sink}
 use Rattle.lc_model.specs.Tables.Interpretation.{FileMeanings}
@@ -26,9 +27,11 @@ use Rattle.flight_core.specs.Cutting.{Goes, EndsBadly, EndsWhole, EndsCut}
 use Rattle.flight_core.specs.Ending.{ending_of}
 use Rattle.flight_core.specs.Flight.{AreAllKnown, written_by, stopped_by, ended_by}
 use Rattle.flight_core.specs.Front.{part_of}
-use Rattle.flight_core.specs.Going.{IsCutShort, NoneIsHeld, IsOver, HandlesNext, TakesPiece}
+use Rattle.flight_core.specs.Gathered.{with_held, MayHold}
+use Rattle.flight_core.specs.Going.{IsCutShort, IsHeldUp, IsOver, TakesPiece}
 use Rattle.flight_core.specs.Records.{Held, front_of}
-use Rattle.flight_core.proofs.Courses.{party_known, written_behind, taken_front, Exact, SoFar, in_front, joined, idle}
+use Rattle.flight_core.proofs.Courses.{party_known, written_behind, taken_front, Exact, SoFar, in_front, joined}
+use Rattle.flight_core.proofs.HeldOutput.{kept_behind, reached_part}
 
 -- the laws that say how records end
 pub record Laws : Type 0 where
@@ -194,23 +197,72 @@ module _ (laws : Laws) (n : ℕ) (meanings : FileMeanings (List ℕ)) (first : H
 
   -- ---- by what is answered
 
-  pub stops_there : (after : Held) (new : Hosted) (sink_after : Sink) (halt : Halt) → HandlesNext meanings held after now new sink_now sink_after (Err halt) →
-      IsOutcome records output most (d_now sink_after) (ending_of (Err (stopped_by halt count bytes)))
-  stops_there after new sink_after halt.NoRecord none =
-      subst (λ s. MeetsNoRecord records output most (d_now s) (count + 1)) (sym none.idle) (meets_none none.front)
-  stops_there after new sink_after (halt.Unsent sent) cut = fails_to_write after new sink_after sent cut
-  stops_there after new sink_after halt.Fault cut = absurd cut
-  stops_there after new sink_after halt.Bound cut = absurd cut
+  -- of a record that is not written whole, by the device behind the sink
+  module _ (after : Held) (new : Hosted) (sink_after : Sink) (sent : ℕ) (cut : IsCutShort meanings held after now new sink_now sink_after sent)
+      (device : Sink) (left : List ℕ) (shown : sink_after ≡ with_held device left) (may : MayHold sink.gained device.gained left) where
+    view : FailsToWrite records output most (d_now sink_after) (bytes + sent)
+    view = fails_to_write after new sink_after sent cut
+
+    abbrev all_output : List ℕ
+    all_output = output (records view.bytes).0
+
+    long : length (take (bytes + sent) all_output) ≡ bytes + sent
+    long = length-take-le (bytes + sent) all_output (omega (arith, view.fewer))
+
+    given : take (length (take (bytes + sent) all_output) - length left) (take (bytes + sent) all_output) ≡ take (bytes + sent - length left) all_output
+    given =
+        ap (λ n. take (n - length left) (take (bytes + sent) all_output)) long
+        ∙ take-take (bytes + sent - length left) (bytes + sent) all_output (omega arith)
+
+    pub fails_at_device : FailsToWrite records output most (d_now device) (bytes + sent - length left)
+    fails_at_device = record {
+      bytes = view.bytes;
+      took = view.took;
+      wrote = subst (Appends sink.gained device.gained) given
+          (reached_part sink.gained device.gained left (take (bytes + sent) all_output) may
+          (subst (λ (s : Sink). Appends sink.gained s.gained (take (bytes + sent) all_output)) shown view.wrote));
+      fewer = omega (arith, view.fewer);
+      failed = ap (λ (s : Sink). s.failed) (sym shown) ∙ view.failed;
+      no_read_failed = view.no_read_failed;
+    }
+
+  -- of records that were handled whole, where the device fails when it is given what is held of them
+  module _ (is : (records far.come).0 ≡ far.entries) (before device : Sink) (gathered left : List ℕ) (sent : ℕ) (shown : sink_now ≡ with_held before gathered)
+      (stuck : IsHeldUp bytes before device gathered left sent) (may : MayHold sink.gained device.gained left) where
+    abbrev written : List ℕ
+    written = written_by meanings first far.entries
+
+    kept : Appends sink.gained (append_known device.gained left) written
+    kept = kept_behind sink.gained sink_now.gained (append_known device.gained left) written exact.wrote
+        (subst (λ (s : Sink). Keeps s.gained (append_known device.gained left)) (sym shown) stuck.stuck.keeps)
+
+    same_size : length written - length left ≡ bytes + sent - length left
+    same_size = omega (arith, exact.long, stuck.none_of_the_next)
+
+    pub held_up : FailsToWrite records output most (d_now device) (bytes + sent - length left)
+    held_up = record {
+      bytes = far.come;
+      took = far.took;
+      wrote = subst (Appends sink.gained device.gained) (ap (λ n. take n written) same_size ∙ ap (take (bytes + sent - length left)) (sym (output_is is)))
+          (reached_part sink.gained device.gained left written may kept);
+      fewer = subst (λ (bs : List ℕ). bytes + sent - length left < length bs) (sym (output_is is))
+          (let less : bytes + sent - length left < length written = omega (arith, exact.long, stuck.none_of_the_next, stuck.some, stuck.stuck.some_left) in less);
+      failed = stuck.stuck.failed;
+      no_read_failed = far.readable;
+    }
 
   module _ (front_is : front_of held ≡ part_of held.bytes) where
-    pub stops_reading : (after : Held) (source_after : Source) (halt : Halt) → TakesPiece most held after source_now source_after (Err halt) →
-        IsOutcome records output most (record { source = source; source_after = source_after; sink = sink; sink_after = sink_now }) (ending_of (Err (stopped_by halt count bytes)))
-    stops_reading after source_after halt.Fault broken = fails_to_read source_after broken.took front_is broken.failed
-    stops_reading after source_after halt.Bound bound =
+    pub handed_out : (records far.come).0 ≡ far.entries
+    handed_out = (part_found source_now (Consumes-nil source_now.rest) front_is held.bytes refl).0
+
+    pub stops_reading : (after : Held) (source_after : Source) (halt : Halt) (left : ℕ) → TakesPiece most held after source_now source_after (Err halt) →
+        IsOutcome records output most (record { source = source; source_after = source_after; sink = sink; sink_after = sink_now }) (ending_of (Err (stopped_by halt count bytes left)))
+    stops_reading after source_after halt.Fault left broken = fails_to_read source_after broken.took front_is broken.failed
+    stops_reading after source_after halt.Bound left bound =
         subst (λ s. ReachesTheBound records output most (record { source = source; source_after = s; sink = sink; sink_after = sink_now })) (sym bound.same)
         (reaches_bound source_now (Consumes-nil source_now.rest) front_is refl refl bound.bound)
-    stops_reading after source_after halt.NoRecord other = absurd other
-    stops_reading after source_after (halt.Unsent sent) other = absurd other
+    stops_reading after source_after halt.NoRecord left other = absurd other
+    stops_reading after source_after (halt.Unsent sent) left other = absurd other
 
     pub ends_there : (after : Held) (source_after : Source) → IsOver most held after source_now source_after → (report : Report) → report.records ≡ count → report.bytes ≡ bytes →
         (answer : Result Report RunError) → answer ≡ ended_by after.bytes report →
@@ -220,32 +272,11 @@ module _ (laws : Laws) (n : ℕ) (meanings : FileMeanings (List ℕ)) (first : H
         (sym (is ∙ ap (λ (h : Held). ended_by h.bytes report) over.same))
         (comes_to_the_end source_after over.took front_is held.bytes refl over.fine over.at_the_end report many long)
 
--- ---- how a run ends, as the loop has it
+  module _ (front_is : front_of held ≡ NoRecord) where
+    pub handed_out_before : (records far.come).0 ≡ far.entries
+    handed_out_before =
+        ap (λ bs. (records bs).0) (sym (append-nil far.come))
+        ∙ ap (λ (r : List StreamEntry × End). r.0) (laws.bad n far.come far.entries held.bytes [] far.handed (in_front n meanings first far ∙ front_is))
 
-module _ (laws : Laws) (n : ℕ) (meanings : FileMeanings (List ℕ)) (first : Hosted) (most : ℕ) (source : Source) (sink : Sink) (known : AreAllKnown first)
-    (output : List StreamEntry → List ℕ) (same : (entries : List StreamEntry) → AreBrought n entries → written_by meanings first entries ≡ output entries)
-    (now : Hosted) (source_now : Source) (sink_now : Sink) (held : Held) (count bytes : ℕ) (far : SoFar n meanings first source sink now source_now sink_now held count bytes)
-    (after : Held) (new : Hosted) (sink_after : Sink) where
-  pub stops_by : (halt : Halt) → HandlesNext meanings held after now new sink_now sink_after (Err halt) → (answer : RunError) → answer ≡ stopped_by halt count bytes →
-      IsOutcome (records_of n) output most (devices source source_now sink sink_after) (ending_of (Err answer))
-  stops_by halt cut answer is =
-      subst (λ (e : RunError). IsOutcome (records_of n) output most (devices source source_now sink sink_after) (ending_of (Err e))) (sym is)
-      (stops_there laws n meanings first most source sink known output same now source_now sink_now held count bytes far after new sink_after halt cut)
-
-  module _ (none : NoneIsHeld meanings held after now new sink_now sink_after) where
-    still : SoFar n meanings first source sink new source_now sink_after after count bytes
-    still = idle n meanings first source sink now source_now sink_now held count bytes far after new sink_after none
-
-    in_part : front_of after ≡ part_of after.bytes
-    in_part = subst (λ (h : Held). front_of h ≡ part_of h.bytes) (sym none.same) none.front
-
-    pub reads_by : (later : Held) (source_after : Source) (halt : Halt) → TakesPiece most after later source_now source_after (Err halt) → (answer : RunError) → answer ≡ stopped_by halt count bytes →
-        IsOutcome (records_of n) output most (devices source source_after sink sink_after) (ending_of (Err answer))
-    reads_by later source_after halt broken answer is =
-        subst (λ (e : RunError). IsOutcome (records_of n) output most (devices source source_after sink sink_after) (ending_of (Err e))) (sym is)
-        (stops_reading laws n meanings first most source sink known output same new source_now sink_after after count bytes still in_part later source_after halt broken)
-
-    pub ends_by : (later : Held) (source_after : Source) → IsOver most after later source_now source_after → (report : Report) → report.records ≡ count → report.bytes ≡ bytes →
-        (answer : Result Report RunError) → answer ≡ ended_by later.bytes report → IsOutcome (records_of n) output most (devices source source_after sink sink_after) (ending_of answer)
-    ends_by later source_after over report many long answer is =
-        ends_there laws n meanings first most source sink known output same new source_now sink_after after count bytes still in_part later source_after over report many long answer is
+    pub meets_none_there : MeetsNoRecord records output most (d_now sink_now) (count + 1)
+    meets_none_there = meets_none front_is

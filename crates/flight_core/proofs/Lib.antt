@@ -4,8 +4,10 @@ pub mod Cutting
 mod TextsCompiled
 mod RecordsBrought
 mod NextHandled
+mod HeldOutput
 mod Courses
 mod Endings
+mod Exits
 mod Outset
 mod Failures
 mod Fitting

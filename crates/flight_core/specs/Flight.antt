@@ -1,5 +1,5 @@
 -- What a run of the host writes over records, and how it ends.
-use Rattle.std.specs.Prelude.{◌≡◌, ℕ, ◌+◌, List, [], ◌∷◌, length, All, Result, Ok, Err, ⊤}
+use Rattle.std.specs.Prelude.{◌≡◌, ℕ, ◌+◌, ◌-◌, List, [], ◌∷◌, length, All, Result, Ok, Err, ⊤}
 use Rattle.std.specs.List.{concat}
 use Rattle.lc_model.specs.Host.Outcome.{Devices, IsOutcome}
 use Rattle.lc_model.specs.Host.Stream.{StreamEntry, records_of}
@@ -19,12 +19,12 @@ use Rattle.flight_core.specs.declared.error.RunError.TheVariants as error
 use Rattle.flight_core.specs.Brought.{meanings_of}
 use Rattle.flight_core.specs.Ending.{ending_of}
 
--- how a run ends by this, behind so many records and bytes
-abbrev pub stopped_by : Halt → (records bytes : ℕ) → RunError
-stopped_by halt.NoRecord records bytes = error.BadRecord (records + 1)
-stopped_by halt.Fault records bytes = error.Read
-stopped_by halt.Bound records bytes = error.ReadBound
-stopped_by (halt.Unsent sent) records bytes = error.Write (bytes + sent)
+-- how a run ends by this, behind so many records and bytes, of which so many last ones are still held
+abbrev pub stopped_by : Halt → (records bytes held : ℕ) → RunError
+stopped_by halt.NoRecord records bytes held = error.BadRecord (records + 1)
+stopped_by halt.Fault records bytes held = error.Read
+stopped_by halt.Bound records bytes held = error.ReadBound
+stopped_by (halt.Unsent sent) records bytes held = error.Write (bytes + sent - held)
 
 -- how it ends with its stream, where these bytes are held
 abbrev pub ended_by : List ℕ → Report → Result Report RunError

@@ -1,6 +1,6 @@
 -- What each step of a run leaves: a record that is handled, a piece that comes, and why it goes no further.
 use Rattle.std.specs.Prelude.{◌≡◌, ℕ, ◌+◌, ◌<◌, ◌≤◌, Bool, true, false, List, [], ◌++◌, length, Option, Some, None, Result, Ok, Err}
-use Rattle.std.specs.Io.KnownBytes.{Consumes, IsAtEnd}
+use Rattle.std.specs.Io.KnownBytes.{Consumes, IsAtEnd, Keeps}
 use Rattle.lc_model.specs.Device.{Source, Sink}
 use Rattle.lc_model.specs.Host.Run.{input_of}
 use Rattle.lc_model.specs.Host.Stream.{StreamEntry, Record, NoRecord}
@@ -12,6 +12,7 @@ use Rattle.host_laws.specs.Statements.{AreBytes}
 use Rattle.flight_core.specs.declared.halt.Halt.{Halt}
 use Rattle.flight_core.specs.declared.halt.Halt.TheVariants as halt
 use Rattle.flight_core.specs.Front.{part_of}
+use Rattle.flight_core.specs.Gathered.{with_held, IsStuck}
 use Rattle.flight_core.specs.Records.{Held, front_of, next_number}
 
 -- ---- the next record
@@ -61,6 +62,37 @@ module _ (meanings : FileMeanings (List ℕ)) (held after : Held) (old new : Hos
   HandlesNext (Err halt.Fault) = ⊥
   HandlesNext (Err halt.Bound) = ⊥
 
+-- ---- the output so far
+
+module _ (written : ℕ) (before after : Sink) (held left : List ℕ) where
+  -- all that was written is with the device
+  pub record IsSettled : Type 0 where
+    pub keeps : Keeps (with_held before held).gained (with_held after left).gained
+    pub none_left : 0 < written → left ≡ []
+    pub fine : after.failed ≡ before.failed
+
+  -- the device failed: it has the first of what was held, and the rest is left
+  pub record IsHeldUp (sent : ℕ) : Type 0 where
+    pub none_of_the_next : sent ≡ 0
+    pub some : 0 < written
+    pub stuck : IsStuck before after held left
+
+  -- by the answer
+  abbrev pub Settles : Result (Unit {0}) Halt → Type 0
+  Settles (Ok none) = IsSettled
+  Settles (Err (halt.Unsent sent)) = IsHeldUp sent
+  Settles (Err halt.NoRecord) = ⊥
+  Settles (Err halt.Fault) = ⊥
+  Settles (Err halt.Bound) = ⊥
+
+  -- before a run goes no further for some reason all that was written is given; for which reason it then does
+  abbrev pub EndsFor : Halt → Halt → Type 0
+  EndsFor halt.NoRecord halt.NoRecord = IsSettled
+  EndsFor halt.NoRecord (halt.Unsent sent) = IsHeldUp sent
+  EndsFor halt.NoRecord halt.Fault = ⊥
+  EndsFor halt.NoRecord halt.Bound = ⊥
+  EndsFor reason then = (then ≡ reason) × (after ≡ before) × (left ≡ held)
+
 -- ---- the next piece
 
 module _ (most : ℕ) (held after : Held) (before now : Source) where
@@ -102,3 +134,25 @@ module _ (most : ℕ) (held after : Held) (before now : Source) where
   TakesPiece (Err halt.Bound) = IsAtBound
   TakesPiece (Err halt.NoRecord) = ⊥
   TakesPiece (Err (halt.Unsent sent)) = ⊥
+
+-- ---- and the output before it
+
+module _ (written most : ℕ) (records_held records_after : Held) (source source_after : Source) (before after : Sink) (held left : List ℕ) where
+  -- a read is made behind all that was written, which is with the device
+  pub record IsReadBehind (result : Result Bool Halt) : Type 0 where
+    pub settled : IsSettled written before after held left
+    pub piece : TakesPiece most records_held records_after source source_after result
+
+  -- the device failed, and nothing was read
+  pub record IsUnread (sent : ℕ) : Type 0 where
+    pub held_up : IsHeldUp written before after held left sent
+    pub source_same : source_after ≡ source
+    pub records_same : records_after ≡ records_held
+
+  -- by the answer
+  abbrev pub Refills : Result Bool Halt → Type 0
+  Refills (Err (halt.Unsent sent)) = IsUnread sent
+  Refills (Err halt.NoRecord) = IsReadBehind (Err halt.NoRecord)
+  Refills (Err halt.Fault) = IsReadBehind (Err halt.Fault)
+  Refills (Err halt.Bound) = IsReadBehind (Err halt.Bound)
+  Refills (Ok came) = IsReadBehind (Ok came)

@@ -9,6 +9,7 @@ pub mod Error
 pub mod Ending
 pub mod Compiled
 pub mod Brought
+pub mod Gathered
 pub mod Going
 pub mod Flight
 pub mod Run

@@ -1,6 +1,6 @@
 //! All records of a stream, one after the other.
 
-ghost use Rattle.std.specs.Prelude.{◌≡◌, ◌+◌, ◌*◌, ◌^◌, ◌<◌, ◌≤◌, false, length, Err};
+ghost use Rattle.std.specs.Prelude.{◌≡◌, ◌+◌, ◌*◌, ◌^◌, ◌<◌, ◌≤◌, false, [], length, Err};
 ghost use Rattle.lc_model.specs.Host.Outcome.{devices};
 ghost use Rattle.app_host.specs.Hosted.{shown};
 ghost use Rattle.flight_core.specs.Brought.{AreWhole};
@@ -11,18 +11,20 @@ ghost use Rattle.app_host.specs.Step.{IsBetween};
 use crate::error::{Report, RunError};
 use crate::halt::Halt;
 use crate::handling::handle_next;
-use crate::pieces::{MOST_READS, PIECE, take_piece};
+use crate::outlet::Outlet;
+use crate::pieces::{MOST_READS, PIECE, refill};
 use crate::records::Records;
+use crate::settling::final_reason;
 use app_host::{App, Host};
 use host_laws::{goes_on, records_of_bytes_are_fine, writes_are_the_steps};
 use lc_model::{ByteSink, ByteSource};
 use rpn_compiler::TablePair;
 
-/// How a run ends by this, behind the records of the report.
-fn stopped(halt: Halt, report: Report) -> RunError
+/// How a run ends by this, behind the records of the report, where so many bytes of their output are still held.
+fn stopped(halt: Halt, report: Report, held: usize) -> RunError
     requires records { report.records + 1 < 2 ^ 64 }
     requires bytes { report.bytes + 2 ^ 64 < 2 ^ 128 }
-    ensures so { result ≡ stopped_by halt report.records report.bytes }
+    ensures so { result ≡ stopped_by halt report.records report.bytes held }
     ensures begun { RunHasBegun (Err result) }
 {
     let Report { records, bytes } = report;
@@ -31,19 +33,20 @@ fn stopped(halt: Halt, report: Report) -> RunError
         Halt::Fault => RunError::Read,
         Halt::Bound => RunError::ReadBound,
         Halt::Unsent(sent) => RunError::Write {
-            sent: bytes + sent as u128,
+            sent: (bytes + sent as u128).saturating_sub(held as u128),
         },
     }
 }
 
-/// Handles all records of the source: all whole ones of a piece before the next read.
-pub(crate) fn fly<R: ByteSource, W: ByteSink>(
+/// Handles all records of the source: all whole ones of a piece before the next read. Before each read, and before the answer,
+/// all output is with the device behind the sink.
+pub(crate) fn fly<R: ByteSource, T: ByteSink, O: Outlet<T>>(
     records: &mut Records,
     room: &mut [u8],
     pairs: &[TablePair],
     host: &mut Host,
     reader: &mut R,
-    writer: &mut W,
+    out: &mut T,
     most: u64,
 ) -> Result<Report, RunError>
     requires nothing { records.old ≡ nothing_held (length pairs.now) }
@@ -55,12 +58,14 @@ pub(crate) fn fly<R: ByteSource, W: ByteSink>(
         (seen host.old).is_closed ≡ false }
     requires unread { (R.source reader.old).reads ≡ 0 }
     requires readable { (R.source reader.old).failed ≡ false }
-    requires writable { (W.sink writer.old).failed ≡ false }
+    requires writable { (O.device out.old).failed ≡ false }
+    requires empty { O.held out.old ≡ [] }
+    requires had { O.Had (O.device out.old).gained }
     requires most { most ≤ MOST_READS }
     ensures outcome { let seen = shown (λ b. (⟦<dyn App as App>⟧ b.vtable).meaning b.value) in
         FliesSo pairs.now most (seen host.old)
-        (devices (R.source reader.old) (R.source reader.new) (W.sink writer.old)
-        (W.sink writer.new)) result }
+        (devices (R.source reader.old) (R.source reader.new) (O.device out.old)
+        (O.device out.new)) result }
     ensures between { let seen = shown (λ b. (⟦<dyn App as App>⟧ b.vtable).meaning b.value) in
         IsBetween (seen host.new) }
     ensures begun { RunHasBegun result }
@@ -76,17 +81,20 @@ pub(crate) fn fly<R: ByteSource, W: ByteSink>(
         bytes: 0,
     };
     loop {
-        match handle_next(records, pairs, host, writer) {
+        match handle_next(records, pairs, host, out) {
             Ok(Some(total)) => {
                 report.records += 1;
                 report.bytes += total as u128;
             }
-            Ok(None) => match take_piece(records, room, reader, most) {
+            Ok(None) => match refill::<R, T, O>(records, room, reader, out, report.bytes, most) {
                 Ok(true) => {}
                 Ok(false) => return ended(records, report),
-                Err(halt) => return Err(stopped(halt, report)),
+                Err(halt) => return Err(stopped(halt, report, O::held_in(out))),
             },
-            Err(halt) => return Err(stopped(halt, report)),
+            Err(halt) => {
+                let reason = final_reason::<T, O>(halt, out, report.bytes);
+                return Err(stopped(reason, report, O::held_in(out)));
+            }
         }
     }
 }

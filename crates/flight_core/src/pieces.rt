@@ -2,11 +2,13 @@
 
 ghost use Rattle.std.specs.Prelude.{◌≡◌, ◌<◌, ◌≤◌, false, length};
 ghost use Rattle.host_laws.specs.Statements.{AreBytes};
-ghost use Rattle.flight_core.specs.Going.{TakesPiece};
+ghost use Rattle.flight_core.specs.Going.{Refills, TakesPiece};
 
 use crate::halt::Halt;
+use crate::outlet::Outlet;
 use crate::records::Records;
-use lc_model::{ByteSource, DeviceFault};
+use crate::settling::settle;
+use lc_model::{ByteSink, ByteSource, DeviceFault};
 
 /// The most reads of a run: 2^32.
 pub const MOST_READS: u64 = 4_294_967_296;
@@ -53,5 +55,32 @@ pub(crate) fn take_piece<R: ByteSource>(
             Ok(true)
         }
         Err(DeviceFault) => Err(Halt::Fault),
+    }
+}
+
+/// Takes the next piece, behind all that was written so far, which is so many bytes: first the device is given what is held of
+/// it. A device that fails ends the run, and nothing is read.
+pub(crate) fn refill<R: ByteSource, T: ByteSink, O: Outlet<T>>(
+    records: &mut Records,
+    room: &mut [u8],
+    reader: &mut R,
+    out: &mut T,
+    written: u128,
+    most: u64,
+) -> Result<bool, Halt>
+    requires room { length room.old ≡ PIECE }
+    requires good { records.old.is_bad ≡ false }
+    requires few { length records.old.bytes < 65547 }
+    requires bounded { (R.source reader.old).reads ≤ most }
+    requires most { most ≤ MOST_READS }
+    ensures room { length room.new ≡ PIECE }
+    ensures refilled { Refills written most records.old records.new (R.source reader.old)
+        (R.source reader.new) (O.device out.old) (O.device out.new) (O.held out.old)
+        (O.held out.new) result }
+    ensures bounded { (R.source reader.new).reads ≤ most }
+{
+    match settle::<T, O>(out, written) {
+        Ok(()) => take_piece(records, room, reader, most),
+        Err(halt) => Err(halt),
     }
 }

@@ -1,6 +1,6 @@
 //! A whole run: from rule texts and a stream of records to the packets that the host writes.
 
-ghost use Rattle.std.specs.Prelude.{◌≡◌, ◌≤◌, false, length, map, IfErr};
+ghost use Rattle.std.specs.Prelude.{◌≡◌, ◌≤◌, false, [], length, map, IfErr};
 ghost use Rattle.lc_model.specs.Host.Outcome.{devices};
 ghost use Rattle.lc_model.specs.Host.Promise.{IsRun};
 ghost use Rattle.app_host.specs.Whole.{AreSpares};
@@ -15,6 +15,7 @@ use crate::compiling::compile_all;
 use crate::error::{Report, RunError};
 use crate::flight::fly;
 use crate::laws::runs_keep_their_promises;
+use crate::outlet::{AtOnce, Outlet};
 use crate::pieces::{MOST_READS, PIECE};
 use crate::records::Records;
 use app_host::{App, Host};
@@ -25,40 +26,42 @@ use std::alloc::Global;
 use tick_scheduler::Schedule;
 
 /// Takes all memory, and then handles all records, with these files in the places of halves.
-fn run_compiled<R: ByteSource, W: ByteSink>(
+fn run_compiled<R: ByteSource, T: ByteSink, O: Outlet<T>>(
     alloc: Global,
     pairs: &[TablePair],
     stock: Vec<Box<dyn App>>,
     reader: &mut R,
-    writer: &mut W,
+    out: &mut T,
     reads: u64,
 ) -> Result<Report, RunError>
     requires files { AreWhole pairs.now }
     requires spares { AreSpares (map meaning stock.items) }
     requires unread { (R.source reader.old).reads ≡ 0 }
     requires readable { (R.source reader.old).failed ≡ false }
-    requires writable { (W.sink writer.old).failed ≡ false }
+    requires writable { (O.device out.old).failed ≡ false }
+    requires empty { O.held out.old ≡ [] }
+    requires had { O.Had (O.device out.old).gained }
     requires most { reads ≤ MOST_READS }
     ensures run { AreOfProfile (map meaning stock.items) →
         RunsSo pairs.now (members_of (map meaning stock.items)) (length pairs.now) reads
-        (devices (R.source reader.old) (R.source reader.new) (W.sink writer.old)
-        (W.sink writer.new)) result }
+        (devices (R.source reader.old) (R.source reader.new) (O.device out.old)
+        (O.device out.new)) result }
     ensures judged { RefusesNone
-        (devices (R.source reader.old) (R.source reader.new) (W.sink writer.old)
-        (W.sink writer.new)) result }
+        (devices (R.source reader.old) (R.source reader.new) (O.device out.old)
+        (O.device out.new)) result }
     ensures bounded { (R.source reader.new).reads ≤ reads }
 {
     let mut records = Records::new(alloc, pairs.len())?;
     let mut room = vec![in alloc; 0; PIECE]?;
     match Host::new(alloc, stock) {
         Ok(mut host) => {
-            let result = fly(
+            let result = fly::<R, T, O>(
                 &mut records,
                 room.as_mut_slice(),
                 pairs,
                 &mut host,
                 reader,
-                writer,
+                out,
                 reads,
             );
             host.close();
@@ -93,31 +96,33 @@ pub fn run_within<R: ByteSource, W: ByteSink>(
 {
     // For the proof: each promise follows from how the run ends.
     runs_keep_their_promises();
-    begin(alloc, texts, schedule, stock, reader, writer, reads)
+    begin::<R, W, AtOnce>(alloc, texts, schedule, stock, reader, writer, reads)
 }
 
 /// Compiles the texts, and runs.
-fn begin<R: ByteSource, W: ByteSink>(
+pub(crate) fn begin<R: ByteSource, T: ByteSink, O: Outlet<T>>(
     alloc: Global,
     texts: &[&[u8]],
     schedule: &Schedule,
     stock: Vec<Box<dyn App>>,
     reader: &mut R,
-    writer: &mut W,
+    out: &mut T,
     reads: u64,
 ) -> Result<Report, RunError>
     requires spares { AreSpares (map meaning stock.items) }
     requires unread { (R.source reader.old).reads ≡ 0 }
     requires readable { (R.source reader.old).failed ≡ false }
-    requires writable { (W.sink writer.old).failed ≡ false }
+    requires writable { (O.device out.old).failed ≡ false }
+    requires empty { O.held out.old ≡ [] }
+    requires had { O.Had (O.device out.old).gained }
     requires most { reads ≤ MOST_READS }
     ensures run { IsOfProfile schedule.now (map meaning stock.items) →
         IsRun (mission_of texts.now schedule.now (map meaning stock.items) reads)
-        (devices (R.source reader.old) (R.source reader.new) (W.sink writer.old)
-        (W.sink writer.new)) (ending_of result) }
+        (devices (R.source reader.old) (R.source reader.new) (O.device out.old)
+        (O.device out.new)) (ending_of result) }
     ensures refuses { RefusesUnfitAlone (sources_of texts.now)
-        (devices (R.source reader.old) (R.source reader.new) (W.sink writer.old)
-        (W.sink writer.new)) (ending_of result) }
+        (devices (R.source reader.old) (R.source reader.new) (O.device out.old)
+        (O.device out.new)) (ending_of result) }
     ensures named { IfErr result (NamesTheNumber (sources_of texts.now)) }
     ensures bounded { (R.source reader.new).reads ≤ reads }
 {
@@ -126,7 +131,7 @@ fn begin<R: ByteSource, W: ByteSink>(
     // For the proof: the schedule is one that a text can say.
     let _slots = schedule.len();
     match compile_all(alloc, texts) {
-        Ok(pairs) => run_compiled(alloc, pairs.as_slice(), stock, reader, writer, reads),
+        Ok(pairs) => run_compiled::<R, T, O>(alloc, pairs.as_slice(), stock, reader, out, reads),
         Err(error) => Err(error),
     }
 }

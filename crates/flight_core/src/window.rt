@@ -42,7 +42,7 @@ impl Model for Window {
 /// The first bytes go, so many, and the others move to the front.
 #[cold]
 #[inline(never)]
-fn drop_front(bytes: &mut Vec<u8>, count: usize)
+pub(crate) fn drop_front(bytes: &mut Vec<u8>, count: usize)
     requires { count ≤ vec_len bytes.old }
     ensures items { bytes.new.items ≡ drop count bytes.old.items }
     ensures room { vec_capacity bytes.new ≡ vec_capacity bytes.old }

@@ -1,15 +1,17 @@
-use Rattle.std.proofs.Common.{rules, ◌<◌, refl, arith}
+use Rattle.std.proofs.Common.{rules, ◌<◌, ◌∙◌, ap, refl, arith}
 use Rattle.lc_model.specs.Tables.InForce.{layouts}
-use Rattle.flight_core.proofs.Courses.{goes_on_board, takes_on_board, nothing_yet, one_more, idle, comes_more}
+use Rattle.flight_core.specs.Flight.{stopped_by}
+use Rattle.flight_core.proofs.Courses.{goes_on_board, takes_on_board, one_more, idle, comes_more}
 use Rattle.flight_core.proofs.Cutting.{begins, comes, goes, ends_badly, ends_whole, ends_cut}
-use Rattle.flight_core.proofs.Endings.{stops_by, reads_by, ends_by}
+use Rattle.flight_core.proofs.Exits.{begins_so, shows_device, goes_on_behind, stops_by, reads_by, ends_by}
 use Rattle.flight_core.proofs.flight.fly.Goals as goal
 
 pub loop-total-init : goal.loop-total-init
 loop-total-init g c = record {
   room = c.requires.room;
   bounded = omega (arith, c.requires.unread);
-  far = nothing_yet _ _ _ begins _ _ _ c.requires.nothing c.requires.between c.requires.open c.requires.unread c.requires.readable c.requires.writable;
+  far = begins_so _ _ _ begins (g.R.ByteSource.source c.args.reader.now) (g.O.Outlet.device c.args.out.now) (g.T.ByteSink.sink c.args.out.now) _
+      (shows_device _ _ _ (g.met.O.Outlet.shows c.args.out.now) c.requires.empty) c.requires.nothing c.requires.between c.requires.open c.requires.unread c.requires.readable c.requires.writable;
 }
 
 pub loop-total-preserved-in-Ok-Some : goal.loop-total-preserved-in-Ok-Some
@@ -26,17 +28,18 @@ pub loop-total-preserved : goal.loop-total-preserved
 loop-total-preserved g c =
     let none = rw c.in-Ok-None.field-0-is at c.in-Ok-None.ensures.next in
     let far = idle _ _ _ _ _ _ _ _ _ _ _ c.loop-total.invariant.far _ _ _ none in
-    let came = rw c.in-Ok-true.field-0-test at c.in-Ok-true.ensures.piece in
+    let came = rw c.in-Ok-true.field-0-test at c.in-Ok-true.ensures.refilled in
+    let behind = goes_on_behind _ _ _ _ _ _ _ _ _ _ _ far _ _ _ _ (g.met.O.Outlet.shows c.handle_next.new.writer) came.settled _ (g.met.O.Outlet.shows c.refill.new.out) in
     record {
-      room = c.take_piece.ensures.room;
-      bounded = c.take_piece.ensures.bounded;
-      far = comes_more _ _ _ comes _ _ _ _ _ _ _ _ _ far _ _ came;
+      room = c.refill.ensures.room;
+      bounded = c.refill.ensures.bounded;
+      far = comes_more _ _ _ comes _ _ _ _ _ _ _ _ _ behind _ _ came.piece;
     }
 
 pub returns-in-Ok-false-clause-outcome : goal.returns-in-Ok-false-clause-outcome
 returns-in-Ok-false-clause-outcome g c = λ known output same.
     let none = rw c.in-Ok-None.field-0-is at c.in-Ok-None.ensures.next in
-    let over = rw c.in-Ok-false.field-0-test at c.in-Ok-false.ensures.piece in
+    let over = rw c.in-Ok-false.field-0-test at c.in-Ok-false.ensures.refilled in
     ends_by (record {
       goes_on = goes_on_board (c.goes_on.ensures layouts);
       takes = takes_on_board (c.writes_are_the_steps.ensures.taken layouts);
@@ -45,10 +48,11 @@ returns-in-Ok-false-clause-outcome g c = λ known output same.
       bad = ends_badly;
       whole = ends_whole;
       cut = ends_cut;
-    }) _ _ _ _ _ _ known output same _ _ _ _ _ _ c.loop-total.invariant.far _ _ _ none _ _ over c.loop-total.report refl refl c.ended.result c.ended.ensures.so
+    }) _ _ _ _ _ _ known output same _ _ _ _ _ _ c.loop-total.invariant.far _ _ _ _ _ _ _ (g.met.O.Outlet.shows c.handle_next.new.writer)
+    (g.met.O.Outlet.grows c.refill.new.out _ c.requires.had) none _ _ over c.loop-total.report refl refl c.ended.result c.ended.ensures.so
 
-pub returns-in-Err-take_piece-clause-outcome : goal.returns-in-Err-take_piece-clause-outcome
-returns-in-Err-take_piece-clause-outcome g c = λ known output same.
+pub returns-in-Err-refill-clause-outcome : goal.returns-in-Err-refill-clause-outcome
+returns-in-Err-refill-clause-outcome g c = λ known output same.
     let none = rw c.in-Ok-None.field-0-is at c.in-Ok-None.ensures.next in
     reads_by (record {
       goes_on = goes_on_board (c.goes_on.ensures layouts);
@@ -58,8 +62,9 @@ returns-in-Err-take_piece-clause-outcome g c = λ known output same.
       bad = ends_badly;
       whole = ends_whole;
       cut = ends_cut;
-    }) _ _ _ _ _ _ known output same _ _ _ _ _ _ c.loop-total.invariant.far _ _ _ none _ _ c.in-Err-take_piece.halt c.in-Err-take_piece.ensures.piece
-    (c.stopped.result) c.stopped.ensures.so
+    }) _ _ _ _ _ _ known output same _ _ _ _ _ _ c.loop-total.invariant.far _ _ _ _ _ _ _ (g.met.O.Outlet.shows c.handle_next.new.writer)
+    (g.met.O.Outlet.grows c.refill.new.out _ c.requires.had) none _ _ c.in-Err-refill.halt c.in-Err-refill.ensures.refilled
+    c.stopped.result (c.stopped.ensures.so ∙ ap (λ held. stopped_by c.in-Err-refill.halt c.loop-total.report.records c.loop-total.report.bytes held) c.held_in.ensures)
 
 pub returns-in-Err-clause-outcome : goal.returns-in-Err-clause-outcome
 returns-in-Err-clause-outcome g c = λ known output same.
@@ -71,4 +76,6 @@ returns-in-Err-clause-outcome g c = λ known output same.
       bad = ends_badly;
       whole = ends_whole;
       cut = ends_cut;
-    }) _ _ _ _ _ _ known output same _ _ _ _ _ _ c.loop-total.invariant.far _ _ _ c.in-Err.halt c.in-Err.ensures.next c.stopped-in-Err.result c.stopped-in-Err.ensures.so
+    }) _ _ _ _ _ _ known output same _ _ _ _ _ _ c.loop-total.invariant.far _ _ _ _ _ _ _ (g.met.O.Outlet.shows c.handle_next.new.writer)
+    (g.met.O.Outlet.grows c.final_reason-reason.new.out _ c.requires.had) c.in-Err.halt c.final_reason-reason.result c.in-Err.ensures.next c.final_reason-reason.ensures
+    c.stopped-in-Err.result (c.stopped-in-Err.ensures.so ∙ ap (λ held. stopped_by c.final_reason-reason.result c.loop-total.report.records c.loop-total.report.bytes held) c.held_in-in-Err.ensures)

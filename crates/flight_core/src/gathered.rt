@@ -1,0 +1,125 @@
+//! Output is gathered, and comes to its device in few writes.
+
+ghost use Rattle.std.specs.Prelude.{◌≡◌, ◌≤◌, ℕ, List, [], length, Option, vec_capacity};
+ghost use Rattle.flight_core.specs.Gathered.{Gives, HasGrown, with_held};
+
+use crate::outlet::Outlet;
+use crate::window::drop_front;
+use lc_model::{ByteSink, DeviceFault, write_all};
+use std::marker::{Brand, PhantomData};
+
+/// The most bytes that are held.
+pub(crate) const MOST_GATHERED: usize = 8192;
+
+/// What a device had when a run began, where that is known. No code reads it.
+pub(crate) trait Outset {
+    ghost had: { Option (List ℕ) };
+}
+
+impl Outset for Brand {
+    ghost use Rattle.std.specs.Prelude.{None};
+
+    ghost had = { None };
+}
+
+/// A device, and the output that is held for it: what is written fills a piece of 8,192 bytes before the device is asked.
+/// Nothing is lost, and nothing is given twice.
+#[derive(Drop)]
+pub(crate) struct Gathered<W: ByteSink, S: Outset> {
+    device: W,
+    held: Vec<u8>,
+    outset: PhantomData<S>,
+    ghost few: { length held.items ≤ 8192 },
+    ghost room: { 8192 ≤ vec_capacity held },
+    ghost grown: { HasGrown S.had (W.sink device).gained },
+}
+
+impl<W: ByteSink, S: Outset> Gathered<W, S> {
+    /// Nothing is held. Conditions: the buffer is empty, with room for a piece.
+    pub fn new(device: W, held: Vec<u8>) -> Gathered<W, S>
+        requires empty { held.items ≡ [] }
+        requires room { MOST_GATHERED ≤ vec_capacity held }
+        requires had { S.had ≡ (W.sink device).gained }
+        ensures held { result.held.items ≡ [] }
+        ensures device { result.device ≡ device }
+    {
+        Gathered {
+            device,
+            held,
+            outset: PhantomData,
+        }
+    }
+
+    /// The device comes back. What is held goes.
+    pub fn into_device(self) -> W
+        ensures { result ≡ self.device }
+    {
+        let Gathered {
+            device,
+            held: _,
+            outset: _,
+        } = self;
+        device
+    }
+
+    /// Gives the device all that is held.
+    fn give(&mut self) -> Result<(), DeviceFault>
+        ensures { Gives (W.sink self.old.device) (W.sink self.new.device) self.old.held.items
+            self.new.held.items result }
+    {
+        match write_all(&mut self.device, self.held.as_slice()) {
+            Ok(()) => {
+                self.held.clear();
+                Ok(())
+            }
+            Err(sent) => {
+                drop_front(&mut self.held, sent);
+                Err(DeviceFault)
+            }
+        }
+    }
+}
+
+impl<W: ByteSink, S: Outset> ByteSink for Gathered<W, S> {
+    ghost sink = { λ gathered. with_held (W.sink gathered.device) gathered.held.items };
+
+    fn write(&mut self, bytes: &[u8]) -> Result<usize, DeviceFault> {
+        if self.held.len() == MOST_GATHERED {
+            self.give()?;
+        }
+        let count = bytes.len().min(MOST_GATHERED - self.held.len());
+        self.held.extend_from_slice(&bytes[..count]).unwrap();
+        Ok(count)
+    }
+
+    fn failed(&self) -> bool {
+        self.device.failed()
+    }
+}
+
+/// Output is gathered.
+pub(crate) struct Gathering;
+
+impl<W: ByteSink, S: Outset> Outlet<Gathered<W, S>> for Gathering {
+    ghost use Rattle.std.specs.Prelude.{refl};
+    ghost use Rattle.std.proofs.Common.{inr, subst};
+
+    ghost device = { λ out. W.sink out.device };
+
+    ghost held = { λ out. out.held.items };
+
+    ghost Had = { λ had. S.had ≡ had };
+
+    ghost shows = { λ _. refl };
+
+    ghost grows = { λ out had began.
+        inr (subst (λ first. HasGrown first (W.sink out.device).gained) began out.grown) };
+
+    fn settle(out: &mut Gathered<W, S>) -> Result<(), DeviceFault> {
+        out.give()
+    }
+
+    fn held_in(out: &Gathered<W, S>) -> usize {
+        out.held.len()
+    }
+}

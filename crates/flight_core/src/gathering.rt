@@ -1,0 +1,83 @@
+//! A whole run whose output is gathered for its device.
+
+ghost use Rattle.std.specs.Prelude.{◌≡◌, ◌≤◌, false, [], map, vec_capacity};
+ghost use Rattle.lc_model.specs.Host.Outcome.{devices};
+ghost use Rattle.app_host.specs.Whole.{AreSpares};
+ghost use Rattle.flight_core.specs.Promises.{Promises};
+ghost use Rattle.flight_core.specs.Run.{IsOfProfile, mission_of};
+
+use crate::error::{Report, RunError};
+use crate::gathered::{Gathered, Gathering, MOST_GATHERED, Outset};
+use crate::laws::runs_keep_their_promises;
+use crate::pieces::MOST_READS;
+use crate::running::begin;
+use app_host::App;
+use lc_model::{ByteSink, ByteSource};
+use std::alloc::Global;
+use std::marker::Brand;
+use tick_scheduler::Schedule;
+
+/// Runs with this buffer, which is empty and has room for a piece.
+fn gather<R: ByteSource, W: ByteSink, S: Outset>(
+    alloc: Global,
+    texts: &[&[u8]],
+    schedule: &Schedule,
+    stock: Vec<Box<dyn App>>,
+    reader: &mut R,
+    device: W,
+    held: Vec<u8>,
+) -> (Result<Report, RunError>, W)
+    requires spares { AreSpares (map meaning stock.items) }
+    requires unread { (R.source reader.old).reads ≡ 0 }
+    requires readable { (R.source reader.old).failed ≡ false }
+    requires writable { (W.sink device).failed ≡ false }
+    requires empty { held.items ≡ [] }
+    requires room { MOST_GATHERED ≤ vec_capacity held }
+    requires had { S.had ≡ (W.sink device).gained }
+    ensures promises { let objects = map meaning stock.items in
+        let mission = mission_of texts.now schedule.now objects MOST_READS in
+        let before_and_after = devices (R.source reader.old) (R.source reader.new) (W.sink device)
+        (W.sink result.1) in
+        Promises (IsOfProfile schedule.now objects) mission before_and_after result.0 }
+{
+    runs_keep_their_promises();
+    let mut out: Gathered<W, S> = Gathered::new(device, held);
+    let answer = begin::<R, Gathered<W, S>, Gathering>(
+        alloc, texts, schedule, stock, reader, &mut out, MOST_READS,
+    );
+    (answer, out.into_device())
+}
+
+/// Runs as `run` does, with few writes to the device, which comes back: output is held until it fills 8,192 bytes. Before each
+/// read of the stream, and before the answer, all output is with the device; where it fails, nothing is read any more, and
+/// `Write` has the bytes of the run that the device took. Each byte is given once.
+///
+/// Conditions: nothing in stock holds a seat; nothing was read or failed yet.
+///
+/// Errors: those of `run`, where `Write` comes before every other.
+pub fn run_gathered<R: ByteSource, W: ByteSink>(
+    alloc: Global,
+    texts: &[&[u8]],
+    schedule: &Schedule,
+    stock: Vec<Box<dyn App>>,
+    reader: &mut R,
+    device: W,
+) -> (Result<Report, RunError>, W)
+    requires spares { AreSpares (map meaning stock.items) }
+    requires unread { (R.source reader.old).reads ≡ 0 }
+    requires readable { (R.source reader.old).failed ≡ false }
+    requires writable { (W.sink device).failed ≡ false }
+
+    // All that a run promises, of the device itself: the fields of `Promises` and of `PromisesOfProfile`.
+    ensures promises { let objects = map meaning stock.items in
+        let mission = mission_of texts.now schedule.now objects MOST_READS in
+        let before_and_after = devices (R.source reader.old) (R.source reader.new) (W.sink device)
+        (W.sink result.1) in
+        Promises (IsOfProfile schedule.now objects) mission before_and_after result.0 }
+{
+    runs_keep_their_promises();
+    match Vec::with_capacity(alloc, MOST_GATHERED) {
+        Ok(held) => gather::<R, W, Brand>(alloc, texts, schedule, stock, reader, device, held),
+        Err(_) => (Err(RunError::Memory), device),
+    }
+}
