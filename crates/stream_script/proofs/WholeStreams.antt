@@ -83,7 +83,6 @@ by_tests : (k : ℕ) (bytes : List ℕ) → nat_lt (length (k ∷ bytes)) header
 by_tests k bytes long fits whole = rw (long, fits, whole) refl
 
 module _ (k : ℕ) (bs : List ℕ) (are : IsBytes (k ∷ bs)) where
-
   body_are : IsBytes (body_in_front (k ∷ bs))
   body_are = bytes_behind 11 (take (record_size (k ∷ bs)) (k ∷ bs)) (bytes_before (record_size (k ∷ bs)) (k ∷ bs) are)
 
