@@ -1,21 +1,21 @@
 -- The numbers of the refusals, and what an answer by them says. This project's own.
 use Rattle.std.specs.Prelude.{ℕ, [], ◌∷◌, Option, Some, None, Result, Ok, Err}
-use Rattle.lc_model.specs.Refusal.{Refusal}
+use Rattle.lc_model.specs.Refusal.{Refusal, not_registered, filters_full, sender_taken}
 use Rattle.event_service.specs.declared.error.EventError.{EventError}
 use Rattle.event_service.specs.declared.error.EventError.TheVariants.{NotRegistered, FilterFull, AppsFull, Memory}
 
 -- the number of the refusal; want of memory has none
 abbrev pub error_code : EventError → Option ℕ
-error_code NotRegistered = Some 101
-error_code FilterFull = Some 102
-error_code AppsFull = Some 103
+error_code NotRegistered = Some not_registered
+error_code FilterFull = Some filters_full
+error_code AppsFull = Some sender_taken
 error_code Memory = None
 
 -- the numbers that an event names
 abbrev pub refusal_of : EventError → Refusal
-refusal_of NotRegistered = 101 ∷ []
-refusal_of FilterFull = 102 ∷ []
-refusal_of AppsFull = 103 ∷ []
+refusal_of NotRegistered = not_registered ∷ []
+refusal_of FilterFull = filters_full ∷ []
+refusal_of AppsFull = sender_taken ∷ []
 refusal_of Memory = []
 
 -- what a call answers: what there is now, or a refusal

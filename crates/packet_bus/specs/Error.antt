@@ -1,26 +1,26 @@
 -- The numbers of the bus's refusals (this project's own).
 use Rattle.std.specs.Prelude.{ℕ, [], ◌∷◌, Option, Some, None, Result, Ok, Err}
-use Rattle.lc_model.specs.Refusal.{Refusal}
+use Rattle.lc_model.specs.Refusal.{Refusal, faulty_packet, pipe_full, no_pipe, second_pipe, too_many_subscriptions}
 use Rattle.packet_bus.specs.declared.error.BusError.{BusError}
 use Rattle.packet_bus.specs.declared.error.BusError.TheVariants.{BadPacket, PipeFull, NoPipe, TooManyPipes, TooManySubscriptions, Memory}
 use Rattle.packet_bus.specs.Header.{fault_number}
 
 -- the number of a refusal
 abbrev pub error_code : BusError → Option ℕ
-error_code (BadPacket reason) = Some 91
-error_code PipeFull = Some 92
-error_code NoPipe = Some 93
-error_code TooManyPipes = Some 94
-error_code TooManySubscriptions = Some 95
+error_code (BadPacket reason) = Some faulty_packet
+error_code PipeFull = Some pipe_full
+error_code NoPipe = Some no_pipe
+error_code TooManyPipes = Some second_pipe
+error_code TooManySubscriptions = Some too_many_subscriptions
 error_code Memory = None
 
 -- the numbers of a refusal: of a bad packet the reason's too. Want of memory refuses nothing.
 abbrev pub refusal_by : BusError → Refusal
-refusal_by (BadPacket reason) = 91 ∷ fault_number reason ∷ []
-refusal_by PipeFull = 92 ∷ []
-refusal_by NoPipe = 93 ∷ []
-refusal_by TooManyPipes = 94 ∷ []
-refusal_by TooManySubscriptions = 95 ∷ []
+refusal_by (BadPacket reason) = faulty_packet ∷ fault_number reason ∷ []
+refusal_by PipeFull = pipe_full ∷ []
+refusal_by NoPipe = no_pipe ∷ []
+refusal_by TooManyPipes = second_pipe ∷ []
+refusal_by TooManySubscriptions = too_many_subscriptions ∷ []
 refusal_by Memory = []
 
 -- why a call was refused, if it was

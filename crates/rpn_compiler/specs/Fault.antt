@@ -2,6 +2,7 @@
 use Rattle.std.specs.Prelude.{◌≡◌, ℕ, ◌⊎◌, Option, Some, None, option_map}
 use Rattle.lc_model.specs.Text.Reading as model
 use Rattle.lc_model.specs.Text.Reading.{ParseFault, TextRefusal, ForText, AtPlace, Unparsed, ForRule}
+use Rattle.lc_model.specs.Tables.Compiling.{too_many_watchpoints, too_many_rules, equation_too_long}
 use Rattle.rule_lexer.specs.declared.error.LexError.{LexError}
 use Rattle.rule_lexer.specs.declared.error.LexError.TheVariants as lexer
 use Rattle.rule_parser.specs.declared.error.ParseError.{ParseError}
@@ -55,9 +56,9 @@ abbrev pub refusal_of : CompileError → Option TextRefusal
 refusal_of (Lex error) = refusal_of_lexer error
 refusal_of (Parse error) = refusal_of_parser error
 refusal_of (Check error) = option_map AtPlace (text_fault_of error)
-refusal_of TooManyWatchpoints = Some (ForText 31)
-refusal_of TooManyRules = Some (ForText 41)
-refusal_of (EquationTooLong rule) = Some (ForRule 42 rule)
+refusal_of TooManyWatchpoints = Some (ForText too_many_watchpoints)
+refusal_of TooManyRules = Some (ForText too_many_rules)
+refusal_of (EquationTooLong rule) = Some (ForRule equation_too_long rule)
 refusal_of Memory = None
 
 -- the number of a fault of the parser, and of a refusal

@@ -3,8 +3,8 @@ use Rattle.std.specs.Prelude.{ℕ, zero, suc, ◌+◌, ◌-◌, ◌&&◌, ◌==�
 use denote.Ref.{Bor}
 use Rattle.lc_model.specs.declared.record.Moment.{Moment}
 use Rattle.lc_model.specs.Bytes.{u16_at}
-use Rattle.lc_model.specs.Name.{Name, name_in}
-use Rattle.lc_model.specs.Packet.{message_id, function_code, is_telemetry_mid, event_services_mid, table_services_mid, executive_services_mid, lc_command_mid, lc_housekeeping_request_mid, sample_mid, counter_mid}
+use Rattle.lc_model.specs.Name.{Name, name_in, app_name_size, name_size}
+use Rattle.lc_model.specs.Packet.{message_id, function_code, is_telemetry_mid, lc_command_mid, lc_housekeeping_request_mid, sample_mid, counter_mid, by_service, payload}
 use Rattle.lc_model.specs.Host.Stream.{moment_of}
 use Rattle.stream_script.specs.declared.kind.RecordKind.{RecordKind}
 use Rattle.stream_script.specs.declared.kind.RecordKind.TheVariants.{Packet, Tick, File, Half}
@@ -31,15 +31,13 @@ size_shown size = codes " " ++ decimal size ++ codes " bytes"
 -- whom a message id is for, where it is a command of the host's, or that it is telemetry
 abbrev pub mid_shown : ℕ → List ℕ
 mid_shown mid =
-    if mid == event_services_mid then codes " event services"
-    else if mid == table_services_mid then codes " table services"
-    else if mid == executive_services_mid then codes " executive services"
-    else if mid == lc_command_mid then codes " LC command"
+    by_service mid (codes " event services") (codes " table services") (codes " executive services")
+    (if mid == lc_command_mid then codes " LC command"
     else if mid == lc_housekeeping_request_mid then codes " LC housekeeping"
     else if mid == sample_mid then codes " LC sample"
     else if mid == counter_mid then codes " counter"
     else if is_telemetry_mid mid then codes " telemetry"
-    else []
+    else [])
 
 -- the words of the codes 1 to 4, of event, table and executive services
 abbrev pub one_of_four : (first second third fourth : List ℕ) → ℕ → List ℕ
@@ -58,10 +56,11 @@ app_order = one_of_four (codes " start") (codes " stop") (codes " restart") (cod
 -- what a command with a whole header says
 abbrev pub order_shown : ℕ → List ℕ → List ℕ
 order_shown mid packet =
-    if mid == event_services_mid then event_order (function_code packet) ++ name_shown (name_in (take 20 (drop 8 packet)))
-    else if mid == table_services_mid then table_order (function_code packet) ++ name_shown (name_in (take 40 (drop 8 packet)))
-    else if mid == executive_services_mid then app_order (function_code packet) ++ name_shown (name_in (take 20 (drop 8 packet)))
-    else codes " code " ++ decimal (function_code packet)
+    by_service mid
+    (event_order (function_code packet) ++ name_shown (name_in (take app_name_size (payload packet))))
+    (table_order (function_code packet) ++ name_shown (name_in (take name_size (payload packet))))
+    (app_order (function_code packet) ++ name_shown (name_in (take app_name_size (payload packet))))
+    (codes " code " ++ decimal (function_code packet))
 
 -- what a command says, and nothing of telemetry
 abbrev pub any_order_shown : ℕ → List ℕ → List ℕ

@@ -2,15 +2,16 @@
 use Rattle.std.specs.Prelude.{◌≡◌, ℕ, Option, Some, None, Result, Ok, Err, MatchOption}
 use Rattle.table_file.specs.declared.error.FileError.{FileError}
 use Rattle.table_file.specs.declared.error.FileError.TheVariants.{ShortFile, NotCfe, WrongSubtype, HeaderLength, PartialLoad, SizeMismatch, Memory}
+use Rattle.lc_model.specs.Tables.File.{short_file, not_cfe, wrong_subtype, wrong_header_length, partial_load, size_mismatch}
 
 -- the number of the fault; want of memory has none
 abbrev pub error_code : FileError → Option ℕ
-error_code ShortFile = Some 51
-error_code NotCfe = Some 52
-error_code WrongSubtype = Some 53
-error_code HeaderLength = Some 54
-error_code PartialLoad = Some 55
-error_code SizeMismatch = Some 56
+error_code ShortFile = Some short_file
+error_code NotCfe = Some not_cfe
+error_code WrongSubtype = Some wrong_subtype
+error_code HeaderLength = Some wrong_header_length
+error_code PartialLoad = Some partial_load
+error_code SizeMismatch = Some size_mismatch
 error_code Memory = None
 
 -- the answer is the value that is meant, or the error with the number that is meant
