@@ -21,6 +21,7 @@ pub mod FirstPublished
 pub mod PassedOn
 pub mod HandedOver
 pub mod Departed
+pub mod Closed
 pub mod Filed
 pub mod EventsObeyed
 pub mod EventsRead

@@ -3,7 +3,7 @@ use Rattle.std.specs.Prelude.{◌≡◌, ◌≢◌, ℕ, ◌≤◌, List, [], le
 use Rattle.lc_model.specs.Kept.Summary.{Other}
 use Rattle.lc_model.specs.Kept.Call.{next_retire}
 use Rattle.lc_model.specs.Kept.Executive.{left_from}
-use Rattle.lc_model.specs.Services.Interface.{IsRetired, outgoing_room}
+use Rattle.lc_model.specs.Services.Interface.{IsFreeSeat, IsRetired, outgoing_room}
 use Rattle.app_host.specs.declared.services.Services.{Services}
 use Rattle.app_host.specs.Shared.{held_by, shared}
 use Rattle.app_host.specs.Calls.{LeavesEmpty}
@@ -37,6 +37,21 @@ pub record HasVacated (seat : ℕ) (old new : Hosted) : Type 0 where
   pub seated : AreSeated new.seats new.services
   pub fits : length new.services.outgoing ≤ outgoing_room
   pub exact : IfSome (object_at seat old.seats) (λ (o : Object). o.state ≢ Other → LeavesExactly seat old new)
+
+-- the object of a seat was retired there, from some services to others, and holds none from then on
+pub record WasRetired (seat : ℕ) (o : Object) : Type 0 where
+  pub before : Services
+  pub after : Services
+  pub gone : Object
+  pub retired : HasRetired seat before after o gone
+
+-- nothing runs: each object that ran was retired, and is gone; each seat is free, without a pipe, subscriptions, a sender with its
+-- filters, and tables
+pub record HasClosed (old new : Hosted) : Type 0 where
+  pub stock : new.stock ≡ old.stock
+  pub gone : (seat : ℕ) → object_at seat new.seats ≡ None
+  pub free : (seat : ℕ) → IsFreeSeat seat (held_by new.services)
+  pub retired : (seat : ℕ) → IfSome (object_at seat old.seats) (WasRetired seat)
 
 -- the object of a seat was retired, and holds none from then on
 pub record HasGone (seat : ℕ) (seats : List (Option Object)) (before : Services) : Type 0 where

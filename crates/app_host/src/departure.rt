@@ -1,9 +1,9 @@
 //! Objects give their seats back.
 
-ghost use Rattle.std.specs.Prelude.{◌≡◌, []};
-ghost use Rattle.app_host.specs.Hosted.{shown};
+ghost use Rattle.std.specs.Prelude.{◌≡◌, [], IfSome};
+ghost use Rattle.app_host.specs.Hosted.{object_at, shown};
 ghost use Rattle.app_host.specs.Whole.{AreSeated, IsWhole};
-ghost use Rattle.app_host.specs.Left.{HasVacated};
+ghost use Rattle.app_host.specs.Left.{HasClosed, HasVacated, WasRetired};
 
 use crate::app::App;
 use crate::host::Host;
@@ -16,7 +16,9 @@ impl Host {
         requires seated { AreSeated (shown meaning self.old).seats
             (shown meaning self.old).services }
         requires idle { self.old.services.outgoing ≡ [] }
-        ensures { HasVacated seat (shown meaning self.old) (shown meaning self.new) }
+        ensures vacated { HasVacated seat (shown meaning self.old) (shown meaning self.new) }
+        ensures retired { IfSome (object_at seat (shown meaning self.old).seats)
+            (WasRetired seat) }
     {
         // For the proof: tables and files are within their bounds, each under a name of its own.
         self.services.tables.is_service();
@@ -26,16 +28,15 @@ impl Host {
         retired
     }
 
-    /// All that run retire, seat by seat, and then all objects are dropped.
-    pub fn close(mut self)
-        requires whole { IsWhole (shown meaning self) }
+    /// All that run give their seats back by `retire`, seat by seat, and are dropped; what they ask for then is let go. Nothing runs
+    /// any more, and nothing is registered: no pipe, subscription, sender of events and table. What is in stock stays.
+    pub fn close(&mut self)
+        requires whole { IsWhole (shown meaning self.old) }
+        ensures closed { HasClosed (shown meaning self.old) (shown meaning self.new) }
     {
-        let mut retired: [Option<Box<dyn App>>; Seat::COUNT] = [
-            None, None, None, None, None, None, None, None,
-        ];
         for index in 0..8u8 {
             let seat = Seat::new(index);
-            retired[seat.index()] = self.vacate(seat);
+            drop(self.vacate(seat));
             self.let_go();
         }
     }
@@ -47,6 +48,8 @@ impl Host {
         ensures seated { AreSeated (shown meaning self.new).seats
             (shown meaning self.new).services }
         ensures idle { self.new.services.outgoing ≡ [] }
+        ensures stock { (shown meaning self.new).stock ≡ (shown meaning self.old).stock }
+        ensures seats { (shown meaning self.new).seats ≡ (shown meaning self.old).seats }
     {
         // For the proof: tables and files are within their bounds, each under a name of its own.
         self.services.tables.is_service();

@@ -3,7 +3,7 @@
 ghost use Rattle.std.specs.Prelude.{◌≡◌, ◌<◌, map, option_map, slice_set, IfSome, None};
 ghost use Rattle.app_host.specs.Hosted.{Object, object_at};
 ghost use Rattle.app_host.specs.Left.{LeftBy};
-ghost use Rattle.app_host.specs.Objects.{IfBoth, MayAnswer, HasAnswered, MayRetire};
+ghost use Rattle.app_host.specs.Objects.{IfBoth, MayAnswer, HasAnswered, MayRetire, HasRetired};
 
 use crate::app::App;
 use crate::objects::{give, retire};
@@ -49,6 +49,8 @@ fn retire_in(
     requires { IfSome (option_map meaning place.old) (MayRetire seat services.old) }
     ensures gone { place.new ≡ None }
     ensures left { LeftBy seat services.old services.new (option_map meaning place.old) }
+    ensures retired { IfBoth (option_map meaning place.old) (option_map meaning result)
+        (HasRetired seat services.old services.new) }
 {
     let mut app = place.take()?;
     retire(&mut app, seat, services);
@@ -68,6 +70,8 @@ pub(crate) fn retire_at(
     ensures below { seat < 8 }
     ensures left { LeftBy seat services.old services.new
         (object_at seat (map (option_map meaning) seats.old)) }
+    ensures retired { IfBoth (object_at seat (map (option_map meaning) seats.old))
+        (option_map meaning result) (HasRetired seat services.old services.new) }
 {
     retire_in(&mut seats[seat.index()], seat, services)
 }

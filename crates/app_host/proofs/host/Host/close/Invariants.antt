@@ -1,13 +1,13 @@
 use Rattle.std.proofs.Common.{◌≡◌, []}
 use Rattle.app_host.specs.Hosted.{shown}
-use Rattle.app_host.specs.Whole.{AreSeated}
+use Rattle.app_host.proofs.Closed.{EmptyBelow}
 use Rattle.app_host.proofs.host.Host.close.Given as goal
 
--- those that are still seated are at home
+-- the seats so far are empty
 abbrev pub invariant-loop-index : goal.invariant-loop-index
 invariant-loop-index g l = record {
-  seated : AreSeated
-      (shown (λ b. (goal.App-dyn g (b.vtable, b.value)).meaning b.value) l.self).seats
-      l.self.services;
+  below : EmptyBelow l.index
+      (shown (λ b. (goal.App-dyn g (b.vtable, b.value)).meaning b.value) l.initial.self)
+      (shown (λ b. (goal.App-dyn g (b.vtable, b.value)).meaning b.value) l.self);
   idle : l.self.services.outgoing ≡ [];
 }
