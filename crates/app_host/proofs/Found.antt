@@ -1,5 +1,5 @@
 -- The first object that passes a test, as a loop finds it.
-use Rattle.std.proofs.Common.{◌≡◌, ℕ, ◌+◌, ◌<◌, ◌≤◌, Bool, true, false, List, [], ◌∷◌, Option, Some, None, map, refl, ap, ◌∙◌, sym, length, cond, suc, zero, arith, get_or, set, drop, take, count_by}
+use Rattle.std.proofs.Common.{◌≡◌, ℕ, ◌+◌, ◌<◌, Bool, true, false, List, [], ◌∷◌, Option, Some, None, map, refl, ap, ◌∙◌, sym, length, cond, suc, zero, arith, get_or, set, drop, take, count_by}
 use Rattle.std.specs.Prelude.{option_map, is_some, find}
 use Rattle.std.specs.List.{position_from}
 use Rattle.std.proofs.lemmas.List.{drop_more, length-map, map-set, get_or-set_same}

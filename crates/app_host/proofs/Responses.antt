@@ -1,5 +1,5 @@
 -- What a record asks of HOST, by what the record is.
-use Rattle.std.proofs.Common.{◌≡◌, refl, ap, sym, subst, ℕ, ◌==◌, List, if◌then◌else◌, Option, Some, Result}
+use Rattle.std.proofs.Common.{◌≡◌, refl, ap, sym, subst, ℕ, List, Option, Some, Result}
 use Rattle.std.specs.Option.{option_map_or}
 use Rattle.lc_model.specs.declared.record.Body.{Body}
 use Rattle.lc_model.specs.declared.record.Body.TheVariants as variant

@@ -1,5 +1,5 @@
 -- Commands to the event services, by seats.
-use Rattle.std.specs.Prelude.{ℕ, ◌%◌, Bool, List, Result, Ok, Err}
+use Rattle.std.specs.Prelude.{ℕ, Bool, List, Result, Ok, Err}
 use Rattle.lc_model.specs.Name.{Name}
 use Rattle.lc_model.specs.Refusal.{Refusal, ◌>>=◌}
 use Rattle.lc_model.specs.Events.Log.{LogItem}

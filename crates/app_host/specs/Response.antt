@@ -1,6 +1,6 @@
 -- What HOST itself does for a record, whatever its applications are: the event that it tells, with its bytes, what it makes of files
 -- and of its own filters, and who is on the seats. Its event comes behind all that the applications sent that the record called.
-use Rattle.std.specs.Prelude.{◌≡◌, ℕ, ◌+◌, ◌*◌, ◌<◌, ◌≤◌, ◌⊎◌, ◌==◌, nat_lt, Bool, true, false, List, [], ◌++◌, length, take, if◌then◌else◌, Option, Some, None, IfSome, option_to_list, Result, Ok, Err}
+use Rattle.std.specs.Prelude.{◌≡◌, ℕ, ◌+◌, ◌*◌, ◌<◌, ◌≤◌, ◌⊎◌, nat_lt, Bool, true, false, List, [], ◌++◌, length, take, if◌then◌else◌, Option, Some, None, IfSome, option_to_list, Result, Ok, Err}
 use Rattle.std.specs.Option.{option_map_or}
 use Rattle.std.specs.List.{concat}
 use Rattle.std.specs.Io.KnownBytes.{Appends}

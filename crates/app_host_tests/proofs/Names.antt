@@ -1,5 +1,5 @@
 -- Names of one letter, and what their applications do at their seats.
-use Rattle.std.proofs.Common.{◌≡◌, ◌≢◌, ◌∙◌, refl, sym, ap, subst, ℕ, ◌+◌, ◌≤◌, ◌==◌, ◌&&◌, List, [], ◌∷◌, ◌++◌, length, replicate, slice_set, Option, Some, None, Result, Ok, Err, arith, if◌then◌else◌}
+use Rattle.std.proofs.Common.{◌≡◌, ◌∙◌, refl, sym, ap, subst, ℕ, ◌+◌, ◌≤◌, List, [], ◌∷◌, ◌++◌, length, replicate, slice_set, Option, Some, None, Result, Ok, Err, arith, if◌then◌else◌}
 use Rattle.std.specs.Prelude.{IsSomeAnd, IfSome, OnErr, is_some}
 use Rattle.std.proofs.lemmas.List.{set-get_or, replicate_more, length-append}
 use Rattle.lc_model.specs.Name.{Name}

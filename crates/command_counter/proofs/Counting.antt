@@ -1,5 +1,5 @@
 -- What the counter does at its seat, by the rules of the interface and by the definitions.
-use Rattle.std.proofs.Common.{◌≡◌, refl, ap, sym, ◌∙◌, subst, ℕ, ◌+◌, ◌≤◌, Bool, true, false, ◌==◌, List, [], ◌∷◌, arith, Option, Some, None, Ok, Err, min, if◌then◌else◌}
+use Rattle.std.proofs.Common.{◌≡◌, refl, ap, sym, ◌∙◌, subst, ℕ, ◌+◌, Bool, true, false, ◌==◌, List, [], ◌∷◌, arith, Option, Some, None, Ok, Err, min, if◌then◌else◌}
 use Rattle.std.specs.Prelude.{IfSome, IsSomeAnd, codes}
 use Rattle.lc_model.specs.declared.rule.EventKind.{EventKind}
 use Rattle.lc_model.specs.declared.rule.EventKind.TheVariants.{Information}

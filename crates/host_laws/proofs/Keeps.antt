@@ -1,5 +1,5 @@
 -- What goes with the services of the host stays so by every call and command.
-use Rattle.std.proofs.Common.{◌≡◌, ◌≢◌, ℕ, zero, suc, ◌+◌, ◌≤◌, Bool, true, false, ◌==◌, List, [], ◌∷◌, map, length, refl, sym, ◌∙◌, subst, arith, mod-lt, slice_index_or, Option, Some, None, is_some, Result, Ok, Err, IfOk, IsTrue, IsFalse, true≢false, if◌then◌else◌}
+use Rattle.std.proofs.Common.{◌≡◌, ◌≢◌, ℕ, zero, suc, ◌+◌, ◌≤◌, Bool, true, false, ◌==◌, List, [], ◌∷◌, map, length, refl, sym, subst, arith, mod-lt, slice_index_or, Option, Some, None, is_some, Result, Ok, Err, IfOk, IsTrue, IsFalse, true≢false, if◌then◌else◌}
 use Rattle.std.specs.Option.{option_map_or}
 use Rattle.std.specs.List.{AllByRecursion}
 use Rattle.std.proofs.lemmas.List.{length-map}

@@ -1,5 +1,5 @@
 -- What a step makes of the whole object.
-use Rattle.std.proofs.Common.{◌≡◌, refl, ◌∙◌, ap, ℕ, false, ◌<◌, List, [], ◌∷◌, length, replicate, if◌then◌else◌, All, arith}
+use Rattle.std.proofs.Common.{◌≡◌, refl, ap, ℕ, false, ◌<◌, List, [], ◌∷◌, length, replicate, All, arith}
 use Rattle.lc_model.specs.declared.field.Term.{Term}
 use Rattle.lc_model.specs.declared.mode.LcMode.{LcMode}
 use Rattle.lc_model.specs.Packet.{message_id}

@@ -1,5 +1,5 @@
 -- An error names the number of its text that is out of its range.
-use Rattle.std.proofs.Common.{◌≡◌, ℕ, List}
+use Rattle.std.proofs.Common.{ℕ, List}
 use Rattle.std.specs.Prelude.{Result, Ok, Err, IfErr}
 use Rattle.lc_model.specs.Text.Token.{Token, Splits}
 use Rattle.lc_model.specs.Text.Syntax.{Item}

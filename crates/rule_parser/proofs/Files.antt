@@ -1,5 +1,5 @@
 -- Rules, items and whole texts: what is taken derives, and the first fault stays where it is.
-use Rattle.std.proofs.Common.{◌≡◌, refl, sym, ◌∙◌, ap, subst, ℕ, ◌<◌, Bool, true, false, cond, List, [], ◌∷◌, ◌++◌, Some, None, Ok, Err, append_assoc, append-nil, codes}
+use Rattle.std.proofs.Common.{◌≡◌, refl, sym, ◌∙◌, ap, subst, ℕ, Bool, true, false, cond, List, [], ◌∷◌, ◌++◌, Some, None, Ok, Err, append_assoc, append-nil, codes}
 use Rattle.lc_model.specs.Text.Token.{Token}
 use Rattle.lc_model.specs.Text.Syntax as syntax
 use Rattle.lc_model.specs.Text.Syntax.{Expression, Item}

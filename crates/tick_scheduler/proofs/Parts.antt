@@ -1,5 +1,5 @@
 -- A list parted at some of its elements: its first part, and the others.
-use Rattle.std.proofs.Common.{◌≡◌, refl, sym, ◌∙◌, ap, ℕ, suc, ◌+◌, Bool, true, false, not, ◌==◌, List, [], ◌∷◌, ◌++◌, length, take, drop, arith}
+use Rattle.std.proofs.Common.{◌≡◌, refl, sym, ◌∙◌, ap, ℕ, suc, ◌+◌, Bool, true, false, not, ◌==◌, List, [], ◌∷◌, length, take, drop, arith}
 use Rattle.std.specs.Prelude.{filter}
 use Rattle.std.specs.List.{position_or_len, prefix_len}
 use Rattle.lc_model.specs.Host.ScheduleText.{lines_of, onto_first, parted, words_of}
