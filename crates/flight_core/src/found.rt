@@ -32,6 +32,15 @@ pub enum Found<'a> {
     },
 }
 
+/// The name in a body's first 40 bytes.
+fn front_name(body: &[u8]) -> &[u8]
+    requires { NAME ≤ length body.now }
+    ensures name { result.now ≡ name_in (take NAME body.now) }
+    ensures few { length result.now ≤ NAME }
+{
+    name_in(&body[..NAME])
+}
+
 /// What a whole record of this shape brings.
 pub(crate) fn read_off(shape: Shape, bytes: &[u8]) -> Found<'_>
     requires long { header_size ≤ length bytes.now }
@@ -54,13 +63,13 @@ pub(crate) fn read_off(shape: Shape, bytes: &[u8]) -> Found<'_>
         Shape::File => Found::Record(Record {
             moment,
             body: Body::File {
-                name: name_in(&body[..NAME]),
+                name: front_name(body),
                 bytes: &body[NAME..],
             },
         }),
         Shape::Half { kind, text } => Found::Half {
             moment,
-            name: name_in(&body[..NAME]),
+            name: front_name(body),
             kind,
             text,
         },

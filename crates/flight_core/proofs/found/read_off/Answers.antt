@@ -15,8 +15,8 @@ pub returns-in-File-clause-entry : goal.returns-in-File-clause-entry
 returns-in-File-clause-entry c =
     let bytes = c.args.bytes.now in
     (λ i. Entry (record {
-      moment = c.moment_of.ensures i;
-      contents = stream.File (c.name_in.ensures.name i) (take-rest 40 (take (length bytes - 11) (drop 11 bytes)) i);
+      moment = c.moment_of-moment.ensures i;
+      contents = stream.File (c.front_name.ensures.name i) (take-rest 40 (take (length bytes - 11) (drop 11 bytes)) i);
     }))
     ∙ (λ i. Entry (record {
       moment = stream.moment_of bytes;
@@ -28,8 +28,8 @@ pub returns-in-Half-clause-entry : goal.returns-in-Half-clause-entry
 returns-in-Half-clause-entry c =
     let bytes = c.args.bytes.now in
     (λ i. Entry (record {
-      moment = c.moment_of.ensures i;
-      contents = stream.Half (c.name_in-in-Half.ensures.name i) c.in-Half.kind c.in-Half.text;
+      moment = c.moment_of-moment.ensures i;
+      contents = stream.Half (c.front_name-in-Half.ensures.name i) c.in-Half.kind c.in-Half.text;
     }))
     ∙ (λ i. Entry (record {
       moment = stream.moment_of bytes;
