@@ -1,0 +1,9 @@
+pub mod Known
+pub mod QuietLaws
+pub mod QuietSteps
+pub mod Halves
+pub mod WalkLaws
+pub mod Tried
+pub mod Thresholds
+pub mod Judged
+pub mod SameSide

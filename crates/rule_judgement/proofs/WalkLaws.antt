@@ -1,0 +1,125 @@
+-- A walk over the fields decides a condition.
+use Rattle.std.proofs.Common.{◌≡◌, ℕ, zero, suc, Bool, true, false, ◌==◌, List, [], ◌∷◌, ◌++◌, length, slice_get, refl, ap, ap₂, sym, ◌∙◌, subst, arith, Option, Some, None, if◌then◌else◌}
+use Rattle.std.specs.Prelude.{◌≢◌, Contains}
+use Rattle.std.proofs.lemmas.Bool.Decides.{nat_tests}
+use Rattle.std.specs.List.{AllByRecursion}
+use Rattle.lc_model.specs.declared.truth.Truth.{Truth}
+use Rattle.lc_model.specs.declared.truth.Truth.TheVariants.{True, False}
+use Rattle.lc_model.specs.declared.field.Term.{Term}
+use Rattle.lc_model.specs.Truth.{truth_not}
+use Rattle.lc_model.specs.Condition.{Condition, Watch, Not, Join}
+use Rattle.lc_model.specs.Tables.Equation.{mentions}
+use Rattle.lc_model.specs.LimitChecker.Watch.{combined, judgement, truth_by}
+use Rattle.rule_judgement.specs.Judgement.{Place, place_of, value_by, found_by, Refines, NeverHolds}
+use Rattle.rule_judgement.specs.Search.{truth_there, found_so_far, found_everywhere, GoesOnFrom, IsExcluded, Represent}
+use Rattle.rule_judgement.proofs.Known.{refines-same, tables_keep, parts}
+
+-- a condition depends on its mentions alone
+pub by_mentions : (found other : Term → Truth) (c : Condition) → AllByRecursion (λ t. found t ≡ other t) (mentions c) → truth_by found c ≡ truth_by other c
+by_mentions found other (Watch t) same = same.0
+by_mentions found other (Not c) same = ap truth_not (by_mentions found other c same)
+by_mentions found other (Join o a b) same =
+    let both = parts (λ t. found t ≡ other t) (mentions a) (mentions b) same in
+    ap₂ (combined o) (by_mentions found other a both.0) (by_mentions found other b both.1)
+
+each : {P Q : Term → Type 0} (ts : List Term) → ((t : Term) → P t → Q t) → AllByRecursion P ts → AllByRecursion Q ts
+each [] step all = tt
+each (t ∷ ts) step all = (step t all.0, each ts step all.1)
+
+there_before : (chosen : List ℕ) (more field bits : ℕ) → slice_get (chosen ++ more ∷ []) field ≡ Some bits → field ≢ length chosen → slice_get chosen field ≡ Some bits
+there_before [] more zero bits e other = absurd (other refl)
+there_before [] more (suc field) bits e other = e
+there_before (first ∷ chosen) more zero bits e other = e
+there_before (first ∷ chosen) more (suc field) bits e other = there_before chosen more field bits e (λ same. other (ap suc same))
+
+there_last : (chosen : List ℕ) (more bits : ℕ) → slice_get (chosen ++ more ∷ []) (length chosen) ≡ Some bits → more ≡ bits
+there_last [] more bits e = cc
+there_last (first ∷ chosen) more bits e = there_last chosen more bits e
+
+-- the bits with another one at a field
+abbrev changed : ℕ → ℕ → (ℕ → ℕ) → ℕ → ℕ
+changed at candidate bits field = if field == at then candidate else bits field
+
+at_last : (at candidate : ℕ) (bits : ℕ → ℕ) (field : ℕ) → field ≡ at → changed at candidate bits field ≡ candidate
+at_last at candidate bits field e = ap (λ test. if test then candidate else bits field) yes
+  where
+    yes : (field == at) ≡ true
+    yes = grind (arith, nat_tests)
+
+elsewhere : (at candidate : ℕ) (bits : ℕ → ℕ) (field : ℕ) → field ≢ at → changed at candidate bits field ≡ bits field
+elsewhere at candidate bits field e = ap (λ test. if test then candidate else bits field) no
+  where
+    no : (field == at) ≡ false
+    no = grind (arith, nat_tests)
+
+pub decided : {C : Type 0} (a b : ℕ) → (a ≡ b → C) → (a ≢ b → C) → C
+decided {C} a b same other = by_test (a == b) refl
+  where
+    yes : (a == b) ≡ true → a ≡ b
+    yes e = grind (arith, nat_tests)
+
+    no : (a == b) ≡ false → a ≢ b
+    no e = grind (arith, nat_tests)
+
+    by_test : (test : Bool) → (a == b) ≡ test → C
+    by_test true e = same (yes e)
+    by_test false e = other (no e)
+
+module _ (number : Term → ℕ) where
+  -- what is found so far stays, however it goes on
+  so_far_refines : (chosen : List ℕ) (bits : ℕ → ℕ) → GoesOnFrom number chosen bits → (t : Term) →
+      Refines (found_so_far number chosen t) (found_everywhere number bits t)
+  so_far_refines chosen bits on t = by_place (slice_get chosen (number t)) refl
+    where
+      by_place : (o : Option ℕ) → slice_get chosen (number t) ≡ o → Refines (truth_there t o) (found_everywhere number bits t)
+      by_place None e = tt
+      by_place (Some there) e =
+          subst (λ n. Refines (truth_there t (Some there)) (truth_there t (Some n))) (sym (on (number t) there e)) (refines-same (truth_there t (Some there)))
+
+  -- false already: no way on makes it true
+  pub false_excludes : (c : Condition) (chosen : List ℕ) → truth_by (found_so_far number chosen) c ≡ False → IsExcluded number c chosen
+  false_excludes c chosen e bits on holds =
+      let stays = subst (λ x. Refines x (truth_by (found_everywhere number bits) c)) e
+      (tables_keep (found_so_far number chosen) (found_everywhere number bits) (so_far_refines chosen bits on) c) in
+      cc
+
+  -- true already: each way on makes it true
+  pub true_stays : (c : Condition) (chosen : List ℕ) → truth_by (found_so_far number chosen) c ≡ True → (bits : ℕ → ℕ) → GoesOnFrom number chosen bits →
+      truth_by (found_everywhere number bits) c ≡ True
+  true_stays c chosen e bits on =
+      subst (λ x. Refines x (truth_by (found_everywhere number bits) c)) e
+      (tables_keep (found_so_far number chosen) (found_everywhere number bits) (so_far_refines chosen bits on) c)
+
+  -- the next field has one of the candidates: if none of them goes on, nothing does
+  pub candidates_exclude : (c : Condition) (chosen candidates : List ℕ) → Represent number c (length chosen) candidates →
+      ((candidate : ℕ) → Contains candidates candidate → IsExcluded number c (chosen ++ candidate ∷ [])) → IsExcluded number c chosen
+  candidates_exclude c chosen candidates represent none bits on holds = with_candidate (represent (bits (length chosen)))
+    where
+      at_term : (candidate : ℕ) (t : Term) → (number t ≡ length chosen → truth_there t (Some candidate) ≡ truth_there t (Some (bits (length chosen)))) →
+          found_everywhere number (changed (length chosen) candidate bits) t ≡ found_everywhere number bits t
+      at_term candidate t alike = decided (number t) (length chosen)
+          (λ e. ap (λ n. truth_there t (Some n)) (at_last (length chosen) candidate bits (number t) e) ∙ alike e
+          ∙ ap (λ field. truth_there t (Some (bits field))) (sym e))
+          (λ other. ap (λ n. truth_there t (Some n)) (elsewhere (length chosen) candidate bits (number t) other))
+
+      goes_on : (candidate : ℕ) → GoesOnFrom number (chosen ++ candidate ∷ []) (changed (length chosen) candidate bits)
+      goes_on candidate field there e = decided field (length chosen)
+          (λ same. at_last (length chosen) candidate bits field same ∙ there_last chosen candidate there (subst (λ k. slice_get (chosen ++ candidate ∷ []) k ≡ Some there) same e))
+          (λ other. elsewhere (length chosen) candidate bits field other ∙ on field there (there_before chosen candidate field there e other))
+
+      with_candidate : (candidate : ℕ) × Contains candidates candidate
+          × AllByRecursion (λ t. number t ≡ length chosen → truth_there t (Some candidate) ≡ truth_there t (Some (bits (length chosen)))) (mentions c) → ⊥
+      with_candidate (candidate, is, alike) =
+          none candidate is (changed (length chosen) candidate bits) (goes_on candidate)
+          (by_mentions (found_everywhere number (changed (length chosen) candidate bits)) (found_everywhere number bits) c
+          (each (mentions c) (at_term candidate) alike) ∙ holds)
+
+-- ---- fields by number
+
+-- what is excluded from the start holds for no readings, where the numbers tell fields apart
+pub excluded_never_holds : (number : Term → ℕ) (places : ℕ → Place) (c : Condition) → AllByRecursion (λ t. places (number t) ≡ place_of t) (mentions c) →
+    IsExcluded number c [] → NeverHolds c
+excluded_never_holds number places c named excluded readings holds =
+    excluded (λ field. readings (places field)) (λ field there e. cc)
+    (by_mentions (found_everywhere number (λ field. readings (places field))) (found_by readings) c
+    (each (mentions c) (λ t e. ap (λ p. judgement t (Some (value_by (place_of t) (readings p)))) e) named) ∙ holds)
