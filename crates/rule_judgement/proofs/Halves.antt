@@ -34,7 +34,7 @@ no_mask from above other fits = omega (arith, and_le_r other 0)
 pub odd_none : (mask from : ℕ) → IsNextBits (mask / 2) (from / 2) None → IsNextBits mask from None
 odd_none mask from none other fits = omega (arith, none (other / 2) (half_fits mask other fits))
 
-pub even_none : (mask from : ℕ) → mask % 2 ≡ 0 → IsNextBits (mask / 2) ((from + 1) / 2) None → IsNextBits mask from None
+pub even_none : (mask from : ℕ) → mask % 2 ≡ 0 → IsNextBits (mask / 2) (from / 2 + from % 2) None → IsNextBits mask from None
 even_none mask from even none other fits = omega (arith, none (other / 2) (half_fits mask other fits), last_bit mask other fits)
 
 pub odd_below : (mask from half : ℕ) → mask % 2 ≡ 1 → 2 * half < from → IsLeastFrom (mask / 2) (from / 2) half → IsLeastFrom mask from (2 * half + 1)
@@ -54,7 +54,7 @@ odd_there mask from half odd there is = record {
     zero_more : 2 * half + 0 ≡ 2 * half
     zero_more = omega arith
 
-pub even_there : (mask from half : ℕ) → mask % 2 ≡ 0 → IsLeastFrom (mask / 2) ((from + 1) / 2) half → IsLeastFrom mask from (2 * half)
+pub even_there : (mask from half : ℕ) → mask % 2 ≡ 0 → IsLeastFrom (mask / 2) (from / 2 + from % 2) half → IsLeastFrom mask from (2 * half)
 even_there mask from half even is = record {
   fits = omega (arith, double_fits mask half 0 (omega arith) is.fits, ap (λ n. bit_and n mask) zero_more);
   reaches = omega (arith, is.reaches);

@@ -1,36 +1,37 @@
 -- What a walk from the start says of a condition.
-use Rattle.std.proofs.Common.{◌≡◌, ℕ, List, [], slice_get, refl, subst, Option, Some, None, Result, Ok, Err}
-use Rattle.std.specs.Prelude.{IfOk}
+use Rattle.std.proofs.Common.{◌≡◌, ℕ, List, [], subst, Vec}
+use Rattle.std.specs.Global.{Global}
+use Rattle.std.specs.List.{AllByRecursion}
+use Rattle.lc_model.specs.declared.field.FieldType.TheVariants.{U8}
 use Rattle.lc_model.specs.declared.field.Term.{Term}
 use Rattle.lc_model.specs.Condition.{Condition}
-use Rattle.rule_judgement.specs.declared.walk.Outcome.{Outcome}
-use Rattle.rule_judgement.specs.declared.walk.Outcome.TheVariants.{Found, Excluded, Open}
-use Rattle.rule_judgement.specs.Search.{IsWalked, IsNever, IsPossible, IsExcluded, GoesOnFrom}
+use Rattle.lc_model.specs.Tables.Equation.{mentions}
+use Rattle.rule_judgement.specs.declared.fields.Field.{Field}
+use Rattle.rule_judgement.specs.Fields.{HasField, field_number}
+use Rattle.rule_judgement.specs.Judgement.{Place, NeverFails}
+use Rattle.rule_judgement.specs.Search.{IsExcluded, AreRepresented}
+use Rattle.rule_judgement.proofs.Each.{each}
+use Rattle.rule_judgement.proofs.FieldLaws.{place_numbered, named}
 use Rattle.rule_judgement.proofs.Known.{never_holds_never_fails}
-use Rattle.rule_judgement.proofs.WalkLaws.{true_stays, excluded_never_holds}
+use Rattle.rule_judgement.proofs.WalkLaws.{excluded_never_holds}
 
-pub never_of : {E : Type 0} (number : Term → ℕ) (c : Condition) (old new : List ℕ) (r : Result Outcome E) → old ≡ [] →
-    IfOk r (λ outcome. IsWalked number c old new outcome) → IfOk r (λ outcome. IsNever number c outcome)
-never_of number c old new (Ok Found) start walked = tt
-never_of number c old new (Ok Open) start walked = tt
-never_of number c old new (Ok Excluded) start walked =
-    λ places named. never_holds_never_fails c (excluded_never_holds number places c named (subst (IsExcluded number c) start walked))
-never_of number c old new (Err e) start walked = tt
+abbrev nowhere : Place
+nowhere = record { kind = U8; mid = 0; offset = 0; mask = 0 }
 
-bits_of : List ℕ → ℕ → ℕ
-bits_of chosen field = bits (slice_get chosen field)
-  where
-    bits : Option ℕ → ℕ
-    bits None = 0
-    bits (Some there) = there
+pub never_of : (fields : List Field) (c : Condition) (chosen : List ℕ) → AllByRecursion (λ t. HasField fields t) (mentions c) → chosen ≡ [] →
+    IsExcluded (field_number fields) c chosen → NeverFails c
+never_of fields c chosen has start excluded =
+    never_holds_never_fails c (excluded_never_holds (field_number fields) (place_numbered fields nowhere) c (each (mentions c) (named fields nowhere) has)
+    (subst (IsExcluded (field_number fields) c) start excluded))
 
-go_on : (chosen : List ℕ) (number : Term → ℕ) → GoesOnFrom number chosen (bits_of chosen)
-unfolding bits_of
-go_on chosen number field there e = rw e refl
+-- what holds of the terms, the fields and the rows that were made holds of those that are handed on
+pub handed_on : (c : Condition) (terms : List Term) (fields again : List Field) (rows seen : List (Vec ℕ Global)) → terms ≡ mentions c → fields ≡ again → rows ≡ seen →
+    AreRepresented (field_number fields) terms rows → AreRepresented (field_number again) (mentions c) seen
+handed_on c terms fields again rows seen are same so represented =
+    subst (AreRepresented (field_number again) (mentions c)) so
+    (subst (λ fs. AreRepresented (field_number fs) (mentions c) rows) same (subst (λ ts. AreRepresented (field_number fields) ts rows) are represented))
 
-pub possible_of : {E : Type 0} (number : Term → ℕ) (c : Condition) (old new : List ℕ) (r : Result Outcome E) →
-    IfOk r (λ outcome. IsWalked number c old new outcome) → IfOk r (λ outcome. IsPossible number c outcome)
-possible_of number c old new (Ok Found) walked = (bits_of new, true_stays number c new walked (bits_of new) (go_on new number))
-possible_of number c old new (Ok Open) walked = tt
-possible_of number c old new (Ok Excluded) walked = tt
-possible_of number c old new (Err e) walked = tt
+pub all_have : (c : Condition) (terms : List Term) (fields again : List Field) → terms ≡ mentions c → fields ≡ again →
+    AllByRecursion (λ t. HasField fields t) terms → AllByRecursion (λ t. HasField again t) (mentions c)
+all_have c terms fields again are same has =
+    subst (λ fs. AllByRecursion (λ t. HasField fs t) (mentions c)) same (subst (AllByRecursion (λ t. HasField fields t)) are has)

@@ -196,7 +196,7 @@ pub parts : (P : Term → Type 0) (xs ys : List Term) → AllByRecursion P (xs +
 parts P [] ys all = (tt, all)
 parts P (x ∷ xs) ys all = let rest = parts P xs ys all.1 in ((all.0, rest.0), rest.1)
 
-known_where_all_is : (found : Term → Truth) (c : Condition) → AreKnown c found → IsTrue (is_known (truth_by found c))
+pub known_where_all_is : (found : Term → Truth) (c : Condition) → AreKnown c found → IsTrue (is_known (truth_by found c))
 known_where_all_is found (Watch t) all = all.0
 known_where_all_is found (Not c) all = not_known (truth_by found c) (known_where_all_is found c all)
 known_where_all_is found (Join o a b) all =

@@ -4,6 +4,10 @@ pub mod QuietSteps
 pub mod Halves
 pub mod WalkLaws
 pub mod Tried
-pub mod Thresholds
+pub mod Reaching
 pub mod Judged
 pub mod SameSide
+pub mod Each
+pub mod FieldLaws
+pub mod ClassLaws
+pub mod SeenLaws

@@ -4,8 +4,10 @@ use Rattle.std.specs.Global.{Global}
 use Rattle.std.specs.Prelude.{◌≢◌, slice_index, slice_get, Some}
 use Rattle.lc_model.specs.declared.field.Term.{Term}
 use Rattle.lc_model.specs.Condition.{Condition}
-use Rattle.rule_judgement.specs.Search.{IsExcluded, Represent, AreRepresented, HasTried, field_number, is_field_of}
-use Rattle.rule_judgement.specs.declared.walk.Field.{Field}
+use Rattle.rule_judgement.specs.Search.{IsExcluded, Represent, AreRepresented, HasTried}
+use Rattle.rule_judgement.specs.Fields.{field_number, is_field_of}
+use Rattle.lc_model.specs.Tables.Equation.{mentions}
+use Rattle.rule_judgement.specs.declared.fields.Field.{Field}
 use Rattle.std.proofs.lemmas.List.{drop_all}
 use Rattle.rule_judgement.proofs.WalkLaws.{decided, candidates_exclude}
 
@@ -46,16 +48,16 @@ there (x ∷ xs) zero d below = refl
 there (x ∷ xs) (suc k) d below = there xs k d (omega arith)
 
 pub all_tried : (number : Term → ℕ) (c : Condition) (rows : List (Vec ℕ Global)) (chosen now items : List ℕ) (row : Vec ℕ Global) (at count : ℕ) →
-    AreRepresented number c rows → at ≡ length chosen → at < length rows → row ≡ get_or rows at row → items ≡ row.items →
+    AreRepresented number (mentions c) rows → at ≡ length chosen → at < length rows → row ≡ get_or rows at row → items ≡ row.items →
     length items ≡ count → HasTried number c chosen now items count → IsExcluded number c chosen
 all_tried number c rows chosen now items row at count represented is inside found same all tried =
     candidates_exclude number c chosen items represent
     (λ candidate here. subst (λ n. IsExcluded number c (chosen ++ n ∷ [])) (same_default items here.0 0 candidate here.1 ∙ here.2)
     (tried.none here.0 (subst (λ n. here.0 < n) all here.1)))
   where
-    represent : Represent number c (length chosen) items
-    represent = subst (λ field. Represent number c field items) is
-        (subst (λ list. Represent number c at list) (sym same) (represented at row (there rows at row inside ∙ ap Some (sym found))))
+    represent : Represent number (mentions c) (length chosen) items
+    represent = subst (λ field. Represent number (mentions c) field items) is
+        (subst (λ list. Represent number (mentions c) at list) (sym same) (represented at row (there rows at row inside ∙ ap Some (sym found))))
 
 -- ---- which field
 

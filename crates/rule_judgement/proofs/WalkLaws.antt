@@ -1,18 +1,23 @@
 -- A walk over the fields decides a condition.
-use Rattle.std.proofs.Common.{◌≡◌, ℕ, zero, suc, Bool, true, false, ◌==◌, List, [], ◌∷◌, ◌++◌, length, slice_get, refl, ap, ap₂, sym, ◌∙◌, subst, arith, Option, Some, None, if◌then◌else◌}
-use Rattle.std.specs.Prelude.{◌≢◌, Contains}
+use Rattle.std.proofs.Common.{◌≡◌, ℕ, zero, suc, ◌≤◌, ◌<◌, nat_lt, Bool, true, false, ◌==◌, List, [], ◌∷◌, ◌++◌, length, slice_get, refl, ap, ap₂, sym, ◌∙◌, subst, arith, Option, Some, None, if◌then◌else◌}
+use Rattle.std.specs.Prelude.{◌≢◌, Contains, IsTrue}
 use Rattle.std.proofs.lemmas.Bool.Decides.{nat_tests}
 use Rattle.std.specs.List.{AllByRecursion}
 use Rattle.lc_model.specs.declared.truth.Truth.{Truth}
-use Rattle.lc_model.specs.declared.truth.Truth.TheVariants.{True, False}
+use Rattle.lc_model.specs.declared.truth.Truth.TheVariants.{True, False, Stale, Error}
 use Rattle.lc_model.specs.declared.field.Term.{Term}
 use Rattle.lc_model.specs.Truth.{truth_not}
+use Rattle.lc_model.specs.Field.{compares}
 use Rattle.lc_model.specs.Condition.{Condition, Watch, Not, Join}
 use Rattle.lc_model.specs.Tables.Equation.{mentions}
 use Rattle.lc_model.specs.LimitChecker.Watch.{combined, judgement, truth_by}
-use Rattle.rule_judgement.specs.Judgement.{Place, place_of, value_by, found_by, Refines, NeverHolds}
-use Rattle.rule_judgement.specs.Search.{truth_there, found_so_far, found_everywhere, GoesOnFrom, IsExcluded, Represent}
-use Rattle.rule_judgement.proofs.Known.{refines-same, tables_keep, parts}
+use Rattle.rule_judgement.specs.declared.fields.Field.{Field}
+use Rattle.rule_judgement.specs.Fields.{HasField, field_number}
+use Rattle.rule_judgement.specs.Judgement.{is_known, Place, place_of, value_by, found_by, Refines, NeverHolds}
+use Rattle.rule_judgement.specs.Classes.{truth_there}
+use Rattle.rule_judgement.specs.Search.{found_so_far, found_everywhere, GoesOnFrom, IsExcluded, Represent}
+use Rattle.rule_judgement.proofs.Each.{each}
+use Rattle.rule_judgement.proofs.Known.{refines-same, tables_keep, parts, known_where_all_is}
 
 -- a condition depends on its mentions alone
 pub by_mentions : (found other : Term → Truth) (c : Condition) → AllByRecursion (λ t. found t ≡ other t) (mentions c) → truth_by found c ≡ truth_by other c
@@ -22,19 +27,16 @@ by_mentions found other (Join o a b) same =
     let both = parts (λ t. found t ≡ other t) (mentions a) (mentions b) same in
     ap₂ (combined o) (by_mentions found other a both.0) (by_mentions found other b both.1)
 
-each : {P Q : Term → Type 0} (ts : List Term) → ((t : Term) → P t → Q t) → AllByRecursion P ts → AllByRecursion Q ts
-each [] step all = tt
-each (t ∷ ts) step all = (step t all.0, each ts step all.1)
+pub there_before : {A : Type 0} (chosen : List A) (more : A) (field : ℕ) (there : A) → slice_get (chosen ++ more ∷ []) field ≡ Some there → field ≢ length chosen →
+    slice_get chosen field ≡ Some there
+there_before [] more zero there e other = absurd (other refl)
+there_before [] more (suc field) there e other = e
+there_before (first ∷ chosen) more zero there e other = e
+there_before (first ∷ chosen) more (suc field) there e other = there_before chosen more field there e (λ same. other (ap suc same))
 
-there_before : (chosen : List ℕ) (more field bits : ℕ) → slice_get (chosen ++ more ∷ []) field ≡ Some bits → field ≢ length chosen → slice_get chosen field ≡ Some bits
-there_before [] more zero bits e other = absurd (other refl)
-there_before [] more (suc field) bits e other = e
-there_before (first ∷ chosen) more zero bits e other = e
-there_before (first ∷ chosen) more (suc field) bits e other = there_before chosen more field bits e (λ same. other (ap suc same))
-
-there_last : (chosen : List ℕ) (more bits : ℕ) → slice_get (chosen ++ more ∷ []) (length chosen) ≡ Some bits → more ≡ bits
-there_last [] more bits e = cc
-there_last (first ∷ chosen) more bits e = there_last chosen more bits e
+pub there_last : {A : Type 0} (chosen : List A) (more there : A) → slice_get (chosen ++ more ∷ []) (length chosen) ≡ Some there → more ≡ there
+there_last [] more there e = cc
+there_last (first ∷ chosen) more there e = there_last chosen more there e
 
 -- the bits with another one at a field
 abbrev changed : ℕ → ℕ → (ℕ → ℕ) → ℕ → ℕ
@@ -91,7 +93,7 @@ module _ (number : Term → ℕ) where
       (tables_keep (found_so_far number chosen) (found_everywhere number bits) (so_far_refines chosen bits on) c)
 
   -- the next field has one of the candidates: if none of them goes on, nothing does
-  pub candidates_exclude : (c : Condition) (chosen candidates : List ℕ) → Represent number c (length chosen) candidates →
+  pub candidates_exclude : (c : Condition) (chosen candidates : List ℕ) → Represent number (mentions c) (length chosen) candidates →
       ((candidate : ℕ) → Contains candidates candidate → IsExcluded number c (chosen ++ candidate ∷ [])) → IsExcluded number c chosen
   candidates_exclude c chosen candidates represent none bits on holds = with_candidate (represent (bits (length chosen)))
     where
@@ -123,3 +125,44 @@ excluded_never_holds number places c named excluded readings holds =
     excluded (λ field. readings (places field)) (λ field there e. cc)
     (by_mentions (found_everywhere number (λ field. readings (places field))) (found_by readings) c
     (each (mentions c) (λ t e. ap (λ p. judgement t (Some (value_by (place_of t) (readings p)))) e) named) ∙ holds)
+
+-- ---- all fields have bits
+
+known_there : (t : Term) (bits : ℕ) → IsTrue (is_known (truth_there t (Some bits)))
+known_there t bits = by_test (compares t.op (value_by (place_of t) bits) t.value)
+  where
+    by_test : (holds : Bool) → IsTrue (is_known (if holds then True else False))
+    by_test true = refl
+    by_test false = refl
+
+there_at : (chosen : List ℕ) (n : ℕ) → n < length chosen → (bits : ℕ) × (slice_get chosen n ≡ Some bits)
+there_at [] n below = absurd (omega (arith, below))
+there_at (first ∷ chosen) zero below = (first, refl)
+there_at (first ∷ chosen) (suc n) below = there_at chosen n (omega (arith, below))
+
+-- so a condition that isn't known yet has a field without bits
+pub one_is_left : (fields : List Field) (chosen : List ℕ) (c : Condition) → AllByRecursion (λ t. HasField fields t) (mentions c) →
+    truth_by (found_so_far (field_number fields) chosen) c ≢ True → truth_by (found_so_far (field_number fields) chosen) c ≢ False → length chosen < length fields
+one_is_left fields chosen c has not_true not_false = by_test (nat_lt (length chosen) (length fields)) refl
+  where
+    one : length fields ≤ length chosen → (t : Term) → HasField fields t → IsTrue (is_known (found_so_far (field_number fields) chosen t))
+    one all t here =
+        let there = there_at chosen (field_number fields t) (omega (arith, all, here)) in
+        subst (λ o. IsTrue (is_known (truth_there t o))) (sym there.1) (known_there t there.0)
+
+    decided_then : (x : Truth) → IsTrue (is_known x) → x ≢ True → x ≢ False → ⊥
+    decided_then True known n m = n refl
+    decided_then False known n m = m refl
+    decided_then Stale known n m = cc
+    decided_then Error known n m = cc
+
+    past : nat_lt (length chosen) (length fields) ≡ false → length fields ≤ length chosen
+    past e = grind (arith, nat_tests)
+
+    below : nat_lt (length chosen) (length fields) ≡ true → length chosen < length fields
+    below e = grind (arith, nat_tests)
+
+    by_test : (test : Bool) → nat_lt (length chosen) (length fields) ≡ test → length chosen < length fields
+    by_test true e = below e
+    by_test false e = absurd (decided_then (truth_by (found_so_far (field_number fields) chosen) c)
+        (known_where_all_is (found_so_far (field_number fields) chosen) c (each (mentions c) (one (past e)) has)) not_true not_false)

@@ -1,9 +1,19 @@
 //! What can be said of a rule before any packet comes.
 #![tactic(auto)]
 
+mod classes;
+mod deciding;
+mod fields;
+mod finding;
+mod judging;
 pub mod laws;
 mod numbers;
+mod outcomes;
+mod packets;
+mod seen;
+mod thresholds;
 mod walk;
 
-pub use numbers::next_bits;
-pub use walk::{Field, Outcome, judge_over};
+pub use fields::{Field, field_of};
+pub use finding::{Finding, Reason};
+pub use judging::can_be_true;

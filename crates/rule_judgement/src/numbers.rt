@@ -1,11 +1,9 @@
 //! The numbers that a masked field may have.
 
-ghost use Rattle.std.specs.Prelude.{◌<◌, ◌^◌};
 ghost use Rattle.rule_judgement.specs.Numbers.{IsNextBits};
 
 /// The least number from `from` on that has no bit outside the mask.
-pub fn next_bits(mask: u64, from: u64) -> Option<u64>
-    requires { from < 2 ^ 63 }
+pub(crate) fn next_bits(mask: u64, from: u64) -> Option<u64>
     ensures { IsNextBits mask from result }
 {
     if from == 0 {
@@ -27,7 +25,7 @@ pub fn next_bits(mask: u64, from: u64) -> Option<u64>
             }
         }
     } else {
-        match next_bits(mask / 2, (from + 1) / 2) {
+        match next_bits(mask / 2, from / 2 + from % 2) {
             None => None,
             Some(half) => Some(2 * half),
         }

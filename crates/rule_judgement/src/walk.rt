@@ -1,134 +1,39 @@
 //! A walk over the fields of a condition, with some numbers for each.
 
-ghost use Rattle.std.specs.Prelude.{◌≡◌, ◌≤◌, length, Some, IfOk};
-ghost use Rattle.lc_model.specs.Codes.{type_code};
+ghost use Rattle.std.specs.Prelude.{◌≡◌, ◌≤◌, ◌<◌, length, IfOk, None, Some, false, true};
+ghost use Rattle.std.specs.List.{AllByRecursion};
+ghost use Rattle.lc_model.specs.declared.truth.Truth.TheVariants.{False, True};
 ghost use Rattle.lc_model.specs.Condition.{condition_of};
-ghost use Rattle.lc_model.specs.Field.{compares, twos_complement};
 ghost use Rattle.lc_model.specs.LimitChecker.Watch.{truth_by};
-ghost use Rattle.rule_judgement.specs.declared.walk.Outcome.TheVariants.{Excluded};
-ghost use Rattle.rule_judgement.specs.Search.{AreRepresented, IsNever, IsPossible, IsWalked, field_number, found_so_far, is_field_of, truth_there};
+ghost use Rattle.lc_model.specs.Tables.Equation.{mentions};
+ghost use Rattle.rule_judgement.specs.declared.walk.Outcome.TheVariants.{Excluded, Spent};
+ghost use Rattle.rule_judgement.specs.Fields.{HasField, field_number};
+ghost use Rattle.rule_judgement.specs.Search.{AreRepresented, IsWalked, found_so_far};
 
-use lc_model::{CmpOp, Cond, FieldType, Term, Truth};
-use std::alloc::{AllocError, Global};
-
-/// What two watchpoints share that read the same bits.
-#[derive(Clone, Copy, Debug, PartialEq, Eq)]
-pub struct Field {
-    pub kind: FieldType,
-    pub mid: u16,
-    pub offset: u32,
-    pub mask: u32,
-}
+use crate::fields::{Field, number};
+use crate::outcomes::outcome;
+use lc_model::{Cond, Truth};
+use std::alloc::AllocError;
 
 /// What a walk comes to.
 #[derive(Clone, Copy, Debug, PartialEq, Eq)]
-pub enum Outcome {
+pub(crate) enum Outcome {
     /// The numbers make the condition true.
     Found,
     /// No numbers do.
     Excluded,
-    /// A term reads none of the fields.
-    Open,
-}
-
-/// What these bits say in the type, in two's complement.
-fn signed(kind: FieldType, bits: u32) -> i64
-    ensures { result ≡ twos_complement kind bits }
-{
-    let plain = i64::from(bits);
-    match kind {
-        FieldType::I8 => if bits >= 0x80 { plain - 0x100 } else { plain },
-        FieldType::I16Be | FieldType::I16Le => if bits >= 0x8000 {
-            plain - 0x1_0000
-        } else {
-            plain
-        },
-        FieldType::I32Be | FieldType::I32Le => {
-            if bits >= 0x8000_0000 {
-                plain - 0x1_0000_0000
-            } else {
-                plain
-            }
-        }
-        FieldType::U8 | FieldType::U16Be | FieldType::U16Le | FieldType::U32Be | FieldType::U32Le =>
-            plain,
-    }
-}
-
-/// Whether the comparison holds.
-fn compares(op: CmpOp, left: i64, right: i64) -> bool
-    ensures { result ≡ compares op left right }
-{
-    match op {
-        CmpOp::Less => left < right,
-        CmpOp::LessOrEqual => left <= right,
-        CmpOp::NotEqual => left != right,
-        CmpOp::Equal => left == right,
-        CmpOp::GreaterOrEqual => left >= right,
-        CmpOp::Greater => left > right,
-    }
-}
-
-/// What the term's comparison says of these bits.
-fn judge(term: &Term, bits: u32) -> Truth
-    ensures { result ≡ truth_there term.now (Some bits) }
-{
-    let value = signed(term.kind, bits & term.mask);
-    if compares(term.op, value, term.value) {
-        Truth::True
-    } else {
-        Truth::False
-    }
-}
-
-/// The number of a type.
-fn code(kind: FieldType) -> u8
-    ensures { result ≡ type_code kind }
-{
-    match kind {
-        FieldType::U8 => 1,
-        FieldType::I8 => 2,
-        FieldType::U16Be => 3,
-        FieldType::U16Le => 4,
-        FieldType::I16Be => 5,
-        FieldType::I16Le => 6,
-        FieldType::U32Be => 7,
-        FieldType::U32Le => 8,
-        FieldType::I32Be => 9,
-        FieldType::I32Le => 10,
-    }
-}
-
-/// Whether the term reads the field.
-fn reads(term: &Term, field: &Field) -> bool
-    ensures { result ≡ is_field_of term.now field.now }
-{
-    code(term.kind) == code(field.kind)
-        && term.mid == field.mid
-        && term.offset == field.offset
-        && term.mask == field.mask
-}
-
-/// Which of the fields the term reads; their count where none.
-fn number(fields: &[Field], term: &Term) -> usize
-    ensures { result ≡ field_number fields.now term.now }
-{
-    for i in 0..fields.len() {
-        if reads(term, &fields[i]) {
-            return i;
-        }
-    }
-    fields.len()
+    /// It would take more steps than it may.
+    Spent,
 }
 
 /// The truth of a condition where the first fields have these bits, and the others are stale.
-fn evaluate(cond: &Cond, fields: &[Field], chosen: &[u32]) -> Truth
+pub(crate) fn evaluate(cond: &Cond, fields: &[Field], chosen: &[u32]) -> Truth
     ensures { result ≡ truth_by (found_so_far (field_number fields.now) chosen.now) (condition_of cond.now) }
 {
     match cond {
         Cond::Watch(term) => match chosen.get(number(fields, term)) {
             None => Truth::Stale,
-            Some(bits) => judge(term, *bits),
+            Some(bits) => outcome(term, *bits),
         },
         Cond::Not(operand) => evaluate(operand, fields, chosen).not(),
         Cond::And(operands) => {
@@ -143,49 +48,55 @@ fn evaluate(cond: &Cond, fields: &[Field], chosen: &[u32]) -> Truth
     }
 }
 
-/// Goes on from the bits so far: finds bits for the next fields that make the condition true, or shows that none do.
-fn walk(
+/// What the bits so far say already, if anything; else a field is left that has none.
+fn settled(cond: &Cond, fields: &[Field], chosen: &[u32]) -> Option<bool>
+    requires { AllByRecursion (λ t. HasField fields.now t) (mentions (condition_of cond.now)) }
+    ensures found { result ≡ Some true → truth_by (found_so_far (field_number fields.now) chosen.now) (condition_of cond.now) ≡ True }
+    ensures excluded { result ≡ Some false → truth_by (found_so_far (field_number fields.now) chosen.now) (condition_of cond.now) ≡ False }
+    ensures left { result ≡ None → length chosen.now < length fields.now }
+{
+    match evaluate(cond, fields, chosen) {
+        Truth::True => Some(true),
+        Truth::False => Some(false),
+        _ => None,
+    }
+}
+
+/// Goes on from the bits so far: finds bits for the next fields that make the condition true, or shows that none do, in so many
+/// steps at most.
+pub(crate) fn walk(
     cond: &Cond,
     fields: &[Field],
     candidates: &[Vec<u32>],
     chosen: &mut Vec<u32>,
+    steps: &mut u32,
 ) -> Result<Outcome, AllocError>
-    requires represented { AreRepresented (field_number fields.now) (condition_of cond.now) candidates.now }
+    requires known { AllByRecursion (λ t. HasField fields.now t) (mentions (condition_of cond.now)) }
+    requires each { length candidates.now ≡ length fields.now }
+    requires represented { AreRepresented (field_number fields.now) (mentions (condition_of cond.now)) candidates.now }
     requires so_far { length chosen.old.items ≤ length candidates.now }
-    ensures walked { IfOk result (λ outcome. IsWalked (field_number fields.now) (condition_of cond.now) chosen.old.items chosen.new.items outcome) }
+    ensures walked { IfOk result (λ outcome. IsWalked (field_number fields.now) (condition_of cond.now)
+        chosen.old.items chosen.new.items outcome) }
     ensures back { IfOk result (λ outcome. outcome ≡ Excluded → chosen.new.items ≡ chosen.old.items) }
+    ensures spent { IfOk result (λ outcome. outcome ≡ Spent → steps.new ≡ 0) }
 {
-    match evaluate(cond, fields, chosen) {
-        Truth::True => return Ok(Outcome::Found),
-        Truth::False => return Ok(Outcome::Excluded),
-        _ => {}
+    match settled(cond, fields, chosen) {
+        Some(true) => return Ok(Outcome::Found),
+        Some(false) => return Ok(Outcome::Excluded),
+        None => {}
     }
-    if chosen.len() == candidates.len() {
-        return Ok(Outcome::Open);
+    if *steps == 0 {
+        return Ok(Outcome::Spent);
     }
+    *steps -= 1;
     let row = &candidates[chosen.len()];
     for candidate in row {
         chosen.push(*candidate)?;
-        match walk(cond, fields, candidates, chosen)? {
+        match walk(cond, fields, candidates, chosen, steps)? {
             Outcome::Excluded => {}
             other => return Ok(other),
         }
         chosen.pop();
     }
     Ok(Outcome::Excluded)
-}
-
-/// Whether some numbers of the fields make the condition true, by candidates that represent all numbers.
-pub fn judge_over(
-    alloc: Global,
-    cond: &Cond,
-    fields: &[Field],
-    candidates: &[Vec<u32>],
-) -> Result<Outcome, AllocError>
-    requires { AreRepresented (field_number fields.now) (condition_of cond.now) candidates.now }
-    ensures never { IfOk result (λ outcome. IsNever (field_number fields.now) (condition_of cond.now) outcome) }
-    ensures possible { IfOk result (λ outcome. IsPossible (field_number fields.now) (condition_of cond.now) outcome) }
-{
-    let mut chosen = Vec::new(alloc);
-    walk(cond, fields, candidates, &mut chosen)
 }

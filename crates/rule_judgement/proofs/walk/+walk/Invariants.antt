@@ -1,6 +1,7 @@
 use Rattle.std.proofs.Common.{◌-◌, length}
 use Rattle.lc_model.specs.Condition.{condition_of}
-use Rattle.rule_judgement.specs.Search.{HasTried, field_number}
+use Rattle.rule_judgement.specs.Search.{HasTried}
+use Rattle.rule_judgement.specs.Fields.{field_number}
 use Rattle.rule_judgement.proofs.walk.+walk.Given as goal
 
 abbrev pub decreases-walk : goal.decreases-walk

@@ -7,16 +7,16 @@ use Rattle.std.specs.List.{AllByRecursion}
 use Rattle.rule_judgement.specs.Numbers.{Fits, IsLeastFrom}
 
 -- a member, or 0
-abbrev IsAmong : List ℕ → ℕ → Type 0
+abbrev pub IsAmong : List ℕ → ℕ → Type 0
 IsAmong [] n = n ≡ 0
 IsAmong (x ∷ xs) n = (n ≡ x) ⊎ IsAmong xs n
 
 -- the greatest of the thresholds that a number reaches
-record Reached (thresholds : List ℕ) (n : ℕ) : Type 0 where
-  at : ℕ
-  among : IsAmong thresholds at
-  below : at ≤ n
-  greatest : AllByRecursion (λ t. t ≤ n → t ≤ at) thresholds
+pub record Reached (thresholds : List ℕ) (n : ℕ) : Type 0 where
+  pub at : ℕ
+  pub among : IsAmong thresholds at
+  pub below : at ≤ n
+  pub greatest : AllByRecursion (λ t. t ≤ n → t ≤ at) thresholds
 
 more : (thresholds : List ℕ) (n a b : ℕ) → a ≤ b → AllByRecursion (λ t. t ≤ n → t ≤ a) thresholds → AllByRecursion (λ t. t ≤ n → t ≤ b) thresholds
 more [] n a b up all = tt
@@ -25,7 +25,7 @@ more (t ∷ ts) n a b up all = ((λ reached. le (all.0 reached) up), more ts n a
     le : t ≤ a → a ≤ b → t ≤ b
     le p q = omega arith
 
-reached : (thresholds : List ℕ) (n : ℕ) → Reached thresholds n
+pub reached : (thresholds : List ℕ) (n : ℕ) → Reached thresholds n
 reached [] n = record { at = 0; among = refl; below = omega arith; greatest = tt }
 reached (t ∷ ts) n = by_test (nat_le t n) refl (reached ts n)
   where
@@ -56,6 +56,7 @@ reached (t ∷ ts) n = by_test (nat_le t n) refl (reached ts n)
 pub record Represents (mask : ℕ) (thresholds : List ℕ) (n : ℕ) : Type 0 where
   pub from : ℕ
   pub among : IsAmong thresholds from
+  pub reached : from ≤ n
   pub there : (candidate : ℕ) → IsLeastFrom mask from candidate → (candidate ≤ n) × AllByRecursion (λ t. (t ≤ candidate → t ≤ n) × (t ≤ n → t ≤ candidate)) thresholds
 
 pub represents : (mask : ℕ) (thresholds : List ℕ) (n : ℕ) → Fits mask n → Represents mask thresholds n
@@ -73,5 +74,6 @@ represents mask thresholds n fits = by_reached (reached thresholds n)
     by_reached r = record {
       from = r.at;
       among = r.among;
+      reached = r.below;
       there = λ candidate is. (is.least n fits r.below, both thresholds r.at candidate is.reaches (is.least n fits r.below) r.greatest);
     }

@@ -1,6 +1,6 @@
 use Rattle.std.proofs.Common.{sym, ◌∙◌, arith, refl}
 use Rattle.rule_judgement.proofs.Tried.{number_here, number_on, number_none}
-use Rattle.rule_judgement.proofs.walk.number.Goals as goal
+use Rattle.rule_judgement.proofs.fields.number.Goals as goal
 
 pub returns-then-reads : goal.returns-then-reads
 returns-then-reads c =
