@@ -1,6 +1,7 @@
 -- Fields by number: more fields leave the numbers, and a number tells the field's parts.
 use Rattle.std.proofs.Common.{◌≡◌, ℕ, zero, suc, ◌+◌, ◌≤◌, ◌<◌, Bool, true, false, ◌&&◌, ◌==◌, List, [], ◌∷◌, ◌++◌, length, get_or, refl, ap, sym, ◌∙◌, subst, arith, add-one, if◌then◌else◌}
-use Rattle.std.specs.Prelude.{IsTrue, filter}
+use Rattle.std.specs.Prelude.{IsTrue, pos}
+use Rattle.lc_model.specs.declared.field.CmpOp.TheVariants.{Less}
 use Rattle.std.specs.List.{AllByRecursion}
 use Rattle.std.proofs.lemmas.Bool.Decides.{nat_tests}
 use Rattle.lc_model.specs.declared.field.Term.{Term}
@@ -136,3 +137,15 @@ named (f ∷ fields) other t has = by_test (named fields other t) (is_field_of t
     by_test later true own h = same_place t f own
     by_test later false e h =
         ap (place_numbered (f ∷ fields) other) (add-one (field_number fields t)) ∙ later (omega (arith, h))
+
+-- ---- numbers of places
+
+-- a comparison at a place
+abbrev pub at_place : Place → Term
+at_place p = record { kind = p.kind; mid = p.mid; offset = p.offset; mask = p.mask; stale = 0; op = Less; value = pos 0 }
+
+-- a term's number is its place's
+pub number_of_place : (fields : List Field) (t : Term) → field_number fields (at_place (place_of t)) ≡ field_number fields t
+unfolding field_number
+number_of_place [] t = refl
+number_of_place (f ∷ fields) t = ap (λ n. if is_field_of t f then 0 else n + 1) (number_of_place fields t)

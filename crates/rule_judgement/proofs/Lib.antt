@@ -11,3 +11,5 @@ pub mod Each
 pub mod FieldLaws
 pub mod ClassLaws
 pub mod SeenLaws
+pub mod CalledSteps
+pub mod CalledLaws

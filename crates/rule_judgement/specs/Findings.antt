@@ -1,26 +1,32 @@
 -- What is found of a condition, and what shows it. This project's own.
 use Rattle.std.specs.Prelude.{◌≡◌, ℕ, List, map, None, IsTrue}
-use Rattle.std.specs.List.{AllByRecursion}
+use Rattle.std.specs.List.{AllByRecursion, AllZip}
 use Rattle.std.specs.declared.vec.Vec.{Vec}
 use Rattle.std.specs.Global.{Global}
 use Rattle.lc_model.specs.declared.truth.Truth.TheVariants.{True}
 use Rattle.lc_model.specs.Packet.{stream_fault, message_id, is_telemetry_mid}
-use Rattle.lc_model.specs.Condition.{Condition}
-use Rattle.lc_model.specs.LimitChecker.Watch.{History, HistoryItem, Packet, truth_by, truth_of}
+use Rattle.lc_model.specs.declared.field.Term.{Term}
+use Rattle.lc_model.specs.Condition.{Condition, Watch, Not}
+use Rattle.lc_model.specs.Rule.{NamedRule}
+use Rattle.lc_model.specs.Tables.Equation.{mentions}
+use Rattle.lc_model.specs.LimitChecker.Watch.{History, HistoryItem, Packet, truth_of}
 use Rattle.rule_judgement.specs.declared.deciding.Decision.{Decision}
 use Rattle.rule_judgement.specs.declared.deciding.Decision.TheVariants as decision
 use Rattle.rule_judgement.specs.declared.finding.Finding.{Finding}
 use Rattle.rule_judgement.specs.declared.finding.Finding.TheVariants as finding
-use Rattle.rule_judgement.specs.Fields.{field_number}
-use Rattle.rule_judgement.specs.Search.{found_so_far}
-use Rattle.rule_judgement.specs.Judgement.{NeverFails}
+use Rattle.rule_judgement.specs.declared.finding.Reason.TheVariants as reason
+use Rattle.rule_judgement.specs.declared.finding.Constancy.{Constancy}
+use Rattle.rule_judgement.specs.declared.finding.Constancy.TheVariants as constancy
+use Rattle.rule_judgement.specs.declared.finding.ComparisonJudgement.{ComparisonJudgement}
+use Rattle.rule_judgement.specs.declared.finding.RuleJudgement.{RuleJudgement}
+use Rattle.rule_judgement.specs.Judgement.{NeverFails, HoldsForSome}
 
 -- ---- numbers
 
--- nothing makes the condition true, or these bits do
+-- no numbers of its fields make the condition true, or some do
 abbrev pub IsDecided : Condition → Decision → Type 0
 IsDecided c decision.Never = NeverFails c
-IsDecided c (decision.Holds fields bits) = truth_by (found_so_far (field_number fields.items) bits.items) c ≡ True
+IsDecided c (decision.Holds fields bits) = HoldsForSome c
 IsDecided c decision.Spent = Unit {0}
 
 -- ---- packets
@@ -41,8 +47,30 @@ pub record Shows (c : Condition) (packets : List (Vec ℕ Global)) : Type 0 wher
 
 -- ---- findings
 
--- nothing that may be seen makes the condition true, or these packets do
+-- nothing that may be seen makes the condition true; these packets do; or numbers of its fields do, each field being free
 abbrev pub IsFound : Condition → Finding → Type 0
 IsFound c finding.Never = NeverFails c
 IsFound c (finding.Possible packets) = Shows c packets.items
-IsFound c (finding.Unknown why) = Unit {0}
+IsFound c (finding.Unknown reason.Overlap) = HoldsForSome c
+IsFound c (finding.Unknown reason.Steps) = Unit {0}
+
+-- the comparison holds of all numbers that its field may have, or of none; or of some, and not of others
+abbrev pub IsConstancy : Term → Constancy → Type 0
+IsConstancy t constancy.Always = NeverFails (Not (Watch t))
+IsConstancy t constancy.Never = NeverFails (Watch t)
+IsConstancy t constancy.Varies = HoldsForSome (Watch t) × HoldsForSome (Not (Watch t))
+IsConstancy t constancy.Unknown = Unit {0}
+
+-- these comparisons, each judged
+abbrev pub AreComparisons : List Term → List ComparisonJudgement → Type 0
+AreComparisons terms judged = AllZip (λ (t : Term) (j : ComparisonJudgement). (j.term ≡ t) × IsConstancy t j.says) terms judged
+
+-- whether a rule with this condition can fail, and whether it can pass, and its comparisons
+pub record IsRuleJudged (c : Condition) (j : RuleJudgement) : Type 0 where
+  pub fails : IsFound c j.fails
+  pub passes : IsFound (Not c) j.passes
+  pub comparisons : AreComparisons (mentions c) j.comparisons.items
+
+-- each rule judged, in their order
+abbrev pub AreJudged : List NamedRule → List RuleJudgement → Type 0
+AreJudged rules judged = AllZip (λ (rule : NamedRule) (j : RuleJudgement). IsRuleJudged rule.action.condition j) rules judged

@@ -69,6 +69,10 @@ found_by readings t = judgement t (Some (value_by (place_of t) (readings (place_
 abbrev pub NeverHolds : Condition → Type 0
 NeverHolds c = (readings : Readings) → truth_by (found_by readings) c ≢ True
 
+-- some do
+abbrev pub HoldsForSome : Condition → Type 0
+HoldsForSome c = (readings : Readings) × (truth_by (found_by readings) c ≡ True)
+
 -- ---- more is known
 
 -- what is known stays

@@ -6,3 +6,4 @@ pub mod Fields
 pub mod Classes
 pub mod Search
 pub mod Findings
+pub mod Called

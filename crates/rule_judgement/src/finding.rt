@@ -1,12 +1,14 @@
-//! What is found of a condition.
+//! What is found of conditions, rules and texts.
+
+use lc_model::Term;
 
 /// Why it isn't known whether a condition can be true.
 #[derive(Clone, Copy, Debug, PartialEq, Eq)]
 pub enum Reason {
-    /// Fields share bits, with each other or with a packet's header, or end behind the longest packet, and the numbers that
-    /// were found don't come together.
+    /// Numbers of its fields make it true, but fields share bits, with each other or with a packet's header, or end behind the
+    /// longest packet, so that these numbers don't come together.
     Overlap,
-    /// To try all would take more steps than were allowed.
+    /// To try all numbers would take more steps than were allowed.
     Steps,
 }
 
@@ -19,4 +21,41 @@ pub enum Finding {
     Possible(Vec<Vec<u8>>),
     /// It is not known.
     Unknown(Reason),
+}
+
+/// What a comparison says of the numbers that its field may have.
+#[derive(Clone, Copy, Debug, PartialEq, Eq)]
+pub enum Constancy {
+    /// It holds of all.
+    Always,
+    /// It holds of none.
+    Never,
+    /// It holds of some, and not of others.
+    Varies,
+    /// It is not known.
+    Unknown,
+}
+
+/// A comparison of a rule.
+#[derive(Clone, Copy, Debug)]
+pub struct ComparisonJudgement {
+    pub term: Term,
+    pub says: Constancy,
+}
+
+/// What is found of a rule.
+#[derive(Debug, Drop)]
+pub struct RuleJudgement {
+    /// Whether its condition can be true, so that it fails.
+    pub fails: Finding,
+    /// Whether its condition can be false, so that it passes.
+    pub passes: Finding,
+    /// Its comparisons, in the order in which they stand.
+    pub comparisons: Vec<ComparisonJudgement>,
+}
+
+/// What is found of the rules of a text, in their order.
+#[derive(Debug, Drop)]
+pub struct Judgement {
+    pub rules: Vec<RuleJudgement>,
 }

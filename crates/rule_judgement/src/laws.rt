@@ -4,6 +4,8 @@ ghost use Rattle.rule_judgement.specs.Judgement.{TablesKeep, NeverHoldsNeverFail
 ghost use Rattle.std.specs.Prelude.{List};
 ghost use Rattle.lc_model.specs.Tables.HalvesAndBytes.{as_bytes, as_halves};
 ghost use Rattle.lc_model.specs.Tables.Image.{Layout};
+ghost use Rattle.lc_model.specs.Host.Promise.{Mission};
+ghost use Rattle.rule_judgement.specs.Called.{IsNeverCalledFor};
 ghost use Rattle.rule_judgement.specs.Quiet.{NobodyRequests, QuietRulesStayQuiet, StartsQuiet};
 
 /// What is known of a condition stays when more is known, and what no numbers make true no history does.
@@ -25,4 +27,10 @@ pub fn nobody_requests_quiet_sequences()
     ensures start_by_bytes { (layouts : List Layout) → StartsQuiet (as_bytes layouts) }
     ensures texts { (layouts : List Layout) → NobodyRequests (as_halves layouts) }
     ensures bytes { (layouts : List Layout) → NobodyRequests (as_bytes layouts) }
+{}
+
+/// Where in each of its texts each rule with a sequence never fails, no request of this sequence is among those that the texts
+/// of a mission call for, whatever the stream.
+pub fn quiet_sequences_are_not_called_for()
+    ensures { (mission : Mission) → IsNeverCalledFor mission }
 {}

@@ -2,6 +2,7 @@
 #![tactic(auto)]
 
 mod classes;
+mod conditions;
 mod deciding;
 mod fields;
 mod finding;
@@ -15,5 +16,5 @@ mod thresholds;
 mod walk;
 
 pub use fields::{Field, field_of};
-pub use finding::{Finding, Reason};
-pub use judging::can_be_true;
+pub use finding::{ComparisonJudgement, Constancy, Finding, Judgement, Reason, RuleJudgement};
+pub use judging::{RULE_STEPS, can_be_true, judge};
