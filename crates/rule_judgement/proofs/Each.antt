@@ -1,5 +1,5 @@
 -- What holds of each item of a list.
-use Rattle.std.proofs.Common.{◌≡◌, ℕ, ◌+◌, ◌≤◌, ◌<◌, List, [], ◌∷◌, ◌++◌, take, length, map, get_or, sym, subst}
+use Rattle.std.proofs.Common.{◌≡◌, ℕ, ◌+◌, ◌≤◌, ◌<◌, List, [], ◌∷◌, ◌++◌, take, length, map, get_or, slice_get, ap, sym, subst, zero, suc, arith, Some}
 use Rattle.std.specs.List.{AllByRecursion, AllZip}
 use Rattle.std.proofs.lemmas.List.{take_all, take_more}
 
@@ -42,3 +42,10 @@ mapped_pairs f R [] [] all = tt
 mapped_pairs f R [] (y ∷ ys) all = absurd all
 mapped_pairs f R (x ∷ xs) [] all = absurd all
 mapped_pairs f R (x ∷ xs) (y ∷ ys) all = (all.0, mapped_pairs f R xs ys all.1)
+
+-- ---- what stands at a place
+
+pub there_mapped : {A B : Type 0} (f : A → B) (xs : List A) (k : ℕ) (x : A) → k < length xs → x ≡ get_or xs k x → slice_get (map f xs) k ≡ Some (f x)
+there_mapped f [] k x below is = absurd (omega (arith, below))
+there_mapped f (y ∷ xs) zero x below is = ap (λ z. Some (f z)) (sym is)
+there_mapped f (y ∷ xs) (suc k) x below is = there_mapped f xs k x (omega (arith, below)) is

@@ -1,9 +1,10 @@
 -- What is found of a condition, and what shows it. This project's own.
-use Rattle.std.specs.Prelude.{◌≡◌, ℕ, List, map, None, IsTrue}
+use Rattle.std.specs.Prelude.{◌≡◌, ℕ, ◌<◌, ℤ, List, map, slice_get, Option, Some, None, IsTrue}
 use Rattle.std.specs.List.{AllByRecursion, AllZip}
 use Rattle.std.specs.declared.vec.Vec.{Vec}
 use Rattle.std.specs.Global.{Global}
 use Rattle.lc_model.specs.declared.truth.Truth.TheVariants.{True}
+use Rattle.lc_model.specs.Field.{value_of}
 use Rattle.lc_model.specs.Packet.{stream_fault, message_id, is_telemetry_mid}
 use Rattle.lc_model.specs.declared.field.Term.{Term}
 use Rattle.lc_model.specs.Condition.{Condition, Watch, Not}
@@ -19,7 +20,10 @@ use Rattle.rule_judgement.specs.declared.finding.Constancy.{Constancy}
 use Rattle.rule_judgement.specs.declared.finding.Constancy.TheVariants as constancy
 use Rattle.rule_judgement.specs.declared.finding.ComparisonJudgement.{ComparisonJudgement}
 use Rattle.rule_judgement.specs.declared.finding.RuleJudgement.{RuleJudgement}
-use Rattle.rule_judgement.specs.Judgement.{NeverFails, HoldsForSome}
+use Rattle.rule_judgement.specs.declared.finding.Relation.{Relation}
+use Rattle.rule_judgement.specs.declared.finding.Relation.TheVariants as relation
+use Rattle.rule_judgement.specs.declared.finding.PairJudgement.{PairJudgement}
+use Rattle.rule_judgement.specs.Judgement.{NeverFails, HoldsForSome, FailsWherever}
 
 -- ---- numbers
 
@@ -34,6 +38,11 @@ IsDecided c decision.Spent = Unit {0}
 -- these packets came, the first of them last, and nothing has aged since
 abbrev pub history_of : List (Vec ℕ Global) → History
 history_of packets = map (λ (packet : Vec ℕ Global). Packet packet.items) packets
+
+-- what a term's field is in a packet that was seen
+abbrev pub value_seen : Term → Option (List ℕ × ℕ) → Option ℤ
+value_seen t None = None
+value_seen t (Some (packet, agings)) = value_of t packet
 
 -- telemetry that a stream may bring
 pub record IsTelemetry (packet : List ℕ) : Type 0 where
@@ -74,3 +83,20 @@ pub record IsRuleJudged (c : Condition) (j : RuleJudgement) : Type 0 where
 -- each rule judged, in their order
 abbrev pub AreJudged : List NamedRule → List RuleJudgement → Type 0
 AreJudged rules judged = AllZip (λ (rule : NamedRule) (j : RuleJudgement). IsRuleJudged rule.action.condition j) rules judged
+
+-- ---- pairs
+
+-- how two conditions go together
+abbrev pub IsRelated : Condition → Condition → Relation → Type 0
+IsRelated a b relation.Same = FailsWherever a b × FailsWherever b a
+IsRelated a b relation.FirstFollows = FailsWherever b a
+IsRelated a b relation.SecondFollows = FailsWherever a b
+
+-- two of the rules, and how they go together
+pub record IsPair (rules : List NamedRule) (p : PairJudgement) : Type 0 where
+  pub order : p.first < p.second
+  pub first : NamedRule
+  pub first_is : slice_get rules p.first ≡ Some first
+  pub second : NamedRule
+  pub second_is : slice_get rules p.second ≡ Some second
+  pub related : IsRelated first.action.condition second.action.condition p.relation

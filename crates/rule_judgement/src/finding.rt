@@ -59,3 +59,22 @@ pub struct RuleJudgement {
 pub struct Judgement {
     pub rules: Vec<RuleJudgement>,
 }
+
+/// How two rules go together, wherever the fields of both are known, neither stale nor in error.
+#[derive(Clone, Copy, Debug, PartialEq, Eq)]
+pub enum Relation {
+    /// Each fails where the other one does.
+    Same,
+    /// The first one fails where the second one does.
+    FirstFollows,
+    /// The second one fails where the first one does.
+    SecondFollows,
+}
+
+/// Two rules of a text, by their numbers from 0, the lesser number first.
+#[derive(Clone, Copy, Debug, PartialEq, Eq)]
+pub struct PairJudgement {
+    pub first: usize,
+    pub second: usize,
+    pub relation: Relation,
+}

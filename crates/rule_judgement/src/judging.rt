@@ -9,7 +9,7 @@ ghost use Rattle.rule_judgement.specs.Judgement.{HoldsForSome, NeverFails};
 ghost use Rattle.rule_judgement.specs.Findings.{AreComparisons, AreJudged, IsConstancy, IsFound, IsRuleJudged};
 
 use crate::conditions::negated;
-use crate::deciding::{Decision, decide};
+use crate::deciding::{Decision, decide, holds_for_some};
 use crate::fields::collect;
 use crate::finding::{ComparisonJudgement, Constancy, Finding, Judgement, Reason, RuleJudgement};
 use crate::packets::laid;
@@ -24,7 +24,8 @@ pub const RULE_STEPS: u32 = 1 << 20;
 pub fn can_be_true(alloc: Global, cond: &Cond, steps: u32) -> Result<Finding, AllocError>
     ensures { IfOk result (λ finding. IsFound (condition_of cond.now) finding) }
 {
-    match decide(alloc, cond, steps)? {
+    let mut left = steps;
+    match decide(alloc, cond, &mut left)? {
         Decision::Never => Ok(Finding::Never),
         Decision::Spent => Ok(Finding::Unknown(Reason::Steps)),
         Decision::Holds { fields, bits } => {
@@ -38,25 +39,14 @@ pub fn can_be_true(alloc: Global, cond: &Cond, steps: u32) -> Result<Finding, Al
     }
 }
 
-/// Whether some numbers of its fields make the condition true, each field being free; none where it is not known.
-fn holds_for_some(alloc: Global, cond: &Cond) -> Result<Option<bool>, AllocError>
-    ensures some { IfOk result (λ some. some ≡ Some true → HoldsForSome (condition_of cond.now)) }
-    ensures never { IfOk result (λ some. some ≡ Some false → NeverFails (condition_of cond.now)) }
-{
-    match decide(alloc, cond, RULE_STEPS)? {
-        Decision::Holds { .. } => Ok(Some(true)),
-        Decision::Never => Ok(Some(false)),
-        Decision::Spent => Ok(None),
-    }
-}
-
 /// Whether the comparison holds of some numbers.
 fn holds(alloc: Global, term: &Term) -> Result<Option<bool>, AllocError>
     ensures some { IfOk result (λ some. some ≡ Some true → HoldsForSome (Watch term.now)) }
     ensures never { IfOk result (λ some. some ≡ Some false → NeverFails (Watch term.now)) }
 {
     let cond = Cond::Watch(*term);
-    holds_for_some(alloc, &cond)
+    let mut steps = RULE_STEPS;
+    holds_for_some(alloc, &cond, &mut steps)
 }
 
 /// Whether it doesn't hold of some.
@@ -66,7 +56,8 @@ fn misses(alloc: Global, term: &Term) -> Result<Option<bool>, AllocError>
 {
     let cond = Cond::Watch(*term);
     let other = negated(alloc, &cond)?;
-    holds_for_some(alloc, &other)
+    let mut steps = RULE_STEPS;
+    holds_for_some(alloc, &other, &mut steps)
 }
 
 /// What it says by these two.

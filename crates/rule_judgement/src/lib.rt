@@ -11,10 +11,15 @@ pub mod laws;
 mod numbers;
 mod outcomes;
 mod packets;
+mod pairs;
 mod seen;
 mod thresholds;
 mod walk;
 
 pub use fields::{Field, field_of};
-pub use finding::{ComparisonJudgement, Constancy, Finding, Judgement, Reason, RuleJudgement};
+pub use finding::{
+    ComparisonJudgement, Constancy, Finding, Judgement, PairJudgement, Reason, Relation, RuleJudgement,
+};
+pub use pairs::{TEXT_STEPS, judge_pairs};
+pub use seen::value_with;
 pub use judging::{RULE_STEPS, can_be_true, judge};

@@ -6,7 +6,7 @@ ghost use Rattle.lc_model.specs.Condition.{condition_of};
 ghost use Rattle.lc_model.specs.Field.{raw, value_of, width};
 ghost use Rattle.lc_model.specs.LimitChecker.Watch.{judgement, last_packet, truth_of, truth_of_term};
 ghost use Rattle.lc_model.specs.Packet.{message_id as id_of};
-ghost use Rattle.rule_judgement.specs.Findings.{IsTelemetry, Shows, history_of};
+ghost use Rattle.rule_judgement.specs.Findings.{IsTelemetry, Shows, history_of, value_seen};
 
 use crate::outcomes::{compares, signed};
 use lc_model::packet::stream_fault;
@@ -42,7 +42,7 @@ fn bits_in(kind: FieldType, bytes: &[u8]) -> u32
 }
 
 /// The value of the term's field in a packet; none where the packet ends before the field does.
-pub(crate) fn value(term: &Term, packet: &[u8]) -> Option<i64>
+fn value(term: &Term, packet: &[u8]) -> Option<i64>
     ensures { result ≡ value_of term.now packet.now }
 {
     let start = term.offset as usize;
@@ -57,7 +57,7 @@ pub(crate) fn value(term: &Term, packet: &[u8]) -> Option<i64>
 }
 
 /// The last packet of a message id, where the first of these came last.
-pub(crate) fn last_of(packets: &[Vec<u8>], mid: u16) -> Option<&[u8]>
+fn last_of(packets: &[Vec<u8>], mid: u16) -> Option<&[u8]>
     ensures { last_packet mid (history_of packets.now) ≡ option_map (λ packet. (packet.now, 0)) result }
 {
     for packet in packets {
@@ -66,6 +66,17 @@ pub(crate) fn last_of(packets: &[Vec<u8>], mid: u16) -> Option<&[u8]>
         }
     }
     None
+}
+
+/// The value of the term's field in the last of these packets that has its message id, where the first of them came last; none
+/// where there is no such packet, or it ends before the field does.
+pub fn value_with(term: &Term, packets: &[Vec<u8>]) -> Option<i64>
+    ensures { result ≡ value_seen term.now (last_packet term.now.mid (history_of packets.now)) }
+{
+    match last_of(packets, term.mid) {
+        None => None,
+        Some(packet) => value(term, packet),
+    }
 }
 
 /// What the term is found to be with these packets.
