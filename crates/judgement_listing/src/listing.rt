@@ -6,8 +6,8 @@ use crate::lines::{Shown, ShownTerm, Values};
 use crate::text::RuleText;
 use lc_model::{Rule, Term};
 use rule_judgement::{
-    ComparisonJudgement, Constancy, Finding, Judgement, PairJudgement, Reason, Relation, RuleJudgement, judge,
-    judge_pairs,
+    ComparisonJudgement, Constancy, Finding, Judgement, PairJudgement, Reason, Relation,
+    RuleJudgement, judge, judge_pairs,
 };
 use std::alloc::{AllocError, Global};
 use std::io::Write;

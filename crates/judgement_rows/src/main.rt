@@ -1,6 +1,13 @@
-//! Rule texts judged as data.
+//! Rule texts judged as data, each file of `data/` a row; and 4,000 conditions made at random, whose judgements are compared with
+//! what trying all values shows.
 #![tactic(auto)]
 
+mod comparing;
+mod making;
+mod random;
+mod trying;
+
+use crate::comparing::Counts;
 use judgement_listing::{Which, list_judgement};
 use std::fs;
 
@@ -18,9 +25,25 @@ const TEXTS: [&str; 6] = [
 fn show(rt: &HostRuntime, name: &str) -> anyhow::Result<()> {
     println!(rt; "{name}")?;
     let source = fs::read(rt, name)?;
-    let mut lines = Vec::new(rt.alloc());
-    list_judgement(rt.alloc(), source.as_slice(), Which::All, &mut lines)?;
-    std::io::stdout(rt).write_all(lines.as_slice())?;
+    list_judgement(rt.alloc(), source.as_slice(), Which::All, &mut rt.stdout())?;
+    Ok(())
+}
+
+/// Prints what was counted.
+fn show_counts(rt: &HostRuntime, what: &str, counts: Counts) -> anyhow::Result<()> {
+    let Counts {
+        never,
+        possible,
+        unknown,
+        never_unknown,
+        same,
+        follow,
+        wrong,
+    } = counts;
+    println!(rt;
+        "{what}: {never} never, {possible} possible, {unknown} unknown ({never_unknown} of them never)"
+    )?;
+    println!(rt; "{what}: {same} pairs the same, {follow} pairs follow, {wrong} wrong")?;
     Ok(())
 }
 
@@ -28,5 +51,6 @@ fn main(rt: HostRuntime) -> anyhow::Result<()> {
     for name in TEXTS {
         show(&rt, name)?;
     }
-    Ok(())
+    show_counts(&rt, "free fields", Counts::of_free_fields(rt.alloc())?)?;
+    show_counts(&rt, "shared bits", Counts::of_shared_bits(rt.alloc())?)
 }

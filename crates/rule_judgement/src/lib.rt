@@ -18,8 +18,9 @@ mod walk;
 
 pub use fields::{Field, field_of};
 pub use finding::{
-    ComparisonJudgement, Constancy, Finding, Judgement, PairJudgement, Reason, Relation, RuleJudgement,
+    ComparisonJudgement, Constancy, Finding, Judgement, PairJudgement, Reason, Relation,
+    RuleJudgement,
 };
+pub use judging::{RULE_STEPS, can_be_true, judge};
 pub use pairs::{TEXT_STEPS, judge_pairs};
 pub use seen::value_with;
-pub use judging::{RULE_STEPS, can_be_true, judge};

@@ -39,12 +39,7 @@ fn are_apart(
 }
 
 /// Whether the second condition is known to be true wherever the first one is and all is known.
-fn follows(
-    alloc: Global,
-    first: &Cond,
-    second: &Cond,
-    steps: &mut u32,
-) -> Result<bool, AllocError>
+fn follows(alloc: Global, first: &Cond, second: &Cond, steps: &mut u32) -> Result<bool, AllocError>
     ensures { IfOk result (λ follows. IsTrue follows → FailsWherever (condition_of first.now) (condition_of second.now)) }
 {
     match are_apart(alloc, first, second, steps)? {
