@@ -7,7 +7,7 @@ use crate::text::RuleText;
 use lc_model::{Rule, Term};
 use rule_judgement::{
     ComparisonJudgement, Constancy, Finding, Judgement, PairJudgement, Reason, Relation,
-    RuleJudgement, judge, judge_pairs,
+    RuleJudgement, SpareComparison, judge, judge_pairs, never_read, spare_comparisons,
 };
 use std::alloc::{AllocError, Global};
 use std::io::Write;
@@ -141,6 +141,16 @@ fn goes_both_ways(judged: &RuleJudgement) -> bool {
     !matches!(&judged.fails, Finding::Never) && !matches!(&judged.passes, Finding::Never)
 }
 
+/// Whether a comparison of the rule is known to hold of some numbers and not of others.
+fn varies(judged: &RuleJudgement, term: &Term) -> bool {
+    for comparison in &judged.comparisons {
+        if comparison.term == *term {
+            return comparison.says == Constancy::Varies;
+        }
+    }
+    false
+}
+
 /// Writes of two rules that go together.
 fn write_pair<W: Write>(
     rules: &[Rule],
@@ -169,8 +179,55 @@ fn write_pair<W: Write>(
     Ok(())
 }
 
+/// Writes of a comparison that its rule can do without. One that says the same of all numbers is told of already.
+fn write_spare<W: Write>(
+    text: &RuleText<'_>,
+    judgement: &Judgement,
+    spare: &SpareComparison,
+    out: &mut W,
+) -> Result<(), ListingError> {
+    let (Some(rule), Some(judged)) = (
+        text.rules.rules.as_slice().get(spare.rule),
+        judgement.rules.get(spare.rule),
+    ) else {
+        return Ok(());
+    };
+    if !goes_both_ways(judged) || !varies(judged, &spare.term) {
+        return Ok(());
+    }
+    let name = Shown(rule.name.as_slice());
+    let term = ShownTerm {
+        name: text.names.name(&spare.term),
+        term: spare.term,
+    };
+    let value = spare.taken_as;
+    writeln!(out, "warning: {name}: says the same with {term} taken as {value}")?;
+    Ok(())
+}
+
+/// Writes of packets that no rule needs.
+fn write_unread<W: Write>(
+    alloc: Global,
+    text: &RuleText<'_>,
+    out: &mut W,
+) -> Result<(), ListingError> {
+    let mut mids = Vec::new(alloc);
+    for packet in &text.packets {
+        mids.push(packet.mid)?;
+    }
+    let unread = never_read(alloc, &text.rules.rules, &mids)?;
+    for packet in &text.packets {
+        if unread.contains(&packet.mid) {
+            let (name, mid) = (Shown(packet.name), packet.mid);
+            writeln!(out, "warning: {name}: no rule needs packets of 0x{mid:04X}")?;
+        }
+    }
+    Ok(())
+}
+
 /// Writes what is to be said of a rule text before any packet comes: of each rule whether it can fail and pass, with values of
-/// its fields, of comparisons that say the same of all numbers, and of rules of which one fails wherever the other does.
+/// its fields, of comparisons that say the same of all numbers or that
+/// their rule can do without, of rules of which one fails wherever the other does, and of packets that no rule needs.
 ///
 /// Errors: the text's first fault, where it doesn't compile; `Memory`; `Write`, where the writer refuses bytes.
 pub fn list_judgement<W: Write>(
@@ -182,6 +239,7 @@ pub fn list_judgement<W: Write>(
     let text = RuleText::read(alloc, source)?;
     let judgement = judge(alloc, &text.rules.rules)?;
     let pairs = judge_pairs(alloc, &text.rules.rules)?;
+    let spare = spare_comparisons(alloc, &text.rules.rules)?;
     let rules = text.rules.rules.as_slice();
     for (rule, judged) in rules.iter().zip(&judgement.rules) {
         write_subject(alloc, &text.names, rule, judged, which, out)?;
@@ -189,5 +247,8 @@ pub fn list_judgement<W: Write>(
     for pair in &pairs {
         write_pair(rules, &judgement, pair, out)?;
     }
-    Ok(())
+    for spare in &spare {
+        write_spare(&text, &judgement, spare, out)?;
+    }
+    write_unread(alloc, &text, out)
 }

@@ -1,18 +1,19 @@
 //! A rule text that compiles.
 
 use crate::error::ListingError;
-use crate::fields::FieldNames;
+use crate::fields::{FieldNames, NamedPacket, packets_of};
 use field_checker::check;
 use lc_model::RuleSet;
 use rule_lexer::lex;
 use rule_parser::parse;
 use std::alloc::Global;
 
-/// Its rules, and the names of its fields.
+/// Its rules, and the names of its fields and packets.
 #[derive(Drop)]
 pub struct RuleText<'a> {
     pub rules: RuleSet,
     pub names: FieldNames<'a>,
+    pub packets: Vec<NamedPacket<'a>>,
 }
 
 impl<'a> RuleText<'a> {
@@ -22,6 +23,11 @@ impl<'a> RuleText<'a> {
         let file = parse(alloc, source, tokens.as_slice())?;
         let rules = check(alloc, &file)?;
         let names = FieldNames::of(alloc, &file)?;
-        Ok(RuleText { rules, names })
+        let packets = packets_of(alloc, &file)?;
+        Ok(RuleText {
+            rules,
+            names,
+            packets,
+        })
     }
 }

@@ -4,12 +4,14 @@
 
 mod comparing;
 mod making;
+mod measuring;
 mod random;
 mod trying;
 
 use crate::comparing::Counts;
+use crate::measuring::measure;
 use judgement_listing::{Which, list_judgement};
-use std::fs;
+use std::{env, fs};
 
 /// The texts, in the order in which they are judged.
 const TEXTS: [&str; 6] = [
@@ -47,10 +49,19 @@ fn show_counts(rt: &HostRuntime, what: &str, counts: Counts) -> anyhow::Result<(
     Ok(())
 }
 
-fn main(rt: HostRuntime) -> anyhow::Result<()> {
+/// Prints what is found of the texts, and what was counted.
+fn show_all(rt: &HostRuntime) -> anyhow::Result<()> {
     for name in TEXTS {
-        show(&rt, name)?;
+        show(rt, name)?;
     }
-    show_counts(&rt, "free fields", Counts::of_free_fields(rt.alloc())?)?;
-    show_counts(&rt, "shared bits", Counts::of_shared_bits(rt.alloc())?)
+    show_counts(rt, "free fields", Counts::of_free_fields(rt.alloc())?)?;
+    show_counts(rt, "shared bits", Counts::of_shared_bits(rt.alloc())?)
+}
+
+/// Without words, shows all; with the word `measure`, measures.
+fn main(rt: HostRuntime) -> anyhow::Result<()> {
+    match env::args(&rt)?.nth(1) {
+        Some(_) => measure(&rt),
+        None => show_all(&rt),
+    }
 }

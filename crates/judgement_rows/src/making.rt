@@ -8,6 +8,18 @@ use std::alloc::{AllocError, Global};
 /// The most operators above a comparison.
 const DEPTH: u32 = 3;
 
+/// The operators above the comparisons of a full rule: it has sixteen.
+const FULL_DEPTH: u32 = 4;
+
+/// What conditions are made.
+#[derive(Clone, Copy, PartialEq, Eq)]
+enum Shape {
+    /// Any, up to a depth.
+    Any,
+    /// Two operands down to the depth.
+    Full,
+}
+
 /// One of the fields; the last where there are fewer.
 fn one_of(fields: &[Field], random: &mut Random) -> Field {
     let chosen = random.below(fields.len() as u64);
@@ -38,14 +50,14 @@ fn operator(random: &mut Random) -> CmpOp {
 
 /// A number near those of the field.
 fn number(field: &Field, random: &mut Random) -> i64 {
-    let bits = random.below(0x1_0000) as i64 & i64::from(field.mask) & 0xFFFF;
+    let bits = i64::from((random.below(0x1_0000) % 0x1_0000) as u32 & field.mask);
     let below = match field.kind {
         FieldType::I8 => bits - 0x100,
         FieldType::I16Be | FieldType::I16Le => bits - 0x1_0000,
         _ => bits,
     };
     let value = if random.below(2) == 0 { bits } else { below };
-    value + random.below(3) as i64 - 1
+    value + (random.below(3) % 3) as i64 - 1
 }
 
 /// A comparison.
@@ -69,17 +81,18 @@ fn condition(
     alloc: Global,
     fields: &[Field],
     depth: u32,
+    shape: Shape,
     random: &mut Random,
 ) -> Result<Cond, AllocError> {
-    if depth == 0 || random.below(6) == 0 {
+    if depth == 0 || shape == Shape::Any && random.below(6) == 0 {
         return Ok(comparison(fields, random));
     }
-    let first = condition(alloc, fields, depth - 1, random)?;
+    let first = condition(alloc, fields, depth - 1, shape, random)?;
     let operator = random.below(4);
-    if operator == 0 {
+    if shape == Shape::Any && operator == 0 {
         return Ok(Cond::Not(Box::new(alloc, first)?));
     }
-    let second = condition(alloc, fields, depth - 1, random)?;
+    let second = condition(alloc, fields, depth - 1, shape, random)?;
     let both = Box::new(alloc, (first, second))?;
     Ok(match operator {
         1 => Cond::And(both),
@@ -89,7 +102,13 @@ fn condition(
 }
 
 /// A rule with a condition made at random.
-fn rule(alloc: Global, fields: &[Field], random: &mut Random) -> Result<Rule, AllocError> {
+fn rule(
+    alloc: Global,
+    fields: &[Field],
+    depth: u32,
+    shape: Shape,
+    random: &mut Random,
+) -> Result<Rule, AllocError> {
     Ok(Rule {
         name: Bytes::from_vec(Vec::new(alloc)),
         mode: ApMode::Active,
@@ -103,7 +122,7 @@ fn rule(alloc: Global, fields: &[Field], random: &mut Random) -> Result<Rule, Al
             pass_to_fail: 0,
             fail_to_pass: 0,
         },
-        cond: condition(alloc, fields, DEPTH, random)?,
+        cond: condition(alloc, fields, depth, shape, random)?,
     })
 }
 
@@ -114,7 +133,20 @@ pub fn two_rules(
     random: &mut Random,
 ) -> Result<Rules, AllocError> {
     let mut rules = Vec::new(alloc);
-    rules.push(rule(alloc, fields, random)?)?;
-    rules.push(rule(alloc, fields, random)?)?;
+    rules.push(rule(alloc, fields, DEPTH, Shape::Any, random)?)?;
+    rules.push(rule(alloc, fields, DEPTH, Shape::Any, random)?)?;
+    Ok(Rules::from_vec(rules))
+}
+
+/// A table of 176 rules of sixteen comparisons each, of one sequence.
+pub fn full_table(
+    alloc: Global,
+    fields: &[Field],
+    random: &mut Random,
+) -> Result<Rules, AllocError> {
+    let mut rules = Vec::new(alloc);
+    for _ in 0..TABLE_ENTRIES {
+        rules.push(rule(alloc, fields, FULL_DEPTH, Shape::Full, random)?)?;
+    }
     Ok(Rules::from_vec(rules))
 }

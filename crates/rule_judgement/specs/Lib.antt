@@ -7,3 +7,5 @@ pub mod Classes
 pub mod Search
 pub mod Findings
 pub mod Called
+pub mod Reach
+pub mod Spare

@@ -7,7 +7,7 @@ use lc_model::Cond;
 use std::alloc::{AllocError, Global};
 
 /// The same condition once more.
-fn copied(alloc: Global, cond: &Cond) -> Result<Cond, AllocError>
+pub(crate) fn copied(alloc: Global, cond: &Cond) -> Result<Cond, AllocError>
     ensures { IfOk result (λ copy. condition_of copy ≡ condition_of cond.now) }
 {
     match cond {

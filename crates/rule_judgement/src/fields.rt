@@ -24,7 +24,7 @@ pub struct Field {
 }
 
 /// The number of a type.
-fn code(kind: FieldType) -> u8
+pub(crate) fn code(kind: FieldType) -> u8
     ensures { result ≡ type_code kind }
 {
     match kind {

@@ -78,3 +78,12 @@ pub struct PairJudgement {
     pub second: usize,
     pub relation: Relation,
 }
+
+/// A comparison of a rule, by the rule's number from 0, without which it says the same.
+#[derive(Clone, Copy, Debug)]
+pub struct SpareComparison {
+    pub rule: usize,
+    pub term: Term,
+    /// The rule says the same with the comparison taken as true; else as false.
+    pub taken_as: bool,
+}

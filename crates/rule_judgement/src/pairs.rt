@@ -20,6 +20,21 @@ const PAIR_STEPS: u32 = 1 << 14;
 /// The most steps for all pairs of a text.
 pub const TEXT_STEPS: u32 = 1 << 21;
 
+/// Whether some numbers make the condition true; none where it is not known. At most `PAIR_STEPS` of the steps are taken.
+pub(crate) fn ask(
+    alloc: Global,
+    cond: &Cond,
+    steps: &mut u32,
+) -> Result<Option<bool>, AllocError>
+    ensures { IfOk result (λ some. some ≡ Some false → NeverFails (condition_of cond.now)) }
+{
+    let given = PAIR_STEPS.min(*steps);
+    let mut left = given;
+    let some = holds_for_some(alloc, cond, &mut left)?;
+    *steps -= given.saturating_sub(left).min(*steps);
+    Ok(some)
+}
+
 /// Whether for some numbers the first condition is true and the second one false; none where it is not known. As many steps as
 /// are left may be taken.
 fn are_apart(
@@ -31,11 +46,7 @@ fn are_apart(
     ensures { IfOk result (λ some. some ≡ Some false → NeverFails (Join And (condition_of first.now) (Not (condition_of second.now)))) }
 {
     let apart = but_not(alloc, first, second)?;
-    let given = PAIR_STEPS.min(*steps);
-    let mut left = given;
-    let some = holds_for_some(alloc, &apart, &mut left)?;
-    *steps -= given.saturating_sub(left).min(*steps);
-    Ok(some)
+    ask(alloc, &apart, steps)
 }
 
 /// Whether the second condition is known to be true wherever the first one is and all is known.
