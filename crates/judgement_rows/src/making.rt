@@ -1,9 +1,8 @@
 //! Rules made at random, over a few fields of a few bits.
 
 use crate::random::Random;
-use lc_model::{
-    ApMode, Bytes, CmpOp, Cond, EventKind, FieldType, ReportMaxima, Rule, Rules, TABLE_ENTRIES, Term,
-};
+use lc_model::{ApMode, Bytes, CmpOp, Cond, EventKind, FieldType, ReportMaxima, Term};
+use lc_model::{Rule, Rules, TABLE_ENTRIES};
 use rule_judgement::Field;
 use std::alloc::{AllocError, Global};
 

@@ -6,34 +6,27 @@ use lc_model::{CmpOp, Cond, FieldType, Term};
 pub const BODY: usize = 8;
 
 /// The byte at a place of the body.
-fn byte(body: &[u8; BODY], at: u32) -> i64 {
+fn byte(body: &[u8; BODY], at: u32) -> u8 {
     match body.get(at as usize) {
-        Some(byte) => i64::from(*byte),
+        Some(byte) => *byte,
         None => 0,
-    }
-}
-
-/// The number less the weight of all bits, where its sign's bit is set.
-fn signed(bits: i64, weight: i64) -> i64 {
-    if bits >= weight / 2 {
-        bits - weight
-    } else {
-        bits
     }
 }
 
 /// The value of a term's field.
 fn value(term: &Term, body: &[u8; BODY]) -> i64 {
     let at = term.offset.saturating_sub(12).min(100);
-    let mask = i64::from(term.mask & 0xFFFF);
     let (here, next) = (byte(body, at), byte(body, at + 1));
+    let bits = match term.kind {
+        FieldType::U8 | FieldType::I8 => u16::from(here),
+        FieldType::U16Be | FieldType::I16Be => u16::from_be_bytes([here, next]),
+        _ => u16::from_le_bytes([here, next]),
+    };
+    let bits = u32::from(bits) & term.mask;
     match term.kind {
-        FieldType::U8 => here & mask,
-        FieldType::I8 => signed(here & mask, 0x100),
-        FieldType::U16Be => (256 * here + next) & mask,
-        FieldType::U16Le => (here + 256 * next) & mask,
-        FieldType::I16Be => signed((256 * here + next) & mask, 0x1_0000),
-        _ => signed((here + 256 * next) & mask, 0x1_0000),
+        FieldType::I8 if bits >= 0x80 => i64::from(bits) - 0x100,
+        FieldType::I16Be | FieldType::I16Le if bits >= 0x8000 => i64::from(bits) - 0x1_0000,
+        _ => i64::from(bits),
     }
 }
 

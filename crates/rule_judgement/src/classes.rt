@@ -15,7 +15,8 @@ use std::alloc::{AllocError, Global};
 
 /// Whether the comparisons say of some of these numbers what they say of this one.
 fn is_represented(kept: &[u32], terms: &[Term], bits: u32) -> bool
-    ensures { IsTrue result → (candidate : ℕ) × Contains kept.now candidate × AllByRecursion (λ t. SaysTheSame t candidate bits) terms.now }
+    ensures { IsTrue result → (candidate : ℕ) × Contains kept.now candidate × AllByRecursion (λ t.
+        SaysTheSame t candidate bits) terms.now }
 {
     for one in kept {
         if says_the_same(terms, *one, bits) {
@@ -28,7 +29,8 @@ fn is_represented(kept: &[u32], terms: &[Term], bits: u32) -> bool
 /// The least number that fits the mask and reaches the threshold joins those kept, unless one of them stands for it.
 fn keep(kept: &mut Vec<u32>, terms: &[Term], mask: u32, threshold: u64) -> Result<(), AllocError>
     ensures covers { OnOk result (Covers terms.now mask kept.new.items threshold) }
-    ensures others { OnOk result ((n : ℕ) → Covers terms.now mask kept.old.items n → Covers terms.now mask kept.new.items n) }
+    ensures others { OnOk result ((n : ℕ) → Covers terms.now mask kept.old.items n →
+        Covers terms.now mask kept.new.items n) }
 {
     if let Some(bits) = next_bits(u64::from(mask), threshold) {
         let bits = bits as u32;
@@ -59,7 +61,8 @@ fn readers(
     fields: &[Field],
     field: usize,
 ) -> Result<Vec<Term>, AllocError>
-    ensures { IfOk result (λ own. own.items ≡ filter (λ t. field_number fields.now t == field) terms.now) }
+    ensures { IfOk result (λ own. own.items ≡ filter (λ t.
+        field_number fields.now t == field) terms.now) }
 {
     let mut own = Vec::new(alloc);
     for term in terms {
@@ -76,7 +79,8 @@ pub(crate) fn rows_of(
     terms: &[Term],
     fields: &[Field],
 ) -> Result<Vec<Vec<u32>>, AllocError>
-    ensures represent { IfOk result (λ rows. AreRepresented (field_number fields.now) terms.now rows.items) }
+    ensures represent { IfOk result (λ rows.
+        AreRepresented (field_number fields.now) terms.now rows.items) }
     ensures each { IfOk result (λ rows. length rows.items ≡ length fields.now) }
 {
     let mut rows = Vec::new(alloc);

@@ -44,7 +44,8 @@ pub(crate) fn negated(alloc: Global, cond: &Cond) -> Result<Cond, AllocError>
 
 /// True where the first condition is true and the second one is false.
 pub(crate) fn but_not(alloc: Global, first: &Cond, second: &Cond) -> Result<Cond, AllocError>
-    ensures { IfOk result (λ both. condition_of both ≡ Join And (condition_of first.now) (Not (condition_of second.now))) }
+    ensures { IfOk result (λ both. condition_of both ≡
+        Join And (condition_of first.now) (Not (condition_of second.now))) }
 {
     let first = copied(alloc, first)?;
     let second = negated(alloc, second)?;

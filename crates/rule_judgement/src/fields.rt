@@ -92,7 +92,8 @@ pub(crate) fn collect(cond: &Cond, terms: &mut Vec<Term>) -> Result<(), AllocErr
 /// The term's field joins the others, unless it is among them.
 fn add(fields: &mut Vec<Field>, term: &Term) -> Result<(), AllocError>
     ensures there { OnOk result (HasField fields.new.items term.now) }
-    ensures others { OnOk result ((t : Term) → HasField fields.old.items t → HasField fields.new.items t) }
+    ensures others { OnOk result ((t : Term) → HasField fields.old.items t →
+        HasField fields.new.items t) }
 {
     if number(fields, term) == fields.len() {
         fields.push(field_of(term))?;

@@ -43,7 +43,8 @@ fn are_apart(
     second: &Cond,
     steps: &mut u32,
 ) -> Result<Option<bool>, AllocError>
-    ensures { IfOk result (λ some. some ≡ Some false → NeverFails (Join And (condition_of first.now) (Not (condition_of second.now)))) }
+    ensures { IfOk result (λ some. some ≡ Some false →
+        NeverFails (Join And (condition_of first.now) (Not (condition_of second.now)))) }
 {
     let apart = but_not(alloc, first, second)?;
     ask(alloc, &apart, steps)
@@ -51,7 +52,8 @@ fn are_apart(
 
 /// Whether the second condition is known to be true wherever the first one is and all is known.
 fn follows(alloc: Global, first: &Cond, second: &Cond, steps: &mut u32) -> Result<bool, AllocError>
-    ensures { IfOk result (λ follows. IsTrue follows → FailsWherever (condition_of first.now) (condition_of second.now)) }
+    ensures { IfOk result (λ follows. IsTrue follows →
+        FailsWherever (condition_of first.now) (condition_of second.now)) }
 {
     match are_apart(alloc, first, second, steps)? {
         Some(false) => Ok(true),
@@ -66,7 +68,8 @@ fn relation(
     second: &Cond,
     steps: &mut u32,
 ) -> Result<Option<Relation>, AllocError>
-    ensures { IfOk result (λ found. IfSome found (λ relation. IsRelated (condition_of first.now) (condition_of second.now) relation)) }
+    ensures { IfOk result (λ found. IfSome found (λ relation.
+        IsRelated (condition_of first.now) (condition_of second.now) relation)) }
 {
     let second_follows = follows(alloc, first, second, steps)?;
     let first_follows = follows(alloc, second, first, steps)?;
@@ -100,7 +103,8 @@ fn judge_pair(
 ) -> Result<(), AllocError>
     requires order { first < second }
     requires inside { second < length rules.now }
-    ensures { OnOk result (AllByRecursion (IsPair (rules_of rules.now)) pairs.old.items → AllByRecursion (IsPair (rules_of rules.now)) pairs.new.items) }
+    ensures { OnOk result (AllByRecursion (IsPair (rules_of rules.now)) pairs.old.items →
+        AllByRecursion (IsPair (rules_of rules.now)) pairs.new.items) }
 {
     if let Some(relation) = relation(alloc, &rules[first].cond, &rules[second].cond, steps)? {
         pairs.push(PairJudgement {
@@ -123,7 +127,8 @@ fn judge_with_earlier(
 ) -> Result<(), AllocError>
     requires inside { second < length rules.now }
     requires terms { length terms.now ≡ length rules.now }
-    ensures { OnOk result (AllByRecursion (IsPair (rules_of rules.now)) pairs.old.items → AllByRecursion (IsPair (rules_of rules.now)) pairs.new.items) }
+    ensures { OnOk result (AllByRecursion (IsPair (rules_of rules.now)) pairs.old.items →
+        AllByRecursion (IsPair (rules_of rules.now)) pairs.new.items) }
 {
     for first in 0..second {
         if rules[first].sequence == rules[second].sequence

@@ -29,7 +29,8 @@ pub fn never_sampled(
     rules: usize,
     samples: &[SampleRequest],
 ) -> Result<Vec<usize>, AllocError>
-    ensures { IfOk result (λ numbers. numbers.items ≡ filter (λ rule. not (is_sampled samples.now rule)) (numbers_below rules)) }
+    ensures { IfOk result (λ numbers. numbers.items ≡ filter (λ rule.
+        not (is_sampled samples.now rule)) (numbers_below rules)) }
 {
     let mut numbers = Vec::new(alloc);
     for rule in 0..rules {
@@ -54,7 +55,8 @@ fn is_read(terms: &[Term], mid: u16) -> bool
 
 /// All terms that rules mention.
 fn mentioned(alloc: Global, rules: &[Rule]) -> Result<Vec<Term>, AllocError>
-    ensures { IfOk result (λ terms. terms.items ≡ flat_map (λ (rule : Item). mentions (condition_of rule.cond)) rules.now) }
+    ensures { IfOk result (λ terms. terms.items ≡ flat_map (λ (rule : Item).
+        mentions (condition_of rule.cond)) rules.now) }
 {
     let mut terms = Vec::new(alloc);
     for rule in rules {
@@ -65,7 +67,8 @@ fn mentioned(alloc: Global, rules: &[Rule]) -> Result<Vec<Term>, AllocError>
 
 /// Of these message ids those that no rule needs.
 pub fn never_read(alloc: Global, rules: &Rules, mids: &[u16]) -> Result<Vec<u16>, AllocError>
-    ensures { IfOk result (λ unread. unread.items ≡ filter (λ mid. not (is_read (mentioned_in rules.now) mid)) mids.now) }
+    ensures { IfOk result (λ unread. unread.items ≡ filter (λ mid.
+        not (is_read (mentioned_in rules.now) mid)) mids.now) }
 {
     let terms = mentioned(alloc, rules.as_slice())?;
     let mut unread = Vec::new(alloc);

@@ -58,7 +58,8 @@ fn value(term: &Term, packet: &[u8]) -> Option<i64>
 
 /// The last packet of a message id, where the first of these came last.
 fn last_of(packets: &[Vec<u8>], mid: u16) -> Option<&[u8]>
-    ensures { last_packet mid (history_of packets.now) ≡ option_map (λ packet. (packet.now, 0)) result }
+    ensures { last_packet mid (history_of packets.now) ≡ option_map (λ packet.
+        (packet.now, 0)) result }
 {
     for packet in packets {
         if message_id(packet) == mid {

@@ -57,7 +57,8 @@ fn constant(alloc: Global, term: &Term, value: bool) -> Result<Cond, AllocError>
 
 /// The condition with a term taken as true, or as false.
 fn replaced(alloc: Global, cond: &Cond, term: &Term, value: bool) -> Result<Cond, AllocError>
-    ensures { IfOk result (λ other. condition_of other ≡ replaced term.now (constant value term.now) (condition_of cond.now)) }
+    ensures { IfOk result (λ other. condition_of other ≡
+        replaced term.now (constant value term.now) (condition_of cond.now)) }
 {
     match cond {
         Cond::Watch(own) => if are_one(own, term) {
@@ -105,7 +106,8 @@ fn differs(
     value: bool,
     steps: &mut u32,
 ) -> Result<Option<bool>, AllocError>
-    ensures { IfOk result (λ some. some ≡ Some false → CanDoWithout (condition_of cond.now) term.now value) }
+    ensures { IfOk result (λ some. some ≡ Some false →
+        CanDoWithout (condition_of cond.now) term.now value) }
 {
     let both = difference(alloc, cond, term, value)?;
     ask(alloc, &both, steps)
@@ -118,7 +120,8 @@ fn taken_as(
     term: &Term,
     steps: &mut u32,
 ) -> Result<Option<bool>, AllocError>
-    ensures { IfOk result (λ found. IfSome found (λ value. CanDoWithout (condition_of cond.now) term.now value)) }
+    ensures { IfOk result (λ found. IfSome found (λ value.
+        CanDoWithout (condition_of cond.now) term.now value)) }
 {
     if let Some(false) = differs(alloc, cond, term, true, steps)? {
         return Ok(Some(true));
@@ -139,7 +142,8 @@ fn judge_term(
     spare: &mut Vec<SpareComparison>,
 ) -> Result<(), AllocError>
     requires { rule < length rules.now }
-    ensures { OnOk result (AllByRecursion (IsSpare (rules_of rules.now)) spare.old.items → AllByRecursion (IsSpare (rules_of rules.now)) spare.new.items) }
+    ensures { OnOk result (AllByRecursion (IsSpare (rules_of rules.now)) spare.old.items →
+        AllByRecursion (IsSpare (rules_of rules.now)) spare.new.items) }
 {
     if let Some(taken_as) = taken_as(alloc, &rules[rule].cond, term, steps)? {
         spare.push(SpareComparison {
@@ -173,7 +177,8 @@ fn judge_terms(
     spare: &mut Vec<SpareComparison>,
 ) -> Result<(), AllocError>
     requires { rule < length rules.now }
-    ensures { OnOk result (AllByRecursion (IsSpare (rules_of rules.now)) spare.old.items → AllByRecursion (IsSpare (rules_of rules.now)) spare.new.items) }
+    ensures { OnOk result (AllByRecursion (IsSpare (rules_of rules.now)) spare.old.items →
+        AllByRecursion (IsSpare (rules_of rules.now)) spare.new.items) }
 {
     let mut terms = Vec::new(alloc);
     collect(&rules[rule].cond, &mut terms)?;

@@ -67,7 +67,8 @@ fn thresholds(term: &Term) -> [u64; 5]
 /// They join those before.
 fn push_thresholds(term: &Term, all: &mut Vec<u64>) -> Result<(), AllocError>
     ensures own { OnOk result (Separates all.new.items term.now) }
-    ensures others { OnOk result ((t : Comparison) → Separates all.old.items t → Separates all.new.items t) }
+    ensures others { OnOk result ((t : Comparison) → Separates all.old.items t →
+        Separates all.new.items t) }
 {
     all.extend_from_slice(&thresholds(term))?;
     Ok(())
@@ -75,7 +76,8 @@ fn push_thresholds(term: &Term, all: &mut Vec<u64>) -> Result<(), AllocError>
 
 /// The numbers from which on some of the comparisons may say something else.
 pub(crate) fn thresholds_of(alloc: Global, terms: &[Term]) -> Result<Vec<u64>, AllocError>
-    ensures { IfOk result (λ thresholds. AllByRecursion (λ t. Separates thresholds.items t) terms.now) }
+    ensures { IfOk result (λ thresholds. AllByRecursion (λ t.
+        Separates thresholds.items t) terms.now) }
 {
     let mut all = Vec::new(alloc);
     for term in terms {

@@ -28,7 +28,8 @@ pub(crate) enum Outcome {
 
 /// The truth of a condition where the first fields have these bits, and the others are stale.
 pub(crate) fn evaluate(cond: &Cond, fields: &[Field], chosen: &[u32]) -> Truth
-    ensures { result ≡ truth_by (found_so_far (field_number fields.now) chosen.now) (condition_of cond.now) }
+    ensures { result ≡
+        truth_by (found_so_far (field_number fields.now) chosen.now) (condition_of cond.now) }
 {
     match cond {
         Cond::Watch(term) => match chosen.get(number(fields, term)) {
@@ -51,8 +52,12 @@ pub(crate) fn evaluate(cond: &Cond, fields: &[Field], chosen: &[u32]) -> Truth
 /// What the bits so far say already, if anything; else a field is left that has none.
 fn settled(cond: &Cond, fields: &[Field], chosen: &[u32]) -> Option<bool>
     requires { AllByRecursion (λ t. HasField fields.now t) (mentions (condition_of cond.now)) }
-    ensures found { result ≡ Some true → truth_by (found_so_far (field_number fields.now) chosen.now) (condition_of cond.now) ≡ True }
-    ensures excluded { result ≡ Some false → truth_by (found_so_far (field_number fields.now) chosen.now) (condition_of cond.now) ≡ False }
+    ensures found { result ≡ Some true →
+        truth_by (found_so_far (field_number fields.now) chosen.now) (condition_of cond.now) ≡
+        True }
+    ensures excluded { result ≡ Some false →
+        truth_by (found_so_far (field_number fields.now) chosen.now) (condition_of cond.now) ≡
+        False }
     ensures left { result ≡ None → length chosen.now < length fields.now }
 {
     match evaluate(cond, fields, chosen) {
@@ -71,13 +76,17 @@ pub(crate) fn walk(
     chosen: &mut Vec<u32>,
     steps: &mut u32,
 ) -> Result<Outcome, AllocError>
-    requires known { AllByRecursion (λ t. HasField fields.now t) (mentions (condition_of cond.now)) }
+    requires known { AllByRecursion (λ t.
+        HasField fields.now t) (mentions (condition_of cond.now)) }
     requires each { length candidates.now ≡ length fields.now }
-    requires represented { AreRepresented (field_number fields.now) (mentions (condition_of cond.now)) candidates.now }
+    requires represented { AreRepresented (field_number fields.now)
+        (mentions (condition_of cond.now)) candidates.now }
     requires so_far { length chosen.old.items ≤ length candidates.now }
-    ensures walked { IfOk result (λ outcome. IsWalked (field_number fields.now) (condition_of cond.now)
+    ensures walked { IfOk result (λ outcome.
+        IsWalked (field_number fields.now) (condition_of cond.now)
         chosen.old.items chosen.new.items outcome) }
-    ensures back { IfOk result (λ outcome. outcome ≡ Excluded → chosen.new.items ≡ chosen.old.items) }
+    ensures back { IfOk result (λ outcome. outcome ≡ Excluded → chosen.new.items ≡
+        chosen.old.items) }
     ensures spent { IfOk result (λ outcome. outcome ≡ Spent → steps.new ≡ 0) }
 {
     match settled(cond, fields, chosen) {
