@@ -1,8 +1,10 @@
 //! Rules made at random, over a few fields of a few bits.
 
 use crate::random::Random;
-use lc_model::{ApMode, Bytes, CmpOp, Cond, EventKind, FieldType, ReportMaxima, Term};
-use lc_model::{Rule, Rules, TABLE_ENTRIES};
+use lc_model::{
+    ApMode, Bytes, CmpOp, Cond, EventKind, FieldType, ReportMaxima, Rule, Rules, TABLE_ENTRIES,
+    Term,
+};
 use rule_judgement::Field;
 use std::alloc::{AllocError, Global};
 
@@ -58,7 +60,8 @@ fn number(field: &Field, random: &mut Random) -> i64 {
         _ => bits,
     };
     let value = if random.below(2) == 0 { bits } else { below };
-    value + (random.below(3) % 3) as i64 - 1
+    let near = (random.below(3) % 3) as i64;
+    value.saturating_add(near).saturating_sub(1)
 }
 
 /// A comparison.

@@ -35,7 +35,9 @@ fn measure_table(rt: &HostRuntime, count: u16) -> anyhow::Result<()> {
     let start = Instant::now(rt)?;
     let spare = spare_comparisons(alloc, &rules)?.len();
     let spared = start.elapsed(rt)?.as_micros();
-    println!(rt; "176 rules of 16 comparisons over {count} fields, in microseconds: rules {judged}")?;
+    println!(rt;
+        "176 rules of 16 comparisons over {count} fields, in microseconds: rules {judged}"
+    )?;
     println!(rt; "  pairs {paired} ({pairs} told), spare comparisons {spared} ({spare} told)")?;
     Ok(())
 }
