@@ -1,0 +1,64 @@
+//! Why a rule text has no listing.
+
+use field_checker::CheckError;
+use rule_lexer::LexError;
+use rule_parser::ParseError;
+use std::alloc::{AllocError, AllocFailed};
+use std::io;
+use thiserror::Error;
+
+/// Why nothing, or not all, was written.
+#[derive(Clone, Copy, Debug, Error)]
+pub enum ListingError {
+    /// No memory.
+    #[error("out of memory")]
+    Memory,
+    /// The text has no tokens.
+    #[error("{0}")]
+    Lex(LexError),
+    /// Its tokens are no items.
+    #[error("{0}")]
+    Parse(ParseError),
+    /// Its items mean no rules.
+    #[error("{0}")]
+    Check(CheckError),
+    /// The writer refused bytes.
+    #[error("the listing can't be written")]
+    Write,
+}
+
+impl From<AllocError> for ListingError {
+    fn from(_refused: AllocError) -> ListingError {
+        ListingError::Memory
+    }
+}
+
+impl<T: Drop> From<AllocFailed<T>> for ListingError {
+    fn from(_refused: AllocFailed<T>) -> ListingError {
+        ListingError::Memory
+    }
+}
+
+impl From<LexError> for ListingError {
+    fn from(error: LexError) -> ListingError {
+        ListingError::Lex(error)
+    }
+}
+
+impl From<ParseError> for ListingError {
+    fn from(error: ParseError) -> ListingError {
+        ListingError::Parse(error)
+    }
+}
+
+impl From<CheckError> for ListingError {
+    fn from(error: CheckError) -> ListingError {
+        ListingError::Check(error)
+    }
+}
+
+impl From<io::Error> for ListingError {
+    fn from(_refused: io::Error) -> ListingError {
+        ListingError::Write
+    }
+}

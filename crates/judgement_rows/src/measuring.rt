@@ -1,0 +1,51 @@
+//! How long it takes to judge full tables.
+
+use crate::making::full_table;
+use crate::random::Random;
+use lc_model::FieldType;
+use rule_judgement::{Field, judge, judge_pairs, spare_comparisons};
+use std::alloc::{AllocError, Global};
+use std::time::Instant;
+
+/// So many fields of 16 bits, one behind the other.
+fn fields(alloc: Global, count: u16) -> Result<Vec<Field>, AllocError> {
+    let mut fields = Vec::new(alloc);
+    for i in 0..count {
+        fields.push(Field {
+            kind: FieldType::U16Be,
+            mid: 0x0883,
+            offset: 12 + 2 * u32::from(i),
+            mask: 0xFFFF,
+        })?;
+    }
+    Ok(fields)
+}
+
+/// Prints how long a table over so many fields takes: its rules, its pairs, and which comparisons they can do without.
+fn measure_table(rt: &HostRuntime, count: u16) -> anyhow::Result<()> {
+    let alloc = rt.alloc();
+    let fields = fields(alloc, count)?;
+    let rules = full_table(alloc, &fields, &mut Random::from_seed(50))?;
+    let start = Instant::now(rt)?;
+    let _judgement = judge(alloc, &rules)?;
+    let judged = start.elapsed(rt)?.as_micros();
+    let start = Instant::now(rt)?;
+    let pairs = judge_pairs(alloc, &rules)?.len();
+    let paired = start.elapsed(rt)?.as_micros();
+    let start = Instant::now(rt)?;
+    let spare = spare_comparisons(alloc, &rules)?.len();
+    let spared = start.elapsed(rt)?.as_micros();
+    println!(rt;
+        "176 rules of 16 comparisons over {count} fields, in microseconds: rules {judged}"
+    )?;
+    println!(rt; "  pairs {paired} ({pairs} told), spare comparisons {spared} ({spare} told)")?;
+    Ok(())
+}
+
+/// Measures tables over many fields, over few, and over one.
+pub fn measure(rt: &HostRuntime) -> anyhow::Result<()> {
+    measure_table(rt, 176)?;
+    measure_table(rt, 16)?;
+    measure_table(rt, 4)?;
+    measure_table(rt, 1)
+}

@@ -1,0 +1,15 @@
+pub mod Known
+pub mod QuietLaws
+pub mod QuietSteps
+pub mod Halves
+pub mod WalkLaws
+pub mod Tried
+pub mod Reaching
+pub mod Judged
+pub mod SameSide
+pub mod Each
+pub mod FieldLaws
+pub mod ClassLaws
+pub mod SeenLaws
+pub mod CalledSteps
+pub mod CalledLaws

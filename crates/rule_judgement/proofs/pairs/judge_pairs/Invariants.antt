@@ -1,0 +1,7 @@
+use Rattle.std.specs.List.{AllByRecursion}
+use Rattle.lc_model.specs.Rule.{rules_of}
+use Rattle.rule_judgement.specs.Findings.{IsPair}
+use Rattle.rule_judgement.proofs.pairs.judge_pairs.Given as goal
+
+abbrev pub invariant-loop-second : goal.invariant-loop-second
+invariant-loop-second l = AllByRecursion (IsPair (rules_of l.rules)) l.pairs.items

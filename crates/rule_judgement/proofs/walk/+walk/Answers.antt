@@ -1,0 +1,29 @@
+use Rattle.lc_model.specs.Condition.{condition_of}
+use Rattle.rule_judgement.specs.Search.{IsWalked}
+use Rattle.rule_judgement.specs.Fields.{field_number}
+use Rattle.std.proofs.Common.{rules, ◌≡◌, ◌<◌, length, arith, ◌∙◌, subst}
+use Rattle.rule_judgement.proofs.WalkLaws.{false_excludes}
+use Rattle.rule_judgement.proofs.Tried.{popped_is, tried_more, all_tried}
+use Rattle.rule_judgement.proofs.walk.+walk.Goals as goal
+
+pub returns-in-Some-false-clause-walked : goal.returns-in-Some-false-clause-walked
+returns-in-Some-false-clause-walked t c =
+    false_excludes (field_number c.args.fields.now) (condition_of c.args.cond.now) c.args.chosen.now.items (search rules)
+
+pub loop-candidate-preserved : goal.loop-candidate-preserved
+loop-candidate-preserved t c =
+    let excluded = subst (λ o. IsWalked (field_number c.args.fields.now) (condition_of c.args.cond.now) c.push.new.self.items c.walk.new.chosen.items o)
+    c.in-Excluded.is c.in_ok-other.ensures.walked in
+    let popped = popped_is c.loop-candidate.chosen.items c.walk.new.chosen.items c.pop.new.self.items _ _
+    (c.in_ok-other.ensures.back c.in-Excluded.is ∙ c.in_ok-push.ensures.items) (search rules) c.pop.ensures.rest in
+    tried_more (field_number c.args.fields.now) (condition_of c.args.cond.now) c.args.chosen.now.items c.loop-candidate.chosen.items
+    c.deref-candidate-items.result.now c.loop-candidate.candidate-index c.push.new.self.items c.pop.new.self.items
+    c.loop-candidate.invariant c.in_ok-push.ensures.items excluded popped
+
+pub returns-clause-walked : goal.returns-clause-walked
+returns-clause-walked t c =
+    let size : c.len.result ≡ length c.args.chosen.now.items = search rules in
+    let inside : c.len.result < length c.args.candidates.now = omega arith in
+    all_tried (field_number c.args.fields.now) (condition_of c.args.cond.now) c.args.candidates.now c.args.chosen.now.items c.loop-candidate.chosen.items
+    c.deref-candidate-items.result.now c.index-candidates-len.result c.len.result c.loop-candidate.candidate-index
+    c.requires.represented size inside c.index-candidates-len.is c.deref-candidate-items.ensures.value (omega arith) c.loop-candidate.invariant

@@ -1,0 +1,11 @@
+-- What is to be known of a condition before any packet comes. This project's own.
+pub mod Judgement
+pub mod Quiet
+pub mod Numbers
+pub mod Fields
+pub mod Classes
+pub mod Search
+pub mod Findings
+pub mod Called
+pub mod Reach
+pub mod Spare
