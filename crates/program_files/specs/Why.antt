@@ -18,12 +18,12 @@ why_of kind.NotADirectory = NoFolder
 why_of kind.StorageFull = Full
 why_of kind.QuotaExceeded = Full
 why_of kind.FileTooLarge = Full
-why_of other = Failed
+why_of rest = Failed
 
 -- want of memory is no fault of the file
 abbrev pub fault_by : ErrorKind → FileFault
 fault_by kind.OutOfMemory = Memory
-fault_by other = Unusable (why_of other)
+fault_by rest = Unusable (why_of rest)
 
 -- as a person reads it
 abbrev pub reason : Why → List ℕ

@@ -1,7 +1,7 @@
 //! Files that are written beside their names, and take them at the end.
 
 use crate::why::{FileFault, Why, fault_of};
-use std::fs::{self, File, Files, OpenFile};
+use std::fs::{self, File, Files, Metadata, OpenFile};
 use std::io::ErrorKind;
 
 /// How many names are tried beside a file's own.
@@ -60,24 +60,35 @@ fn beside<R: Files + AllocGlobal>(rt: &R, own: String) -> Result<Draft<R::File>,
     Err(FileFault::Unusable(Why::Failed))
 }
 
-/// Begins a file that is to take this name.
-pub fn begin<R: Files + AllocGlobal>(rt: &R, name: &str) -> Result<Draft<R::File>, FileFault> {
-    let there = fs::metadata(rt, name).ok();
-    let is_device = there.is_some_and(|it| !it.is_file() && !it.is_dir());
-    if is_device {
-        return match File::create(rt, name) {
-            Ok(file) => Ok(Draft { file, names: None }),
-            Err(error) => Err(fault_of(&error)),
-        };
+/// A device or a pipe, which is written as it stands.
+fn as_it_stands<R: Files>(rt: &R, name: &str) -> Result<Draft<R::File>, FileFault> {
+    match File::create(rt, name) {
+        Ok(file) => Ok(Draft { file, names: None }),
+        Err(error) => Err(fault_of(&error)),
     }
-    if there.is_some_and(|it| it.is_dir()) {
-        return Err(FileFault::Unusable(Why::Folder));
-    }
+}
+
+/// A file beside this one, which is there, with what the system allows of it.
+fn beside_old<R: Files + AllocGlobal>(
+    rt: &R,
+    name: &str,
+    old: &Metadata,
+) -> Result<Draft<R::File>, FileFault> {
     let draft = beside(rt, target_of(rt, name)?)?;
-    if let (Some(old), Some(names)) = (there, &draft.names) {
+    if let Some(names) = &draft.names {
         let _allowed = fs::set_permissions(rt, names.beside.as_str(), old.permissions());
     }
     Ok(draft)
+}
+
+/// Begins a file that is to take this name.
+pub fn begin<R: Files + AllocGlobal>(rt: &R, name: &str) -> Result<Draft<R::File>, FileFault> {
+    match fs::metadata(rt, name) {
+        Ok(there) if there.is_dir() => Err(FileFault::Unusable(Why::Folder)),
+        Ok(there) if there.is_file() => beside_old(rt, name, &there),
+        Ok(_) => as_it_stands(rt, name),
+        Err(_) => beside(rt, target_of(rt, name)?),
+    }
 }
 
 /// The file takes its name, once the device has all of it.

@@ -13,5 +13,5 @@ pub use draft::{Draft, begin, discard, keep};
 pub use identity::is_one_file;
 pub use noting::Noting;
 pub use reading::{read_all, read_front};
-pub use why::{FileFault, Why, fault_of, why};
+pub use why::{FileFault, Why, fault_of, reason_for};
 pub use writing::write_all_to;

@@ -60,12 +60,12 @@ pub fn fault_of(error: &io::Error) -> FileFault
 {
     match error.kind() {
         ErrorKind::OutOfMemory => FileFault::Memory,
-        kind => FileFault::Unusable(why(kind)),
+        kind => FileFault::Unusable(reason_for(kind)),
     }
 }
 
 /// Why a file can't be used, by the kind of an error.
-pub fn why(kind: ErrorKind) -> Why
+pub fn reason_for(kind: ErrorKind) -> Why
     ensures { result ≡ why_of kind }
 {
     match kind {
