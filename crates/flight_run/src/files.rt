@@ -12,7 +12,7 @@ const MOST: u64 = 65_537;
 
 /// The fault of a file of this name.
 fn fault_at(name: &str, fault: FileFault) -> Fault<'_>
-    ensures { result ≡ fault_of_file name fault }
+    ensures { result ≡ fault_of_file name.entry fault }
 {
     match fault {
         FileFault::Memory => Fault::Memory,

@@ -2,7 +2,7 @@
 //! low-volts rule in memory.
 #![tactic(auto)]
 
-ghost use Rattle.std.specs.Prelude.{◌≡◌, ◌<◌, length, map, IfOk, IsOk, string_bytes};
+ghost use Rattle.std.specs.Prelude.{◌≡◌, ◌<◌, length, map, IfOk, IsOk};
 ghost use Rattle.program_words.specs.Words.{GiveAPlan};
 ghost use Rattle.flight_run.specs.Answer.{status_by};
 ghost use Rattle.flight_run.specs.Dispatch.{IsAskedFor};
@@ -20,8 +20,8 @@ mod stored;
 use crate::answering::{fault_without_words, said, status_by};
 use crate::done::Done;
 use crate::fault::Fault;
+use program_files::lent;
 use program_words::{Plan, read_words};
-use std::alloc::{AllocError, Global};
 use std::env::{self, Env};
 use std::fs::Files;
 use std::io::{Eprint, Print};
@@ -76,18 +76,6 @@ fn words_of<R: Env + AllocGlobal>(rt: &R) -> Result<Vec<String>, Fault<'static>>
         words.push(word)?;
     }
     Ok(words)
-}
-
-/// The same, lent.
-fn lent<'a>(alloc: Global, words: &'a [String]) -> Result<Vec<&'a str>, AllocError>
-    ensures { IfOk result
-        (λ lent. map (λ word. word.now) lent.items ≡ map string_bytes words.now) }
-{
-    let mut lent = Vec::new(alloc);
-    for word in words {
-        lent.push(word.as_str())?;
-    }
-    Ok(lent)
 }
 
 /// Does what the words of the command line say, and answers the exit status.
