@@ -36,7 +36,10 @@ def read_exactly(descriptor, size):
 def step_by_step(stream, packets):
     """Gives what comes step by step, and waits for what each leads to; answers a sentence where that isn't there."""
     for number, (given, expected) in enumerate(STEPS):
-        os.write(stream, given)
+        try:
+            os.write(stream, given)
+        except BrokenPipeError:
+            return [f"before step {number} it didn't read any more"]
         found = read_exactly(packets, len(expected))
         if found != expected:
             return [f"behind step {number} there were {len(found)} bytes of {len(expected)} before more of the stream came"]
@@ -83,8 +86,8 @@ def through_fifos(programs):
             os.mkfifo(os.path.join(place, name))
         words = "run --schedule schedule --stream stream --out out rules".split()
         ran = subprocess.Popen([programs["flight_run"], *words], cwd=place, stdout=subprocess.DEVNULL, stderr=subprocess.PIPE)
-        stream = os.open(os.path.join(place, "stream"), os.O_WRONLY)
-        packets = os.open(os.path.join(place, "out"), os.O_RDONLY)
+        packets = os.open(os.path.join(place, "out"), os.O_RDONLY | os.O_NONBLOCK)
+        stream = os.open(os.path.join(place, "stream"), os.O_RDWR)
         faults = step_by_step(stream, packets)
         os.close(stream)
         faults += ended(ran, 0, b"")
@@ -115,11 +118,14 @@ def to_one_that_dies(programs):
         pipe = subprocess.PIPE
         words = [programs["flight_tools"], "live", "schedule", "rules"]
         ran = subprocess.Popen(words, cwd=place, stdin=pipe, stdout=pipe, stderr=pipe, bufsize=0, restore_signals=False)
-        os.write(ran.stdin.fileno(), beginning())
-        read_exactly(ran.stdout.fileno(), len(STARTED))
-        ran.stdout.close()
-        ran.stdout = None
-        os.write(ran.stdin.fileno(), 2 * (LOW + SAMPLE))
+        try:
+            os.write(ran.stdin.fileno(), beginning())
+            read_exactly(ran.stdout.fileno(), len(STARTED))
+            ran.stdout.close()
+            ran.stdout = None
+            os.write(ran.stdin.fileno(), 2 * (LOW + SAMPLE))
+        except BrokenPipeError:
+            return ["it didn't read its stream"]
         return ended(ran, 0, b"")
 
 
