@@ -4,6 +4,14 @@ import hashlib
 from dataclasses import dataclass, field
 
 FOLDER = "a folder"
+GONE = "a pipe that nobody reads"
+
+
+@dataclass(frozen=True)
+class Link:
+    """A name that leads to another."""
+
+    to: str
 
 
 @dataclass(frozen=True)
@@ -37,9 +45,12 @@ class Begins:
 class Row:
     """One call of a program, in a new folder that has the files of `before`.
 
-    A file is its bytes, FOLDER, or, behind the call, Sized or Begins. `after` has the files that the call makes or changes;
-    all others stay as they were, and no further ones come. `first` are calls before, which end with status 0. `prints_to` is a
-    device in the place of standard output.
+    A file is its bytes, FOLDER, a Link to a name, or, behind the call, Sized or Begins. `after` has the files that the call makes
+    or changes; all others stay as they were, and no further ones come. `first` are calls before, which end with status 0.
+    `prints_to` is a device in the place of standard output, and GONE one that nobody reads. `reads` is what stands on standard
+    input. `most_memory` is the most address space in bytes that the call has, and
+    `longest_file` the longest file that it may write, where there is such a bound: a longer one is an error of its write, or kills
+    the call where `is_killed`.
     """
 
     title: str
@@ -51,3 +62,7 @@ class Row:
     after: dict = field(default_factory=dict)
     first: list = field(default_factory=list)
     prints_to: str = ""
+    reads: bytes = b""
+    most_memory: int = 0
+    longest_file: int = 0
+    is_killed: bool = False

@@ -8,7 +8,11 @@ use Rattle.flight_core.specs.declared.error.RunError.TheVariants as run
 use Rattle.program_words.specs.declared.words.WordsError.{WordsError}
 use Rattle.program_words.specs.declared.words.WordsError.TheVariants as words
 use Rattle.flight_run.specs.declared.fault.Fault.{Fault}
-use Rattle.flight_run.specs.declared.fault.Fault.TheVariants.{Text, Schedule, Words, Run, Memory}
+use Rattle.flight_run.specs.declared.fault.Fault.TheVariants.{Text, Schedule, Words, File, Run, Memory}
+use Rattle.std.specs.Prelude.{List, ℕ}
+use Rattle.std.specs.Borrow.{Bor}
+use Rattle.program_files.specs.declared.why.FileFault.{FileFault}
+use Rattle.program_files.specs.declared.why.FileFault.TheVariants as file
 
 -- want of memory is one fault, wherever it arose, and a run that stops at a rule text is stopped by the text
 abbrev pub fault_of_words : WordsError → Fault
@@ -27,3 +31,8 @@ abbrev pub fault_of_run : RunError → Fault
 fault_of_run run.Memory = Memory
 fault_of_run (run.Compile text error) = Text error
 fault_of_run error = Run error
+
+-- of a file only its name is said
+abbrev pub fault_of_file : Bor (List ℕ) → FileFault → Fault
+fault_of_file name file.Memory = Memory
+fault_of_file name (file.Unusable why) = File name

@@ -1,4 +1,6 @@
+pub mod Answer
 pub mod Cause
+pub mod Dispatch
 pub mod Finished
 pub mod Lines
 pub mod Status

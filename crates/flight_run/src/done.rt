@@ -5,11 +5,8 @@ ghost use Rattle.flight_run.specs.Finished.{done_line};
 
 use flight_core::Report;
 use lc_model::mids;
-use lc_model::packet::message_id;
+use lc_model::packet::{first_packet, message_id};
 use std::fmt::{self, Display, Formatter, Write};
-
-/// The bytes of a packet's primary header, which ends with a length.
-const PRIMARY_HEADER: usize = 6;
 
 /// What was done, with what is said of it.
 #[derive(Drop)]
@@ -20,17 +17,6 @@ pub enum Done {
     Compiled { watchpoints: u16, rules: u16 },
     /// A run over a stream.
     Flown(Report),
-}
-
-/// The first packet, and what stands behind it.
-fn first_packet(packets: &[u8]) -> Option<(&[u8], &[u8])>
-    ensures header { IfSome result (λ parts. PRIMARY_HEADER ≤ length parts.0.now) }
-{
-    if packets.len() < PRIMARY_HEADER {
-        return None;
-    }
-    let size = usize::from(packets[4]) * 256 + usize::from(packets[5]) + 7;
-    packets.split_at_checked(size)
 }
 
 /// A packet in hexadecimal on a line.

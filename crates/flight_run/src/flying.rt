@@ -1,14 +1,14 @@
 //! `run --schedule S --stream IN --out OUT RULES..`
 
+ghost use Rattle.std.specs.Prelude.{IfOk};
+ghost use Rattle.flight_run.specs.Dispatch.{IsFlown};
+
 use crate::done::Done;
 use crate::fault::Fault;
-use crate::files::read;
-use flight_core::{Report, RunError};
+use crate::files::{is_apart, read};
 use flight_stock::launch;
 use lc_model::{Reading, Writing};
-use std::alloc::Global;
 use std::fs::{File, Files};
-use std::io::{BufWriter, Read, Write};
 use tick_scheduler::{Schedule, parse_schedule};
 
 /// The longest text of a schedule, in bytes.
@@ -36,29 +36,19 @@ fn texts_in<'a, R: Files + AllocGlobal>(
     Ok(texts)
 }
 
-/// A host with this profile's stock runs from a reader to a writer.
-fn launch_between<I: Read + Drop, O: Write + Drop>(
-    alloc: Global,
-    texts: &[&[u8]],
-    schedule: &Schedule,
-    stream: I,
-    out: O,
-) -> Result<Report, RunError> {
-    let mut reader = Reading::new(stream);
-    let mut writer = Writing::new(out);
-    launch(alloc, texts, schedule, &mut reader, &mut writer)
-}
-
 /// The files of rule texts, a schedule and a stream are opened in this order: the schedule, the texts, the stream, and what is
-/// written. Then the host runs.
+/// written, which is none of them. Then the host runs, from the stream's file to the output's, each of whose bytes is given to
+/// the device once.
 pub fn fly_files<'a, R: Files + AllocGlobal>(
     rt: &R,
     schedule: &'a str,
     stream: &'a str,
     out: &'a str,
     rules: &[&'a str],
-) -> Result<Done, Fault<'a>> {
-    let schedule = schedule_in(rt, schedule)?;
+) -> Result<Done, Fault<'a>>
+    ensures { IfOk result IsFlown }
+{
+    let plan = schedule_in(rt, schedule)?;
     let texts = texts_in(rt, rules)?;
     let mut slices = Vec::new(rt.alloc());
     for text in &texts {
@@ -67,17 +57,18 @@ pub fn fly_files<'a, R: Files + AllocGlobal>(
     let Ok(input) = File::open(rt, stream) else {
         return Err(Fault::File(stream));
     };
+    is_apart(rt, out, &[schedule, stream])?;
+    is_apart(rt, out, rules)?;
     let Ok(output) = File::create(rt, out) else {
         return Err(Fault::File(out));
     };
-    let Ok(mut output) = BufWriter::new(rt.alloc(), output) else {
-        return Err(Fault::Memory);
-    };
-    let result = launch_between(rt.alloc(), slices.as_slice(), &schedule, input, &mut output);
-    let flushed = output.flush().is_ok();
-    let report = result?;
-    if !flushed {
-        return Err(Fault::Run(RunError::Write { sent: report.bytes }));
-    }
-    Ok(Done::Flown(report))
+    let mut reader = Reading::new(input);
+    let (answer, _device) = launch(
+        rt.alloc(),
+        slices.as_slice(),
+        &plan,
+        &mut reader,
+        Writing::new(output),
+    );
+    Ok(Done::Flown(answer?))
 }

@@ -2,9 +2,12 @@
 //! low-volts rule in memory.
 #![tactic(auto)]
 
-ghost use Rattle.std.specs.Prelude.{◌≡◌, ◌⊎◌};
-ghost use Rattle.flight_run.specs.Status.{status_of};
+ghost use Rattle.std.specs.Prelude.{◌≡◌, ◌<◌, length, map, IfOk, IsOk};
+ghost use Rattle.program_words.specs.Words.{GiveAPlan};
+ghost use Rattle.flight_run.specs.Answer.{status_by};
+ghost use Rattle.flight_run.specs.Dispatch.{IsAskedFor};
 
+mod answering;
 mod compiling;
 mod done;
 mod fault;
@@ -14,29 +17,32 @@ mod lines;
 mod place;
 mod stored;
 
+use crate::answering::{fault_without_words, said, status_by};
 use crate::done::Done;
 use crate::fault::Fault;
-use program_words::{Plan, WordsError, read_words};
-use std::alloc::{AllocError, Global};
+use program_files::lent;
+use program_words::{Plan, read_words};
 use std::env::{self, Env};
 use std::fs::Files;
-use std::io::{Eprint, ErrorKind, Print};
+use std::io::{Eprint, Print};
 use std::process::ExitCode;
-
-/// What is said of a failed print.
-const STANDARD_OUTPUT: &str = "standard output";
 
 /// Does what the words say, the program's name first, and answers the exit status. What was done is said on standard output;
 /// what ends the program with another status than 0, in a line on standard error.
 pub fn main_on<R: Files + Print + Eprint + AllocGlobal>(rt: &R, words: &[&str]) -> u8 {
     match obey(rt, words) {
-        Ok(done) => finish(rt, &done),
-        Err(fault) => fail(rt, &fault),
+        Ok(done) => tell(rt, &said(print!(rt; "{done}"))),
+        Err(fault) => tell(rt, &Err(fault)),
     }
 }
 
 /// Does what the words say.
-fn obey<'a, R: Files + AllocGlobal>(rt: &R, words: &'a [&'a str]) -> Result<Done, Fault<'a>> {
+fn obey<'a, R: Files + AllocGlobal>(rt: &R, words: &'a [&'a str]) -> Result<Done, Fault<'a>>
+    ensures done { IfOk result
+        (λ done. IsAskedFor (map (λ word. word.now) words.entry.now) done) }
+    ensures given { 1 < length words.entry.now → IsOk result →
+        GiveAPlan (map (λ word. word.now) words.entry.now) }
+{
     match read_words(rt.alloc(), words)? {
         Plan::Stored => stored::run_stored(rt.alloc()),
         Plan::Compile { rules, wdt, adt } => compiling::compile_files(rt, rules, wdt, adt),
@@ -49,30 +55,21 @@ fn obey<'a, R: Files + AllocGlobal>(rt: &R, words: &'a [&'a str]) -> Result<Done
     }
 }
 
-/// Says on standard output what was done, and answers the status.
-fn finish<R: Print + Eprint>(rt: &R, done: &Done) -> u8
-    ensures { (result ≡ 0) ⊎ (result ≡ 3) }
+/// Says on standard error what the fault is, where there is one, and answers the status.
+fn tell<R: Eprint>(rt: &R, answer: &Result<(), Fault<'_>>) -> u8
+    ensures { result ≡ status_by answer.now }
 {
-    match print!(rt; "{done}") {
-        Ok(()) => 0,
-        Err(_) => fail(rt, &Fault::File(STANDARD_OUTPUT)),
+    if let Err(fault) = answer {
+        let _said = eprintln!(rt; "{fault}");
     }
-}
-
-/// Says on standard error what the fault is, and answers the status.
-fn fail<R: Eprint>(rt: &R, fault: &Fault<'_>) -> u8
-    ensures { result ≡ status_of fault.now }
-{
-    let _said = eprintln!(rt; "{fault}");
-    fault.status()
+    status_by(answer)
 }
 
 /// The words of the command line. What isn't text is no word.
 fn words_of<R: Env + AllocGlobal>(rt: &R) -> Result<Vec<String>, Fault<'static>> {
     let args = match env::args(rt) {
         Ok(args) => args,
-        Err(error) if error.kind() == ErrorKind::OutOfMemory => return Err(Fault::Memory),
-        Err(_) => return Err(Fault::Words(WordsError::Usage)),
+        Err(error) => return Err(fault_without_words(error.kind())),
     };
     let mut words = Vec::new(rt.alloc());
     for word in args {
@@ -81,22 +78,18 @@ fn words_of<R: Env + AllocGlobal>(rt: &R) -> Result<Vec<String>, Fault<'static>>
     Ok(words)
 }
 
-/// The words, lent.
-fn lent<'a>(alloc: Global, words: &'a [String]) -> Result<Vec<&'a str>, AllocError> {
-    let mut lent = Vec::new(alloc);
-    for word in words {
-        lent.push(word.as_str())?;
+/// Does what the words of the command line say, and answers the exit status.
+fn status_on<R: Env + Files + Print + Eprint + AllocGlobal>(rt: &R) -> u8 {
+    let own = match words_of(rt) {
+        Ok(own) => own,
+        Err(fault) => return tell(rt, &Err(fault)),
+    };
+    match lent(rt.alloc(), own.as_slice()) {
+        Ok(words) => main_on(rt, words.as_slice()),
+        Err(_) => tell(rt, &Err(Fault::Memory)),
     }
-    Ok(lent)
 }
 
 fn main(rt: HostRuntime) -> ExitCode {
-    let status = match words_of(&rt) {
-        Ok(own) => match lent(rt.alloc(), own.as_slice()) {
-            Ok(words) => main_on(&rt, words.as_slice()),
-            Err(_) => fail(&rt, &Fault::Memory),
-        },
-        Err(fault) => fail(&rt, &fault),
-    };
-    ExitCode::from(status)
+    ExitCode::from(status_on(&rt))
 }

@@ -1,6 +1,9 @@
 //! The stored run: the Limit Checker starts with the low-volts rule in force; two packets with too low a voltage come, each
 //! followed by a request to sample.
 
+ghost use Rattle.std.specs.Prelude.{IfOk};
+ghost use Rattle.flight_run.specs.Dispatch.{IsStored};
+
 use crate::done::Done;
 use crate::fault::Fault;
 use app_host::App;
@@ -34,7 +37,9 @@ const STREAM: &[u8] = b"\
 const ROOM: usize = 1_024;
 
 /// Runs the low-volts rule over two failing samples.
-pub fn run_stored(alloc: Global) -> Result<Done, Fault<'static>> {
+pub fn run_stored(alloc: Global) -> Result<Done, Fault<'static>>
+    ensures { IfOk result IsStored }
+{
     let schedule = parse_schedule(alloc, SCHEDULE)?;
     let mut stock: Vec<Box<dyn App>> = Vec::new(alloc);
     stock.push(Box::new(alloc, LimitChecker::new(alloc)?)?)?;

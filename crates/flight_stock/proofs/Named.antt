@@ -1,7 +1,7 @@
 -- A stock that was filled spare by spare has these names, and what is promised of it is promised of them.
-use Rattle.std.proofs.Common.{◌≡◌, refl, ◌∙◌, ap, subst, List, [], ◌∷◌, ◌++◌, map}
+use Rattle.std.proofs.Common.{◌≡◌, refl, ◌∙◌, ap, subst, List, [], ◌∷◌, ◌++◌, map, Option, Some, None}
 use Rattle.std.specs.Borrow.{Bor}
-use Rattle.std.specs.Prelude.{ℕ, Result, ⊤}
+use Rattle.std.specs.Prelude.{ℕ, Result, ⊤, IfSome}
 use Rattle.lc_model.specs.Name.{Name}
 use Rattle.lc_model.specs.Host.Outcome.{Devices}
 use Rattle.lc_model.specs.Host.Promise.{Mission}
@@ -42,3 +42,8 @@ pub keeps : {OfProfile : Type 0} → OfProfile → (texts : List (Bor (List ℕ)
 keeps {OfProfile} is texts schedule stock d result same promises =
     let own = subst (λ names. Promises OfProfile (mission_with texts schedule names) d result) same promises in
     record { profile = λ nothing. own.profile is; refuses = own.refuses; named = own.named; bounded = own.bounded }
+
+-- what is so of the device that was there
+pub of_the_device : {W : Type 0} (old : Option W) (device : W) (So : W → Type 0) → old ≡ Some device → So device → IfSome old So
+of_the_device None device So is so = tt
+of_the_device (Some other) device So is so = subst So (let same : device ≡ other = cc is in same) so

@@ -6,17 +6,11 @@ use Rattle.lc_model.specs.Host.Schedule.{Schedule}
 use Rattle.lc_model.specs.Host.Promise.{Mission}
 use Rattle.lc_model.specs.Tables.InForce.{edition}
 use Rattle.app_host.specs.Hosted.{Object}
-use Rattle.lc_model.specs.Kept.Executive.{Member}
 use Rattle.flight_core.specs.Compiled.{sources_of}
-use Rattle.flight_core.specs.Run.{members_of}
 
 -- the names of some objects
 abbrev pub names_of : List Object → List Name
 names_of stock = map (λ (o : Object). o.called) stock
-
--- the same, as a run takes them
-abbrev pub called_in : List Object → List Name
-called_in stock = map (λ (member : Member). member.called) (members_of stock)
 
 -- four Limit Checkers, two schedulers and two counters
 abbrev pub own_names : List Name

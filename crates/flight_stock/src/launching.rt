@@ -1,56 +1,76 @@
 //! A run with this profile's applications in stock.
 
-ghost use Rattle.std.specs.Prelude.{◌≡◌, false, ⊤};
+ghost use Rattle.std.specs.Prelude.{◌≡◌, false, ⊤, IfOk, IfSome, IsSome, IsSomeAnd, OnErr};
 ghost use Rattle.lc_model.specs.Host.Outcome.{devices};
 ghost use Rattle.flight_core.specs.Promises.{Promises};
 ghost use Rattle.flight_stock.specs.Stock.{own_mission};
 
-use crate::filling::fill;
+use crate::stock::add;
 use app_host::App;
+use command_counter::Counter;
 use flight_core::laws::runs_keep_their_promises;
-use flight_core::{Report, RunError, run, run_gathered};
+use flight_core::{Report, RunError, run_gathered};
 use lc_model::{ByteSink, ByteSource};
-use std::alloc::Global;
-use tick_scheduler::Schedule;
+use limit_checker::LimitChecker;
+use std::alloc::{AllocError, Global};
+use tick_scheduler::{Schedule, Scheduler};
 
-/// Runs rule texts over a stream of records, as `flight_core::run` does, with four Limit Checkers, two schedulers with this
-/// schedule and two counters in stock. All memory is taken before anything is read.
-///
-/// Conditions: nothing was read or failed yet.
-///
-/// Errors: those of `run`, `Memory` for the stock among them.
-pub fn launch<R: ByteSource, W: ByteSink>(
+/// Puts eight spares into stock, and runs with the device, which is put back. Out of memory for the spares is the outer error,
+/// before anything is read.
+fn run_with_stock<R: ByteSource, W: ByteSink + Drop>(
     alloc: Global,
     texts: &[&[u8]],
     schedule: &Schedule,
     reader: &mut R,
-    writer: &mut W,
-) -> Result<Report, RunError>
+    place: &mut Option<W>,
+) -> Result<Result<Report, RunError>, AllocError>
+    requires there { IsSome place.old }
     requires unread { (R.source reader.old).reads ≡ 0 }
     requires readable { (R.source reader.old).failed ≡ false }
-    requires writable { (W.sink writer.old).failed ≡ false }
-
-    // All that a run of this stock promises: the fields of `Promises` and of `PromisesOfProfile`.
-    ensures promises { let before_and_after = devices (R.source reader.old) (R.source reader.new)
-        (W.sink writer.old) (W.sink writer.new) in
-        Promises ⊤ (own_mission texts.now schedule.now) before_and_after result }
+    requires writable { IfSome place.old (λ device. (W.sink device).failed ≡ false) }
+    ensures promises { IfOk result (λ answer. IfSome place.old (λ before.
+        IsSomeAnd place.new (λ after.
+        let before_and_after = devices (R.source reader.old) (R.source reader.new)
+        (W.sink before) (W.sink after) in
+        Promises ⊤ (own_mission texts.now schedule.now) before_and_after answer))) }
+    ensures unread { OnErr result (R.source reader.new ≡ R.source reader.old) }
+    ensures untouched { OnErr result (place.new ≡ place.old) }
 {
-    // For the proof: each promise follows from how the run ends.
-    runs_keep_their_promises();
     let mut stock: Vec<Box<dyn App>> = Vec::new(alloc);
-    match fill(alloc, schedule, &mut stock) {
-        Ok(()) => run(alloc, texts, schedule, stock, reader, writer),
-        Err(_) => Err(RunError::Memory),
+    let first = Box::new(alloc, LimitChecker::new(alloc)?)?;
+    add(&mut stock, schedule, b"LC", first)?;
+    let second = Box::new(alloc, LimitChecker::new(alloc)?)?;
+    add(&mut stock, schedule, b"LC", second)?;
+    let third = Box::new(alloc, LimitChecker::new(alloc)?)?;
+    add(&mut stock, schedule, b"LC", third)?;
+    let fourth = Box::new(alloc, LimitChecker::new(alloc)?)?;
+    add(&mut stock, schedule, b"LC", fourth)?;
+    let scheduler = Box::new(alloc, Scheduler::new(alloc, schedule)?)?;
+    add(&mut stock, schedule, b"SCH", scheduler)?;
+    let other_scheduler = Box::new(alloc, Scheduler::new(alloc, schedule)?)?;
+    add(&mut stock, schedule, b"SCH", other_scheduler)?;
+    let counter = Box::new(alloc, Counter::new())?;
+    add(&mut stock, schedule, b"COUNTER", counter)?;
+    let other_counter = Box::new(alloc, Counter::new())?;
+    add(&mut stock, schedule, b"COUNTER", other_counter)?;
+    match place.take() {
+        Some(device) => {
+            let (answer, device) = run_gathered(alloc, texts, schedule, stock, reader, device);
+            *place = Some(device);
+            Ok(answer)
+        }
+        None => unreachable!(),
     }
 }
 
-/// The same with few writes to the device, which comes back, as `flight_core::run_gathered` does it: before each read of the
-/// stream, and before the answer, all output is with the device.
+/// Runs rule texts over a stream of records, as `flight_core::run_gathered` does, with four Limit Checkers, two schedulers with
+/// this schedule and two counters in stock: before each read of the stream, and before the answer, all output is with the
+/// device, which comes back. All memory is taken before anything is read.
 ///
 /// Conditions: nothing was read or failed yet.
 ///
 /// Errors: those of `run_gathered`, `Memory` for the stock among them.
-pub fn launch_gathered<R: ByteSource, W: ByteSink>(
+pub fn launch<R: ByteSource, W: ByteSink + Drop>(
     alloc: Global,
     texts: &[&[u8]],
     schedule: &Schedule,
@@ -61,15 +81,17 @@ pub fn launch_gathered<R: ByteSource, W: ByteSink>(
     requires readable { (R.source reader.old).failed ≡ false }
     requires writable { (W.sink device).failed ≡ false }
 
-    // All that a run of this stock promises, of the device itself.
+    // All that a run of this stock promises, of the device itself: the fields of `Promises` and of `PromisesOfProfile`.
     ensures promises { let before_and_after = devices (R.source reader.old) (R.source reader.new)
         (W.sink device) (W.sink result.1) in
         Promises ⊤ (own_mission texts.now schedule.now) before_and_after result.0 }
 {
     runs_keep_their_promises();
-    let mut stock: Vec<Box<dyn App>> = Vec::new(alloc);
-    match fill(alloc, schedule, &mut stock) {
-        Ok(()) => run_gathered(alloc, texts, schedule, stock, reader, device),
-        Err(_) => (Err(RunError::Memory), device),
+    let mut place = Some(device);
+    let flown = run_with_stock(alloc, texts, schedule, reader, &mut place);
+    match (flown, place) {
+        (Ok(answer), Some(device)) => (answer, device),
+        (Err(_), Some(device)) => (Err(RunError::Memory), device),
+        (_, None) => unreachable!(),
     }
 }

@@ -1,10 +1,8 @@
-//! The stock of a run: this profile's applications, put into boxes and handed to `flight_core::run` and
-//! `run_gathered`.
+//! The stock of a run: this profile's applications, put into boxes and handed to `flight_core::run_gathered`.
 #![tactic(auto)]
 
-mod filling;
 mod launching;
 mod stock;
 
-pub use launching::{launch, launch_gathered};
+pub use launching::launch;
 pub use stock::add;

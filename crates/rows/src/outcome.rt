@@ -46,8 +46,8 @@ pub fn outcome(alloc: Global, row: &Row) -> anyhow::Result<Vec<u8>> {
     }
     let mut packets = Vec::new(alloc);
     let mut reader = Reading::new(row.stream.as_slice());
-    let mut writer = Writing::new(&mut packets);
-    let ending = launch(alloc, texts.as_slice(), &schedule, &mut reader, &mut writer);
+    let writer = Writing::new(&mut packets);
+    let ending = launch(alloc, texts.as_slice(), &schedule, &mut reader, writer).0;
     let mut text = Vec::new(alloc);
     write_ending(&ending, packets.len(), &mut text)?;
     let hash = hex::encode(alloc, Sha256::digest(packets.as_slice()).as_slice())?;

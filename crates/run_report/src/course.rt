@@ -78,8 +78,8 @@ pub fn run_over(
     let mut marks = Vec::new(alloc);
     let written = Cell::new(0);
     let mut source = Steps::new(stream, &written, &mut marks);
-    let mut sink = Kept::new(&mut output, &written);
-    let answer = launch(alloc, texts, schedule, &mut source, &mut sink);
+    let sink = Kept::new(&mut output, &written);
+    let answer = launch(alloc, texts, schedule, &mut source, sink).0;
     let ending = ending_of(answer)?;
     let records = handled(ending, marks.len());
     Ok(Course {

@@ -92,8 +92,8 @@ fn probe(
     output.clear();
     let written = Cell::new(0);
     let mut source = Pieces::new(records, PIECE);
-    let mut sink = Kept::new(output, &written);
-    let answer = launch(alloc, asked.texts, asked.schedule, &mut source, &mut sink);
+    let sink = Kept::new(output, &written);
+    let answer = launch(alloc, asked.texts, asked.schedule, &mut source, sink).0;
     if answer.is_err() {
         return Err(ReportError::Memory);
     }

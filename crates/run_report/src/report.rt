@@ -2,7 +2,7 @@
 
 use crate::account::Account;
 use crate::columns::Columns;
-use crate::course::{Course, run_over};
+use crate::course::{Course, Ending, run_over};
 use crate::error::ReportError;
 use crate::framing::ends_of;
 use crate::page::put_page;
@@ -63,7 +63,7 @@ fn tell<W: Write, P: Progress>(
 /// 400 columns, the rules, and the first 500 sequence requests and events. What a rule's result and state are behind a column
 /// is asked of the host, by a run over all records up to there: so the time is that of 400 runs over the stream at most, and
 /// `progress` is told of each. Where tables came into force is told by the run's own events, and not where these are filtered.
-/// A stream that ends early has a page, which says so.
+/// A stream that ends early has a page, which says so, and so does the answer: whether the stream has an end.
 ///
 /// Errors: `Rules` with the first text that doesn't compile, numbered from 0, before anything is written; `Memory`; `Write`,
 /// where the writer fails. What was written before stands.
@@ -74,7 +74,7 @@ pub fn write_page<W: Write, P: Progress>(
     sources: &[Source<'_>],
     out: &mut W,
     progress: &mut P,
-) -> Result<(), ReportError> {
+) -> Result<bool, ReportError> {
     let texts = bytes_of(alloc, sources)?;
     let course = run_over(alloc, texts.as_slice(), schedule, stream)?;
     let ends = ends_of(alloc, stream)?;
@@ -84,5 +84,6 @@ pub fn write_page<W: Write, P: Progress>(
         stream,
         ends: ends.as_slice(),
     };
-    tell(alloc, asked, &course, sources, out, progress)
+    tell(alloc, asked, &course, sources, out, progress)?;
+    Ok(matches!(course.ending, Ending::Whole { .. }))
 }

@@ -10,7 +10,7 @@ use lc_model::stream::{HEADER, body_size};
 
 /// What stands at the front of a stream.
 #[derive(Clone, Copy)]
-pub(crate) enum Front {
+pub enum Front {
     /// Nothing.
     End,
     /// A whole record of so many bytes.
@@ -47,7 +47,7 @@ fn front_of_header(bytes: &[u8]) -> Front
 }
 
 /// What stands in front.
-pub(crate) fn front_of(bytes: &[u8]) -> Front
+pub fn front_of(bytes: &[u8]) -> Front
     ensures stands { result ≡ front_in bytes.now }
     ensures inside { IsInside bytes.now result }
 {

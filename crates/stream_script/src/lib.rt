@@ -19,7 +19,8 @@ mod word;
 mod writing;
 
 pub use error::{Reason, ScriptError};
+pub use front::{Front, front_of};
 pub use kind::RecordKind;
-pub use listing::write_listing;
+pub use listing::{write_listing, write_listing_from};
 pub use reading::read_script;
 pub use writing::write_script;

@@ -1,6 +1,6 @@
 //! From a stream to its listing.
 
-ghost use Rattle.std.specs.Prelude.{◌≡◌, ◌++◌, ◌+◌, ◌-◌, ◌≤◌, decimal, length, IfOk};
+ghost use Rattle.std.specs.Prelude.{◌≡◌, ◌++◌, ◌+◌, ◌-◌, ◌^◌, ◌<◌, ◌≤◌, decimal, length, IfOk};
 ghost use Rattle.lc_model.specs.Host.Stream.{header_size, moment_of};
 ghost use Rattle.stream_script.specs.Front.{body_in_front, record_size};
 ghost use Rattle.stream_script.specs.Kind.{fits_kind};
@@ -119,14 +119,22 @@ fn with_next<'a>(
 pub fn write_listing(alloc: Global, stream: &[u8]) -> Result<Vec<u8>, AllocError>
     ensures { IfOk result (λ listing. listing.items ≡ listing_of stream.now) }
 {
+    write_listing_from(alloc, 1, stream)
+}
+
+/// The same of what is left of a stream, whose first record has this number.
+pub fn write_listing_from(alloc: Global, first: usize, stream: &[u8]) -> Result<Vec<u8>, AllocError>
+    requires { first + length stream.now + 1 < 2 ^ 64 }
+    ensures { IfOk result (λ listing. listing.items ≡ lines_from first stream.now) }
+{
     let mut listing = Vec::new(alloc);
     let mut left = Some(stream);
-    let mut number = 0;
+    let mut number = first;
     while let Some(bytes) = left {
-        number += 1;
         let (text, rest) = with_next(alloc, listing, number, bytes)?;
         listing = text;
         left = rest;
+        number += 1;
     }
     Ok(listing)
 }

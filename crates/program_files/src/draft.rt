@@ -1,0 +1,119 @@
+//! Files that are written beside their names, and take them at the end.
+
+use crate::why::{FileFault, Why, fault_of};
+use std::fs::{self, File, Files, Metadata, OpenFile};
+use std::io::ErrorKind;
+
+/// How many names are tried beside a file's own.
+const TRIES: u32 = 100;
+
+/// The name beside, under which a file is written, and its own, which it takes at the end.
+#[derive(Drop)]
+struct Names {
+    beside: String,
+    own: String,
+}
+
+/// A file that is being written beside the one whose name it will take: what stands under that name stays until it is kept. A
+/// device or a pipe is written as it stands.
+#[derive(Drop)]
+pub struct Draft<F: Drop> {
+    /// What is written to.
+    pub file: F,
+    names: Option<Names>,
+}
+
+/// The name under which a file is really there, or this one.
+fn target_of<R: Files + AllocGlobal>(rt: &R, name: &str) -> Result<String, FileFault> {
+    match fs::canonicalize(rt, name) {
+        Ok(path) => Ok(path.into_string()),
+        Err(_) => String::from_str(rt.alloc(), name).map_err(|_| FileFault::Memory),
+    }
+}
+
+/// A new file beside this one; nothing where that name is taken.
+fn new_beside<R: Files + AllocGlobal>(
+    rt: &R,
+    own: &str,
+    number: u32,
+) -> Result<Option<(R::File, String)>, FileFault> {
+    let Ok(beside) = format!(in rt.alloc(); "{own}.part{number}") else {
+        return Err(FileFault::Memory);
+    };
+    match File::create_new(rt, beside.as_str()) {
+        Ok(file) => Ok(Some((file, beside))),
+        Err(error) if error.kind() == ErrorKind::AlreadyExists => Ok(None),
+        Err(error) => Err(fault_of(&error)),
+    }
+}
+
+/// A file beside this one, under the first name that is free.
+fn beside<R: Files + AllocGlobal>(rt: &R, own: String) -> Result<Draft<R::File>, FileFault> {
+    for number in 0..TRIES {
+        if let Some((file, beside)) = new_beside(rt, own.as_str(), number)? {
+            return Ok(Draft {
+                file,
+                names: Some(Names { beside, own }),
+            });
+        }
+    }
+    Err(FileFault::Unusable(Why::Failed))
+}
+
+/// A device or a pipe, which is written as it stands.
+fn as_it_stands<R: Files>(rt: &R, name: &str) -> Result<Draft<R::File>, FileFault> {
+    match File::create(rt, name) {
+        Ok(file) => Ok(Draft { file, names: None }),
+        Err(error) => Err(fault_of(&error)),
+    }
+}
+
+/// A file beside this one, which is there, with what the system allows of it.
+fn beside_old<R: Files + AllocGlobal>(
+    rt: &R,
+    name: &str,
+    old: &Metadata,
+) -> Result<Draft<R::File>, FileFault> {
+    let draft = beside(rt, target_of(rt, name)?)?;
+    if let Some(names) = &draft.names {
+        let _allowed = fs::set_permissions(rt, names.beside.as_str(), old.permissions());
+    }
+    Ok(draft)
+}
+
+/// Begins a file that is to take this name.
+pub fn begin<R: Files + AllocGlobal>(rt: &R, name: &str) -> Result<Draft<R::File>, FileFault> {
+    match fs::metadata(rt, name) {
+        Ok(there) if there.is_dir() => Err(FileFault::Unusable(Why::Folder)),
+        Ok(there) if there.is_file() => beside_old(rt, name, &there),
+        Ok(_) => as_it_stands(rt, name),
+        Err(_) => beside(rt, target_of(rt, name)?),
+    }
+}
+
+/// The file takes its name, once the device has all of it.
+pub fn keep<R: Files>(rt: &R, draft: Draft<R::File>) -> Result<(), FileFault> {
+    let Draft { file, names } = draft;
+    let Some(names) = names else {
+        return Ok(());
+    };
+    let kept = match file.sync_all() {
+        Ok(()) => fs::rename(rt, names.beside.as_str(), names.own.as_str()),
+        Err(error) => Err(error),
+    };
+    match kept {
+        Ok(()) => Ok(()),
+        Err(error) => {
+            let _gone = fs::remove_file(rt, names.beside.as_str());
+            Err(fault_of(&error))
+        }
+    }
+}
+
+/// The file goes, and what stands under its name stays.
+pub fn discard<R: Files>(rt: &R, draft: Draft<R::File>) {
+    let Draft { file: _, names } = draft;
+    if let Some(names) = names {
+        let _gone = fs::remove_file(rt, names.beside.as_str());
+    }
+}
