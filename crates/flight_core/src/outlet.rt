@@ -26,7 +26,8 @@ pub(crate) trait Outlet<T: ByteSink> {
     // As a sink it shows what the device has, and behind it what is held.
     ghost shows: { (out : T) → T.sink out ≡ with_held (device out) (held out) };
     // Nothing is held, or the device still begins with what it had.
-    ghost grows: { (out : T) (had : Option (List ℕ)) → Had had → MayHold had (device out).gained (held out) };
+    ghost grows: { (out : T) (had : Option (List ℕ)) → Had had →
+        MayHold had (device out).gained (held out) };
 }
 
 /// Each write goes to the device at once: nothing is held.

@@ -1,6 +1,5 @@
 //! What the program has done, as it says on standard output.
 
-ghost use Rattle.std.specs.Prelude.{◌≤◌, length, IfSome};
 ghost use Rattle.flight_run.specs.Finished.{done_line};
 
 use flight_core::Report;
