@@ -1,5 +1,8 @@
 //! The fields of a rule text, by their names.
 
+ghost use Rattle.std.specs.Prelude.{◌≡◌, None};
+ghost use Rattle.lc_model.specs.Field.{full_mask};
+
 use lc_model::Term;
 use rule_judgement::{Field, field_of};
 use rule_parser::{FieldItem, Item, RuleFile};
@@ -54,19 +57,25 @@ fn mid_of(file: &RuleFile<'_>, name: &[u8]) -> u16 {
     0
 }
 
-/// What a text names by this item.
-fn named<'a>(file: &RuleFile<'a>, item: &FieldItem<'a>) -> NamedField<'a> {
-    let mask = match item.mask {
+/// The field's bits that count: all, where the text says none.
+fn mask_of(item: &FieldItem<'_>) -> u32
+    ensures { item.now.mask ≡ None → result ≡ full_mask item.now.kind }
+{
+    match item.mask {
         Some(mask) => u32::try_from(mask.value).unwrap_or(0),
         None => item.kind.full_mask(),
-    };
+    }
+}
+
+/// What a text names by this item.
+fn named<'a>(file: &RuleFile<'a>, item: &FieldItem<'a>) -> NamedField<'a> {
     NamedField {
         name: item.name.text,
         field: Field {
             kind: item.kind,
             mid: mid_of(file, item.packet.text),
             offset: u32::try_from(item.offset.value).unwrap_or(0),
-            mask,
+            mask: mask_of(item),
         },
     }
 }

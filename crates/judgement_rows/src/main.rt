@@ -11,6 +11,8 @@ mod trying;
 use crate::comparing::Counts;
 use crate::measuring::measure;
 use judgement_listing::{Which, list_judgement};
+use lc_model::SampleRequest;
+use rule_judgement::never_sampled;
 use std::{env, fs};
 
 /// The texts, in the order in which they are judged.
@@ -49,11 +51,34 @@ fn show_counts(rt: &HostRuntime, what: &str, counts: Counts) -> anyhow::Result<(
     Ok(())
 }
 
+/// Sample requests: the first rule and the last.
+const SAMPLES: [SampleRequest; 2] = [
+    SampleRequest {
+        first: 0,
+        last: 2,
+        ages: true,
+    },
+    SampleRequest {
+        first: 4,
+        last: 5,
+        ages: false,
+    },
+];
+
+/// Prints which of eight rules none of these requests takes.
+fn show_unsampled(rt: &HostRuntime) -> anyhow::Result<()> {
+    for rule in &never_sampled(rt.alloc(), 8, &SAMPLES)? {
+        println!(rt; "rule {rule} is never sampled")?;
+    }
+    Ok(())
+}
+
 /// Prints what is found of the texts, and what was counted.
 fn show_all(rt: &HostRuntime) -> anyhow::Result<()> {
     for name in TEXTS {
         show(rt, name)?;
     }
+    show_unsampled(rt)?;
     show_counts(rt, "free fields", Counts::of_free_fields(rt.alloc())?)?;
     show_counts(rt, "shared bits", Counts::of_shared_bits(rt.alloc())?)
 }

@@ -1,7 +1,6 @@
 -- Over whole runs nobody requests a sequence that only rules request that never fail.
-use Rattle.std.proofs.Common.{◌≡◌, ℕ, zero, suc, ◌+◌, ◌*◌, ◌/◌, ◌%◌, ◌^◌, ◌<◌, ◌≤◌, Bool, true, false, List, [], ◌∷◌, ◌++◌, length, map, refl, ap, sym, ◌∙◌, subst, arith, Option, Some, None, option_map, Result, Ok, Err, inl, inr, get_or, if◌then◌else◌, nat_lt}
-use Rattle.std.specs.Prelude.{◌≢◌, ◌⊎◌, ⊤, Contains, find, slice_get, IsTrue, bytes_eq}
-use Rattle.std.specs.Int.{w16, to_be_bytes, from_be_bytes}
+use Rattle.std.proofs.Common.{◌≡◌, ℕ, zero, suc, ◌+◌, ◌%◌, ◌^◌, ◌<◌, ◌≤◌, Bool, true, false, List, [], ◌∷◌, length, refl, ap, sym, ◌∙◌, subst, arith, Option, Some, None, option_map, Result, Ok, Err, inl, inr, if◌then◌else◌, nat_lt}
+use Rattle.std.specs.Prelude.{◌≢◌, ◌⊎◌, ⊤, Contains, find, slice_get}
 use Rattle.std.specs.Option.{option_map_or}
 use Rattle.std.specs.List.{AllByRecursion, AllZip, filter}
 use Rattle.std.proofs.lemmas.Bool.Decides.{nat_tests}
@@ -9,21 +8,20 @@ use Rattle.std.proofs.lemmas.List.Elements.{filter-append}
 use Rattle.std.proofs.lemmas.Nat.{from_be_bytes-to_be_bytes_2}
 use Rattle.lc_model.specs.declared.kind.Kind.{Kind}
 use Rattle.lc_model.specs.declared.kind.Kind.TheVariants.{Wdt, Adt}
-use Rattle.lc_model.specs.Name.{Name}
-use Rattle.lc_model.specs.Rule.{NamedRule, Actionpoint, actions}
+use Rattle.lc_model.specs.Rule.{NamedRule, actions}
 use Rattle.lc_model.specs.Tables.Compiling.{Limits, Compiles}
-use Rattle.lc_model.specs.Tables.Image.{Layout, ImageFault, hash_of, fault_of}
+use Rattle.lc_model.specs.Tables.Image.{Layout, ImageFault, fault_of}
 use Rattle.lc_model.specs.Tables.File.{TableFile, opened}
-use Rattle.lc_model.specs.Tables.Interpretation.{FileMeaning, FileMeanings, kind_of_size}
-use Rattle.lc_model.specs.Tables.HalvesAndBytes.{Text, TextImage, HalfOf, Faulty, Foreign, as_halves, rules_of_half, text_meanings, text_image, image_of_kind, half_of_one, half_numbered, meaning_by}
+use Rattle.lc_model.specs.Tables.Interpretation.{kind_of_size}
+use Rattle.lc_model.specs.Tables.HalvesAndBytes.{Text, TextImage, HalfOf, Faulty, Foreign, as_halves, rules_of_half, text_meanings, text_image, image_of_kind, half_of_one, meaning_by}
 use Rattle.lc_model.specs.Events.Request.{Request, Event, Sequence, Housekeeping}
 use Rattle.lc_model.specs.Events.Outgoing.{sequence_request}
 use Rattle.lc_model.specs.Host.Schedule.{Schedule}
 use Rattle.lc_model.specs.Host.Stream.{StreamEntry, Contents, Packet, Tick, File, Half, records_of}
 use Rattle.lc_model.specs.Host.World.{World, Running, Lc, first_world}
 use Rattle.lc_model.specs.Host.React.{Step, react}
-use Rattle.lc_model.specs.Host.Run.{Sent, input_of, all_delivered, handled, sent_from}
-use Rattle.lc_model.specs.Host.Promise.{Mission, IsOfTexts}
+use Rattle.lc_model.specs.Host.Run.{Sent, input_of, all_delivered, sent_from}
+use Rattle.lc_model.specs.Host.Promise.{Mission}
 use Rattle.lc_model.specs.Laws.Correspondence.{BothOrNone, SlotAlike, LcAlike, MeaningAlike, InputAlike, StepAlike}
 use Rattle.lc_model.specs.Laws.Reading.{IsWithinRanges}
 use Rattle.lc_model.proofs.Host.SameCore.{Core, core_of, state_in, is_sequence, sequences_in, numbers_in, requests_from, all_sent}
@@ -35,7 +33,7 @@ use Rattle.rule_judgement.specs.Judgement.{NeverFails}
 use Rattle.rule_judgement.specs.Quiet.{IsQuiet, IsOfQuietRules, AreWithout}
 use Rattle.rule_judgement.specs.Called.{sequence_number, NeverFailIn, IsNeverCalledFor}
 use Rattle.rule_judgement.proofs.Each.{both}
-use Rattle.rule_judgement.proofs.CalledSteps.{Own, alike, agree, Owns, IsQuietIn, AreSilent, IsFine, react_quiet}
+use Rattle.rule_judgement.proofs.CalledSteps.{Own, alike, agree, Owns, IsQuietIn, react_quiet}
 
 -- ---- texts
 

@@ -1,9 +1,9 @@
 -- While the images of a world are halves of some texts, nobody requests a sequence that only rules of these texts request that
 -- never fail.
-use Rattle.std.proofs.Common.{◌≡◌, ℕ, ◌+◌, Bool, true, false, not, List, [], ◌∷◌, ◌++◌, map, length, refl, ap, ap₂, sym, ◌∙◌, subst, Option, Some, None, option_map, is_none, Result, Ok, Err, if◌then◌else◌}
-use Rattle.std.specs.Prelude.{◌≢◌, Contains, ⊤, find, slice_get, IsTrue, nat_le, nat_lt, ◌==◌, ◌&&◌}
+use Rattle.std.proofs.Common.{◌≡◌, ℕ, ◌+◌, Bool, true, false, not, List, [], ◌∷◌, ◌++◌, map, refl, ap, ap₂, sym, subst, Option, Some, None, option_map, Result, Ok, Err, if◌then◌else◌}
+use Rattle.std.specs.Prelude.{Contains, ⊤, ◌==◌}
 use Rattle.std.specs.Option.{option_map_or}
-use Rattle.std.specs.List.{AllByRecursion, AllZip}
+use Rattle.std.specs.List.{AllZip}
 use Rattle.lc_model.specs.declared.kind.Kind.{Kind}
 use Rattle.lc_model.specs.declared.kind.Kind.TheVariants.{Wdt, Adt}
 use Rattle.lc_model.specs.Name.{Name, is_named, lc_name, sch_name, counter_name, held}
@@ -13,19 +13,19 @@ use Rattle.lc_model.specs.Condition.{Condition, Watch, Not, Join}
 use Rattle.lc_model.specs.Rule.{Actionpoint, actions}
 use Rattle.lc_model.specs.Tables.Equation.{terms_of, IsRearranged, mention, negation, in_order}
 use Rattle.lc_model.specs.Tables.Image.{Layout}
-use Rattle.lc_model.specs.Tables.Slot.{Slot, Stage, Move, Waiting, Loaded, Asked, Valid, Activated, stage_after, restaged, loaded, moved}
-use Rattle.lc_model.specs.Tables.Interpretation.{FileMeaning, Opened, Unreadable, Interpretation, Pair, kind_named}
-use Rattle.lc_model.specs.Tables.HalvesAndBytes.{Text, TextImage, HalfOf, Faulty, Foreign, half_fault, is_of_one_text, rules_of_half, as_halves}
-use Rattle.lc_model.specs.Events.Request.{Request, Event, Sequence, Housekeeping, Service, event_services, table_services, executive_services, command_done, command_refused, bad_packet}
+use Rattle.lc_model.specs.Tables.Slot.{Slot, Stage, Move, stage_after, restaged, loaded, moved}
+use Rattle.lc_model.specs.Tables.Interpretation.{FileMeaning, Pair, kind_named}
+use Rattle.lc_model.specs.Tables.HalvesAndBytes.{Text, TextImage, HalfOf, half_fault, is_of_one_text, rules_of_half, as_halves}
+use Rattle.lc_model.specs.Events.Request.{Request, Service, event_services, table_services, executive_services, command_done, bad_packet}
 use Rattle.lc_model.specs.Events.Log.{joined}
 use Rattle.lc_model.specs.Command.{event_command, TableCommand, Load, Manage, table_command, Order, Start, Stop, Restart, Reload, app_command, bare_request}
-use Rattle.lc_model.specs.LimitChecker.Steps.{Point, by_lists, paired, in_force, default_pair, started_with, lc_start, lc_packet}
+use Rattle.lc_model.specs.LimitChecker.Steps.{Point, by_lists, paired, default_pair, started_with, lc_start, lc_packet}
 use Rattle.lc_model.specs.Host.Schedule.{Schedule, entry_packet, slot_number, entries_at}
-use Rattle.lc_model.specs.Host.World.{World, Application, Running, Lc, log_of, with_log, become, begun, ended, with_one_spare_less, changed_at, runs, spares_of}
-use Rattle.lc_model.specs.Host.React.{Input, Packet, Tick, File, Step, stored, filed, on_file, answered, event_service, opened_file, slot_of, with_slot, table_named, left, spare_taken, lc_begun, lc_become, counter_answer, counter_packet, counter_become, to_counter, managed, table_service, started, ordered, executive_service, to_lc, routed, on_packet, on_packets, scheduled, on_tick, react}
+use Rattle.lc_model.specs.Host.World.{World, Application, Running, Lc, log_of, with_log, become, runs, spares_of}
+use Rattle.lc_model.specs.Host.React.{Input, Packet, Tick, File, Step, stored, filed, answered, event_service, opened_file, slot_of, with_slot, table_named, left, spare_taken, lc_begun, lc_become, counter_answer, counter_packet, counter_become, to_counter, managed, table_service, started, ordered, executive_service, to_lc, routed, on_packet, on_packets, scheduled, on_tick, react}
 use Rattle.lc_model.specs.Laws.Tables.{IsSameRule}
-use Rattle.lc_model.specs.Laws.Correspondence.{BothOrNone, Agrees, SoundAlike, SlotAlike, LcAlike, MeaningAlike, WorldAlike, InputAlike, StepAlike}
-use Rattle.lc_model.proofs.Host.SameCore.{state_in, core_of, any_log}
+use Rattle.lc_model.specs.Laws.Correspondence.{BothOrNone, Agrees, LcAlike, WorldAlike, StepAlike}
+use Rattle.lc_model.proofs.Host.SameCore.{state_in, any_log}
 use Rattle.lc_model.proofs.Host.CorrespondenceLaws.{each_input_keeps}
 use Rattle.lc_model.specs.LimitChecker.Past.{Past}
 use Rattle.rule_judgement.specs.Quiet.{HaveNoFailures, pasts_of, IsQuietSoFar, IsOfQuietRules, AreWithout}

@@ -1,27 +1,25 @@
 -- Numbers that stand for all that a field may have.
-use Rattle.std.proofs.Common.{◌≡◌, ℕ, ◌+◌, ◌-◌, ◌*◌, ◌^◌, ◌≤◌, ◌<◌, Bool, true, false, List, [], ◌∷◌, ◌++◌, length, refl, ap, ap₂, sym, ◌∙◌, subst, arith, Option, Some, None, nat_le, if◌then◌else◌, inl, inr, Vec}
+use Rattle.std.proofs.Common.{◌≡◌, ℕ, ◌-◌, ◌*◌, ◌^◌, ◌≤◌, ◌<◌, Bool, true, false, List, [], ◌∷◌, ◌++◌, length, refl, ap, sym, ◌∙◌, subst, arith, Some, nat_le, if◌then◌else◌, inl, inr, Vec}
 use Rattle.std.specs.Global.{Global}
-use Rattle.std.specs.Prelude.{◌⊎◌, slice_get, Contains, IsTrue, ℤ, pos, ◌-ℤ◌, int_le, int_lt, bit_and, ◌&&◌, filter, ◌==◌}
+use Rattle.std.specs.Prelude.{slice_get, Contains, ℤ, pos, ◌-ℤ◌, int_le, int_lt, bit_and, ◌&&◌, filter, ◌==◌}
 use Rattle.std.specs.List.{AllByRecursion}
 use Rattle.std.proofs.lemmas.Bool.Decides.{nat_tests}
 use Rattle.std.proofs.lemmas.Int.{ints}
 use Rattle.std.specs.Int.Bits.{and_self}
 use Rattle.std.proofs.lemmas.Nat.{and_assoc}
-use Rattle.lc_model.specs.declared.truth.Truth.{Truth}
 use Rattle.lc_model.specs.declared.truth.Truth.TheVariants.{True, False}
 use Rattle.lc_model.specs.declared.field.FieldType.{FieldType}
 use Rattle.lc_model.specs.declared.field.FieldType.TheVariants.{U8, I8, U16Be, U16Le, I16Be, I16Le, U32Be, U32Le, I32Be, I32Le}
 use Rattle.lc_model.specs.declared.field.Term.{Term}
 use Rattle.lc_model.specs.Field.{bit_width, is_signed, compares, twos_complement}
 use Rattle.lc_model.specs.LimitChecker.Watch.{judgement}
-use Rattle.rule_judgement.specs.Judgement.{place_of, value_by}
-use Rattle.rule_judgement.specs.Numbers.{Fits, IsLeastFrom, IsNextBits}
-use Rattle.rule_judgement.specs.Classes.{truth_there, SaysTheSame, RepresentAll, sign_weight, ReachAlike, Separates, Covers}
+use Rattle.rule_judgement.specs.Numbers.{Fits}
+use Rattle.rule_judgement.specs.Classes.{SaysTheSame, RepresentAll, sign_weight, ReachAlike, Separates, Covers}
 use Rattle.rule_judgement.specs.Search.{Represent, AreRepresented}
 use Rattle.rule_judgement.proofs.WalkLaws.{decided, there_before, there_last}
 use Rattle.rule_judgement.proofs.Halves.{small}
 use Rattle.rule_judgement.proofs.SameSide.{same_side}
-use Rattle.rule_judgement.proofs.Reaching.{IsAmong, Reached, reached, Represents, represents}
+use Rattle.rule_judgement.proofs.Reaching.{IsAmong, Represents, represents}
 
 -- ---- thresholds of one comparison
 

@@ -1,5 +1,5 @@
 -- Fields by number: more fields leave the numbers, and a number tells the field's parts.
-use Rattle.std.proofs.Common.{◌≡◌, ℕ, zero, suc, ◌+◌, ◌≤◌, ◌<◌, Bool, true, false, ◌&&◌, ◌==◌, List, [], ◌∷◌, ◌++◌, length, get_or, refl, ap, sym, ◌∙◌, subst, arith, add-one, if◌then◌else◌}
+use Rattle.std.proofs.Common.{◌≡◌, ℕ, zero, suc, ◌+◌, ◌≤◌, ◌<◌, Bool, true, false, ◌&&◌, ◌==◌, List, [], ◌∷◌, ◌++◌, length, get_or, refl, ap, sym, ◌∙◌, arith, add-one, if◌then◌else◌}
 use Rattle.std.specs.Prelude.{IsTrue, pos}
 use Rattle.lc_model.specs.declared.field.CmpOp.TheVariants.{Less}
 use Rattle.std.specs.List.{AllByRecursion}

@@ -1,5 +1,5 @@
 -- The last packet of a message id among some.
-use Rattle.std.proofs.Common.{◌≡◌, ℕ, ◌<◌, Bool, true, ◌==◌, List, ◌∷◌, length, drop, drop-cons, add-one, get_or, ap, ◌∙◌, sym, suc, arith, Some, None, option_map, if◌then◌else◌, Vec}
+use Rattle.std.proofs.Common.{◌≡◌, ℕ, ◌<◌, true, ◌==◌, List, ◌∷◌, length, drop, drop-cons, get_or, ap, ◌∙◌, sym, suc, arith, Some, if◌then◌else◌, Vec}
 use Rattle.std.specs.Global.{Global}
 use Rattle.std.proofs.lemmas.Bool.Decides.{nat_tests}
 use Rattle.lc_model.specs.Packet.{message_id}

@@ -1,5 +1,5 @@
 -- The fields that terms read, told apart by their four parts. This project's own.
-use Rattle.std.specs.Prelude.{◌≡◌, ℕ, ◌+◌, ◌<◌, List, [], ◌∷◌, length, Bool, ◌&&◌, ◌==◌, if◌then◌else◌}
+use Rattle.std.specs.Prelude.{ℕ, ◌+◌, ◌<◌, List, [], ◌∷◌, length, Bool, ◌&&◌, ◌==◌, if◌then◌else◌}
 use Rattle.lc_model.specs.declared.field.Term.{Term}
 use Rattle.lc_model.specs.Codes.{type_code}
 use Rattle.rule_judgement.specs.declared.fields.Field.{Field}

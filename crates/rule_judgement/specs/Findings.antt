@@ -10,7 +10,7 @@ use Rattle.lc_model.specs.declared.field.Term.{Term}
 use Rattle.lc_model.specs.Condition.{Condition, Watch, Not}
 use Rattle.lc_model.specs.Rule.{NamedRule}
 use Rattle.lc_model.specs.Tables.Equation.{mentions}
-use Rattle.lc_model.specs.LimitChecker.Watch.{History, HistoryItem, Packet, truth_of}
+use Rattle.lc_model.specs.LimitChecker.Watch.{History, Packet, truth_of}
 use Rattle.rule_judgement.specs.declared.deciding.Decision.{Decision}
 use Rattle.rule_judgement.specs.declared.deciding.Decision.TheVariants as decision
 use Rattle.rule_judgement.specs.declared.finding.Finding.{Finding}

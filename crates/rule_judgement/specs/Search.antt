@@ -1,5 +1,5 @@
 -- The walk over the fields of a condition: some have numbers already, the others are stale. This project's own.
-use Rattle.std.specs.Prelude.{◌≡◌, ◌≢◌, ℕ, ◌+◌, List, [], ◌∷◌, ◌++◌, slice_get, slice_index, ◌<◌, Option, Some, None, Contains, Bool, ◌&&◌, ◌==◌, if◌then◌else◌}
+use Rattle.std.specs.Prelude.{◌≡◌, ◌≢◌, ℕ, List, [], ◌∷◌, ◌++◌, slice_get, slice_index, ◌<◌, Some, Contains}
 use Rattle.std.specs.List.{AllByRecursion}
 use Rattle.std.specs.declared.vec.Vec.{Vec}
 use Rattle.std.specs.Global.{Global}
@@ -9,9 +9,7 @@ use Rattle.lc_model.specs.declared.truth.Truth.{Truth}
 use Rattle.lc_model.specs.declared.truth.Truth.TheVariants.{True}
 use Rattle.lc_model.specs.declared.field.Term.{Term}
 use Rattle.lc_model.specs.Condition.{Condition}
-use Rattle.lc_model.specs.Tables.Equation.{mentions}
 use Rattle.lc_model.specs.LimitChecker.Watch.{truth_by}
-use Rattle.rule_judgement.specs.Judgement.{Place, place_of, NeverFails}
 use Rattle.rule_judgement.specs.Classes.{truth_there, SaysTheSame}
 
 -- which field a term reads is said by a number; the first so many fields have bits

@@ -1,5 +1,5 @@
 -- Comparisons that a rule can do without. This project's own.
-use Rattle.std.specs.Prelude.{◌≡◌, ℕ, Bool, true, false, List, slice_get, Some, if◌then◌else◌}
+use Rattle.std.specs.Prelude.{◌≡◌, Bool, true, false, List, slice_get, Some, if◌then◌else◌}
 use Rattle.lc_model.specs.declared.field.Term.{Term}
 use Rattle.lc_model.specs.Condition.{And, Or, Xor, Condition, Watch, Not, Join}
 use Rattle.lc_model.specs.Rule.{NamedRule}

@@ -17,7 +17,7 @@ pub enum Reason {
 pub enum Finding {
     /// No packets, however they come, make it true.
     Never,
-    /// With these packets it is true; of each message id there is one at most.
+    /// With these packets it is true, the first of them having come last.
     Possible(Vec<Vec<u8>>),
     /// It is not known.
     Unknown(Reason),

@@ -26,5 +26,5 @@ pub use finding::{
 pub use judging::{RULE_STEPS, can_be_true, judge};
 pub use pairs::{TEXT_STEPS, judge_pairs};
 pub use reach::{never_read, never_sampled};
-pub use spare::spare_comparisons;
 pub use seen::value_with;
+pub use spare::spare_comparisons;

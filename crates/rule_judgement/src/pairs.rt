@@ -21,11 +21,7 @@ const PAIR_STEPS: u32 = 1 << 14;
 pub const TEXT_STEPS: u32 = 1 << 21;
 
 /// Whether some numbers make the condition true; none where it is not known. At most `PAIR_STEPS` of the steps are taken.
-pub(crate) fn ask(
-    alloc: Global,
-    cond: &Cond,
-    steps: &mut u32,
-) -> Result<Option<bool>, AllocError>
+pub(crate) fn ask(alloc: Global, cond: &Cond, steps: &mut u32) -> Result<Option<bool>, AllocError>
     ensures { IfOk result (λ some. some ≡ Some false → NeverFails (condition_of cond.now)) }
 {
     let given = PAIR_STEPS.min(*steps);

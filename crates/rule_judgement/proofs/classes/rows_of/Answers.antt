@@ -1,4 +1,4 @@
-use Rattle.std.proofs.Common.{rules, ◌≡◌, ◌∙◌, ◌<◌, length, get_or, arith, sym, subst, ap}
+use Rattle.std.proofs.Common.{rules, ◌∙◌, sym, subst}
 use Rattle.std.specs.List.{AllByRecursion}
 use Rattle.rule_judgement.specs.Classes.{RepresentAll}
 use Rattle.rule_judgement.specs.Search.{AreRepresented}

@@ -1,4 +1,4 @@
-use Rattle.std.proofs.Common.{rules, subst, sym, ◌∙◌, arith}
+use Rattle.std.proofs.Common.{rules, subst, sym}
 use Rattle.rule_judgement.specs.Fields.{HasField}
 use Rattle.rule_judgement.proofs.FieldLaws.{has_more, has_new, has_by_number}
 use Rattle.rule_judgement.proofs.fields.add.Goals as goal

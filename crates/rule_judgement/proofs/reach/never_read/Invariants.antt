@@ -1,6 +1,6 @@
 use Rattle.std.proofs.Common.{◌≡◌, take}
 use Rattle.std.specs.Prelude.{filter, not}
-use Rattle.rule_judgement.specs.Reach.{is_read, mentioned_in}
+use Rattle.rule_judgement.specs.Reach.{is_read}
 use Rattle.rule_judgement.proofs.reach.never_read.Given as goal
 
 abbrev pub invariant-loop-mid : goal.invariant-loop-mid

@@ -1,4 +1,4 @@
-use Rattle.std.proofs.Common.{subst, sym, get_or}
+use Rattle.std.proofs.Common.{subst, sym}
 use Rattle.std.specs.List.{AllByRecursion}
 use Rattle.lc_model.specs.Condition.{condition_of}
 use Rattle.lc_model.specs.declared.rule.Rule.{Rule}

@@ -1,4 +1,4 @@
-use Rattle.std.proofs.Common.{arith, ◌∙◌, sym}
+use Rattle.std.proofs.Common.{◌∙◌}
 use Rattle.lc_model.specs.Condition.{condition_of}
 use Rattle.rule_judgement.proofs.WalkLaws.{one_is_left}
 use Rattle.rule_judgement.proofs.walk.settled.Goals as goal
