@@ -6,7 +6,7 @@ use Rattle.std.specs.Option.{option_map_or}
 use Rattle.std.specs.List.{AllZip}
 use Rattle.lc_model.specs.declared.kind.Kind.{Kind}
 use Rattle.lc_model.specs.declared.kind.Kind.TheVariants.{Wdt, Adt}
-use Rattle.lc_model.specs.Name.{Name, is_named, lc_name, sch_name, counter_name, held}
+use Rattle.lc_model.specs.Name.{Name, is_named, lc_name, sch_name, counter_name, value_under}
 use Rattle.lc_model.specs.Refusal.{Refusal, ◌>>=◌, refused, found, provided}
 use Rattle.lc_model.specs.Packet.{stream_fault, function_code, payload, message_id, event_services_mid, table_services_mid, executive_services_mid, counter_mid}
 use Rattle.lc_model.specs.Condition.{Condition, Watch, Not, Join}
@@ -186,7 +186,7 @@ module _ (layouts : List Layout) (texts : List Text) where
         (λ slot same. become_quiet (with_slot table.0 slot table.1) w.lc (slot_quiet table.0 slot table.1 same at_table))))))
       where
         held_file : Name → World' → Result (FileMeaning TextImage) Refusal
-        held_file file w = found (held file w.files) 111
+        held_file file w = found (value_under file w.files) 111
 
         put_in : Name × ℕ × TextImage → Kind × Lc TextImage → Result (World') Refusal
         put_in contents table =
