@@ -3,10 +3,11 @@
 use crate::fault::Fault;
 use crate::feed::{Feed, feed_of};
 use crate::files::{LONGEST_TABLE, read};
-use crate::output::{STANDARD_OUTPUT, listed};
+use crate::output::{STANDARD_OUTPUT, listed, output_fault};
 use packet_listing::Line;
-use program_files::Why;
+use program_files::{Noting, Why};
 use std::alloc::Global;
+use std::cell::Cell;
 use std::fs::Files;
 use std::io::{Read, Write};
 use stream_script::{Front, front_of, write_listing_from, write_script};
@@ -25,14 +26,18 @@ pub fn table<'a, R: Files + AllocGlobal, W: Write>(
     out: &mut W,
 ) -> Result<(), Fault<'a>> {
     let bytes = read(rt, file, LONGEST_TABLE)?;
-    match list_table(rt.alloc(), bytes.as_slice(), out) {
-        Ok(true) => listed(out.flush()),
-        Ok(false) => {
-            listed(out.flush())?;
-            Err(Fault::Table)
+    let kind = Cell::new(None);
+    let mut noted = Noting::new(out, &kind);
+    match list_table(rt.alloc(), bytes.as_slice(), &mut noted) {
+        Ok(is_sound) => {
+            listed(noted.flush())?;
+            if is_sound { Ok(()) } else { Err(Fault::Table) }
         }
         Err(ListingError::Memory) => Err(Fault::Memory),
-        Err(ListingError::Write) => Err(Fault::File(STANDARD_OUTPUT, Why::Failed)),
+        Err(ListingError::Write) => Err(match kind.get() {
+            Some(kind) => output_fault(kind),
+            None => Fault::File(STANDARD_OUTPUT, Why::Failed),
+        }),
     }
 }
 

@@ -453,7 +453,7 @@ fn two_thousand_records_have_four_hundred_columns(rt: HostRuntime) {
         &mut page,
         &mut told,
     );
-    same(&rt, "the page", answer, Ok(()));
+    same(&rt, "the page", answer, Ok(true));
     same(
         &rt,
         "the progress",

@@ -12,6 +12,8 @@ mod devices;
 mod flying;
 #[cfg(test)]
 mod leaving;
+#[cfg(test)]
+mod looking;
 pub mod low_volts;
 #[cfg(test)]
 mod memory;
