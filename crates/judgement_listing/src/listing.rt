@@ -201,7 +201,10 @@ fn write_spare<W: Write>(
         term: spare.term,
     };
     let value = spare.taken_as;
-    writeln!(out, "warning: {name}: says the same with {term} taken as {value}")?;
+    writeln!(
+        out,
+        "warning: {name}: says the same with {term} taken as {value}"
+    )?;
     Ok(())
 }
 
