@@ -40,6 +40,7 @@ fn gather<R: ByteSource, W: ByteSink, S: Outset>(
         (W.sink result.1) in
         Promises (IsOfProfile schedule.now objects) mission before_and_after result.0 }
 {
+    // For the proof: each promise follows from how the run ends.
     runs_keep_their_promises();
     let mut out: Gathered<W, S> = Gathered::new(device, held);
     let answer = begin::<R, Gathered<W, S>, Gathering>(
@@ -75,6 +76,7 @@ pub fn run_gathered<R: ByteSource, W: ByteSink>(
         (W.sink result.1) in
         Promises (IsOfProfile schedule.now objects) mission before_and_after result.0 }
 {
+    // For the proof: each promise follows from how the run ends.
     runs_keep_their_promises();
     match Vec::with_capacity(alloc, MOST_GATHERED) {
         Ok(held) => gather::<R, W, Brand>(alloc, texts, schedule, stock, reader, device, held),

@@ -50,6 +50,7 @@ pub(crate) fn take_piece<R: ByteSource>(
         Ok(0) => Ok(false),
         Ok(count) => {
             let piece = &room[..count];
+            // For the proof: what was read are bytes.
             are_bytes(piece);
             records.feed(piece);
             Ok(true)
