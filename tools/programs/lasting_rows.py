@@ -154,7 +154,7 @@ BOUNDED = [
         ["flight_tools", "report", "schedule", "stream", "page", "/dev/zero"],
         FILES,
         status=1,
-        error=b"text 0: the text has more than 65536 bytes\n",
+        error=b"text 0: the text has over 65,536 bytes\n",
         most_memory=16 * MIB,
     ),
     Row(

@@ -30,22 +30,6 @@ impl<R: Eprint> Progress for Told<'_, R> {
     }
 }
 
-/// The texts with the names of their files.
-fn sources_of<'s>(
-    alloc: Global,
-    names: &[&'s str],
-    texts: &'s [Vec<u8>],
-) -> Result<Vec<Source<'s>>, Fault<'static>> {
-    let mut sources = Vec::new(alloc);
-    for (name, text) in names.iter().zip(texts.iter()) {
-        sources.push(Source {
-            name,
-            text: text.as_slice(),
-        })?;
-    }
-    Ok(sources)
-}
-
 /// Why there is no page of this name, where a write failed by this kind of error, if one did.
 fn fault_of_page(page: &str, error: ReportError, kind: Option<ErrorKind>) -> Fault<'_> {
     match (error, kind) {
@@ -91,7 +75,13 @@ pub fn make_page<'a, R: Files + Eprint + AllocGlobal>(
     let texts = texts_in(rt, rules)?;
     is_apart(rt, page, &[schedule, stream])?;
     is_apart(rt, page, rules)?;
-    let sources = sources_of(rt.alloc(), rules, texts.as_slice())?;
+    let mut sources = Vec::new(rt.alloc());
+    for (name, text) in rules.iter().zip(texts.iter()) {
+        sources.push(Source {
+            name,
+            text: text.as_slice(),
+        })?;
+    }
     let mut draft = begin(rt, page).map_err(|fault| fault_at(page, fault))?;
     let kind = Cell::new(None);
     let written = write_to(
