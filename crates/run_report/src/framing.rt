@@ -15,8 +15,7 @@ pub fn record_size(rest: &[u8]) -> usize
     if rest.len() < HEADER {
         return rest.len();
     }
-    let size = body_size(rest);
-    (HEADER + size).min(rest.len())
+    body_size(rest).saturating_add(HEADER).min(rest.len())
 }
 
 /// Where each record of a stream ends, by their lengths. Bytes that are no whole record stand last, as one.
