@@ -8,7 +8,7 @@ use Rattle.lc_model.specs.Refusal.{refused}
 use Rattle.lc_model.specs.Kept.Summary.{Other}
 use Rattle.lc_model.specs.Laws.Senders.{UnregisteringByName}
 use Rattle.lc_model.specs.Services.Bus.{Bus, Queue, after, pipe_at, pipe_removed}
-use Rattle.lc_model.specs.Services.Events.{IsEventService, Sender, sender_at, sender_named, unregistered_at}
+use Rattle.lc_model.specs.Services.Events.{EventService, IsEventService, Sender, sender_at, sender_named, unregistered_at}
 use Rattle.lc_model.specs.Services.Tables.{tables_unregistered}
 use Rattle.lc_model.specs.Services.Interface.{Held, MayBeGiven, MayPublish, IsGiven, IsRetired}
 use Rattle.lc_model.specs.Kept.Call.{with_at}

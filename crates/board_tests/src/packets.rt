@@ -1,7 +1,7 @@
 //! Packets that go out, byte by byte.
 
 use crate::shared::same;
-use event_service::{Events, PACKET_SIZE, limit_checker};
+use event_service::{Events, PACKET_SIZE};
 use lc_model::{EventKind, Moment, Seat};
 use packet_bus::{build_command, build_telemetry};
 use std::process::Abort;
@@ -64,8 +64,8 @@ fn a_rules_event(rt: HostRuntime) {
         seconds: 100,
         subseconds: 0,
     };
-    let text = limit_checker::rule_failed(b"low volts", 0, 2, 7);
-    let sent = events.send(Some(seat), moment, 1001, EventKind::Error, text.as_bytes());
+    let text = b"low volts: AP = 0, FailCount = 2, RTS = 7";
+    let sent = events.send(Some(seat), moment, 1001, EventKind::Error, text);
     let packet = sent.expect(&rt, "not sent");
     is_event(&rt, packet.as_bytes(), RULE_EVENT);
 }
