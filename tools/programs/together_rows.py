@@ -65,19 +65,6 @@ class Trial:
     faults: object
 
 
-def through_pipes(programs):
-    """`flight_tools live` between two pipes."""
-    with tempfile.TemporaryDirectory(prefix="try-programs-") as place:
-        written(place, {"schedule": NO_ENTRIES, "rules": LOW_VOLTS})
-        pipe = subprocess.PIPE
-        words = [programs["flight_tools"], "live", "schedule", "rules"]
-        ran = subprocess.Popen(words, cwd=place, stdin=pipe, stdout=pipe, stderr=pipe, bufsize=0)
-        faults = step_by_step(ran.stdin.fileno(), ran.stdout.fileno())
-        ran.stdin.close()
-        ran.stdin = None
-        return faults + ended(ran, 0, b"records 7, bytes 852\n")
-
-
 def through_fifos(programs):
     """`flight_run run` between two named pipes: what it says on standard output is not looked at here."""
     with tempfile.TemporaryDirectory(prefix="try-programs-") as place:
@@ -93,40 +80,6 @@ def through_fifos(programs):
         faults += ended(ran, 0, b"")
         os.close(packets)
         return faults
-
-
-def from_one_that_dies(programs):
-    """The stream comes from a process that is killed inside a record."""
-    with tempfile.TemporaryDirectory(prefix="try-programs-") as place:
-        written(place, {"schedule": NO_ENTRIES, "rules": LOW_VOLTS, "front": beginning() + LOW[:5]})
-        source = subprocess.Popen(["sh", "-c", "cat front; exec sleep 600"], cwd=place, stdout=subprocess.PIPE)
-        words = [programs["flight_tools"], "live", "schedule", "rules"]
-        pipe = subprocess.PIPE
-        ran = subprocess.Popen(words, cwd=place, stdin=source.stdout, stdout=pipe, stderr=pipe, bufsize=0)
-        source.stdout.close()
-        found = read_exactly(ran.stdout.fileno(), len(STARTED))
-        source.kill()
-        source.wait()
-        faults = [] if found == STARTED else [f"{len(found)} bytes came of {len(STARTED)}"]
-        return faults + ended(ran, 4, b"the stream ends inside record 4\n")
-
-
-def to_one_that_dies(programs):
-    """Who reads the packets goes away, and the next write ends the run without a word."""
-    with tempfile.TemporaryDirectory(prefix="try-programs-") as place:
-        written(place, {"schedule": NO_ENTRIES, "rules": LOW_VOLTS})
-        pipe = subprocess.PIPE
-        words = [programs["flight_tools"], "live", "schedule", "rules"]
-        ran = subprocess.Popen(words, cwd=place, stdin=pipe, stdout=pipe, stderr=pipe, bufsize=0, restore_signals=False)
-        try:
-            os.write(ran.stdin.fileno(), beginning())
-            read_exactly(ran.stdout.fileno(), len(STARTED))
-            ran.stdout.close()
-            ran.stdout = None
-            os.write(ran.stdin.fileno(), 2 * (LOW + SAMPLE))
-        except BrokenPipeError:
-            return ["it didn't read its stream"]
-        return ended(ran, 0, b"")
 
 
 def script_faults(title, words, line, status=125, parallel=None, **variables):
@@ -154,10 +107,7 @@ PASSES = ["passes", "schedule", "rules"]
 PARALLEL = b"#!/bin/sh\nexit 7\n"
 
 TRIALS = [
-    Trial("packets come through pipes before more of the stream does", through_pipes),
     Trial("packets come through named pipes before more of the stream does", through_fifos),
-    Trial("a stream from a process that dies is cut", from_one_that_dies),
-    Trial("packets to a process that dies end the run quietly", to_one_that_dies),
     script_faults("many streams without words", [], b"many_streams: usage: many_streams.sh FOLDER SCHEDULE RULES..\n"),
     script_faults("many streams without their folder", ["none", "schedule", "rules"], b"many_streams: there is no folder none\n"),
     script_faults(

@@ -1,2 +1,1 @@
-pub mod Cause
 pub mod Status

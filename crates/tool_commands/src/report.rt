@@ -1,15 +1,11 @@
 //! `report SCHEDULE STREAM PAGE RULES..`
 
 use crate::fault::Fault;
-use crate::files::{LONGEST_WHOLE, fault_at, is_apart, read};
-use crate::given::{schedule_in, texts_in};
-use program_files::{FileFault, Noting, Why, begin, discard, keep, reason_for};
+use crate::files::read;
 use run_report::{Progress, ReportError, Source, write_page};
-use std::alloc::Global;
-use std::cell::Cell;
-use std::fs::Files;
-use std::io::{BufWriter, Eprint, ErrorKind, Write};
-use tick_scheduler::Schedule;
+use std::fs::{File, Files};
+use std::io::{BufWriter, Eprint, Write};
+use tick_scheduler::{Schedule, ScheduleError, parse_schedule};
 
 /// Of how many steps each is told, at most.
 const TOLD: usize = 20;
@@ -30,38 +26,29 @@ impl<R: Eprint> Progress for Told<'_, R> {
     }
 }
 
-/// Why there is no page of this name, where a write failed by this kind of error, if one did.
-fn fault_of_page(page: &str, error: ReportError, kind: Option<ErrorKind>) -> Fault<'_> {
-    match (error, kind) {
-        (ReportError::Memory, _) => Fault::Memory,
-        (ReportError::Write, Some(kind)) => fault_at(page, FileFault::Unusable(reason_for(kind))),
-        (ReportError::Write, None) => Fault::File(page, Why::Failed),
-        (error, _) => Fault::Report(error),
+/// The schedule in a file.
+fn schedule_in<'a, R: Files + AllocGlobal>(rt: &R, name: &'a str) -> Result<Schedule, Fault<'a>> {
+    let text = read(rt, name)?;
+    match parse_schedule(rt.alloc(), text.as_slice()) {
+        Ok(schedule) => Ok(schedule),
+        Err(ScheduleError::Memory) => Err(Fault::Memory),
+        Err(error) => Err(Fault::Schedule(name, error)),
     }
 }
 
-/// Writes the page, and all of it is with the device. Answers whether the stream has an end.
-fn write_to<R: Eprint, F: Write + Drop>(
-    alloc: Global,
-    schedule: &Schedule,
-    stream: &[u8],
-    sources: &[Source<'_>],
-    file: F,
-    told: &mut Told<'_, R>,
-) -> Result<bool, ReportError> {
-    let Ok(mut out) = BufWriter::new(alloc, file) else {
-        return Err(ReportError::Memory);
-    };
-    let written = write_page(alloc, schedule, stream, sources, &mut out, told);
-    let flushed = out.flush();
-    let (_file, _unwritten) = out.into_parts();
-    let is_whole = written?;
-    flushed?;
-    Ok(is_whole)
+/// The texts in these files.
+fn texts_in<'a, R: Files + AllocGlobal>(
+    rt: &R,
+    names: &[&'a str],
+) -> Result<Vec<Vec<u8>>, Fault<'a>> {
+    let mut texts = Vec::new(rt.alloc());
+    for name in names {
+        texts.push(read(rt, name)?)?;
+    }
+    Ok(texts)
 }
 
-/// A run of these rule texts over a stream, as a page, which is written beside its name and takes it at the end. A stream that
-/// ends early has a page, and another status.
+/// A run of these rule texts over a stream, as a page. All files are read before the page's file is made.
 pub fn make_page<'a, R: Files + Eprint + AllocGlobal>(
     rt: &R,
     schedule: &'a str,
@@ -70,11 +57,9 @@ pub fn make_page<'a, R: Files + Eprint + AllocGlobal>(
     rules: &[&'a str],
     is_watched: bool,
 ) -> Result<(), Fault<'a>> {
-    let plan = schedule_in(rt, schedule)?;
-    let bytes = read(rt, stream, LONGEST_WHOLE)?;
+    let schedule = schedule_in(rt, schedule)?;
+    let stream = read(rt, stream)?;
     let texts = texts_in(rt, rules)?;
-    is_apart(rt, page, &[schedule, stream])?;
-    is_apart(rt, page, rules)?;
     let mut sources = Vec::new(rt.alloc());
     for (name, text) in rules.iter().zip(texts.iter()) {
         sources.push(Source {
@@ -82,24 +67,26 @@ pub fn make_page<'a, R: Files + Eprint + AllocGlobal>(
             text: text.as_slice(),
         })?;
     }
-    let mut draft = begin(rt, page).map_err(|fault| fault_at(page, fault))?;
-    let kind = Cell::new(None);
-    let written = write_to(
+    let Ok(file) = File::create(rt, page) else {
+        return Err(Fault::File(page));
+    };
+    let Ok(mut out) = BufWriter::new(rt.alloc(), file) else {
+        return Err(Fault::Memory);
+    };
+    let mut told = Told { rt, is_watched };
+    let written = write_page(
         rt.alloc(),
-        &plan,
-        bytes.as_slice(),
+        &schedule,
+        stream.as_slice(),
         sources.as_slice(),
-        Noting::new(&mut draft.file, &kind),
-        &mut Told { rt, is_watched },
+        &mut out,
+        &mut told,
     );
+    let flushed = out.flush().is_ok();
     match written {
-        Ok(is_whole) => {
-            keep(rt, draft).map_err(|fault| fault_at(page, fault))?;
-            if is_whole { Ok(()) } else { Err(Fault::Early) }
-        }
-        Err(error) => {
-            discard(rt, draft);
-            Err(fault_of_page(page, error, kind.get()))
-        }
+        Ok(_) if flushed => Ok(()),
+        Ok(_) | Err(ReportError::Write) => Err(Fault::File(page)),
+        Err(ReportError::Memory) => Err(Fault::Memory),
+        Err(error) => Err(Fault::Report(error)),
     }
 }

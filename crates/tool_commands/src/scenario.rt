@@ -1,31 +1,20 @@
 //! `scenario SCRIPT STREAM`
 
 use crate::fault::Fault;
-use crate::files::{LONGEST_WHOLE, fault_at, is_apart, read};
-use program_files::{begin, discard, fault_of, keep};
+use crate::files::{read, write};
 use std::fs::Files;
-use std::io::Write;
 use stream_script::{ScriptError, read_script};
 
-/// The script's file is read, and the stream that it says is written beside its name, which it takes at the end.
+/// The script's file is read, and the stream that it says is written.
 pub fn make_stream<'a, R: Files + AllocGlobal>(
     rt: &R,
     script: &'a str,
     stream: &'a str,
 ) -> Result<(), Fault<'a>> {
-    let text = read(rt, script, LONGEST_WHOLE)?;
-    is_apart(rt, stream, &[script])?;
-    let bytes = match read_script(rt.alloc(), text.as_slice()) {
-        Ok(bytes) => bytes,
-        Err(ScriptError::Memory) => return Err(Fault::Memory),
-        Err(error) => return Err(Fault::Script(script, error)),
-    };
-    let mut draft = begin(rt, stream).map_err(|fault| fault_at(stream, fault))?;
-    match draft.file.write_all(bytes.as_slice()) {
-        Ok(()) => keep(rt, draft).map_err(|fault| fault_at(stream, fault)),
-        Err(error) => {
-            discard(rt, draft);
-            Err(fault_at(stream, fault_of(&error)))
-        }
+    let text = read(rt, script)?;
+    match read_script(rt.alloc(), text.as_slice()) {
+        Ok(bytes) => write(rt, stream, bytes.as_slice()),
+        Err(ScriptError::Memory) => Err(Fault::Memory),
+        Err(error) => Err(Fault::Script(script, error)),
     }
 }

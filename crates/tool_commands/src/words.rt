@@ -32,11 +32,6 @@ pub enum Plan<'a> {
         page: &'a str,
         rules: Vec<&'a str>,
     },
-    /// `live SCHEDULE RULES..`: a run over a stream as it comes, from standard input to standard output.
-    Live {
-        schedule: &'a str,
-        rules: Vec<&'a str>,
-    },
 }
 
 /// What a command takes beside its files.
@@ -58,7 +53,7 @@ struct Row {
 }
 
 /// All commands, as the help lists them.
-const ROWS: [Row; 6] = [
+const ROWS: [Row; 5] = [
     Row {
         word: "table",
         about: "Says what a table file holds",
@@ -96,16 +91,7 @@ const ROWS: [Row; 6] = [
         ],
         more: More::Rules,
     },
-    Row {
-        word: "live",
-        about: "Runs a stream from standard input as it comes, to standard output",
-        files: &[("SCHEDULE", "The schedule")],
-        more: More::Rules,
-    },
 ];
-
-/// What `--version` says behind the program's name: the number of its words and statuses, not of its rules.
-const VERSION: &str = "1";
 
 /// A file that has to be named.
 fn file_word<'a>(alloc: Global, name: &'a str, help: &'a str) -> Arg<'a> {
@@ -147,7 +133,6 @@ fn command_of<'a>(alloc: Global, row: &Row) -> Result<Command<'a>, AllocError> {
 fn all_words<'a>(alloc: Global) -> Result<Command<'a>, AllocError> {
     let mut words = Command::new(alloc, "flight_tools")
         .about("Tables, streams, packets and runs as text, and streams from scripts")
-        .version(VERSION)
         .subcommand_required(true);
     for row in &ROWS {
         words = words.subcommand(command_of(alloc, row)?)?;
@@ -172,7 +157,6 @@ pub fn read_words<'a>(alloc: Global, words: &'a [&'a str]) -> Result<Plan<'a>, E
 fn given_plan<'a>(alloc: Global, matches: &ArgMatches<'a>) -> Result<Option<Plan<'a>>, AllocError> {
     match matches.subcommand() {
         Some(("report", found)) => given_report(alloc, found),
-        Some(("live", found)) => given_live(alloc, found),
         Some((word, found)) => Ok(given_files(word, found)),
         None => Ok(None),
     }
@@ -183,17 +167,6 @@ fn given_report<'a>(alloc: Global, found: &ArgMatches<'a>) -> Result<Option<Plan
     match found.get_strs("RULES") {
         Some(rules) => Ok(report_of(found, Vec::from_slice(alloc, rules)?)),
         None => Ok(None),
-    }
-}
-
-/// The plan of a run as it comes.
-fn given_live<'a>(alloc: Global, found: &ArgMatches<'a>) -> Result<Option<Plan<'a>>, AllocError> {
-    match (found.get_str("SCHEDULE"), found.get_strs("RULES")) {
-        (Some(schedule), Some(rules)) => Ok(Some(Plan::Live {
-            schedule,
-            rules: Vec::from_slice(alloc, rules)?,
-        })),
-        _ => Ok(None),
     }
 }
 
