@@ -28,17 +28,28 @@ impl Host {
         retired
     }
 
-    /// All that run give their seats back by `retire`, seat by seat, and are dropped; what they ask for then is let go. Nothing runs
-    /// any more, and nothing is registered: no pipe, subscription, sender of events and table. What is in stock stays.
-    pub fn close(&mut self)
+    /// All that run give their seats back by `retire`, seat by seat, and are handed on; what they ask for then is let go. Nothing
+    /// runs any more, and nothing is registered: no pipe, subscription, sender of events and table. What is in stock stays.
+    fn retire_all(&mut self) -> [Option<Box<dyn App>>; Seat::COUNT]
         requires whole { IsWhole (shown meaning self.old) }
         ensures closed { HasClosed (shown meaning self.old) (shown meaning self.new) }
     {
+        let mut retired: [Option<Box<dyn App>>; Seat::COUNT] = [
+            None, None, None, None, None, None, None, None,
+        ];
         for index in 0..8u8 {
             let seat = Seat::new(index);
-            drop(self.vacate(seat));
+            retired[seat.index()] = self.vacate(seat);
             self.let_go();
         }
+        retired
+    }
+
+    /// All that run retire, seat by seat, and then all objects are dropped.
+    pub fn close(mut self)
+        requires whole { IsWhole (shown meaning self) }
+    {
+        let _retired = self.retire_all();
     }
 
     /// What waits to be written is let go.

@@ -38,7 +38,7 @@ pub fn step<W: ByteSink>(host: &mut Host, body: Body<'_>, out: &mut W) -> Result
 }
 
 /// All that run retire, and all objects are dropped.
-pub fn end(mut host: Host)
+pub fn end(host: Host)
     requires { IsBetween (shown (λ b. (⟦<dyn App as App>⟧ b.vtable).meaning b.value) host) }
 {
     host.close();

@@ -1,6 +1,6 @@
 use Rattle.std.proofs.Common.{rules}
 use Rattle.app_host.proofs.Closed.{one_vacated}
-use Rattle.app_host.proofs.host.Host.close.Goals as goal
+use Rattle.app_host.proofs.host.Host.retire_all.Goals as goal
 
 pub loop-index-preserved : goal.loop-index-preserved
 loop-index-preserved g c = record {

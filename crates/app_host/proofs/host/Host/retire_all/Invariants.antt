@@ -1,7 +1,7 @@
 use Rattle.std.proofs.Common.{◌≡◌, []}
 use Rattle.app_host.specs.Hosted.{shown}
 use Rattle.app_host.proofs.Closed.{EmptyBelow}
-use Rattle.app_host.proofs.host.Host.close.Given as goal
+use Rattle.app_host.proofs.host.Host.retire_all.Given as goal
 
 -- the seats so far are empty
 abbrev pub invariant-loop-index : goal.invariant-loop-index
