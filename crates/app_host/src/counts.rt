@@ -1,6 +1,7 @@
 //! The sequence counts of outgoing packets (CCSDS 133.0-B, packet sequence count).
 
 ghost use Rattle.std.specs.Prelude.{◌≡◌, ◌+◌, ◌%◌, ◌<◌, replicate, slice_set, length, IfOk};
+ghost use Rattle.lc_model.specs.Packet.{count_end, message_id_end};
 ghost use Rattle.lc_model.specs.Services.Seen.{count_among};
 
 use lc_model::packet::next_count;
@@ -19,19 +20,20 @@ pub struct Counts {
 
 impl Model for Counts {
     ghost use Rattle.std.specs.Prelude.{◌≡◌, ◌<◌, ℕ, List, length, All};
+    ghost use Rattle.lc_model.specs.Packet.{count_end, message_id_end};
 
     ghost Value = { List ℕ };
 
     ghost view = { λ c. c.counts.items };
 
-    ghost invariant = { λ c. (length c.counts.items ≡ 8192) ×
-        All (λ (count : ℕ). count < 16384) c.counts.items };
+    ghost invariant = { λ c. (length c.counts.items ≡ message_id_end) ×
+        All (λ (count : ℕ). count < count_end) c.counts.items };
 }
 
 impl Counts {
     /// Nothing sent. It takes all the memory there will ever be; out of memory is the only error.
     pub fn new(alloc: Global) -> Result<Counts, AllocError>
-        ensures { IfOk result (λ counts. counts ≡ replicate 8192 0) }
+        ensures { IfOk result (λ counts. counts ≡ replicate message_id_end 0) }
     {
         let mut counts = Vec::with_capacity(alloc, MESSAGE_IDS)?;
         for _ in 0..MESSAGE_IDS {
@@ -43,11 +45,11 @@ impl Counts {
     /// The sequence count of the next packet of a message id, which is counted from now on. Condition: an id of packet
     /// version 0.
     pub fn advance(&mut self, message_id: u16) -> u16
-        requires { message_id < 8192 }
+        requires { message_id < message_id_end }
         ensures count { result ≡ count_among self.old message_id }
-        ensures below { result < 16384 }
+        ensures below { result < count_end }
         ensures after { self.new ≡ slice_set self.old message_id
-            ((count_among self.old message_id + 1) % 16384) }
+            ((count_among self.old message_id + 1) % count_end) }
         ensures inside { message_id < length self.old }
     {
         let place = &mut self.counts[usize::from(message_id)];

@@ -1,7 +1,7 @@
 //! The delivery of packets, one at a time, each followed by a write.
 
 ghost use Rattle.std.specs.Prelude.{◌≡◌, ◌+◌, ◌≤◌, length, Some};
-ghost use Rattle.lc_model.specs.Kept.Executive.{ready_seat};
+ghost use Rattle.lc_model.specs.Kept.Executive.{ready_seat, most_deliveries};
 ghost use Rattle.lc_model.specs.Services.Bus.{seen};
 ghost use Rattle.app_host.specs.Hosted.{shown};
 ghost use Rattle.app_host.specs.Whole.{IsWhole, AreSeated};
@@ -20,7 +20,7 @@ impl Host {
     pub(crate) fn deliver(&mut self, seat: Seat) -> Option<Seat>
         requires whole { IsWhole (shown meaning self.old) }
         requires light { IsLight (seen self.old.services.bus) }
-        requires few { self.old.calls + load (seen self.old.services.bus) ≤ 520 }
+        requires few { self.old.calls + load (seen self.old.services.bus) ≤ most_deliveries }
         requires ready { ready_seat (seen self.old.services.bus) ≡ Some seat }
         ensures delivered { HasDelivered seat (shown meaning self.old) (shown meaning self.new) }
         ensures next { result ≡ ready_seat (seen self.new.services.bus) }

@@ -3,7 +3,7 @@
 ghost use Rattle.std.specs.Prelude.{◌≡◌, ◌≤◌, ◌==◌, length, take, OnErr};
 ghost use Rattle.std.specs.List.{position_or_len};
 ghost use Rattle.lc_model.specs.Name.{name_in};
-ghost use Rattle.lc_model.specs.Packet.{function_code, payload};
+ghost use Rattle.lc_model.specs.Packet.{function_code, payload, command_header_size};
 ghost use Rattle.lc_model.specs.Command.{event_command};
 ghost use Rattle.app_host.specs.Hosted.{shown};
 ghost use Rattle.app_host.specs.Whole.{IsWhole, IsQuiet};
@@ -69,7 +69,7 @@ fn set_types(events: &mut Events, payload: &[u8], on: bool) -> Result<(), Number
 /// A command to the event services is obeyed. It is refused with 151 for its code, 152 for its length, and then for what the
 /// services refuse it for; then nothing changes.
 pub(crate) fn obey(events: &mut Events, packet: &[u8]) -> Result<(), Numbers>
-    requires { 8 ≤ length packet.now }
+    requires { command_header_size ≤ length packet.now }
     ensures answer { obeyed_by result events.new ≡
         events_by (event_command (function_code packet.now) (payload packet.now)) events.old }
     ensures refused { OnErr result (events.new ≡ events.old) }
@@ -94,7 +94,7 @@ impl Host {
         requires whole { IsWhole (shown meaning self.old) }
         requires quiet { IsQuiet (shown meaning self.old) }
         requires none_yet { self.old.calls ≡ 0 }
-        requires headers { 8 ≤ length packet.now }
+        requires headers { command_header_size ≤ length packet.now }
         ensures handled { ObeysEvents packet.now (shown meaning self.old) (shown meaning self.new)
             (W.sink out.old) (W.sink out.new) result }
         ensures own { Responds self.old.services.moment

@@ -1,6 +1,7 @@
 //! Files that a record brings.
 
 ghost use Rattle.std.specs.Prelude.{◌≡◌, ◌≤◌, length};
+ghost use Rattle.lc_model.specs.Name.{name_size};
 ghost use Rattle.lc_model.specs.Services.Tables.{file_put};
 ghost use Rattle.app_host.specs.Hosted.{shown};
 ghost use Rattle.app_host.specs.Whole.{IsWhole, IsQuiet};
@@ -24,7 +25,7 @@ impl Host {
         requires whole { IsWhole (shown meaning self.old) }
         requires quiet { IsQuiet (shown meaning self.old) }
         requires none_yet { self.old.calls ≡ 0 }
-        requires short { length name.now ≤ 40 }
+        requires short { length name.now ≤ name_size }
         ensures handled { Files name.now bytes.now (shown meaning self.old) (shown meaning self.new)
             (W.sink out.old) (W.sink out.new) result }
         ensures own { Responds self.old.services.moment

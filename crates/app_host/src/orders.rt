@@ -1,10 +1,11 @@
 //! Commands to the executive services (cFE user's guide, executive services): applications start, stop, and are replaced.
 
 ghost use Rattle.std.specs.Prelude.{◌≡◌, ◌≤◌, ◌<◌, ℕ, length, Ok, Err, IfOk, IfErr, IfSome};
-ghost use Rattle.lc_model.specs.Packet.{function_code, payload};
+ghost use Rattle.lc_model.specs.Packet.{function_code, payload, command_header_size};
 ghost use Rattle.lc_model.specs.Command.{Start, Stop, Restart, Reload, app_command};
 ghost use Rattle.lc_model.specs.Kept.Executive as kept;
 ghost use Rattle.lc_model.specs.Kept.Executive.{seat_count, executive_service_now};
+ghost use Rattle.lc_model.specs.Services.Interface.{outgoing_room};
 ghost use Rattle.app_host.specs.Shared.{on_board};
 ghost use Rattle.app_host.specs.Hosted.{shown};
 ghost use Rattle.app_host.specs.Whole.{AreSeated, AreSpares, IsWhole, IsQuiet};
@@ -46,7 +47,7 @@ fn read_name(order: Order, payload: &[u8]) -> Result<(Order, &[u8]), Numbers>
 
 /// The order of a command. It is refused with 151 for its code, and then with 152 for its length.
 fn read_order(packet: &[u8]) -> Result<(Order, &[u8]), Numbers>
-    requires { 8 ≤ length packet.now }
+    requires { command_header_size ≤ length packet.now }
     ensures read { IfOk result
         (λ command. app_command (function_code packet.now) (payload packet.now) ≡
         Ok (order_of command.0, command.1.now)) }
@@ -207,7 +208,7 @@ impl Host {
     /// Prepares the order of a command, which may be refused as none.
     fn take_order(&mut self, packet: &[u8]) -> Result<Successor, Numbers>
         requires whole { IsWhole (shown meaning self.old) }
-        requires headers { 8 ≤ length packet.now }
+        requires headers { command_header_size ≤ length packet.now }
         ensures prepared { PreparesFor meaning
             (party_by (app_command (function_code packet.now) (payload packet.now)))
             (executive_service_now on_board self.old.services.moment packet.now
@@ -229,7 +230,7 @@ impl Host {
         requires seated { AreSeated (shown meaning self.old).seats
             (shown meaning self.old).services }
         requires spares { AreSpares (shown meaning self.old).stock }
-        requires fits { length self.old.services.outgoing ≤ 65536 }
+        requires fits { length self.old.services.outgoing ≤ outgoing_room }
         requires may { MayFollow (shown meaning self.old) (next_of meaning next) }
         ensures comes { ComesIn (next_of meaning next) (shown meaning self.old)
             (shown meaning self.new) (W.sink out.old) (W.sink out.new) result }
@@ -252,7 +253,7 @@ impl Host {
         requires whole { IsWhole (shown meaning self.old) }
         requires quiet { IsQuiet (shown meaning self.old) }
         requires none_yet { self.old.calls ≡ 0 }
-        requires headers { 8 ≤ length packet.now }
+        requires headers { command_header_size ≤ length packet.now }
         ensures handled { ObeysOrders packet.now (shown meaning self.old) (shown meaning self.new)
             (W.sink out.old) (W.sink out.new) result }
         ensures own { Responds self.old.services.moment

@@ -1,6 +1,7 @@
 //! The bytes that wait to be written.
 
 ghost use Rattle.std.specs.Prelude.{◌≡◌, ◌+◌, ◌≤◌, ◌++◌, [], length, IfOk};
+ghost use Rattle.lc_model.specs.Services.Interface.{outgoing_room};
 
 use std::alloc::{AllocError, Global};
 use std::marker::Model;
@@ -16,12 +17,13 @@ pub struct Outgoing {
 
 impl Model for Outgoing {
     ghost use Rattle.std.specs.Prelude.{List, ℕ, ◌≤◌, vec_capacity};
+    ghost use Rattle.lc_model.specs.Services.Interface.{outgoing_room};
 
     ghost Value = { List ℕ };
 
     ghost view = { λ o. o.bytes.items };
 
-    ghost invariant = { λ o. 65536 ≤ vec_capacity o.bytes };
+    ghost invariant = { λ o. outgoing_room ≤ vec_capacity o.bytes };
 }
 
 impl Outgoing {
@@ -42,7 +44,7 @@ impl Outgoing {
 
     /// Adds bytes behind those that wait. There is room for them.
     pub fn append(&mut self, bytes: &[u8])
-        requires { length self.old + length bytes.now ≤ 65536 }
+        requires { length self.old + length bytes.now ≤ outgoing_room }
         ensures { self.new ≡ self.old ++ bytes.now }
     {
         self.bytes.extend_from_slice(bytes).unwrap();

@@ -1,6 +1,7 @@
 //! One call of the object of a seat.
 
 ghost use Rattle.std.specs.Prelude.{◌≡◌, ◌<◌, map, option_map, slice_set, IfSome, None};
+ghost use Rattle.lc_model.specs.Kept.Executive.{seat_count};
 ghost use Rattle.app_host.specs.Hosted.{Object, object_at};
 ghost use Rattle.app_host.specs.Left.{LeftBy};
 ghost use Rattle.app_host.specs.Objects.{IfBoth, MayAnswer, HasAnswered, MayRetire, HasRetired};
@@ -67,7 +68,7 @@ pub(crate) fn retire_at(
         (MayRetire seat services.old) }
     ensures gone { map (option_map meaning) seats.new ≡
         slice_set (map (option_map meaning) seats.old) seat None }
-    ensures below { seat < 8 }
+    ensures below { seat < seat_count }
     ensures left { LeftBy seat services.old services.new
         (object_at seat (map (option_map meaning) seats.old)) }
     ensures retired { IfBoth (object_at seat (map (option_map meaning) seats.old))

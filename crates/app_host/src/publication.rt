@@ -2,7 +2,7 @@
 
 ghost use Rattle.std.specs.Prelude.{◌≡◌, length, Some, None};
 ghost use Rattle.lc_model.specs.Packet.{header_fault};
-ghost use Rattle.lc_model.specs.Kept.Executive.{ready_seat, tick_packet};
+ghost use Rattle.lc_model.specs.Kept.Executive.{ready_seat, tick_packet, seat_count};
 ghost use Rattle.lc_model.specs.Services.Bus.{seen};
 ghost use Rattle.packet_bus.specs.Hearers.{only_hearer};
 ghost use Rattle.app_host.specs.Hosted.{shown};
@@ -29,7 +29,7 @@ impl Host {
         requires none_yet { self.old.calls ≡ 0 }
         requires good { header_fault packet.now ≡ None }
         requires only { only_hearer packet.now self.old.services.bus ≡ Some seat }
-        requires eight { length self.old.services.bus ≡ 8 }
+        requires eight { length self.old.services.bus ≡ seat_count }
         ensures delivered { HasDelivered seat (with_packet packet.now (shown meaning self.old))
             (shown meaning self.new) }
         ensures next { result ≡ ready_seat (seen self.new.services.bus) }

@@ -2,7 +2,7 @@
 
 ghost use Rattle.std.specs.Prelude.{◌≡◌, ◌+◌, ◌≤◌, ◌++◌, [], IfSome, IsSomeAnd, IsTrue, is_some, length};
 ghost use Rattle.lc_model.specs.Kept.Call.{with_mids};
-ghost use Rattle.lc_model.specs.Services.Bus.{Queue, pipe_at, with_pipe};
+ghost use Rattle.lc_model.specs.Services.Bus.{Queue, pipe_at, with_pipe, most_subscriptions};
 ghost use Rattle.app_host.specs.Resubscribing.{mids_of, without_mids};
 
 use crate::seat::subscribe;
@@ -14,7 +14,7 @@ use packet_bus::Bus;
 pub fn subscribe_to(bus: &mut Bus, seat: Seat, message_ids: &[u16], terms: &[Term])
     requires { IsSomeAnd (pipe_at seat bus.old)
         (λ (queue : Queue). length queue.subscriptions + length message_ids.now + length
-        terms.now ≤ 256) }
+        terms.now ≤ most_subscriptions) }
     ensures { IfSome (pipe_at seat bus.old)
         (λ (queue : Queue). bus.new ≡
         with_pipe seat bus.old
@@ -44,7 +44,7 @@ pub fn unsubscribe_from(bus: &mut Bus, seat: Seat, message_ids: &[u16], terms: &
 /// The seat's pipe hears the message ids of these watchpoints, too.
 fn watch(bus: &mut Bus, seat: Seat, terms: &[Term])
     requires { IsSomeAnd (pipe_at seat bus.old)
-        (λ (queue : Queue). length queue.subscriptions + length terms.now ≤ 256) }
+        (λ (queue : Queue). length queue.subscriptions + length terms.now ≤ most_subscriptions) }
     ensures { IfSome (pipe_at seat bus.old)
         (λ (queue : Queue). bus.new ≡
         with_pipe seat bus.old

@@ -4,7 +4,7 @@
 ghost use Rattle.std.specs.Prelude.{◌≡◌, ◌+◌, ◌<◌, ◌≤◌, IfSome, IsSomeAnd, length, []};
 ghost use Rattle.lc_model.specs.Kept.Call.{with_mids};
 ghost use Rattle.lc_model.specs.Kept.Executive.{seat_count};
-ghost use Rattle.lc_model.specs.Services.Bus.{Queue, pipe_at, with_pipe};
+ghost use Rattle.lc_model.specs.Services.Bus.{Queue, pipe_at, with_pipe, most_subscriptions};
 ghost use Rattle.lc_model.specs.Services.Interface.{IsApplicationName, IsFreeSeat, IsUnusedName};
 ghost use Rattle.app_host.specs.Shared.{held_by};
 ghost use Rattle.app_host.specs.Seating.{IsOpened, IsClosed, HasPipeAndSender};
@@ -21,7 +21,7 @@ impl Services {
         requires name { IsApplicationName name.now }
         requires free { IsFreeSeat seat (held_by self.old) }
         requires unused { IsUnusedName name.now (held_by self.old) }
-        requires few { length message_ids.now ≤ 256 }
+        requires few { length message_ids.now ≤ most_subscriptions }
         ensures { IsOpened seat name.now (with_mids message_ids.now []) self.old self.new }
     {
         // For the proof: the senders of events have names of their own.
@@ -47,7 +47,8 @@ impl Services {
 /// The seat's pipe hears these message ids, too. Condition: the seat has a pipe, with room for as many subscriptions more.
 pub fn subscribe(bus: &mut Bus, seat: Seat, message_ids: &[u16])
     requires { IsSomeAnd (pipe_at seat bus.old)
-        (λ (queue : Queue). length queue.subscriptions + length message_ids.now ≤ 256) }
+        (λ (queue : Queue).
+        length queue.subscriptions + length message_ids.now ≤ most_subscriptions) }
     ensures { IfSome (pipe_at seat bus.old)
         (λ (queue : Queue). bus.new ≡
         with_pipe seat bus.old

@@ -3,8 +3,10 @@
 
 ghost use Rattle.std.specs.Prelude.{◌≡◌, ◌+◌, ◌≤◌, ◌<◌, ◌++◌, length};
 ghost use Rattle.lc_model.specs.Bytes.{u16, u32};
-ghost use Rattle.lc_model.specs.Codes.{mode_code};
-ghost use Rattle.lc_model.specs.Packet.{lc_housekeeping_mid, primary_header};
+ghost use Rattle.lc_model.specs.Codes.{mode_code, table_entries};
+ghost use Rattle.lc_model.specs.Events.Outgoing.{housekeeping_size, sequence_request_size};
+ghost use Rattle.lc_model.specs.Packet.{lc_housekeeping_mid, primary_header, count_end};
+ghost use Rattle.lc_model.specs.Services.Interface.{outgoing_room};
 ghost use Rattle.app_host.specs.Sending.{NothingIsTold, TellingGoesOn, TellingKeepsSenders, RequestsSequence, SendsHousekeeping};
 
 use crate::services::Services;
@@ -17,9 +19,9 @@ const NO_RULE: u8 = 0xFF;
 impl Services {
     /// A request for a command sequence waits to be written (message id 0x18A9). Condition: room for its 12 bytes.
     pub fn request_sequence(&mut self, number: u16)
-        requires room { length self.old.outgoing + 12 ≤ 65536 }
+        requires room { length self.old.outgoing + sequence_request_size ≤ outgoing_room }
         ensures told { RequestsSequence number self.old self.new }
-        ensures size { length self.new.outgoing ≡ length self.old.outgoing + 12 }
+        ensures size { length self.new.outgoing ≡ length self.old.outgoing + sequence_request_size }
     {
         let count = self.counts.advance(mids::SEQUENCE);
         self.outgoing.append(&sequence_request(count, number));
@@ -28,10 +30,10 @@ impl Services {
     /// The housekeeping of the Limit Checker waits to be written (message id 0x08A7): its mode, the number of its rules, and how
     /// each of them stands, in a byte each; 0xFF in the bytes of no rule. Conditions: at most 176 rules, and room for 192 bytes.
     pub fn send_housekeeping(&mut self, mode: LcMode, standings: &[u8])
-        requires few { length standings.now ≤ 176 }
-        requires room { length self.old.outgoing + 192 ≤ 65536 }
+        requires few { length standings.now ≤ table_entries }
+        requires room { length self.old.outgoing + housekeeping_size ≤ outgoing_room }
         ensures told { SendsHousekeeping mode standings.now self.old self.new }
-        ensures size { length self.new.outgoing ≡ length self.old.outgoing + 192 }
+        ensures size { length self.new.outgoing ≡ length self.old.outgoing + housekeeping_size }
     {
         let count = self.counts.advance(mids::LC_HOUSEKEEPING);
         let rules = standings.len();
@@ -46,8 +48,9 @@ impl Services {
 
 /// The headers of the Limit Checker's housekeeping: 192 bytes in all, whole (flags 3), with its time.
 fn housekeeping_header(count: u16, moment: Moment) -> [u8; 12]
-    requires { count < 16384 }
-    ensures { result ≡ primary_header lc_housekeeping_mid count 192 ++ u32 moment.seconds ++
+    requires { count < count_end }
+    ensures { result ≡
+        primary_header lc_housekeeping_mid count housekeeping_size ++ u32 moment.seconds ++
         u16 moment.subseconds }
 {
     let [a, b] = mids::LC_HOUSEKEEPING.to_be_bytes();
@@ -70,7 +73,7 @@ fn mode_bytes(mode: LcMode) -> [u8; 2]
 
 /// How many there are, in two bytes.
 fn count_bytes(standings: &[u8]) -> [u8; 2]
-    requires { length standings.now ≤ 176 }
+    requires { length standings.now ≤ table_entries }
     ensures { result ≡ u16 (length standings.now) }
 {
     (standings.len() as u16).to_be_bytes()

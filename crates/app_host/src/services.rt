@@ -2,9 +2,12 @@
 
 ghost use Rattle.std.specs.Prelude.{◌≡◌, ◌+◌, ◌<◌, ◌≤◌, ◌++◌, [], ◌∷◌, length, replicate, option_to_list, IfOk, IfSome};
 ghost use Rattle.std.specs.List.{concat};
+ghost use Rattle.lc_model.specs.Events.Outgoing.{event_packet_size, longest_event_text};
 ghost use Rattle.lc_model.specs.Events.Request.{Event, Sequence, Housekeeping};
+ghost use Rattle.lc_model.specs.Packet.{message_id_end};
 ghost use Rattle.lc_model.specs.Services.Bus.{no_pipes};
 ghost use Rattle.lc_model.specs.Services.Events.{Sender, first_events, sender_at, event_asked};
+ghost use Rattle.lc_model.specs.Services.Interface.{outgoing_room};
 ghost use Rattle.lc_model.specs.Services.Tables.{first_tables};
 ghost use Rattle.app_host.specs.Telling.{Tells};
 
@@ -34,7 +37,7 @@ impl Services {
         ensures bus { IfOk result (λ s. s.bus ≡ no_pipes) }
         ensures events { IfOk result (λ s. s.events ≡ first_events) }
         ensures tables { IfOk result (λ s. s.tables ≡ first_tables) }
-        ensures counts { IfOk result (λ s. s.counts ≡ replicate 8192 0) }
+        ensures counts { IfOk result (λ s. s.counts ≡ replicate message_id_end 0) }
         ensures moment { IfOk result (λ s. s.moment ≡ record { seconds = 0; subseconds = 0 }) }
         ensures outgoing { IfOk result (λ s. s.outgoing ≡ []) }
     {
@@ -55,24 +58,24 @@ impl Services {
     /// filters let it through. Conditions: somebody is registered there, a text of at most 121 bytes, and room for a packet of
     /// 168 bytes.
     pub fn tell(&mut self, from: Option<Seat>, id: u16, kind: EventKind, text: &[u8])
-        requires text { length text.now ≤ 121 }
-        requires room { length self.old.outgoing + 168 ≤ 65536 }
+        requires text { length text.now ≤ longest_event_text }
+        requires room { length self.old.outgoing + event_packet_size ≤ outgoing_room }
         ensures told { IfSome (sender_at from self.old.events)
             (λ (sender : Sender). Tells from sender.name (Event sender.name id kind text.now ∷ [])
             self.old self.new) }
-        ensures size { length self.new.outgoing ≤ length self.old.outgoing + 168 }
+        ensures size { length self.new.outgoing ≤ length self.old.outgoing + event_packet_size }
     {
         self.ask(from, id, kind, text);
     }
 
     /// Asks for an event as `tell` does; contracts see by seats what the event services become, too.
     pub(crate) fn ask(&mut self, from: Option<Seat>, id: u16, kind: EventKind, text: &[u8])
-        requires text { length text.now ≤ 121 }
-        requires room { length self.old.outgoing + 168 ≤ 65536 }
+        requires text { length text.now ≤ longest_event_text }
+        requires room { length self.old.outgoing + event_packet_size ≤ outgoing_room }
         ensures told { IfSome (sender_at from self.old.events)
             (λ (sender : Sender). Tells from sender.name (Event sender.name id kind text.now ∷ [])
             self.old self.new) }
-        ensures size { length self.new.outgoing ≤ length self.old.outgoing + 168 }
+        ensures size { length self.new.outgoing ≤ length self.old.outgoing + event_packet_size }
         ensures events { self.new.events ≡
             (event_asked from self.old.moment id kind text.now self.old.events).0 }
         ensures outgoing { self.new.outgoing ≡ self.old.outgoing ++

@@ -1,7 +1,7 @@
 //! What one record leads to.
 
 ghost use Rattle.std.specs.Prelude.{◌≡◌, ◌≤◌, false, true, length, None};
-ghost use Rattle.lc_model.specs.Packet.{stream_fault};
+ghost use Rattle.lc_model.specs.Packet.{stream_fault, command_header_size};
 ghost use Rattle.lc_model.specs.Host.React.{Packet};
 ghost use Rattle.app_host.specs.Hosted.{shown};
 ghost use Rattle.app_host.specs.Whole.{IsWhole, IsQuiet};
@@ -121,7 +121,7 @@ impl Host {
         requires quiet { IsQuiet (shown meaning self.old) }
         requires none_yet { self.old.calls ≡ 0 }
         requires good { stream_fault packet.now ≡ None }
-        requires headers { 8 ≤ length packet.now }
+        requires headers { command_header_size ≤ length packet.now }
         ensures handled { HandlesInput (Packet packet.now) (shown meaning self.old)
             (shown meaning self.new) (W.sink out.old) (W.sink out.new) result }
         ensures own { Responds self.old.services.moment

@@ -1,8 +1,8 @@
 //! Commands to the table services (cFE user's guide, table services).
 
 ghost use Rattle.std.specs.Prelude.{◌≡◌, ◌≤◌, length, OnErr};
-ghost use Rattle.lc_model.specs.Name.{name_in};
-ghost use Rattle.lc_model.specs.Packet.{function_code, payload};
+ghost use Rattle.lc_model.specs.Name.{name_in, name_size};
+ghost use Rattle.lc_model.specs.Packet.{function_code, payload, command_header_size};
 ghost use Rattle.lc_model.specs.Tables.Slot.{Validate, Activate, Abort};
 ghost use Rattle.lc_model.specs.Command.{Load, Manage, of_length, table_command};
 ghost use Rattle.app_host.specs.Hosted.{shown};
@@ -24,7 +24,7 @@ use tbl_service::Tables;
 /// A file is loaded: 40 bytes of its name.
 fn load(tables: &mut Tables, payload: &[u8]) -> Result<(), Numbers>
     ensures answer { obeyed_by result tables.new ≡
-        tables_by (of_length 40 payload.now (Load (name_in payload.now))) tables.old }
+        tables_by (of_length name_size payload.now (Load (name_in payload.now))) tables.old }
     ensures refused { OnErr result (tables.new ≡ tables.old) }
 {
     if payload.len() != 40 {
@@ -39,7 +39,8 @@ fn load(tables: &mut Tables, payload: &[u8]) -> Result<(), Numbers>
 /// The image that waits for a table is to be validated: 40 bytes of the table's name.
 fn validate(tables: &mut Tables, payload: &[u8]) -> Result<(), Numbers>
     ensures answer { obeyed_by result tables.new ≡
-        tables_by (of_length 40 payload.now (Manage Validate (name_in payload.now))) tables.old }
+        tables_by (of_length name_size payload.now (Manage Validate (name_in payload.now)))
+        tables.old }
     ensures refused { OnErr result (tables.new ≡ tables.old) }
 {
     if payload.len() != 40 {
@@ -54,7 +55,8 @@ fn validate(tables: &mut Tables, payload: &[u8]) -> Result<(), Numbers>
 /// It is to come into use: 40 bytes of the table's name.
 fn activate(tables: &mut Tables, payload: &[u8]) -> Result<(), Numbers>
     ensures answer { obeyed_by result tables.new ≡
-        tables_by (of_length 40 payload.now (Manage Activate (name_in payload.now))) tables.old }
+        tables_by (of_length name_size payload.now (Manage Activate (name_in payload.now)))
+        tables.old }
     ensures refused { OnErr result (tables.new ≡ tables.old) }
 {
     if payload.len() != 40 {
@@ -69,7 +71,8 @@ fn activate(tables: &mut Tables, payload: &[u8]) -> Result<(), Numbers>
 /// It goes: 40 bytes of the table's name.
 fn abort(tables: &mut Tables, payload: &[u8]) -> Result<(), Numbers>
     ensures answer { obeyed_by result tables.new ≡
-        tables_by (of_length 40 payload.now (Manage Abort (name_in payload.now))) tables.old }
+        tables_by (of_length name_size payload.now (Manage Abort (name_in payload.now)))
+        tables.old }
     ensures refused { OnErr result (tables.new ≡ tables.old) }
 {
     if payload.len() != 40 {
@@ -84,7 +87,7 @@ fn abort(tables: &mut Tables, payload: &[u8]) -> Result<(), Numbers>
 /// A command to the table services is obeyed. It is refused with 151 for its code, 152 for its length, and then for what the
 /// services refuse it for; then nothing changes.
 pub(crate) fn obey(tables: &mut Tables, packet: &[u8]) -> Result<(), Numbers>
-    requires { 8 ≤ length packet.now }
+    requires { command_header_size ≤ length packet.now }
     ensures answer { obeyed_by result tables.new ≡
         tables_by (table_command (function_code packet.now) (payload packet.now)) tables.old }
     ensures refused { OnErr result (tables.new ≡ tables.old) }
@@ -109,7 +112,7 @@ impl Host {
         requires whole { IsWhole (shown meaning self.old) }
         requires quiet { IsQuiet (shown meaning self.old) }
         requires none_yet { self.old.calls ≡ 0 }
-        requires headers { 8 ≤ length packet.now }
+        requires headers { command_header_size ≤ length packet.now }
         ensures handled { ObeysTables packet.now (shown meaning self.old) (shown meaning self.new)
             (W.sink out.old) (W.sink out.new) result }
         ensures own { Responds self.old.services.moment

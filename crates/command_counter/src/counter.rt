@@ -1,7 +1,7 @@
 //! The counter on its seat.
 
 ghost use Rattle.std.specs.Prelude.{◌≡◌, ◌≤◌, ◌<◌, None, [], ◌∷◌, length};
-ghost use Rattle.lc_model.specs.Packet.{function_code, payload};
+ghost use Rattle.lc_model.specs.Packet.{function_code, payload, command_header_size};
 ghost use Rattle.lc_model.specs.Command.{answer_of, bare_request};
 
 use crate::texts;
@@ -87,7 +87,7 @@ impl App for Counter {
 
 /// Whether a command of the counter's is one that it counts.
 fn accepted(command: &[u8]) -> Result<(), CommandRefusal>
-    requires { 8 ≤ length command.now }
+    requires { command_header_size ≤ length command.now }
     ensures { answer_of result ≡ bare_request 1 (function_code command.now) (payload command.now) }
 {
     if function_code(command) != COUNT {

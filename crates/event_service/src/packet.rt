@@ -4,7 +4,9 @@
 ghost use Rattle.std.specs.Prelude.{◌≡◌, ◌+◌, ◌<◌, ◌≤◌, length};
 ghost use Rattle.lc_model.specs.Bytes as model;
 ghost use Rattle.lc_model.specs.Codes.{event_code as code_of_kind};
-ghost use Rattle.lc_model.specs.Events.Outgoing.{event_packet};
+ghost use Rattle.lc_model.specs.Events.Outgoing.{event_packet, event_packet_size, longest_event_text};
+ghost use Rattle.lc_model.specs.Name.{app_name_size};
+ghost use Rattle.lc_model.specs.Packet.{count_end};
 ghost use Rattle.event_service.specs.Packet.{laid};
 
 use byteorder::{BigEndian, ByteOrder};
@@ -37,18 +39,19 @@ pub struct EventPacket {
 
 impl Model for EventPacket {
     ghost use Rattle.std.specs.Prelude.{ℕ, List, ◌≡◌, length};
+    ghost use Rattle.lc_model.specs.Events.Outgoing.{event_packet_size};
 
     ghost Value = { List ℕ };
 
     ghost view = { λ packet. packet.bytes };
 
-    ghost invariant = { λ packet. length packet.bytes ≡ 168 };
+    ghost invariant = { λ packet. length packet.bytes ≡ event_packet_size };
 }
 
 impl EventPacket {
     pub fn as_bytes(&self) -> &[u8]
         ensures bytes { result.now ≡ self.now }
-        ensures size { length self.now ≡ 168 }
+        ensures size { length self.now ≡ event_packet_size }
     {
         &self.bytes
     }
@@ -62,9 +65,9 @@ impl EventPacket {
         kind: EventKind,
         text: &[u8],
     ) -> EventPacket
-        requires count { count < 16384 }
-        requires sender { length sender.now ≤ 20 }
-        requires text { length text.now ≤ 121 }
+        requires count { count < count_end }
+        requires sender { length sender.now ≤ app_name_size }
+        requires text { length text.now ≤ longest_event_text }
         ensures { result ≡ event_packet count moment sender.now id kind text.now }
     {
         let mut bytes = [0; PACKET_SIZE];

@@ -1,9 +1,11 @@
 //! A sender of events: its name, its types and its filters (cFE user's guide, event services).
 
 ghost use Rattle.std.specs.Prelude.{◌≡◌, ◌<◌, ◌≤◌, [], length, OnErr};
-ghost use Rattle.lc_model.specs.Name.{is_named};
+ghost use Rattle.lc_model.specs.Events.Outgoing.{longest_event_text};
+ghost use Rattle.lc_model.specs.Name.{is_named, app_name_size};
 ghost use Rattle.lc_model.specs.Kept.Call.{new_sender};
 ghost use Rattle.lc_model.specs.Kept.Executive.{joined_now};
+ghost use Rattle.lc_model.specs.Packet.{count_end};
 ghost use Rattle.lc_model.specs.Services.Events.{Sender as Kept, asked_by};
 ghost use Rattle.event_service.specs.Error.{answered};
 ghost use Rattle.event_service.specs.Change.{item_of};
@@ -54,7 +56,7 @@ impl Model for Sender {
 impl Sender {
     /// Without filters, all types but debug on.
     pub(crate) fn new(name: &[u8]) -> Sender
-        requires { length name.now ≤ 20 }
+        requires { length name.now ≤ app_name_size }
         ensures { result ≡ record { name = name.now; events = new_sender } }
     {
         let mut own_name = ArrayVec::new();
@@ -81,8 +83,8 @@ impl Sender {
         kind: EventKind,
         text: &[u8],
     ) -> Option<EventPacket>
-        requires count { sent.old < 16384 }
-        requires text { length text.now ≤ 121 }
+        requires count { sent.old < count_end }
+        requires text { length text.now ≤ longest_event_text }
         ensures packet { result ≡ (asked_by self.old moment id kind text.now sent.old).packet }
         ensures events { self.new ≡
             record {
@@ -90,7 +92,7 @@ impl Sender {
               events = (asked_by self.old moment id kind text.now sent.old).events;
             } }
         ensures sent { sent.new ≡ (asked_by self.old moment id kind text.now sent.old).sent }
-        ensures count { sent.new < 16384 }
+        ensures count { sent.new < count_end }
     {
         if !self.types.has(kind) || !self.filters.ask(id) {
             return None;

@@ -3,6 +3,8 @@
 ghost use Rattle.std.specs.Prelude.{◌≡◌, ◌<◌, ◌≤◌, length, IfErr, IfOk, IfSome, OnErr};
 ghost use Rattle.std.specs.List.{position_from};
 ghost use Rattle.lc_model.specs.Events.Log.{FilterSet, FiltersReset, TypesSet};
+ghost use Rattle.lc_model.specs.Events.Outgoing.{longest_event_text};
+ghost use Rattle.lc_model.specs.Name.{app_name_size};
 ghost use Rattle.lc_model.specs.Services.Events.{IsEventService, first_events, is_sender, registered_at, unregistered_at, commanded, event_asked};
 ghost use Rattle.event_service.specs.declared.error.EventError.TheVariants.{Memory};
 ghost use Rattle.event_service.specs.Error.{answered};
@@ -69,7 +71,7 @@ impl Events {
     /// The seat sends events from now on under a name of at most 20 bytes, without filters, all types but debug on. Error:
     /// `AppsFull`, where the seat or the name is taken, as `HOST` is.
     pub fn register(&mut self, seat: Seat, name: &[u8]) -> Result<(), EventError>
-        requires { length name.now ≤ 20 }
+        requires { length name.now ≤ app_name_size }
         ensures answer { answered result self.new ≡ registered_at seat name.now self.old }
         ensures refused { OnErr result (self.new ≡ self.old) }
     {
@@ -113,7 +115,7 @@ impl Events {
         kind: EventKind,
         text: &[u8],
     ) -> Option<EventPacket>
-        requires { length text.now ≤ 121 }
+        requires { length text.now ≤ longest_event_text }
         ensures after { self.new ≡ (event_asked from moment id kind text.now self.old).0 }
         ensures packet { result ≡ (event_asked from moment id kind text.now self.old).1 }
     {

@@ -2,6 +2,7 @@
 
 ghost use Rattle.std.specs.Prelude.{◌≡◌, ◌+◌, ◌<◌, ◌≤◌, ◌*◌, ◌%◌, false, List, [], ◌∷◌, ◌++◌, length, codes, decimal};
 ghost use Rattle.std.specs.Fmt.{digit_glyph};
+ghost use Rattle.lc_model.specs.Events.Outgoing.{longest_event_text};
 ghost use Rattle.lc_model.specs.Events.Request.{numbered, hex_word as four_digits};
 
 use arrayvec::ArrayVec;
@@ -28,14 +29,14 @@ impl Model for EventText {
 impl EventText {
     pub fn as_bytes(&self) -> &[u8]
         ensures bytes { result.now ≡ self.now }
-        ensures fits { length result.now ≤ 121 }
+        ensures fits { length result.now ≤ longest_event_text }
     {
         self.bytes.as_slice()
     }
 
     /// These bytes alone. Condition: at most 121.
     pub fn of(bytes: &[u8]) -> EventText
-        requires { length bytes.now ≤ 121 }
+        requires { length bytes.now ≤ longest_event_text }
         ensures { result ≡ bytes.now }
     {
         let mut text = EventText {
@@ -47,7 +48,7 @@ impl EventText {
 
     /// More bytes. Condition: with them, at most 121.
     pub fn push(&mut self, bytes: &[u8])
-        requires { length self.old + length bytes.now ≤ 121 }
+        requires { length self.old + length bytes.now ≤ longest_event_text }
         ensures text { self.new ≡ self.old ++ bytes.now }
         ensures size { length self.new ≡ length self.old + length bytes.now }
     {
@@ -56,7 +57,7 @@ impl EventText {
 
     /// A space and a number in decimal digits. Condition: room for 11 bytes.
     pub fn push_number(&mut self, number: u32)
-        requires { length self.old + 11 ≤ 121 }
+        requires { length self.old + 11 ≤ longest_event_text }
         ensures text { self.new ≡ numbered self.old (number ∷ []) }
         ensures size { length self.new ≤ length self.old + 11 }
     {
@@ -67,7 +68,7 @@ impl EventText {
 
     /// Several numbers, each behind a space. Condition: room for 11 bytes each.
     pub fn push_numbers(&mut self, numbers: &[u16])
-        requires { length self.old + 11 * length numbers.now ≤ 121 }
+        requires { length self.old + 11 * length numbers.now ≤ longest_event_text }
         ensures { self.new ≡ numbered self.old numbers.now }
     {
         for number in numbers {
@@ -77,7 +78,7 @@ impl EventText {
 
     /// Four lower case hexadecimal digits. Condition: room for them.
     pub fn push_hex(&mut self, number: u16)
-        requires { length self.old + 4 ≤ 121 }
+        requires { length self.old + 4 ≤ longest_event_text }
         ensures { self.new ≡ self.old ++ four_digits number }
     {
         self.push(&[

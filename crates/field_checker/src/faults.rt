@@ -2,7 +2,7 @@
 
 ghost use Rattle.std.specs.Prelude.{◌≡◌, ◌||◌, List, None, Some, [], ◌∷◌, int_lt, pos, true};
 ghost use Rattle.lc_model.specs.Text.Syntax.{Item};
-ghost use Rattle.lc_model.specs.Text.Meaning.{fault_if, fault_outside};
+ghost use Rattle.lc_model.specs.Text.Meaning.{fault_if, fault_outside, number_range};
 ghost use Rattle.rule_parser.specs.Syntax.{number_of};
 ghost use Rattle.field_checker.specs.Fault.{error_of, fault_of, number_of_check};
 ghost use Rattle.field_checker.specs.Faults.{NamesItsFault, after, first_of};
@@ -76,7 +76,7 @@ impl Faults {
     pub fn refuse_number(&mut self, number: Number, kind: RuleNumber)
         ensures faults { first_of self.new ≡
             after (first_of self.old)
-            (fault_outside (least_of kind) (most_of kind) 28 (number_of number)) }
+            (fault_outside (least_of kind) (most_of kind) number_range (number_of number)) }
         ensures names { (items : List Item) → NamesItsFault items self.old.first
             → (is_out_of_range kind (number_of number) ≡ true →
             StandsOutside items kind number.at) → NamesItsFault items self.new.first }

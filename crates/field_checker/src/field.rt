@@ -5,7 +5,7 @@ ghost use Rattle.std.specs.List.{Contains};
 ghost use Rattle.std.specs.Option.{option_map_or};
 ghost use Rattle.lc_model.specs.Field.{full_mask};
 ghost use Rattle.lc_model.specs.Text.Syntax as model;
-ghost use Rattle.lc_model.specs.Text.Meaning.{fault_if, fault_outside, field_faults, is_outside};
+ghost use Rattle.lc_model.specs.Text.Meaning.{fault_if, fault_outside, field_faults, is_outside, mask_range, number_range};
 ghost use Rattle.rule_parser.specs.Syntax.{field_of, items_of, number_of, packet_of};
 ghost use Rattle.field_checker.specs.Faults.{NamesItsFault, after, first_of};
 
@@ -41,7 +41,7 @@ impl Faults {
     fn check_mask(&mut self, kind: FieldType, mask: Option<Number>)
         ensures faults { first_of self.new ≡
             after (first_of self.old)
-            (option_map_or (fault_outside 1 (full_mask kind) 26) (option_map number_of mask) []) }
+            (option_map_or (fault_outside 1 (full_mask kind) mask_range) (option_map number_of mask) []) }
         ensures names { (items : List model.Item) → NamesItsFault items self.old.first →
             NamesItsFault items self.new.first }
     {
@@ -55,7 +55,8 @@ impl Faults {
     fn check_stale(&mut self, stale: Option<Number>)
         ensures faults { first_of self.new ≡
             after (first_of self.old)
-            (option_map_or (λ (n : model.Number). fault_if (int_lt n.value (pos 0)) 28 n.at)
+            (option_map_or
+            (λ (n : model.Number). fault_if (int_lt n.value (pos 0)) number_range n.at)
             (option_map number_of stale) []) }
         ensures names { (items : List model.Item) (field : model.FieldItem) →
             Contains items (model.Field field) → field.stale ≡ option_map number_of stale

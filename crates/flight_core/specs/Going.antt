@@ -13,7 +13,7 @@ use Rattle.flight_core.specs.declared.halt.Halt.{Halt}
 use Rattle.flight_core.specs.declared.halt.Halt.TheVariants as halt
 use Rattle.flight_core.specs.Front.{part_of}
 use Rattle.flight_core.specs.Gathered.{with_held, IsStuck}
-use Rattle.flight_core.specs.Records.{Held, front_of, next_number}
+use Rattle.flight_core.specs.Records.{Held, front_of, next_number, piece_size}
 
 -- ---- the next record
 
@@ -101,7 +101,7 @@ module _ (most : ℕ) (held after : Held) (before now : Source) where
     pub piece : List ℕ
     pub took : Consumes before.rest now.rest piece
     pub some : 0 < length piece
-    pub few : length piece ≤ 8192
+    pub few : length piece ≤ piece_size
     pub are : AreBytes piece
     pub goes : after ≡ record held { bytes = held.bytes ++ piece }
     pub fine : now.failed ≡ before.failed

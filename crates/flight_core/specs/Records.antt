@@ -11,7 +11,11 @@ pub record Held : Type 0 where
   pub is_bad : Bool
   pub texts : ℕ
 
--- the most bytes held: a longest record, and a piece of 8,192
+-- the most bytes of a piece of the stream, and of output that is held until the next one is read
+abbrev pub piece_size : ℕ
+piece_size = 8192
+
+-- the most bytes held: a longest record, and a piece
 abbrev pub most_held : ℕ
 most_held = 73739
 

@@ -1,5 +1,6 @@
 -- The bytes that wait in a buffer. This project's own.
 use Rattle.std.specs.Prelude.{ℕ, ◌+◌, ◌≤◌, List, []}
+use Rattle.flight_core.specs.Records.{most_held}
 
 -- what is held, and behind it what went last
 pub record Shown : Type 0 where
@@ -14,5 +15,5 @@ empty_window = record { last = []; held = [] }
 pub record IsWindow (last start size capacity : ℕ) : Type 0 where
   pub ordered : last ≤ start
   pub inside : start ≤ size
-  pub few : size ≤ start + 73739
+  pub few : size ≤ start + most_held
   pub room : 147478 ≤ capacity

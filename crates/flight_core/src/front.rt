@@ -1,8 +1,8 @@
 //! What stands at the front of a stream (this project's own format).
 
-ghost use Rattle.std.specs.Prelude.{◌≡◌, ◌≤◌, true, length, take, slice_index, option_map, IfSome};
+ghost use Rattle.std.specs.Prelude.{◌≡◌, ◌+◌, ◌≤◌, true, length, take, slice_index, option_map, IfSome};
 ghost use Rattle.lc_model.specs.Bytes.{u16_at};
-ghost use Rattle.lc_model.specs.Name.{name_in};
+ghost use Rattle.lc_model.specs.Name.{name_in, name_size};
 ghost use Rattle.lc_model.specs.Host.Stream.{all_kinds, contents_of, fits_body, half_contents};
 ghost use Rattle.flight_core.specs.Front.{contents_by, HasName, IsFront, IsOfText};
 
@@ -36,8 +36,8 @@ fn half(texts: usize, body: &[u8]) -> Option<Shape>
     ensures text { IfSome result (IsOfText texts) }
     ensures named { IfSome result (λ shape. HasName shape (length body.now)) }
     ensures brings { option_map (contents_by body.now) result ≡
-        half_contents texts (name_in (take NAME body.now)) (slice_index body.now 40)
-        (u16_at body.now 41) }
+        half_contents texts (name_in (take NAME body.now)) (slice_index body.now name_size)
+        (u16_at body.now (name_size + 1)) }
 {
     let text = usize::from(u16_at(body, 41));
     if text >= texts {

@@ -2,6 +2,7 @@
 
 ghost use Rattle.std.specs.Prelude.{◌≡◌, ◌≤◌, ℕ, List, [], length, Option, vec_capacity};
 ghost use Rattle.flight_core.specs.Gathered.{Gives, HasGrown, with_held};
+ghost use Rattle.flight_core.specs.Records.{piece_size};
 
 use crate::outlet::Outlet;
 use crate::window::drop_front;
@@ -29,8 +30,8 @@ pub(crate) struct Gathered<W: ByteSink, S: Outset> {
     device: W,
     held: Vec<u8>,
     outset: PhantomData<S>,
-    ghost few: { length held.items ≤ 8192 },
-    ghost room: { 8192 ≤ vec_capacity held },
+    ghost few: { length held.items ≤ piece_size },
+    ghost room: { piece_size ≤ vec_capacity held },
     ghost grown: { HasGrown S.had (W.sink device).gained },
 }
 

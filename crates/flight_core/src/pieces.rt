@@ -1,6 +1,7 @@
 //! A stream comes in pieces.
 
 ghost use Rattle.std.specs.Prelude.{◌≡◌, ◌<◌, ◌≤◌, false, length};
+ghost use Rattle.lc_model.specs.Host.Stream.{header_size, max_body};
 ghost use Rattle.host_laws.specs.Statements.{AreBytes};
 ghost use Rattle.flight_core.specs.Going.{Refills, TakesPiece};
 
@@ -35,7 +36,7 @@ pub(crate) fn take_piece<R: ByteSource>(
 ) -> Result<bool, Halt>
     requires room { length room.old ≡ PIECE }
     requires good { records.old.is_bad ≡ false }
-    requires few { length records.old.bytes < 65547 }
+    requires few { length records.old.bytes < header_size + max_body }
     requires bounded { (R.source reader.old).reads ≤ most }
     requires most { most ≤ MOST_READS }
     ensures room { length room.new ≡ PIECE }
@@ -71,7 +72,7 @@ pub(crate) fn refill<R: ByteSource, T: ByteSink, O: Outlet<T>>(
 ) -> Result<bool, Halt>
     requires room { length room.old ≡ PIECE }
     requires good { records.old.is_bad ≡ false }
-    requires few { length records.old.bytes < 65547 }
+    requires few { length records.old.bytes < header_size + max_body }
     requires bounded { (R.source reader.old).reads ≤ most }
     requires most { most ≤ MOST_READS }
     ensures room { length room.new ≡ PIECE }

@@ -3,6 +3,7 @@
 ghost use Rattle.std.specs.Prelude.{◌≡◌, ◌≤◌, ◌<◌, ◌+◌, false, length, IfOk, IfSome, IsNone};
 ghost use Rattle.std.specs.Borrow.{sem};
 ghost use Rattle.std.specs.Io.BufRead.{Rests};
+ghost use Rattle.lc_model.specs.Host.Stream.{header_size, max_body};
 ghost use Rattle.flight_core.specs.Front.{part_of};
 ghost use Rattle.flight_core.specs.Found.{answer_in, IsShortNamed, NamesText};
 ghost use Rattle.flight_core.specs.Records.{nothing_held, taken_of, fed, next_answer, after_next, front_of, most_held, IsRecord};
@@ -78,7 +79,7 @@ impl Records {
         ensures shorter { IsRecord (next_answer self.old) →
             length (after_next self.old).bytes < length self.old.bytes }
         ensures part { IsNone result → front_of self.old ≡ part_of self.old.bytes }
-        ensures few { IsNone result → length self.old.bytes < 65547 }
+        ensures few { IsNone result → length self.old.bytes < header_size + max_body }
         ensures* after { sem 𝓛 (Rests the_row self.entry (λ new. new ≡ after_next self.old)) }
     {
         match front_of(self.texts, self.window.held()) {

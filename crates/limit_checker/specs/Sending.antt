@@ -1,6 +1,7 @@
 -- What a sample asks for, as it is sent. From the cFS Limit Checker user's guide; sizes and bounds are this project's own.
-use Rattle.std.specs.Prelude.{◌≡◌, ℕ, ◌+◌, List, [], ◌∷◌, Option, Some, None, option_map}
+use Rattle.std.specs.Prelude.{◌≡◌, ℕ, ◌+◌, ◌*◌, List, [], ◌∷◌, Option, Some, None, option_map}
 use Rattle.lc_model.specs.Name.{lc_name}
+use Rattle.lc_model.specs.Events.Outgoing.{event_packet_size, sequence_request_size, housekeeping_size}
 use Rattle.lc_model.specs.Events.Request.{Request, Event, Sequence, Housekeeping}
 use Rattle.lc_model.specs.Kept.GoesWith.{IsSender}
 use Rattle.lc_model.specs.Rule.{Actionpoint}
@@ -16,25 +17,36 @@ use Rattle.limit_engine.specs.declared.reaction.Reactions.{Reactions}
 
 -- the most bytes of a request's packet
 abbrev pub size_of : Request → ℕ
-size_of (Event sender id kind text) = 168
-size_of (Sequence number) = 12
-size_of (Housekeeping mode points) = 192
+size_of (Event sender id kind text) = event_packet_size
+size_of (Sequence number) = sequence_request_size
+size_of (Housekeeping mode points) = housekeeping_size
 
 -- and of several
 abbrev pub sizes : List Request → ℕ
 sizes [] = 0
 sizes (request ∷ requests) = size_of request + sizes requests
 
+-- of a request for a sequence with the rule's own event, of what became of both tables and their adoption, and of the
+-- housekeeping behind it
+abbrev pub largest_request : ℕ
+largest_request = sequence_request_size + event_packet_size
+
+abbrev pub largest_renewal : ℕ
+largest_renewal = 3 * event_packet_size
+
+abbrev pub largest_report : ℕ
+largest_report = largest_renewal + housekeeping_size
+
 -- of what a turn and enough failures in a row lead to
 abbrev pub turn_size : Option Turn → ℕ
 turn_size None = 0
-turn_size (Some turn) = 168
+turn_size (Some turn) = event_packet_size
 
 abbrev pub failure_size : Option Failure → ℕ
 failure_size None = 0
-failure_size (Some (Requested run)) = 180
-failure_size (Some LcPassive) = 168
-failure_size (Some Passive) = 168
+failure_size (Some (Requested run)) = largest_request
+failure_size (Some LcPassive) = event_packet_size
+failure_size (Some Passive) = event_packet_size
 
 abbrev pub reactions_size : Reactions → ℕ
 reactions_size reactions = turn_size reactions.turn + failure_size reactions.failure

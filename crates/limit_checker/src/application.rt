@@ -2,6 +2,7 @@
 //! share.
 
 ghost use Rattle.std.specs.Prelude.{◌≡◌, ◌+◌, ◌≤◌, true, [], ◌∷◌, length, map, None, IfOk, IfSome};
+ghost use Rattle.lc_model.specs.Events.Outgoing.{housekeeping_size};
 ghost use Rattle.lc_model.specs.Events.Request.{Housekeeping};
 ghost use Rattle.lc_model.specs.Kept.Next.{by_counts};
 ghost use Rattle.lc_model.specs.LimitChecker.Steps.{standing};
@@ -11,7 +12,7 @@ ghost use Rattle.lc_model.specs.Packet.{message_id, lc_command_mid, sample_mid, 
 ghost use Rattle.lc_model.specs.Name.{lc_name};
 ghost use Rattle.lc_model.specs.Kept.Call.{next_retire};
 ghost use Rattle.lc_model.specs.Kept.Summary.{LcState};
-ghost use Rattle.lc_model.specs.Services.Interface.{IsRetired};
+ghost use Rattle.lc_model.specs.Services.Interface.{IsRetired, outgoing_room};
 ghost use Rattle.app_host.specs.Calls.{LeavesEmpty};
 ghost use Rattle.app_host.specs.Shared.{held_by, shared};
 ghost use Rattle.limit_engine.specs.Engine.{without_tables};
@@ -118,11 +119,12 @@ impl Application {
     /// How the Limit Checker and its rules stand is told (message id 0x08A7). Condition: room for the packet's 192 bytes.
     pub(crate) fn tell_standing(&self, services: &mut Services)
         requires sends { MaySend self.now.seat services.old }
-        requires room { length services.old.outgoing + 192 ≤ 65536 }
+        requires room { length services.old.outgoing + housekeeping_size ≤ outgoing_room }
         ensures told { Tells self.now.seat lc_name
             (Housekeeping self.now.engine.mode (map (standing by_counts) self.now.engine.points) ∷
             []) services.old services.new }
-        ensures size { length services.new.outgoing ≡ length services.old.outgoing + 192 }
+        ensures size { length services.new.outgoing ≡
+            length services.old.outgoing + housekeeping_size }
     {
         let standings = standings::standings(&self.engine);
         services.send_housekeeping(self.engine.mode(), standings.as_slice());

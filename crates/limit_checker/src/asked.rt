@@ -17,13 +17,14 @@ pub(crate) struct AskedList {
 
 impl Model for AskedList {
     ghost use Rattle.std.specs.Prelude.{List, ◌≤◌, vec_capacity};
+    ghost use Rattle.lc_model.specs.Codes.{table_entries};
     ghost use Rattle.limit_engine.specs.declared.reaction.Asked.{Asked};
 
     ghost Value = { List Asked };
 
     ghost view = { λ a. a.items.items };
 
-    ghost invariant = { λ a. 176 ≤ vec_capacity a.items };
+    ghost invariant = { λ a. table_entries ≤ vec_capacity a.items };
 }
 
 impl AskedList {

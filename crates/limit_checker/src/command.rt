@@ -2,7 +2,7 @@
 
 ghost use Rattle.std.specs.Prelude.{◌≡◌, ◌≤◌, length};
 ghost use Rattle.lc_model.specs.Command.{lc_command};
-ghost use Rattle.lc_model.specs.Packet.{function_code, payload};
+ghost use Rattle.lc_model.specs.Packet.{function_code, payload, command_header_size};
 ghost use Rattle.limit_checker.specs.Commands.{answered, own_commanded, read_of, refusal_number};
 ghost use Rattle.limit_engine.specs.States.{outcome, unless_refused};
 
@@ -46,7 +46,7 @@ impl Refused {
 /// The command of a packet: code 0 without a payload, and codes 2, 3 and 4 with one of four bytes. Errors, the first that
 /// stands: `UnknownFunction`, `WrongLength`.
 fn read(packet: &[u8]) -> Result<Command, CommandRefusal>
-    requires { 8 ≤ length packet.now }
+    requires { command_header_size ≤ length packet.now }
     ensures { read_of result ≡ lc_command (function_code packet.now) (payload packet.now) }
 {
     let code = function_code(packet);
@@ -70,7 +70,7 @@ fn read(packet: &[u8]) -> Result<Command, CommandRefusal>
 
 /// Obeys the command of a packet. A refused one changes nothing.
 pub(crate) fn obey(engine: &mut Engine, packet: &[u8]) -> Result<(), Refused>
-    requires { 8 ≤ length packet.now }
+    requires { command_header_size ≤ length packet.now }
     ensures answer { answered result ≡ outcome (own_commanded packet.now engine.old) }
     ensures after { engine.new ≡ unless_refused (own_commanded packet.now engine.old) engine.old }
 {

@@ -2,15 +2,17 @@
 
 ghost use Rattle.std.specs.Prelude.{◌≡◌, ◌+◌, ◌≤◌, ◌++◌, [], ◌∷◌, length, map};
 ghost use Rattle.lc_model.specs.Command.{answer_of, bare_request};
+ghost use Rattle.lc_model.specs.Events.Outgoing.{event_packet_size};
 ghost use Rattle.lc_model.specs.Events.Request.{Housekeeping};
 ghost use Rattle.lc_model.specs.Kept.Next.{by_counts};
 ghost use Rattle.lc_model.specs.LimitChecker.Steps.{standing};
 ghost use Rattle.lc_model.specs.Name.{lc_name};
-ghost use Rattle.lc_model.specs.Packet.{function_code, message_id, payload, lc_housekeeping_request_mid};
+ghost use Rattle.lc_model.specs.Packet.{function_code, message_id, payload, lc_housekeeping_request_mid, command_header_size};
+ghost use Rattle.lc_model.specs.Services.Interface.{outgoing_room};
 ghost use Rattle.app_host.specs.Telling.{Tells};
 ghost use Rattle.limit_checker.specs.Application.{IsHome, MayHave, Answers};
 ghost use Rattle.limit_checker.specs.Housekeeping.{adoption_requests, renewal_requests, MayRenew, Renews};
-ghost use Rattle.limit_checker.specs.Sending.{MaySend};
+ghost use Rattle.limit_checker.specs.Sending.{MaySend, largest_renewal, largest_report};
 
 use crate::adoption::adopt;
 use crate::application::Application;
@@ -39,7 +41,7 @@ pub(crate) struct Renewal {
 /// Whether a packet is a housekeeping request: code 0, without a payload. Errors, the first that stands: `UnknownFunction`,
 /// `WrongLength`.
 fn requested(packet: &[u8]) -> Result<(), CommandRefusal>
-    requires { 8 ≤ length packet.now }
+    requires { command_header_size ≤ length packet.now }
     ensures { answer_of result ≡ bare_request 0 (function_code packet.now) (payload packet.now) }
 {
     if function_code(packet) != 0 {
@@ -66,9 +68,9 @@ fn renew(engine: &mut Engine, services: &mut Services, seat: Seat) -> Renewal
 /// That new tables are in force is told: event 2.
 fn tell_adoption(adopted: bool, from: &Option<Seat>, services: &mut Services)
     requires sends { MaySend from.now services.old }
-    requires room { length services.old.outgoing + 168 ≤ 65536 }
+    requires room { length services.old.outgoing + event_packet_size ≤ outgoing_room }
     ensures told { Tells from.now lc_name (adoption_requests adopted) services.old services.new }
-    ensures size { length services.new.outgoing ≤ length services.old.outgoing + 168 }
+    ensures size { length services.new.outgoing ≤ length services.old.outgoing + event_packet_size }
 {
     // For the proof: each call of the services keeps the rules of the interface, and what is told adds up from call to call.
     seats_are_kept_by_the_rules();
@@ -82,9 +84,9 @@ fn tell_adoption(adopted: bool, from: &Option<Seat>, services: &mut Services)
 /// What became of the tables is told: events 10, 11 and 2.
 fn tell_renewal(renewal: &Renewal, from: &Option<Seat>, services: &mut Services)
     requires sends { MaySend from.now services.old }
-    requires room { length services.old.outgoing + 504 ≤ 65536 }
+    requires room { length services.old.outgoing + largest_renewal ≤ outgoing_room }
     ensures told { Tells from.now lc_name (renewal_requests renewal.now) services.old services.new }
-    ensures size { length services.new.outgoing ≤ length services.old.outgoing + 504 }
+    ensures size { length services.new.outgoing ≤ length services.old.outgoing + largest_renewal }
 {
     // For the proof: what is told adds up from call to call.
     telling_goes_on();
@@ -98,11 +100,11 @@ impl Application {
     /// 0x08A7.
     fn report(&self, renewal: &Renewal, services: &mut Services)
         requires sends { MaySend self.now.seat services.old }
-        requires room { length services.old.outgoing + 696 ≤ 65536 }
+        requires room { length services.old.outgoing + largest_report ≤ outgoing_room }
         ensures told { Tells self.now.seat lc_name
             (renewal_requests renewal.now ++ Housekeeping self.now.engine.mode
             (map (standing by_counts) self.now.engine.points) ∷ []) services.old services.new }
-        ensures size { length services.new.outgoing ≤ length services.old.outgoing + 696 }
+        ensures size { length services.new.outgoing ≤ length services.old.outgoing + largest_report }
     {
         // For the proof: what is told adds up from call to call.
         telling_goes_on();

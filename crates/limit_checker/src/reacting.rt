@@ -1,12 +1,14 @@
 //! What sampled rules ask for is sent, in order (cFS Limit Checker user's guide).
 
-ghost use Rattle.std.specs.Prelude.{◌≡◌, ◌+◌, ◌≤◌, length, slice_get, Some};
+ghost use Rattle.std.specs.Prelude.{◌≡◌, ◌+◌, ◌<◌, ◌≤◌, length, slice_get, Some};
+ghost use Rattle.lc_model.specs.Codes.{rule_text_size};
 ghost use Rattle.lc_model.specs.Name.{lc_name};
 ghost use Rattle.lc_model.specs.Rule.{Actionpoint};
+ghost use Rattle.lc_model.specs.Services.Interface.{outgoing_room};
 ghost use Rattle.app_host.specs.Telling.{Tells};
 ghost use Rattle.limit_engine.specs.Reactions.{failure_requests, requests_at, requests_in, requests_of, turn_requests};
 ghost use Rattle.limit_engine.specs.declared.reaction.Failure.TheVariants.{Requested};
-ghost use Rattle.limit_checker.specs.Sending.{IsEventOf, MaySend, failure_size, reactions_size, sizes, turn_size};
+ghost use Rattle.limit_checker.specs.Sending.{IsEventOf, MaySend, failure_size, largest_request, reactions_size, sizes, turn_size};
 
 use crate::texts;
 use app_host::Services;
@@ -18,7 +20,7 @@ use limit_engine::{Asked, Engine, Failure, Reactions, RuleEvent, Turn};
 /// The turn of a rule, if there is one, is told: event 5 or 6.
 fn tell_turn(rule: u16, turn: Option<Turn>, from: &Option<Seat>, services: &mut Services)
     requires sends { MaySend from.now services.old }
-    requires room { length services.old.outgoing + turn_size turn ≤ 65536 }
+    requires room { length services.old.outgoing + turn_size turn ≤ outgoing_room }
     ensures told { Tells from.now lc_name (turn_requests rule turn) services.old services.new }
     ensures size { length services.new.outgoing ≤ length services.old.outgoing + turn_size turn }
 {
@@ -41,12 +43,12 @@ fn tell_turn(rule: u16, turn: Option<Turn>, from: &Option<Seat>, services: &mut 
 /// A rule's sequence is requested, and then its own event is told, with so many failures in a row.
 fn request(rule: u16, run: u16, event: &RuleEvent<'_>, from: &Option<Seat>, services: &mut Services)
     requires sends { MaySend from.now services.old }
-    requires short { length event.now.text.now ≤ 31 }
-    requires room { length services.old.outgoing + 180 ≤ 65536 }
+    requires short { length event.now.text.now < rule_text_size }
+    requires room { length services.old.outgoing + largest_request ≤ outgoing_room }
     ensures told { (this : Actionpoint) → IsEventOf this event.now →
         Tells from.now lc_name (failure_requests this rule (Some (Requested run))) services.old
         services.new }
-    ensures size { length services.new.outgoing ≤ length services.old.outgoing + 180 }
+    ensures size { length services.new.outgoing ≤ length services.old.outgoing + largest_request }
 {
     // For the proof: each call of the services keeps the rules of the interface, and what is told adds up from call to call.
     seats_are_kept_by_the_rules();
@@ -65,8 +67,8 @@ fn tell_failure(
     services: &mut Services,
 )
     requires sends { MaySend from.now services.old }
-    requires short { length event.now.text.now ≤ 31 }
-    requires room { length services.old.outgoing + failure_size (Some failure) ≤ 65536 }
+    requires short { length event.now.text.now < rule_text_size }
+    requires room { length services.old.outgoing + failure_size (Some failure) ≤ outgoing_room }
     ensures told { (this : Actionpoint) → IsEventOf this event.now →
         Tells from.now lc_name (failure_requests this rule (Some failure)) services.old
         services.new }
@@ -97,8 +99,8 @@ fn tell_reactions(
     services: &mut Services,
 )
     requires sends { MaySend from.now services.old }
-    requires short { length event.now.text.now ≤ 31 }
-    requires room { length services.old.outgoing + reactions_size reactions ≤ 65536 }
+    requires short { length event.now.text.now < rule_text_size }
+    requires room { length services.old.outgoing + reactions_size reactions ≤ outgoing_room }
     ensures told { (this : Actionpoint) → IsEventOf this event.now →
         Tells from.now lc_name (requests_of this rule reactions) services.old services.new }
     ensures size { length services.new.outgoing ≤ length services.old.outgoing + reactions_size
@@ -117,7 +119,7 @@ fn tell_reactions(
 fn tell_item(engine: &Engine, item: &Asked, from: &Option<Seat>, services: &mut Services)
     requires sends { MaySend from.now services.old }
     requires room { length services.old.outgoing + sizes
-        (requests_at (slice_get engine.now.rules item.now.rule) item.now) ≤ 65536 }
+        (requests_at (slice_get engine.now.rules item.now.rule) item.now) ≤ outgoing_room }
     ensures told { Tells from.now lc_name
         (requests_at (slice_get engine.now.rules item.now.rule) item.now) services.old
         services.new }
@@ -143,7 +145,7 @@ pub(crate) fn tell_all(
 )
     requires sends { MaySend from.now services.old }
     requires room { length services.old.outgoing + sizes
-        (requests_in engine.now.rules asked.now) ≤ 65536 }
+        (requests_in engine.now.rules asked.now) ≤ outgoing_room }
     ensures told { Tells from.now lc_name (requests_in engine.now.rules asked.now) services.old
         services.new }
     ensures size { length services.new.outgoing ≤ length services.old.outgoing + sizes

@@ -1,7 +1,7 @@
 //! How the rules stand, as housekeeping tells it (cFS Limit Checker user's guide; the layout is this project's own).
 
 ghost use Rattle.std.specs.Prelude.{◌≡◌, ◌≤◌, length, map};
-ghost use Rattle.lc_model.specs.Codes.{result_code, state_code};
+ghost use Rattle.lc_model.specs.Codes.{result_code, state_code, table_entries};
 ghost use Rattle.lc_model.specs.Events.Outgoing.{standing_byte};
 ghost use Rattle.lc_model.specs.Kept.Next.{by_counts};
 ghost use Rattle.lc_model.specs.LimitChecker.Steps.{standing};
@@ -46,7 +46,7 @@ fn byte_of(standing: Standing) -> u8
 /// A byte for each rule, in order.
 pub(crate) fn standings(engine: &Engine) -> ArrayVec<u8, TABLE_ENTRIES>
     ensures bytes { result.items ≡ map standing_byte (map (standing by_counts) engine.now.points) }
-    ensures few { length result.items ≤ 176 }
+    ensures few { length result.items ≤ table_entries }
 {
     let mut bytes = ArrayVec::new();
     let count = engine.rule_count();

@@ -1,8 +1,9 @@
 //! The texts of the Limit Checker's events (this project's own).
 
-ghost use Rattle.std.specs.Prelude.{◌≡◌, ◌≤◌, ◌++◌, [], ◌∷◌, length, codes, if◌then◌else◌};
+ghost use Rattle.std.specs.Prelude.{◌≡◌, ◌<◌, ◌≤◌, ◌++◌, [], ◌∷◌, length, codes, if◌then◌else◌};
 ghost use Rattle.lc_model.specs.declared.rule.EventKind.TheVariants.{Information, Error};
-ghost use Rattle.lc_model.specs.Name.{lc_name};
+ghost use Rattle.lc_model.specs.Codes.{rule_text_size};
+ghost use Rattle.lc_model.specs.Name.{lc_name, name_size};
 ghost use Rattle.lc_model.specs.Rule.{Actionpoint};
 ghost use Rattle.lc_model.specs.Events.Request as request;
 ghost use Rattle.lc_model.specs.Events.Request.{Event};
@@ -108,7 +109,7 @@ pub(crate) fn table_invalid(kind: u16, code: u16, entry: u16) -> EventText
 
 /// A rule's own event: its text of at most 31 bytes, its number, its failures in a row, and the sequence that it requests.
 pub(crate) fn rule_failed(own: &[u8], point: u16, run: u16, sequence: u16) -> EventText
-    requires { length own.now ≤ 31 }
+    requires { length own.now < rule_text_size }
     ensures { (rule : Actionpoint) → rule.text ≡ own.now → rule.sequence ≡ sequence →
         Event lc_name rule.event_id rule.event_kind result ≡ request.rule_failed rule point run }
 {
@@ -124,7 +125,7 @@ pub(crate) fn rule_failed(own: &[u8], point: u16, run: u16, sequence: u16) -> Ev
 
 /// What is said of a rule by its number.
 fn about_point(point: u16, what: &[u8]) -> EventText
-    requires { length what.now ≤ 40 }
+    requires { length what.now ≤ name_size }
     ensures { result ≡ request.numbered (codes "actionpoint") (point ∷ []) ++ what.now }
 {
     let mut text = EventText::of(b"actionpoint");

@@ -2,7 +2,9 @@
 
 ghost use Rattle.std.specs.Prelude.{◌≡◌, ◌+◌, ◌≤◌, length, IsTrue, is_some, option_map};
 ghost use Rattle.lc_model.specs.Codes.{kind_code};
+ghost use Rattle.lc_model.specs.Events.Outgoing.{event_packet_size};
 ghost use Rattle.lc_model.specs.Name.{lc_name};
+ghost use Rattle.lc_model.specs.Services.Interface.{outgoing_room};
 ghost use Rattle.lc_model.specs.Tables.Slot.{Asked, waiting_at};
 ghost use Rattle.lc_model.specs.Services.Tables.{slot_at, slot_changed, table_at};
 ghost use Rattle.app_host.specs.Telling.{Tells};
@@ -76,9 +78,9 @@ pub(crate) fn tell_verdict(
     services: &mut Services,
 )
     requires sends { MaySend from.now services.old }
-    requires room { length services.old.outgoing + 168 ≤ 65536 }
+    requires room { length services.old.outgoing + event_packet_size ≤ outgoing_room }
     ensures told { Tells from.now lc_name (requests_of kind verdict) services.old services.new }
-    ensures size { length services.new.outgoing ≤ length services.old.outgoing + 168 }
+    ensures size { length services.new.outgoing ≤ length services.old.outgoing + event_packet_size }
 {
     // For the proof: each call of the services keeps the rules of the interface, and what is told adds up from call to call.
     seats_are_kept_by_the_rules();

@@ -31,10 +31,17 @@ pub record AreTables (terms : List Term) (watch : List WatchResult) (entries : L
   pub shared : AreShared terms watch
   pub runnable : All (IsRunnable terms words) entries
 
--- at most 32 words of each rule were evaluated, and at most eight message ids compared
+-- the words of the most rules of the most words, and the message ids that a search among the most ids compares
+abbrev pub most_steps : ℕ
+most_steps = 5632
+
+abbrev pub most_probes : ℕ
+most_probes = 8
+
+-- so many words were evaluated at most, and so many message ids compared
 pub record IsFewEffort (steps probes : ℕ) : Type 0 where
-  pub few_steps : steps ≤ 5632
-  pub few_probes : probes ≤ 8
+  pub few_steps : steps ≤ most_steps
+  pub few_probes : probes ≤ most_probes
 
 -- there is room for the largest tables: results, actionpoints, and the words of each
 pub record HasRoom (watch entries points words : ℕ) : Type 0 where

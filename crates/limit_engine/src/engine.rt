@@ -1,9 +1,10 @@
 //! The engine: its tables, and what it keeps of telemetry and samples (cFS Limit Checker user's guide).
 
 ghost use Rattle.std.specs.Prelude.{◌≡◌, ◌<◌, ◌≤◌, [], length, vec_capacity, option_map, slice_get, Some, IfOk};
+ghost use Rattle.lc_model.specs.Codes.{rule_text_size};
 ghost use Rattle.lc_model.specs.Rule.{Actionpoint};
 ghost use Rattle.lc_model.specs.LimitChecker.Steps.{is_disabled as disabled, one_set, standing, states_set, turned_permanently_off};
-ghost use Rattle.lc_model.specs.Refusal.{found};
+ghost use Rattle.lc_model.specs.Refusal.{found, no_such_state};
 ghost use Rattle.lc_model.specs.Command.{mode_numbered};
 ghost use Rattle.lc_model.specs.declared.kind.Kind.TheVariants.{Wdt, Adt};
 ghost use Rattle.lc_model.specs.Tables.Half.{IsMatch};
@@ -13,6 +14,7 @@ ghost use Rattle.limit_engine.specs.Engine as engine;
 ghost use Rattle.limit_engine.specs.Engine.{after_telemetry, points_sampled, tells_short, with_tables, without_tables};
 ghost use Rattle.limit_engine.specs.Reactions.{requests_in, AreInOrder};
 ghost use Rattle.limit_engine.specs.States.{answered, outcome, unless_refused};
+ghost use Rattle.limit_engine.specs.Tables.{most_probes, most_steps};
 
 use crate::actionpoint::{Entry, Point};
 use crate::groups::Watchpoints;
@@ -156,7 +158,7 @@ impl Engine {
     /// The words that the last sample evaluated, EQUAL included: at most 32 of each of 176 rules.
     pub fn steps(&self) -> usize
         ensures steps { result ≡ self.now.effort.steps }
-        ensures few { result ≤ 5632 }
+        ensures few { result ≤ most_steps }
     {
         self.steps
     }
@@ -164,7 +166,7 @@ impl Engine {
     /// The message ids that the last packet of telemetry was compared with, at most eight.
     pub fn probes(&self) -> usize
         ensures probes { result ≡ self.now.effort.probes }
-        ensures few { result ≤ 8 }
+        ensures few { result ≤ most_probes }
     {
         self.probes
     }
@@ -180,7 +182,7 @@ impl Engine {
             result.id ≡ rule.event_id }
         ensures text { (rule : Actionpoint) → slice_get self.now.rules index ≡ Some rule →
             result.text.now ≡ rule.text }
-        ensures short { length result.text.now ≤ 31 }
+        ensures short { length result.text.now < rule_text_size }
     {
         let entry = &self.entries[index];
         RuleEvent {
@@ -254,10 +256,10 @@ impl Engine {
 
     /// Sets the mode of the Limit Checker: active (1), passive (2) or disabled (3).
     pub fn set_mode(&mut self, number: u16) -> Result<(), StateRefusal>
-        ensures answer { answered result ≡ outcome (found (mode_numbered number) 154) }
+        ensures answer { answered result ≡ outcome (found (mode_numbered number) no_such_state) }
         ensures mode { self.new ≡
             record self.old {
-              mode = unless_refused (found (mode_numbered number) 154)
+              mode = unless_refused (found (mode_numbered number) no_such_state)
                   self.old.mode;
             } }
     {

@@ -7,6 +7,7 @@ ghost use Rattle.lc_model.specs.Rule.{Actionpoint};
 ghost use Rattle.lc_model.specs.Kept.Effort.{sampled_words};
 ghost use Rattle.lc_model.specs.Kept.Next.{by_counts};
 ghost use Rattle.lc_model.specs.LimitChecker.Steps.{sampled_point, sampled_points};
+ghost use Rattle.lc_model.specs.Tables.Image.{words_in, WideActionpoints};
 ghost use Rattle.limit_engine.specs.Entry.{IsRunnable, rule_in};
 ghost use Rattle.limit_engine.specs.Reactions.{requests_in, requests_of, AreInOrder};
 ghost use Rattle.limit_engine.specs.Shared.{AreShared};
@@ -87,7 +88,7 @@ pub(crate) fn sample_rules(
     ensures steps { (terms : List Term) → AreTables terms watch.now entries.now points.old words.now
         → result ≡ sampled_words request.now 0 (map (rule_in terms words.now) entries.now)
         points.old }
-    ensures few { result ≤ 32 * length entries.now }
+    ensures few { result ≤ words_in WideActionpoints * length entries.now }
     ensures order { AreInOrder 0 (length entries.now) asked.new.items }
     ensures capacity { vec_capacity asked.new ≡ vec_capacity asked.old }
 {

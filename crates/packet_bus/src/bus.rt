@@ -1,10 +1,10 @@
 //! The bus (cFE user's guide, software bus services; the pool is this project's own).
 
 ghost use Rattle.std.specs.Prelude.{◌≡◌, ◌≤◌, ◌<◌, ◌+◌, ◌++◌, ℕ, true, false, length, drop, map, None, is_some, IfOk, IfErr, OnOk, OnErr, replicate, IfSome, IfNone, option_map, slice_set, count_by};
-ghost use Rattle.lc_model.specs.Kept.Executive.{ready_seat};
-ghost use Rattle.lc_model.specs.Packet.{header_fault, message_id};
+ghost use Rattle.lc_model.specs.Kept.Executive.{ready_seat, seat_count};
+ghost use Rattle.lc_model.specs.Packet.{header_fault, message_id, longest_packet, message_id_end};
 ghost use Rattle.lc_model.specs.Services.Bus as model;
-ghost use Rattle.lc_model.specs.Services.Bus.{after, refusal_of, seen, pipe_at, oldest_at, no_pipes, publish_refusal, IsPublished, free_publications};
+ghost use Rattle.lc_model.specs.Services.Bus.{after, refusal_of, seen, pipe_at, oldest_at, no_pipes, publish_refusal, IsPublished, free_publications, most_publications, pipe_depth};
 ghost use Rattle.packet_bus.specs.Error.{refusal_in};
 ghost use Rattle.packet_bus.specs.declared.error.BusError.TheVariants.{Memory};
 ghost use Rattle.packet_bus.specs.Line.{behind_first, first_slot, has_slots, is_long, slots_in, with_slot};
@@ -57,7 +57,7 @@ impl Model for Bus {
 
 /// A row for each message id, with nobody in it.
 fn empty_rows(alloc: Global) -> Result<Vec<SeatSet>, AllocError>
-    ensures { IfOk result (λ rows. rows.items ≡ replicate 8192 nobody) }
+    ensures { IfOk result (λ rows. rows.items ≡ replicate message_id_end nobody) }
 {
     let mut rows = Vec::with_capacity(alloc, MESSAGE_IDS)?;
     for _ in 0..MESSAGE_IDS {
@@ -79,7 +79,7 @@ fn empty_places(alloc: Global) -> Result<Vec<Place>, AllocError>
 
 /// Puts a slot behind what waits on a seat, whose pipe has room.
 fn deliver_to(seat: Seat, slot: u16, places: &mut Vec<Place>, full: &mut SeatSet)
-    requires eight { length places.old.items ≡ 8 }
+    requires eight { length places.old.items ≡ seat_count }
     requires open { is_some (place_at places.old.items seat) ≡ true }
     requires room { is_long (place_at places.old.items seat) ≡ false }
     requires full { full.old ≡ map is_long places.old.items }
@@ -102,12 +102,12 @@ fn deliver_to_each(
     places: &mut Vec<Place>,
     full: &mut SeatSet,
 ) -> u16
-    requires eight { length places.old.items ≡ 8 }
+    requires eight { length places.old.items ≡ seat_count }
     requires some { 0 < count_by is_in hearers }
     requires room { HaveRoom hearers places.old.items }
     requires full { full.old ≡ map is_long places.old.items }
-    requires left { used_slots pool.old < 576 }
-    requires fits { length packet.now ≤ 2048 }
+    requires left { used_slots pool.old < most_publications }
+    requires fits { length packet.now ≤ longest_packet }
     ensures within { result < length pool.old }
     ensures free { (slot_at pool.old result).readers ≡ 0 }
     ensures pool { pool.new ≡
@@ -133,13 +133,13 @@ fn deliver(
     ready: &mut SeatSet,
     full: &mut SeatSet,
 ) -> u16
-    requires eight { length places.old.items ≡ 8 }
+    requires eight { length places.old.items ≡ seat_count }
     requires some { 0 < count_by is_in hearers }
     requires room { HaveRoom hearers places.old.items }
     requires ready { ready.old ≡ map has_slots places.old.items }
     requires full { full.old ≡ map is_long places.old.items }
-    requires left { used_slots pool.old < 576 }
-    requires fits { length packet.now ≤ 2048 }
+    requires left { used_slots pool.old < most_publications }
+    requires fits { length packet.now ≤ longest_packet }
     ensures within { result < length pool.old }
     ensures free { (slot_at pool.old result).readers ≡ 0 }
     ensures pool { pool.new ≡
@@ -165,8 +165,8 @@ fn take_oldest(
     ready: &mut SeatSet,
     full: &mut SeatSet,
 ) -> Option<u16>
-    requires eight { length places.old.items ≡ 8 }
-    requires short { (seat : ℕ) → length (slots_in (place_at places.old.items seat)) ≤ 72 }
+    requires eight { length places.old.items ≡ seat_count }
+    requires short { (seat : ℕ) → length (slots_in (place_at places.old.items seat)) ≤ pipe_depth }
     requires ready { ready.old ≡ map has_slots places.old.items }
     requires full { full.old ≡ map is_long places.old.items }
     ensures slot { result ≡ first_slot (place_at places.old.items seat) }
@@ -174,7 +174,7 @@ fn take_oldest(
         (option_map behind_first (place_at places.old.items seat)) }
     ensures ready { ready.new ≡ map has_slots places.new.items }
     ensures full { full.new ≡ map is_long places.new.items }
-    ensures below { seat < 8 }
+    ensures below { seat < seat_count }
 {
     let place = &mut places[seat.index()];
     let slot = place.pop()?;
@@ -204,7 +204,7 @@ impl Bus {
     pub fn add_pipe(&mut self, seat: Seat) -> Result<(), BusError>
         ensures after { self.new ≡ after self.old (model.pipe_added seat self.old) }
         ensures answer { refusal_in result ≡ refusal_of (model.pipe_added seat self.old) }
-        ensures eight { length self.old ≡ 8 }
+        ensures eight { length self.old ≡ seat_count }
     {
         if self.has_pipe(seat) {
             return Err(BusError::TooManyPipes);
@@ -217,7 +217,7 @@ impl Bus {
     pub fn remove_pipe(&mut self, seat: Seat) -> Result<(), BusError>
         ensures after { self.new ≡ after self.old (model.pipe_removed seat self.old) }
         ensures answer { refusal_in result ≡ refusal_of (model.pipe_removed seat self.old) }
-        ensures eight { length self.old ≡ 8 }
+        ensures eight { length self.old ≡ seat_count }
     {
         if !self.has_pipe(seat) {
             return Err(BusError::NoPipe);
@@ -233,7 +233,7 @@ impl Bus {
     pub fn subscribe(&mut self, seat: Seat, mid: u16) -> Result<(), BusError>
         ensures after { self.new ≡ after self.old (model.subscribed seat mid self.old) }
         ensures answer { refusal_in result ≡ refusal_of (model.subscribed seat mid self.old) }
-        ensures eight { length self.old ≡ 8 }
+        ensures eight { length self.old ≡ seat_count }
     {
         if !self.has_pipe(seat) {
             return Err(BusError::NoPipe);
@@ -257,7 +257,7 @@ impl Bus {
     pub fn unsubscribe(&mut self, seat: Seat, mid: u16) -> Result<(), BusError>
         ensures after { self.new ≡ after self.old (model.unsubscribed seat mid self.old) }
         ensures answer { refusal_in result ≡ refusal_of (model.unsubscribed seat mid self.old) }
-        ensures eight { length self.old ≡ 8 }
+        ensures eight { length self.old ≡ seat_count }
     {
         if !self.has_pipe(seat) {
             return Err(BusError::NoPipe);
@@ -272,7 +272,7 @@ impl Bus {
         ensures answer { refusal_in result ≡ publish_refusal packet.now self.old }
         ensures published { OnOk result (IsPublished packet.now self.old self.new) }
         ensures refused { OnErr result (self.new ≡ self.old) }
-        ensures eight { OnOk result (length self.old ≡ 8) }
+        ensures eight { OnOk result (length self.old ≡ seat_count) }
     {
         match checked_message_id(packet) {
             Ok(mid) => self.publish_as(mid, packet),
@@ -287,7 +287,7 @@ impl Bus {
         ensures answer { refusal_in result ≡ publish_refusal packet.now self.old }
         ensures published { OnOk result (IsPublished packet.now self.old self.new) }
         ensures refused { OnErr result (self.new ≡ self.old) }
-        ensures eight { OnOk result (length self.old ≡ 8) }
+        ensures eight { OnOk result (length self.old ≡ seat_count) }
     {
         self.publish_as(judged_message_id(packet), packet)
     }
@@ -300,7 +300,7 @@ impl Bus {
         ensures answer { refusal_in result ≡ publish_refusal packet.now self.old }
         ensures published { OnOk result (IsPublished packet.now self.old self.new) }
         ensures refused { OnErr result (self.new ≡ self.old) }
-        ensures eight { OnOk result (length self.old ≡ 8) }
+        ensures eight { OnOk result (length self.old ≡ seat_count) }
     {
         let hearers = self.audience[mid as usize].copy();
         if hearers.meets(&self.full) {
@@ -324,7 +324,7 @@ impl Bus {
     pub fn only_hearer(&self, packet: &[u8]) -> Option<Seat>
         requires good { header_fault packet.now ≡ None }
         ensures only { result ≡ only_hearer packet.now self.now }
-        ensures eight { length self.now ≡ 8 }
+        ensures eight { length self.now ≡ seat_count }
     {
         self.audience[judged_message_id(packet) as usize].only()
     }
@@ -341,7 +341,7 @@ impl Bus {
         ensures size { IfOk result (λ size. size ≡ option_map length (oldest_at seat self.old)) }
         ensures buffer { buffer.new ≡ filled (oldest_at seat self.old) buffer.old }
         ensures good { IfSome (oldest_at seat self.old) (λ packet. header_fault packet ≡ None) }
-        ensures eight { length self.old ≡ 8 }
+        ensures eight { length self.old ≡ seat_count }
     {
         let size = self.take_packet(seat, buffer);
         if size.is_none() && !self.has_pipe(seat) {
@@ -353,7 +353,7 @@ impl Bus {
     /// The least seat with a packet.
     pub fn least_ready(&self) -> Option<Seat>
         ensures least { result ≡ ready_seat (seen self.now) }
-        ensures eight { length self.now ≡ 8 }
+        ensures eight { length self.now ≡ seat_count }
     {
         self.ready.least()
     }
@@ -367,7 +367,7 @@ impl Bus {
 
     fn has_pipe(&self, seat: Seat) -> bool
         ensures has { result ≡ is_some (pipe_at seat self.now) }
-        ensures eight { length self.now ≡ 8 }
+        ensures eight { length self.now ≡ seat_count }
     {
         self.places[seat.index()].is_open()
     }
@@ -378,7 +378,7 @@ impl Bus {
         ensures size { result ≡ option_map length (oldest_at seat self.old) }
         ensures buffer { buffer.new ≡ filled (oldest_at seat self.old) buffer.old }
         ensures good { IfSome (oldest_at seat self.old) (λ packet. header_fault packet ≡ None) }
-        ensures eight { length self.old ≡ 8 }
+        ensures eight { length self.old ≡ seat_count }
     {
         let slot = take_oldest(seat, &mut self.places, &mut self.ready, &mut self.full)?;
         Some(self.pool.take(slot, buffer))
@@ -388,7 +388,7 @@ impl Bus {
     fn discard_oldest(&mut self, seat: Seat) -> bool
         ensures after { self.new ≡ changed seat model.without_oldest self.old }
         ensures some { result ≡ is_some (oldest_at seat self.old) }
-        ensures eight { length self.old ≡ 8 }
+        ensures eight { length self.old ≡ seat_count }
     {
         let oldest = take_oldest(seat, &mut self.places, &mut self.ready, &mut self.full);
         let Some(slot) = oldest else {
@@ -408,7 +408,7 @@ impl Bus {
     /// A seat's pipe is no longer subscribed to a message id.
     fn forget(&mut self, seat: Seat, mid: u16)
         ensures after { self.new ≡ changed seat (model.parted mid) self.old }
-        ensures eight { length self.old ≡ 8 }
+        ensures eight { length self.old ≡ seat_count }
     {
         self.places[seat.index()].unsubscribe(mid);
         if (mid as usize) < MESSAGE_IDS {

@@ -1,7 +1,7 @@
 //! The headers of space packets (CCSDS 133.0-B; cFE user's guide, message headers).
 
 ghost use Rattle.std.specs.Prelude.{◌≡◌, ◌≤◌, ◌==◌, false, is_none, length, Some, None, IfOk};
-ghost use Rattle.lc_model.specs.Packet.{header_fault, message_id, sequence_flags};
+ghost use Rattle.lc_model.specs.Packet.{header_fault, message_id, sequence_flags, command_header_size, unsegmented};
 ghost use Rattle.packet_bus.specs.Header.{fault_number, fault_in, header_of, header_size};
 
 use lc_model::{packet, u16_at};
@@ -80,8 +80,8 @@ pub struct Header {
 /// Whether the sequence flags are 3: the packet is whole.
 #[inline]
 fn is_whole(bytes: &[u8]) -> bool
-    requires { 8 ≤ length bytes.now }
-    ensures { result ≡ (sequence_flags bytes.now == 3) }
+    requires { command_header_size ≤ length bytes.now }
+    ensures { result ≡ (sequence_flags bytes.now == unsegmented) }
 {
     bytes[2] / 64 == 3
 }

@@ -1,14 +1,14 @@
 //! The bytes of outgoing packets (CCSDS 133.0-B; cFE user's guide, message headers; the time code is this project's own).
 
 ghost use Rattle.std.specs.Prelude.{◌≡◌, ◌<◌, ◌≤◌, ◌+◌, ◌++◌, length, drop, fold, bit_xor};
-ghost use Rattle.lc_model.specs.Packet.{primary_header, command, telemetry};
+ghost use Rattle.lc_model.specs.Packet.{primary_header, command, telemetry, command_header_size, count_end, longest_packet, telemetry_header_size};
 
 use lc_model::Moment;
 
 /// The six bytes of a primary header, of a packet of `size` bytes in all, whole (flags 3).
 fn primary_header(message_id: u16, sequence_count: u16, size: usize) -> [u8; 6]
-    requires count { sequence_count < 16384 }
-    requires size { (7 ≤ size) × (size ≤ 2048) }
+    requires count { sequence_count < count_end }
+    requires size { (7 ≤ size) × (size ≤ longest_packet) }
     ensures { result ≡ primary_header message_id sequence_count size }
 {
     let [id_high, id_low] = message_id.to_be_bytes();
@@ -47,12 +47,12 @@ pub fn build_command(
     payload: &[u8],
     out: &mut [u8],
 ) -> usize
-    requires count { sequence_count < 16384 }
-    requires size { 8 + length payload.now ≤ 2048 }
-    requires room { 8 + length payload.now ≤ length out.old }
-    ensures size { result ≡ 8 + length payload.now }
+    requires count { sequence_count < count_end }
+    requires size { command_header_size + length payload.now ≤ longest_packet }
+    requires room { command_header_size + length payload.now ≤ length out.old }
+    ensures size { result ≡ command_header_size + length payload.now }
     ensures bytes { out.new ≡ command message_id sequence_count function_code payload.now ++
-        drop (8 + length payload.now) out.old }
+        drop (command_header_size + length payload.now) out.old }
 {
     let header = primary_header(message_id, sequence_count, 8 + payload.len());
     let checksum = 0xFF ^ parity(parity(0, &header) ^ function_code, payload);
@@ -70,12 +70,12 @@ pub fn build_telemetry(
     payload: &[u8],
     out: &mut [u8],
 ) -> usize
-    requires count { sequence_count < 16384 }
-    requires size { 12 + length payload.now ≤ 2048 }
-    requires room { 12 + length payload.now ≤ length out.old }
-    ensures size { result ≡ 12 + length payload.now }
+    requires count { sequence_count < count_end }
+    requires size { telemetry_header_size + length payload.now ≤ longest_packet }
+    requires room { telemetry_header_size + length payload.now ≤ length out.old }
+    ensures size { result ≡ telemetry_header_size + length payload.now }
     ensures bytes { out.new ≡ telemetry message_id sequence_count moment payload.now ++
-        drop (12 + length payload.now) out.old }
+        drop (telemetry_header_size + length payload.now) out.old }
 {
     let [a, b, c, d, e, f] = primary_header(message_id, sequence_count, 12 + payload.len());
     let [s, t, u, v] = moment.seconds.to_be_bytes();

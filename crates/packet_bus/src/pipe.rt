@@ -1,6 +1,7 @@
 //! The pipe of one seat (cFE user's guide, software bus services).
 
 ghost use Rattle.std.specs.Prelude.{◌≡◌, ◌<◌, ◌≤◌, true, false, length, is_some, option_map, Some, None, IfOk};
+ghost use Rattle.lc_model.specs.Services.Bus.{most_subscriptions};
 ghost use Rattle.packet_bus.specs.Line.{Line, new_line, mids_in, slots_in, first_slot, behind_first, with_slot, with_subscription, without_subscription, is_long, has_slots, hears_mid, first_mid};
 
 use circular_buffer::HeapCircularBuffer;
@@ -104,7 +105,7 @@ impl Place {
     /// How many subscriptions there are.
     pub fn subscriptions(&self) -> usize
         ensures count { result ≡ length (mids_in self.now) }
-        ensures few { result ≤ 256 }
+        ensures few { result ≤ most_subscriptions }
     {
         self.subscriptions.len()
     }
@@ -119,7 +120,7 @@ impl Place {
     /// Subscribes to a message id. There is room.
     pub fn subscribe(&mut self, mid: u16)
         requires open { is_some self.old ≡ true }
-        requires room { length (mids_in self.old) < 256 }
+        requires room { length (mids_in self.old) < most_subscriptions }
         ensures { self.new ≡ option_map (with_subscription mid) self.old }
     {
         self.subscriptions.push_reserved(mid);

@@ -1,6 +1,8 @@
 //! The pool: each packet that waits, kept once (this project's own).
 
 ghost use Rattle.std.specs.Prelude.{◌≡◌, ◌<◌, ◌≤◌, ◌-◌, ◌+◌, ◌++◌, ◌==◌, length, take, drop, slice_set, replicate, IfOk, slice_index_or};
+ghost use Rattle.lc_model.specs.Packet.{longest_packet};
+ghost use Rattle.lc_model.specs.Services.Bus.{most_publications};
 ghost use Rattle.packet_bus.specs.Slots.{PooledPacket, no_packet, no_slots, slot_at, used_slots, released};
 
 use std::alloc::{AllocError, Global};
@@ -22,13 +24,14 @@ struct Slot {
 
 impl Model for Slot {
     ghost use Rattle.std.specs.Prelude.{take, ◌≤◌, ◌≡◌, length};
+    ghost use Rattle.lc_model.specs.Packet.{longest_packet};
     ghost use Rattle.packet_bus.specs.Slots.{PooledPacket};
 
     ghost Value = { PooledPacket };
 
     ghost view = { λ s. record { packet = take s.size s.bytes; readers = s.readers } };
 
-    ghost invariant = { λ s. (s.size ≤ 2048) × (length s.bytes ≡ 2048) };
+    ghost invariant = { λ s. (s.size ≤ longest_packet) × (length s.bytes ≡ longest_packet) };
 }
 
 impl Slot {
@@ -51,7 +54,7 @@ impl Slot {
 
     /// Takes the packet.
     fn put(&mut self, packet: &[u8])
-        requires { length packet.now ≤ 2048 }
+        requires { length packet.now ≤ longest_packet }
         ensures { self.new ≡ record { packet = packet.now; readers = self.old.readers } }
     {
         self.size = packet.len();
@@ -114,14 +117,14 @@ impl Pool {
 
     /// How many slots are free.
     pub fn free(&self) -> usize
-        ensures { result + used_slots self.now ≡ 576 }
+        ensures { result + used_slots self.now ≡ most_publications }
     {
         self.free.len()
     }
 
     /// Takes a free slot for a packet that so many pipes are to wait for, and answers its number.
     pub fn reserve(&mut self, readers: u8) -> u16
-        requires room { used_slots self.old < 576 }
+        requires room { used_slots self.old < most_publications }
         requires read { 0 < readers }
         ensures within { result < length self.old }
         ensures free { (slot_at self.old result).readers ≡ 0 }
@@ -137,7 +140,7 @@ impl Pool {
     /// Puts the packet into a slot that was taken for it.
     pub fn put(&mut self, number: u16, packet: &[u8])
         requires within { number < length self.old }
-        requires fits { length packet.now ≤ 2048 }
+        requires fits { length packet.now ≤ longest_packet }
         ensures { self.new ≡
             slice_set self.old number
             record { packet = packet.now; readers = (slot_at self.old number).readers } }

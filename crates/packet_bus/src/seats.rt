@@ -2,6 +2,7 @@
 
 ghost use Rattle.std.specs.Prelude.{◌≡◌, ◌<◌, ◌==◌, true, false, length, replicate, slice_set, slice_index_or, count_by, Bool, IfSome, IfNone, None, if◌then◌else◌};
 ghost use Rattle.std.specs.List.{list_any, position_from};
+ghost use Rattle.lc_model.specs.Kept.Executive.{seat_count};
 ghost use Rattle.packet_bus.specs.Seats.{seats_in, is_in, meet, together};
 
 use lc_model::Seat;
@@ -27,7 +28,7 @@ impl Model for SeatSet {
 impl SeatSet {
     /// No seat.
     pub fn new() -> SeatSet
-        ensures { result ≡ replicate 8 false }
+        ensures { result ≡ replicate seat_count false }
     {
         SeatSet { bits: 0 }
     }

@@ -1,7 +1,7 @@
 -- What the compiler's errors say of a text. This project's own.
 use Rattle.std.specs.Prelude.{◌≡◌, ℕ, ◌⊎◌, Option, Some, None, option_map}
 use Rattle.lc_model.specs.Text.Reading as model
-use Rattle.lc_model.specs.Text.Reading.{ParseFault, TextRefusal, ForText, AtPlace, Unparsed, ForRule}
+use Rattle.lc_model.specs.Text.Reading.{ParseFault, TextRefusal, ForText, AtPlace, Unparsed, ForRule, nested_too_deep, unexpected_token}
 use Rattle.lc_model.specs.Tables.Compiling.{too_many_watchpoints, too_many_rules, equation_too_long}
 use Rattle.rule_lexer.specs.declared.error.LexError.{LexError}
 use Rattle.rule_lexer.specs.declared.error.LexError.TheVariants as lexer
@@ -63,8 +63,8 @@ refusal_of Memory = None
 
 -- the number of a fault of the parser, and of a refusal
 abbrev code_of_fault : ParseFault → ℕ
-code_of_fault (model.Expected at what) = 11
-code_of_fault (model.TooNested at) = 12
+code_of_fault (model.Expected at what) = unexpected_token
+code_of_fault (model.TooNested at) = nested_too_deep
 
 abbrev pub code_of : TextRefusal → ℕ
 code_of (ForText code) = code

@@ -2,6 +2,7 @@
 
 ghost use Rattle.std.specs.Prelude.{◌≡◌, ◌<◌, List, Some, length, IfErr, IfOk, MatchResult};
 ghost use Rattle.std.specs.List.{AllByRecursion};
+ghost use Rattle.lc_model.specs.Codes.{rule_text_size};
 ghost use Rattle.lc_model.specs.Rule.{NamedRule};
 ghost use Rattle.lc_model.specs.Text.Reading.{IsUnreadable, Reads, TextRefusal};
 ghost use Rattle.lc_model.specs.Tables.Compiling.{Compiles, IsRefused, limit_refusal};
@@ -35,7 +36,8 @@ fn read(alloc: Global, text: &[u8]) -> Result<RuleSet, CompileError>
 
 /// The watchpoints and the words of rules, within the limits of the tables.
 fn lower_rules(alloc: Global, rules: RuleSet) -> Result<Lowered, CompileError>
-    requires { AllByRecursion (λ (rule : NamedRule). length rule.action.text < 32) rules.rules }
+    requires { AllByRecursion (λ (rule : NamedRule). length rule.action.text < rule_text_size)
+        rules.rules }
     ensures rules { IfOk result (λ lowered. lowered.rules.rules ≡ rules.rules) }
     ensures lowered { IfOk result IsLowered }
     ensures refused { IfErr result

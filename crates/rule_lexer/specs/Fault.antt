@@ -1,16 +1,16 @@
 -- What the lexer's errors say of a text. This project's own.
 use Rattle.std.specs.Prelude.{◌≡◌, ℕ, ◌≤◌, ◌<◌, ◌⊎◌, List, length, Option, Some, None}
-use Rattle.lc_model.specs.Text.Token.{longest_text, HasBadToken}
+use Rattle.lc_model.specs.Text.Token.{longest_text, HasBadToken, begins_nothing, not_a_number, overlong_name, not_a_string, overlong_text}
 use Rattle.rule_lexer.specs.declared.error.LexError.{LexError}
 use Rattle.rule_lexer.specs.declared.error.LexError.TheVariants.{BadByte, BadNumber, NameTooLong, BadString, TextTooLong, Memory}
 
 -- the number of the fault; want of memory has none
 abbrev pub error_code : LexError → Option ℕ
-error_code (BadByte at) = Some 1
-error_code (BadNumber at) = Some 2
-error_code (NameTooLong at) = Some 3
-error_code (BadString at) = Some 4
-error_code TextTooLong = Some 5
+error_code (BadByte at) = Some begins_nothing
+error_code (BadNumber at) = Some not_a_number
+error_code (NameTooLong at) = Some overlong_name
+error_code (BadString at) = Some not_a_string
+error_code TextTooLong = Some overlong_text
 error_code Memory = None
 
 -- the text has a bad token with this number at this place, and isn't too long
@@ -19,10 +19,10 @@ HasFault text code at = (length text ≤ longest_text) × HasBadToken text code 
 
 -- this is the text's fault
 abbrev pub IsFault : List ℕ → LexError → Type 0
-IsFault text (BadByte at) = HasFault text 1 at
-IsFault text (BadNumber at) = HasFault text 2 at
-IsFault text (NameTooLong at) = HasFault text 3 at
-IsFault text (BadString at) = HasFault text 4 at
+IsFault text (BadByte at) = HasFault text begins_nothing at
+IsFault text (BadNumber at) = HasFault text not_a_number at
+IsFault text (NameTooLong at) = HasFault text overlong_name at
+IsFault text (BadString at) = HasFault text not_a_string at
 IsFault text TextTooLong = longest_text < length text
 IsFault text Memory = ⊥
 

@@ -6,7 +6,7 @@ use Rattle.lc_model.specs.Text.Syntax.{Expression}
 use Rattle.lc_model.specs.Text.Class.{Class, word, Fits}
 use Rattle.lc_model.specs.Text.Grammar as grammar
 use Rattle.lc_model.specs.Text.Grammar.{Part, Derives}
-use Rattle.lc_model.specs.Text.Reading.{ParseFault, TooNested}
+use Rattle.lc_model.specs.Text.Reading.{ParseFault, TooNested, most_nested}
 use Rattle.rule_lexer.specs.declared.token.TokenKind.{TokenKind}
 use Rattle.rule_lexer.specs.declared.token.TokenKind.TheVariants as kind
 use Rattle.rule_parser.specs.declared.operator.Operator.{Operator}
@@ -81,4 +81,4 @@ Stops before room fault =
 
 -- a whole condition
 abbrev pub TookCondition : (before left : Left) → Expression → Type 0
-TookCondition before left e = (rest : ℕ) × Took grammar.cond grammar.cond before left 64 rest e
+TookCondition before left e = (rest : ℕ) × Took grammar.cond grammar.cond before left most_nested rest e

@@ -1,15 +1,15 @@
 -- What the parser's errors say. This project's own.
 use Rattle.std.specs.Prelude.{ℕ, Option, Some, None}
 use Rattle.lc_model.specs.Text.Reading as model
-use Rattle.lc_model.specs.Text.Reading.{ParseFault}
+use Rattle.lc_model.specs.Text.Reading.{ParseFault, nested_too_deep, unexpected_token}
 use Rattle.rule_parser.specs.declared.error.ParseError.{ParseError}
 use Rattle.rule_parser.specs.declared.error.ParseError.TheVariants.{Expected, TooNested, Memory}
 use Rattle.rule_parser.specs.What.{class_of_what}
 
 -- the number of a fault; want of memory has none
 abbrev pub error_code : ParseError → Option ℕ
-error_code (Expected at what) = Some 11
-error_code (TooNested at) = Some 12
+error_code (Expected at what) = Some unexpected_token
+error_code (TooNested at) = Some nested_too_deep
 error_code Memory = None
 
 -- the error is want of memory, or a fault of which this is true

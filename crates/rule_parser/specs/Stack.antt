@@ -3,7 +3,7 @@ use Rattle.std.specs.Prelude.{codes, ℕ, zero, suc, Bool, true, false, ◌||◌
 use Rattle.std.specs.Option.{option_map_or}
 use Rattle.lc_model.specs.Text.Token.{Token}
 use Rattle.lc_model.specs.Text.Class.{Class, Item, Name, Number, State, Level, Text, FieldKind, Operand, Compare, Word, word, sign, fits}
-use Rattle.lc_model.specs.Text.Reading.{ParseFault, Expected, TooNested, nests, ends_item}
+use Rattle.lc_model.specs.Text.Reading.{ParseFault, Expected, TooNested, nests, ends_item, most_nested}
 
 -- what may be left: a token of a class; a word and what follows it, which may be left out; the rest of a condition that
 -- begins with an operand, or that begins behind one, with the token behind the condition
@@ -77,7 +77,7 @@ less (suc left) = Some (inside left)
 
 -- behind a token
 abbrev pub narrowed : Room → Token → Option Room
-narrowed outside t = Some (if fits (word "when") t.text then inside 64 else outside)
+narrowed outside t = Some (if fits (word "when") t.text then inside most_nested else outside)
 narrowed (inside left) t = if ends_item t then Some outside else if nests t then less left else Some (inside left)
 
 -- ---- the first fault

@@ -4,6 +4,7 @@
 ghost use Rattle.std.specs.Prelude.{◌≡◌, MatchResult, true};
 ghost use Rattle.lc_model.specs.Text.Class.{sign, word};
 ghost use Rattle.lc_model.specs.Text.Grammar as grammar;
+ghost use Rattle.lc_model.specs.Text.Reading.{most_nested};
 ghost use Rattle.rule_parser.specs.Condition.{Stops, Took, TookCondition, operands_of, part_of};
 ghost use Rattle.rule_parser.specs.Fault.{Refuses};
 ghost use Rattle.rule_parser.specs.Front.{begins};
@@ -135,7 +136,7 @@ pub fn condition<'a>(
 ) -> Result<Expression<'a>, ParseError>
     ensures { MatchResult result
         (λ found. TookCondition tokens.old tokens.new (expression_of found))
-        (Refuses (Stops tokens.old 64)) }
+        (Refuses (Stops tokens.old most_nested)) }
 {
     let mut room = MOST_NESTING;
     joined(Operator::Or, alloc, tokens, &mut room)

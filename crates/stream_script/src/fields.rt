@@ -2,6 +2,7 @@
 
 ghost use Rattle.std.specs.Prelude.{◌≡◌, ◌≤◌, ◌+◌, IsTrue, true, length, take, codes, bytes_eq, IfOk, IfErr, Ok, Err};
 ghost use Rattle.lc_model.specs.Field.{is_in_type, width};
+ghost use Rattle.lc_model.specs.Packet.{longest_packet, telemetry_header_size};
 ghost use Rattle.lc_model.specs.Tables.Image.{bits_32, fits_32_bits};
 ghost use Rattle.lc_model.specs.Text.Class.{field_type};
 ghost use Rattle.lc_model.specs.Text.Token.{magnitude_text};
@@ -64,7 +65,7 @@ fn value_in(kind: FieldType, word: &[u8]) -> Result<i64, Reason>
 /// How long the payload of a packet is whose length the word writes.
 fn payload_size(word: &[u8]) -> Result<usize, Reason>
     ensures exact { result ≡ payload_size word.now }
-    ensures most { IfOk result (λ size. size ≤ 2036) }
+    ensures most { IfOk result (λ size. size ≤ longest_packet - telemetry_header_size) }
 {
     let size = number_in(2_048, word)? as usize;
     if size < HEADERS {
@@ -75,7 +76,7 @@ fn payload_size(word: &[u8]) -> Result<usize, Reason>
 
 /// Where in a payload of this size the field of this type stands whose offset in the packet the word writes.
 fn place_in(kind: FieldType, size: usize, word: &[u8]) -> Result<usize, Reason>
-    requires { size ≤ 2036 }
+    requires { size ≤ longest_packet - telemetry_header_size }
     ensures exact { result ≡ place_in kind size word.now }
     ensures inside { IfOk result (λ place. place + width kind ≤ size) }
 {
@@ -127,7 +128,7 @@ fn with_bits(payload: Vec<u8>, kind: FieldType, place: usize, bits: u32) -> Vec<
 
 /// TYPE OFFSET VALUE: a payload with this field set.
 fn field_set(payload: Vec<u8>, kind: &[u8], offset: &[u8], value: &[u8]) -> Result<Vec<u8>, Reason>
-    requires { length payload.items ≤ 2036 }
+    requires { length payload.items ≤ longest_packet - telemetry_header_size }
     ensures set { IfOk result
         (λ after. field_set payload.items kind.now offset.now value.now ≡ Ok after.items) }
     ensures same_size { IfOk result (λ after. length after.items ≡ length payload.items) }
@@ -142,7 +143,7 @@ fn field_set(payload: Vec<u8>, kind: &[u8], offset: &[u8], value: &[u8]) -> Resu
 
 /// A payload with the fields of these words set, one after the other.
 fn fields_set(payload: Vec<u8>, words: &[&[u8]]) -> Result<Vec<u8>, Reason>
-    requires { length payload.items ≤ 2036 }
+    requires { length payload.items ≤ longest_packet - telemetry_header_size }
     ensures set { IfOk result
         (λ after. fields_set payload.items (texts_of words.now) ≡ Ok after.items) }
     ensures same_size { IfOk result (λ after. length after.items ≡ length payload.items) }
@@ -166,7 +167,8 @@ pub(crate) fn payload_of(alloc: Global, size: &[u8], words: &[&[u8]]) -> Result<
     ensures said { IfOk result
         (λ payload. payload_of size.now (texts_of words.now) ≡ Ok payload.items) }
     ensures refused { IfErr result (IsRefused (payload_of size.now (texts_of words.now))) }
-    ensures most { IfOk result (λ payload. length payload.items ≤ 2036) }
+    ensures most { IfOk result
+        (λ payload. length payload.items ≤ longest_packet - telemetry_header_size) }
 {
     let size = payload_size(size)?;
     let zeros = vec![in alloc; 0; size]?;

@@ -1,7 +1,7 @@
 //! The kinds of records, and which body each may have.
 
 ghost use Rattle.std.specs.Prelude.{◌≡◌, ◌≤◌, true, length};
-ghost use Rattle.lc_model.specs.Host.Stream.{all_kinds, fits_body};
+ghost use Rattle.lc_model.specs.Host.Stream.{all_kinds, fits_body, max_body};
 ghost use Rattle.stream_script.specs.Kind.{kind_in, kind_number, kind_numbered, kind_word, fits_kind, has_half, may_bring};
 ghost use Rattle.stream_script.specs.Script.{some_kind};
 
@@ -63,7 +63,7 @@ impl RecordKind {
     /// Whether a record of this kind may have a body of so many bytes.
     pub(crate) fn fits(self, size: usize) -> bool
         ensures exact { result ≡ fits_body all_kinds (kind_number self) size }
-        ensures longest { result ≡ true → size ≤ 65536 }
+        ensures longest { result ≡ true → size ≤ max_body }
     {
         fits_body(self.number(), size)
     }
@@ -82,7 +82,7 @@ impl RecordKind {
     /// Whether a record of this kind may have this body.
     pub(crate) fn may_bring(self, body: &[u8]) -> bool
         ensures exact { result ≡ may_bring self body.now }
-        ensures longest { result ≡ true → length body.now ≤ 65536 }
+        ensures longest { result ≡ true → length body.now ≤ max_body }
     {
         self.fits(body.len()) && self.has_half(body)
     }

@@ -4,7 +4,7 @@ ghost use Rattle.std.specs.Prelude.{◌≡◌, ◌<◌, ◌≤◌, ◌+◌, ◌^
 ghost use Rattle.stream_script.specs.Error.{IsRefused};
 ghost use Rattle.stream_script.specs.Script.{brought, commanded, nothing_said, recorded};
 ghost use Rattle.stream_script.specs.declared.kind.RecordKind.TheVariants.{Packet};
-ghost use Rattle.lc_model.specs.Packet.{telemetry};
+ghost use Rattle.lc_model.specs.Packet.{telemetry, command_header_size, count_end, longest_packet, telemetry_header_size};
 ghost use Rattle.stream_script.specs.Kind.{fits_kind};
 
 use crate::error::{Fault, Reason};
@@ -103,7 +103,7 @@ impl Script {
 
     /// A command more, with sequence count 0.
     pub(crate) fn command(self, mid: u16, code: u8, payload: &[u8]) -> Result<Script, AllocError>
-        requires { 8 + length payload.now ≤ 2048 }
+        requires { command_header_size + length payload.now ≤ longest_packet }
         ensures { IfOk result (λ after. after ≡ commanded mid code payload.now self) }
     {
         let mut buffer = [0; LONGEST_PACKET];
@@ -119,8 +119,8 @@ impl Script {
         time: Moment,
         payload: &[u8],
     ) -> Result<Script, AllocError>
-        requires count { count < 16384 }
-        requires size { 12 + length payload.now ≤ 2048 }
+        requires count { count < count_end }
+        requires size { telemetry_header_size + length payload.now ≤ longest_packet }
         ensures { IfOk result
             (λ after. after ≡ recorded Packet (telemetry mid count time payload.now) self) }
     {

@@ -2,8 +2,9 @@
 
 ghost use Rattle.std.specs.Prelude.{◌≡◌, ◌==◌, ◌++◌, ◌≤◌, length, take, IfOk};
 ghost use Rattle.std.specs.List.{position_or_len};
-ghost use Rattle.lc_model.specs.Name.{name_in};
-ghost use Rattle.lc_model.specs.Packet.{is_telemetry_mid};
+ghost use Rattle.lc_model.specs.Host.Stream.{half_size};
+ghost use Rattle.lc_model.specs.Name.{name_in, name_size};
+ghost use Rattle.lc_model.specs.Packet.{is_telemetry_mid, command_header_size};
 ghost use Rattle.stream_script.specs.Kind.{fits_kind};
 ghost use Rattle.stream_script.specs.Listing.{any_order_shown, app_order, body_shown, event_order, file_shown, half_shown, header_shown, mid_shown, order_shown, packet_shown, table_order};
 
@@ -89,7 +90,7 @@ fn app_order(code: u8) -> &'static [u8]
 
 /// A text with what a command with a whole header says.
 fn with_order(text: Vec<u8>, mid: u16, packet: &[u8]) -> Result<Vec<u8>, AllocError>
-    requires { 8 ≤ length packet.now }
+    requires { command_header_size ≤ length packet.now }
     ensures { IfOk result (λ after. after.items ≡ text.items ++ order_shown mid packet.now) }
 {
     let code = function_code(packet);
@@ -116,7 +117,7 @@ fn with_order(text: Vec<u8>, mid: u16, packet: &[u8]) -> Result<Vec<u8>, AllocEr
 
 /// What a command says behind the text, and nothing where the packet is telemetry.
 fn with_any_order(text: Vec<u8>, mid: u16, packet: &[u8]) -> Result<Vec<u8>, AllocError>
-    requires { 8 ≤ length packet.now }
+    requires { command_header_size ≤ length packet.now }
     ensures { IfOk result (λ after. after.items ≡ text.items ++ any_order_shown mid packet.now) }
 {
     if is_telemetry(mid) {
@@ -127,7 +128,7 @@ fn with_any_order(text: Vec<u8>, mid: u16, packet: &[u8]) -> Result<Vec<u8>, All
 
 /// A text with a packet's message id.
 fn with_mid(alloc: Global, text: Vec<u8>, packet: &[u8]) -> Result<Vec<u8>, AllocError>
-    requires { 8 ≤ length packet.now }
+    requires { command_header_size ≤ length packet.now }
     ensures { IfOk result (λ after. after.items ≡ text.items ++ header_shown packet.now) }
 {
     let text = with_text(text, b" ")?;
@@ -149,7 +150,7 @@ fn with_packet(alloc: Global, text: Vec<u8>, packet: &[u8]) -> Result<Vec<u8>, A
 
 /// A text with a half of a rule text.
 fn with_half(text: Vec<u8>, body: &[u8]) -> Result<Vec<u8>, AllocError>
-    requires { length body.now ≡ 43 }
+    requires { length body.now ≡ half_size }
     ensures { IfOk result (λ after. after.items ≡ text.items ++ half_shown body.now) }
 {
     let half: &[u8] = if body[40] == 1 { b" wdt " } else { b" adt " };
@@ -160,7 +161,7 @@ fn with_half(text: Vec<u8>, body: &[u8]) -> Result<Vec<u8>, AllocError>
 
 /// A text with a file's name and its size.
 fn with_file(text: Vec<u8>, body: &[u8]) -> Result<Vec<u8>, AllocError>
-    requires { 40 ≤ length body.now }
+    requires { name_size ≤ length body.now }
     ensures { IfOk result (λ after. after.items ≡ text.items ++ file_shown body.now) }
 {
     let text = with_name(text, name_in(at_most(40, body)))?;

@@ -1,6 +1,7 @@
 //! Statements: what a line of so many words says.
 
 ghost use Rattle.std.specs.Prelude.{◌≡◌, ◌<◌, ◌≤◌, ◌+◌, length, IfOk, IfErr, Ok};
+ghost use Rattle.lc_model.specs.Packet.{count_end, longest_packet, telemetry_header_size};
 ghost use Rattle.stream_script.specs.Error.{IsRefused};
 ghost use Rattle.stream_script.specs.Part.{texts_of};
 ghost use Rattle.stream_script.specs.Script.{app_ordered, command_brought, command_fits, fields_brought, fields_said, file_brought, five_words, four_words, half_brought, moment_set, moved_on, one_word, packet_brought, record_brought, sample_requested, sets_fields, some_words, statement, table_ordered, telemetry_brought, telemetry_fits, three_words, told, two_words, whole_record};
@@ -160,7 +161,7 @@ fn telemetry_brought(
 
 /// A telemetry packet more, where it has at most 2,048 bytes.
 fn telemetry_fits(script: Script, mid: u16, count: u16, payload: &[u8]) -> Result<Script, Fault>
-    requires { count < 16384 }
+    requires { count < count_end }
     ensures said { IfOk result (λ after. telemetry_fits mid count payload.now script ≡ Ok after) }
     ensures refused { IfErr result (IsRefused (telemetry_fits mid count payload.now script)) }
 {
@@ -172,8 +173,8 @@ fn telemetry_fits(script: Script, mid: u16, count: u16, payload: &[u8]) -> Resul
 
 /// Telemetry more, with the time of the moment.
 fn told(script: Script, mid: u16, count: u16, payload: &[u8]) -> Result<Script, AllocError>
-    requires count { count < 16384 }
-    requires size { 12 + length payload.now ≤ 2048 }
+    requires count { count < count_end }
+    requires size { telemetry_header_size + length payload.now ≤ longest_packet }
     ensures { IfOk result (λ after. after ≡ told mid count payload.now script) }
 {
     let time = script.moment();

@@ -1,6 +1,7 @@
 //! What the words of a statement are.
 
 ghost use Rattle.std.specs.Prelude.{◌≡◌, ◌≤◌, bytes_eq, length, IfOk, IfErr, Ok};
+ghost use Rattle.lc_model.specs.Name.{app_name_size, name_size};
 ghost use Rattle.stream_script.specs.Error.{IsRefused};
 ghost use Rattle.stream_script.specs.Number.{bytes_in};
 ghost use Rattle.stream_script.specs.Script.{ages_in, mid_in, name_field};
@@ -34,7 +35,7 @@ pub(crate) fn bytes_in(alloc: Global, word: &[u8]) -> Result<Vec<u8>, Fault>
 
 /// A file's or a table's name in its field of 40 bytes, with zeros behind it.
 pub(crate) fn long_name(word: &[u8]) -> Result<[u8; 40], Reason>
-    ensures { result ≡ name_field 40 word.now }
+    ensures { result ≡ name_field name_size word.now }
 {
     if word.len() > 40 {
         return Err(Reason::LongName);
@@ -46,7 +47,7 @@ pub(crate) fn long_name(word: &[u8]) -> Result<[u8; 40], Reason>
 
 /// An application's name in its field of 20 bytes, with zeros behind it.
 pub(crate) fn short_name(word: &[u8]) -> Result<[u8; 20], Reason>
-    ensures { result ≡ name_field 20 word.now }
+    ensures { result ≡ name_field app_name_size word.now }
 {
     if word.len() > 20 {
         return Err(Reason::LongName);

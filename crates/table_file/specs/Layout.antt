@@ -1,9 +1,14 @@
 -- The layouts that images are written and read in. This project's own.
+use Rattle.std.specs.Prelude.{ℕ}
 use Rattle.lc_model.specs.Tables.Image as model
 use Rattle.table_file.specs.declared.layout.Layout.{Layout}
 use Rattle.table_file.specs.declared.layout.Layout.TheVariants.{Watchpoints, Actionpoints, WideActionpoints}
 use Rattle.table_file.specs.declared.image.AdtVersion.{AdtVersion}
 use Rattle.table_file.specs.declared.image.AdtVersion.TheVariants.{One, Two}
+
+-- the bytes of an actionpoint's entry before its equation, in both layouts
+abbrev pub equation_place : ℕ
+equation_place = 46
 
 -- the layout of the definitions that this one is
 abbrev pub layout_of : Layout → model.Layout

@@ -29,12 +29,13 @@ pub struct ActionpointEntry<'a> {
 
 impl<'a> Model for ActionpointEntry<'a> {
     ghost use Rattle.std.specs.Prelude.{◌≤◌, ℕ, List, length};
+    ghost use Rattle.table_file.specs.Layout.{equation_place};
 
     ghost Value = { List ℕ };
 
     ghost view = { λ e. e.bytes.now };
 
-    ghost invariant = { λ e. 46 ≤ length e.bytes.now };
+    ghost invariant = { λ e. equation_place ≤ length e.bytes.now };
 }
 
 impl<'a> ActionpointEntry<'a> {

@@ -2,7 +2,7 @@
 
 ghost use Rattle.std.specs.Prelude.{◌≡◌, ◌≤◌, ◌<◌, ◌++◌, [], ◌∷◌, length, IfErr, IfOk, IsTrue, OnOk, replicate};
 ghost use Rattle.std.specs.List.{AllByRecursion, flat_map};
-ghost use Rattle.lc_model.specs.Codes.{table_entries};
+ghost use Rattle.lc_model.specs.Codes.{rule_text_size, table_entries};
 ghost use Rattle.lc_model.specs.Bytes.{u16, zero_filled};
 ghost use Rattle.lc_model.specs.Tables.Image.{Watchpoints, image_length, FitsWatchpoint, FitsEntry, preamble, blank_entry, term_bytes, entry_bytes, bits_32, fits_32_bits, wdt_image, adt_image, words_in};
 ghost use Rattle.lc_model.specs.Tables.Equation.{equal_word};
@@ -84,8 +84,8 @@ fn push_numbers(out: &mut Vec<u8>, entry: &TableEntry) -> Result<(), AllocError>
 
 /// An event's text, filled up by zeros to 32 bytes.
 fn push_text(out: &mut Vec<u8>, text: &[u8]) -> Result<(), AllocError>
-    requires { length text.now ≤ 32 }
-    ensures { OnOk result (out.new.items ≡ out.old.items ++ zero_filled 32 text.now) }
+    requires { length text.now ≤ rule_text_size }
+    ensures { OnOk result (out.new.items ≡ out.old.items ++ zero_filled rule_text_size text.now) }
 {
     out.extend_from_slice(text)?;
     push_zeros(out, 32 - text.len())?;

@@ -22,12 +22,13 @@ pub struct WatchpointEntry<'a> {
 
 impl<'a> Model for WatchpointEntry<'a> {
     ghost use Rattle.std.specs.Prelude.{◌≡◌, ℕ, List, length};
+    ghost use Rattle.lc_model.specs.Tables.Image.{Watchpoints, entry_length};
 
     ghost Value = { List ℕ };
 
     ghost view = { λ e. e.bytes.now };
 
-    ghost invariant = { λ e. length e.bytes.now ≡ 24 };
+    ghost invariant = { λ e. length e.bytes.now ≡ entry_length Watchpoints };
 }
 
 /// Whether the type has negative numbers.

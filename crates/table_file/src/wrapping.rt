@@ -1,7 +1,9 @@
 //! The file that is written for an image.
 
-ghost use Rattle.std.specs.Prelude.{◌≡◌, ◌≤◌, ◌++◌, length, Ok, IfErr, IfOk, OnOk};
-ghost use Rattle.lc_model.specs.Tables.File.{file_bytes, opened, table_name, wrapped};
+ghost use Rattle.std.specs.Prelude.{◌≡◌, ◌-◌, ◌≤◌, ◌++◌, length, Ok, IfErr, IfOk, OnOk};
+ghost use Rattle.lc_model.specs.Host.React.{max_file_size};
+ghost use Rattle.lc_model.specs.Name.{name_size};
+ghost use Rattle.lc_model.specs.Tables.File.{file_bytes, headers_length, opened, table_name, wrapped};
 ghost use Rattle.table_file.specs.Parts.{file_header, table_header};
 ghost use Rattle.table_file.specs.declared.error.FileError.TheVariants.{Memory};
 
@@ -22,7 +24,7 @@ const NAME_LENGTH: usize = 40;
 /// The name of the table of each kind.
 pub fn table_name(kind: Kind) -> &'static [u8]
     ensures bytes { result.now ≡ table_name kind }
-    ensures fits { length result.now ≤ 40 }
+    ensures fits { length result.now ≤ name_size }
 {
     match kind {
         Kind::Wdt => b"LC.LC_WDT",
@@ -59,7 +61,7 @@ fn push_table_header(out: &mut Vec<u8>, kind: Kind, length: u32) -> Result<(), A
 ///
 /// Errors: `Memory` alone.
 pub fn wrap(alloc: Global, kind: Kind, image: &[u8]) -> Result<Vec<u8>, FileError>
-    requires { length image.now ≤ 32_652 }
+    requires { length image.now ≤ max_file_size - headers_length }
     ensures bytes { IfOk result (λ bytes. bytes.items ≡ file_bytes (wrapped kind image.now)) }
     // What is written is opened, with the fields that were written.
     ensures opens { IfOk result (λ bytes. opened bytes.items ≡ Ok (wrapped kind image.now)) }

@@ -3,6 +3,7 @@
 ghost use Rattle.std.specs.Prelude.{◌≡◌, not, ◌||◌, ◌&&◌, ◌==◌, nat_lt, length, option_map, take_while};
 ghost use Rattle.std.specs.List.{list_all};
 ghost use Rattle.std.specs.Int.{is_in_range};
+ghost use Rattle.lc_model.specs.Codes.{first_event_id};
 ghost use Rattle.lc_model.specs.Tables.Entry.{event_id_field, event_type_field, fails_field, sequence_field};
 ghost use Rattle.lc_model.specs.Text.Token as token;
 ghost use Rattle.lc_model.specs.Tables.Image as model;
@@ -53,7 +54,7 @@ fn is_state(code: u8) -> bool
 fn has_wrong_event(entry: &ActionpointEntry<'_>) -> bool
     ensures { result ≡
         (not (is_in_range 1 4 (event_type_field entry.now)) || nat_lt (event_id_field entry.now)
-        1_000) }
+        first_event_id) }
 {
     !(1..=4).contains(&entry.event_code()) || entry.event_id() < FIRST_EVENT_ID
 }

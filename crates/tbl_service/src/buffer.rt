@@ -1,6 +1,7 @@
 //! Room for the bytes of one file or of one image.
 
 ghost use Rattle.std.specs.Prelude.{◌≡◌, ◌≤◌, [], length, IfErr, IfOk};
+ghost use Rattle.lc_model.specs.Host.React.{max_file_size};
 ghost use Rattle.tbl_service.specs.declared.error.TableError.TheVariants.{Memory};
 
 use crate::error::TableError;
@@ -18,12 +19,14 @@ pub(crate) struct Buffer {
 
 impl Model for Buffer {
     ghost use Rattle.std.specs.Prelude.{ℕ, List, ◌≤◌, length, vec_capacity};
+    ghost use Rattle.lc_model.specs.Host.React.{max_file_size};
 
     ghost Value = { List ℕ };
 
     ghost view = { λ b. b.bytes.items };
 
-    ghost invariant = { λ b. (32768 ≤ vec_capacity b.bytes) × (length b.bytes.items ≤ 32768) };
+    ghost invariant = { λ b. (max_file_size ≤ vec_capacity b.bytes) ×
+        (length b.bytes.items ≤ max_file_size) };
 }
 
 impl Buffer {
@@ -39,7 +42,7 @@ impl Buffer {
 
     /// Has these bytes from now on.
     pub(crate) fn fill(&mut self, bytes: &[u8])
-        requires { length bytes.now ≤ 32768 }
+        requires { length bytes.now ≤ max_file_size }
         ensures { self.new ≡ bytes.now }
     {
         self.bytes.clear();
@@ -48,7 +51,7 @@ impl Buffer {
 
     pub(crate) fn bytes(&self) -> &[u8]
         ensures bytes { result.now ≡ self.now }
-        ensures fits { length result.now ≤ 32768 }
+        ensures fits { length result.now ≤ max_file_size }
     {
         self.bytes.as_slice()
     }

@@ -2,8 +2,9 @@
 
 ghost use Rattle.std.specs.Prelude.{◌≡◌, ◌<◌, ◌≤◌, [], ◌∷◌, ◌++◌, length, slice_index_or, slice_set, option_map, IfErr, IfOk, IfSome, IsTrue, is_some, Some, None, OnErr, nat_le, if◌then◌else◌};
 ghost use Rattle.std.specs.List.{position_from};
+ghost use Rattle.lc_model.specs.Host.React.{max_file_size};
 ghost use Rattle.lc_model.specs.Tables.Slot.{Activated, Asked, installed, judged, loaded, moved, taken, waiting_at};
-ghost use Rattle.lc_model.specs.Name.{is_named};
+ghost use Rattle.lc_model.specs.Name.{is_named, name_size};
 ghost use Rattle.lc_model.specs.Services.Tables.{Table as Kept, fits_table, new_table, number_named};
 ghost use Rattle.tbl_service.specs.declared.error.TableError.TheVariants.{Memory};
 ghost use Rattle.tbl_service.specs.Error.{answered};
@@ -41,7 +42,7 @@ impl Model for Table {
 impl Table {
     /// A table without images; these two are its buffers.
     fn new(name: &[u8], size: usize, other: Option<usize>, mut images: Images) -> Table
-        requires { length name.now ≤ 40 }
+        requires { length name.now ≤ name_size }
         ensures { result ≡ new_table name.now size other }
     {
         let mut own_name = ArrayVec::new();
@@ -75,7 +76,7 @@ impl Table {
     }
 
     pub(crate) fn load(&mut self, image: &[u8]) -> Result<(), TableError>
-        requires { length image.now ≤ 32768 }
+        requires { length image.now ≤ max_file_size }
         ensures answer { answered result self.new.slot ≡ loaded image.now self.old.slot }
         ensures rest { self.new ≡ with_images self.new.slot self.old }
         ensures refused { OnErr result (self.new ≡ self.old) }
@@ -106,7 +107,7 @@ impl Table {
     }
 
     pub(crate) fn install(&mut self, image: &[u8])
-        requires { length image.now ≤ 32768 }
+        requires { length image.now ≤ max_file_size }
         ensures { self.new ≡ with_images (installed image.now self.old.slot) self.old }
     {
         self.images.install(image);
@@ -167,7 +168,7 @@ impl Place {
         size: usize,
         other: Option<usize>,
     ) -> Option<usize>
-        requires { length name.now ≤ 40 }
+        requires { length name.now ≤ name_size }
         ensures room { result ≡
             (if nat_le 2 (length self.old) then None else Some (length self.old)) }
         ensures after { self.new ≡
@@ -200,7 +201,7 @@ impl Place {
     /// A load onto the table of this number. Errors: `WrongSize`, `UpdatePending`.
     pub(crate) fn load(&mut self, number: usize, image: &[u8]) -> Result<(), TableError>
         requires inside { number < length self.old }
-        requires fits { length image.now ≤ 32768 }
+        requires fits { length image.now ≤ max_file_size }
         ensures answer { (d : Kept) →
             answered result self.new ≡ loaded_at image.now number d self.old }
         ensures refused { OnErr result (self.new ≡ self.old) }
@@ -244,7 +245,7 @@ impl Place {
     /// An image of the owner's comes into use at the table of this number.
     pub(crate) fn install(&mut self, number: usize, image: &[u8])
         requires inside { number < length self.old }
-        requires fits { length image.now ≤ 32768 }
+        requires fits { length image.now ≤ max_file_size }
         ensures { (d : Kept) → self.new ≡ with_images_at number (installed image.now) d self.old }
     {
         self.tables[number].install(image);

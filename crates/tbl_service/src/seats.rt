@@ -1,6 +1,9 @@
 //! The tables of the eight seats: which one has a name, and what is done to the one that has it.
 
 ghost use Rattle.std.specs.Prelude.{◌≡◌, ◌≤◌, List, length, IfOk, IfSome, IsTrue, is_some, OnErr};
+ghost use Rattle.lc_model.specs.Host.React.{max_file_size};
+ghost use Rattle.lc_model.specs.Kept.Executive.{seat_count};
+ghost use Rattle.lc_model.specs.Name.{name_size};
 ghost use Rattle.lc_model.specs.Tables.File.{opened};
 ghost use Rattle.lc_model.specs.Tables.Slot.{Activated, Asked, installed, judged, taken, waiting_at};
 ghost use Rattle.lc_model.specs.Services.Tables.{changed_among, handle_named, image_in, image_loaded_among, loaded_among, moved_among, new_handle, table_at, table_registered};
@@ -44,7 +47,7 @@ impl Slot {
 
 /// The first table of a name.
 pub(crate) fn find(places: &[Place], name: &[u8]) -> Option<Slot>
-    requires { length places.now ≡ 8 }
+    requires { length places.now ≡ seat_count }
     ensures slot { result ≡ handle_named name.now places.now }
     ensures there { IfSome result (λ slot. IsTrue (is_some (table_at slot places.now))) }
 {
@@ -64,15 +67,15 @@ pub(crate) fn register(
     size: usize,
     other: Option<usize>,
 ) -> Result<Slot, TableError>
-    requires seats { length places.old ≡ 8 }
-    requires short { length name.now ≤ 40 }
+    requires seats { length places.old ≡ seat_count }
+    requires short { length name.now ≤ name_size }
     ensures answer { (files : List NamedFile) →
         answered result (record { files = files; places = places.new }) ≡
         table_registered seat name.now size other (record { files = files; places = places.old }) }
     ensures slot { (files : List NamedFile) → IfOk result
         (λ slot. slot ≡ new_handle seat (record { files = files; places = places.old })) }
     ensures refused { OnErr result (places.new ≡ places.old) }
-    ensures seats { length places.new ≡ 8 }
+    ensures seats { length places.new ≡ seat_count }
 {
     if find(places, name).is_some() {
         return Err(TableError::NoSlot);
@@ -85,10 +88,10 @@ pub(crate) fn register(
 
 /// Loads a file onto the table that it names.
 pub(crate) fn load_into(places: &mut [Place], bytes: &[u8]) -> Result<(), TableError>
-    requires seats { length places.old ≡ 8 }
-    requires fits { length bytes.now ≤ 32768 }
+    requires seats { length places.old ≡ seat_count }
+    requires fits { length bytes.now ≤ max_file_size }
     ensures answer { answered result places.new ≡ loaded_among bytes.now places.old }
-    ensures seats { length places.new ≡ 8 }
+    ensures seats { length places.new ≡ seat_count }
     ensures refused { OnErr result (places.new ≡ places.old) }
 {
     match open(bytes) {
@@ -99,11 +102,11 @@ pub(crate) fn load_into(places: &mut [Place], bytes: &[u8]) -> Result<(), TableE
 
 /// Loads an image onto the table of a name.
 fn load_among(places: &mut [Place], table: &[u8], image: &[u8]) -> Result<(), TableError>
-    requires seats { length places.old ≡ 8 }
-    requires fits { length image.now ≤ 32768 }
+    requires seats { length places.old ≡ seat_count }
+    requires fits { length image.now ≤ max_file_size }
     ensures answer { answered result places.new ≡ image_loaded_among image.now table.now
         places.old }
-    ensures seats { length places.new ≡ 8 }
+    ensures seats { length places.new ≡ seat_count }
     ensures refused { OnErr result (places.new ≡ places.old) }
 {
     let Some(slot) = find(places, table) else {
@@ -114,12 +117,12 @@ fn load_among(places: &mut [Place], table: &[u8], image: &[u8]) -> Result<(), Ta
 
 /// The image of a file comes into use at a slot's table, where the file opens.
 pub(crate) fn install_into(places: &mut [Place], slot: Slot, bytes: &[u8])
-    requires seats { length places.old ≡ 8 }
+    requires seats { length places.old ≡ seat_count }
     requires registered { IsTrue (is_some (table_at slot places.old)) }
-    requires fits { length bytes.now ≤ 32768 }
+    requires fits { length bytes.now ≤ max_file_size }
     ensures opened { IfSome (image_in (opened bytes.now))
         (λ image. places.new ≡ changed_among (installed image) slot places.old) }
-    ensures seats { length places.new ≡ 8 }
+    ensures seats { length places.new ≡ seat_count }
 {
     match open(bytes) {
         Err(_fault) => {}
@@ -129,11 +132,11 @@ pub(crate) fn install_into(places: &mut [Place], slot: Slot, bytes: &[u8])
 
 /// An image comes into use at a slot's table.
 fn install_image(places: &mut [Place], slot: Slot, image: &[u8])
-    requires seats { length places.old ≡ 8 }
+    requires seats { length places.old ≡ seat_count }
     requires registered { IsTrue (is_some (table_at slot places.old)) }
-    requires fits { length image.now ≤ 32768 }
+    requires fits { length image.now ≤ max_file_size }
     ensures installed { places.new ≡ changed_among (installed image.now) slot places.old }
-    ensures seats { length places.new ≡ 8 }
+    ensures seats { length places.new ≡ seat_count }
 {
     places[slot.seat.index()].install(slot.number, image);
 }
@@ -144,10 +147,10 @@ pub(crate) fn change_among(
     table: &[u8],
     change: Move,
 ) -> Result<(), TableError>
-    requires seats { length places.old ≡ 8 }
+    requires seats { length places.old ≡ seat_count }
     ensures answer { answered result places.new ≡ moved_among (move_of change) table.now
         places.old }
-    ensures seats { length places.new ≡ 8 }
+    ensures seats { length places.new ≡ seat_count }
     ensures refused { OnErr result (places.new ≡ places.old) }
 {
     let Some(slot) = find(places, table) else {
@@ -158,22 +161,22 @@ pub(crate) fn change_among(
 
 /// The owner's verdict on the image that it is asked about at a slot's table.
 pub(crate) fn judge(places: &mut [Place], slot: Slot, valid: bool)
-    requires seats { length places.old ≡ 8 }
+    requires seats { length places.old ≡ seat_count }
     requires registered { IsTrue (is_some (table_at slot places.old)) }
     requires asked { IsTrue (is_some (waiting_at Asked (slot_among slot places.old))) }
     ensures judged { places.new ≡ changed_among (judged valid) slot places.old }
-    ensures seats { length places.new ≡ 8 }
+    ensures seats { length places.new ≡ seat_count }
 {
     places[slot.seat.index()].judge(slot.number, valid);
 }
 
 /// The activated image of a slot's table comes into use.
 pub(crate) fn take(places: &mut [Place], slot: Slot)
-    requires seats { length places.old ≡ 8 }
+    requires seats { length places.old ≡ seat_count }
     requires registered { IsTrue (is_some (table_at slot places.old)) }
     requires activated { IsTrue (is_some (waiting_at Activated (slot_among slot places.old))) }
     ensures taken { places.new ≡ changed_among taken slot places.old }
-    ensures seats { length places.new ≡ 8 }
+    ensures seats { length places.new ≡ seat_count }
 {
     places[slot.seat.index()].take(slot.number);
 }

@@ -2,7 +2,7 @@
 //! the limits, are this project's own).
 
 ghost use Rattle.std.specs.Prelude.{◌≡◌, ◌≤◌, length, option_map, IfErr, IfOk, IfSome, IsSomeAnd, IsTrue, is_some, OnErr, Some};
-ghost use Rattle.lc_model.specs.Name.{value_under};
+ghost use Rattle.lc_model.specs.Name.{value_under, name_size};
 ghost use Rattle.lc_model.specs.Command.{Load, Manage};
 ghost use Rattle.lc_model.specs.Tables.Slot.{Activated, Asked, Validate, Activate, Abort, waiting_at};
 ghost use Rattle.lc_model.specs.Services.Tables.{IsTableService, file_put, first_tables, fits_at, image_installed, image_taken, new_handle, slot_at, stored_image, table_at, table_commanded, table_registered, tables_unregistered, verdict_set};
@@ -54,7 +54,7 @@ impl Tables {
     /// Stores a file, in place of another of its name. Errors: `FileTooLong`, over 32,768 bytes; `StoreFull`, where eight
     /// files of other names are stored.
     pub fn put_file(&mut self, name: &[u8], bytes: &[u8]) -> Result<(), TableError>
-        requires { length name.now ≤ 40 }
+        requires { length name.now ≤ name_size }
         ensures answer { answered result self.new ≡ file_put name.now bytes.now self.old }
         ensures refused { OnErr result (self.new ≡ self.old) }
     {
@@ -77,7 +77,7 @@ impl Tables {
         size: usize,
         other: Option<usize>,
     ) -> Result<Slot, TableError>
-        requires { length name.now ≤ 40 }
+        requires { length name.now ≤ name_size }
         ensures answer { answered result self.new ≡ table_registered seat name.now size other
             self.old }
         ensures slot { IfOk result (λ slot. slot ≡ new_handle seat self.old) }

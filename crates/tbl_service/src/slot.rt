@@ -1,6 +1,7 @@
 //! The two images of a table, and how commands and their owner move them (cFE user's guide, table services).
 
 ghost use Rattle.std.specs.Prelude.{◌≡◌, ◌≤◌, length, Some, IsTrue, is_some, option_map, IfErr, IfOk, OnErr};
+ghost use Rattle.lc_model.specs.Host.React.{max_file_size};
 ghost use Rattle.lc_model.specs.Tables.Slot.{Activated, Asked, installed, judged, loaded, moved, no_images, taken, waiting_at};
 ghost use Rattle.tbl_service.specs.declared.error.TableError.TheVariants.{Memory};
 ghost use Rattle.tbl_service.specs.Error.{answered};
@@ -76,7 +77,7 @@ impl Images {
 
     /// An image waits, in place of another. Error: `UpdatePending`, where that one is activated.
     pub(crate) fn load(&mut self, image: &[u8]) -> Result<(), TableError>
-        requires { length image.now ≤ 32768 }
+        requires { length image.now ≤ max_file_size }
         ensures answer { answered result self.new ≡ loaded image.now self.old }
         ensures refused { OnErr result (self.new ≡ self.old) }
     {
@@ -125,7 +126,7 @@ impl Images {
 
     /// An image of the owner's comes into use; the one that waits stays.
     pub(crate) fn install(&mut self, image: &[u8])
-        requires { length image.now ≤ 32768 }
+        requires { length image.now ≤ max_file_size }
         ensures { self.new ≡ installed image.now self.old }
     {
         self.active.fill(image);

@@ -2,7 +2,8 @@
 
 ghost use Rattle.std.specs.Prelude.{◌≡◌, ◌<◌, ◌≤◌, [], length, option_map, IfErr, IfOk, IfSome, OnErr};
 ghost use Rattle.std.specs.List.{position_from};
-ghost use Rattle.lc_model.specs.Name.{value_under, is_named};
+ghost use Rattle.lc_model.specs.Host.React.{max_file_size};
+ghost use Rattle.lc_model.specs.Name.{value_under, is_named, name_size};
 ghost use Rattle.lc_model.specs.Services.Tables.{files_with};
 ghost use Rattle.tbl_service.specs.declared.error.TableError.TheVariants.{Memory};
 ghost use Rattle.tbl_service.specs.Error.{answered};
@@ -37,7 +38,7 @@ impl Model for StoredFile {
 
 impl StoredFile {
     fn new(name: &[u8], bytes: Buffer) -> StoredFile
-        requires { length name.now ≤ 40 }
+        requires { length name.now ≤ name_size }
         ensures { result ≡ (name.now, bytes) }
     {
         let mut own_name = ArrayVec::new();
@@ -55,7 +56,7 @@ impl StoredFile {
     }
 
     fn replace(&mut self, bytes: &[u8])
-        requires { length bytes.now ≤ 32768 }
+        requires { length bytes.now ≤ max_file_size }
         ensures { self.new ≡ (self.old.0, bytes.now) }
     {
         self.bytes.fill(bytes);
@@ -63,7 +64,7 @@ impl StoredFile {
 
     fn bytes(&self) -> &[u8]
         ensures bytes { result.now ≡ self.now.1 }
-        ensures fits { length result.now ≤ 32768 }
+        ensures fits { length result.now ≤ max_file_size }
     {
         self.bytes.bytes()
     }
@@ -103,7 +104,7 @@ impl Files {
 
     /// Stores a file, in place of another of its name. Errors: `FileTooLong`, over 32,768 bytes; `StoreFull`.
     pub(crate) fn put(&mut self, name: &[u8], bytes: &[u8]) -> Result<(), TableError>
-        requires { length name.now ≤ 40 }
+        requires { length name.now ≤ name_size }
         ensures answer { answered result self.new ≡ files_with name.now bytes.now self.old }
         ensures refused { OnErr result (self.new ≡ self.old) }
     {
@@ -126,7 +127,7 @@ impl Files {
     /// The bytes of the file of a name.
     pub(crate) fn find(&self, name: &[u8]) -> Option<&[u8]>
         ensures bytes { option_map (λ bytes. bytes.now) result ≡ value_under name.now self.now }
-        ensures fits { IfSome result (λ bytes. length bytes.now ≤ 32768) }
+        ensures fits { IfSome result (λ bytes. length bytes.now ≤ max_file_size) }
     {
         match place_of(self.list.as_slice(), name) {
             None => None,

@@ -5,6 +5,7 @@ ghost use Rattle.std.specs.List.{position_or_len};
 ghost use Rattle.lc_model.specs.Host.Schedule.{IsEntry};
 ghost use Rattle.lc_model.specs.Command.{is_range};
 ghost use Rattle.lc_model.specs.Host.ScheduleText.{ages_in, entry_in, is_silent, lines_of, slots_in};
+ghost use Rattle.lc_model.specs.Text.Token.{line_feed};
 ghost use Rattle.tick_scheduler.specs.Word.{lines_in, most_lines, texts_of};
 ghost use Rattle.tick_scheduler.specs.Entry.{entry_of};
 ghost use Rattle.tick_scheduler.specs.Line.{placed_of, sample_said};
@@ -15,7 +16,7 @@ use lc_model::{ALL_RULES, TABLE_ENTRIES};
 
 /// How many bytes come before the first line feed.
 fn line_length(text: &[u8]) -> usize
-    ensures place { result ≡ position_or_len (λ byte. byte == 10) text.now }
+    ensures place { result ≡ position_or_len (λ byte. byte == line_feed) text.now }
     ensures inside { result ≤ length text.now }
 {
     text.iter().take_while(|byte| **byte != b'\n').count()

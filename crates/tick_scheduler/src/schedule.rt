@@ -1,7 +1,7 @@
 //! Schedules: which requests are published at which tick.
 
 ghost use Rattle.std.specs.Prelude.{◌≡◌, ◌<◌, ◌≤◌, ◌++◌, ◌∷◌, [], length, nat_le, replicate, slice_set, IfOk};
-ghost use Rattle.lc_model.specs.Host.Schedule.{entries_at, IsEntry, IsSchedule};
+ghost use Rattle.lc_model.specs.Host.Schedule.{entries_at, IsEntry, IsSchedule, most_entries, most_slots};
 ghost use Rattle.tick_scheduler.specs.Entry.{entries_of, entry_of};
 
 use crate::entry::Entry;
@@ -43,13 +43,13 @@ impl Slot {
     }
 
     fn is_full(&self) -> bool
-        ensures { result ≡ nat_le 8 (length self.now) }
+        ensures { result ≡ nat_le most_entries (length self.now) }
     {
         self.entries.is_full()
     }
 
     fn push(&mut self, entry: Entry)
-        requires room { length self.old < 8 }
+        requires room { length self.old < most_entries }
         requires entry { IsEntry (entry_of entry) }
         ensures { self.new ≡ self.old ++ entry_of entry ∷ [] }
     {
@@ -58,7 +58,7 @@ impl Slot {
 
     fn entries(&self) -> &[Entry]
         ensures entries { entries_of result.now ≡ self.now }
-        ensures few { length result.now ≤ 8 }
+        ensures few { length result.now ≤ most_entries }
     {
         self.entries.as_slice()
     }
@@ -92,7 +92,7 @@ impl Model for Schedule {
 impl Schedule {
     /// So many slots without entries.
     pub(crate) fn new(alloc: Global, slots: usize) -> Result<Schedule, AllocError>
-        requires { (1 ≤ slots) × (slots ≤ 64) }
+        requires { (1 ≤ slots) × (slots ≤ most_slots) }
         ensures { IfOk result (λ schedule. schedule ≡ replicate slots []) }
     {
         let mut empty = Vec::with_capacity(alloc, slots)?;
@@ -125,7 +125,7 @@ impl Schedule {
     pub fn entries(&self, slot: usize) -> &[Entry]
         requires { slot < length self.now }
         ensures entries { entries_of result.now ≡ entries_at self.now slot }
-        ensures few { length result.now ≤ 8 }
+        ensures few { length result.now ≤ most_entries }
     {
         self.slots[slot].entries()
     }
@@ -133,7 +133,7 @@ impl Schedule {
     /// Whether the slot has eight entries.
     pub(crate) fn is_full(&self, slot: usize) -> bool
         requires { slot < length self.now }
-        ensures { result ≡ nat_le 8 (length (entries_at self.now slot)) }
+        ensures { result ≡ nat_le most_entries (length (entries_at self.now slot)) }
     {
         self.slots[slot].is_full()
     }
@@ -141,7 +141,7 @@ impl Schedule {
     /// One entry more, behind those of its slot.
     pub(crate) fn push(&mut self, slot: usize, entry: Entry)
         requires slot { slot < length self.old }
-        requires room { length (entries_at self.old slot) < 8 }
+        requires room { length (entries_at self.old slot) < most_entries }
         requires entry { IsEntry (entry_of entry) }
         ensures { self.new ≡
             slice_set self.old slot (entries_at self.old slot ++ entry_of entry ∷ []) }

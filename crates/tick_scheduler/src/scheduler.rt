@@ -1,7 +1,7 @@
 //! The scheduler: its schedule, the slot of the next tick, and the application of that name.
 
 ghost use Rattle.std.specs.Prelude.{◌≡◌, ◌<◌, ◌≤◌, length, map, None, IfOk};
-ghost use Rattle.lc_model.specs.Host.Schedule.{entry_packet, IsSchedule};
+ghost use Rattle.lc_model.specs.Host.Schedule.{entry_packet, IsSchedule, most_entries};
 ghost use Rattle.lc_model.specs.Kept.Next.{next_tick};
 ghost use Rattle.tick_scheduler.specs.Entry.{entries_of};
 ghost use Rattle.app_host.specs.Publishing.{AreShort, Publishes};
@@ -72,7 +72,7 @@ impl Scheduler {
     pub fn entries(&self) -> &[Entry]
         ensures packets { map entry_packet (entries_of result.now) ≡
             (next_tick self.now.schedule self.now.slot).1 }
-        ensures few { length result.now ≤ 8 }
+        ensures few { length result.now ≤ most_entries }
         ensures inside { self.now.slot < length self.now.schedule }
     {
         self.schedule.entries(self.slot)
@@ -131,7 +131,7 @@ impl App for Scheduler {
 
 /// Publishes the packets of these entries, in order. Conditions: at most eight entries, and in each pipe room for as many.
 fn publish_all(entries: &[Entry], services: &mut Services)
-    requires few { length entries.now ≤ 8 }
+    requires few { length entries.now ≤ most_entries }
     requires room { AreShort 64 services.old.bus }
     ensures { Publishes (map entry_packet (entries_of entries.now)) services.old services.new }
 {
