@@ -14,6 +14,10 @@ use Rattle.app_host.specs.declared.services.Services.{Services}
 use Rattle.app_host.specs.Shared.{held_by, shared}
 use Rattle.app_host.specs.Calls.{Leaves}
 
+-- a pipe in which no more packets wait takes all that are published at once
+abbrev pub roomy_depth : ℕ
+roomy_depth = 64
+
 -- at most so many packets wait in each pipe
 abbrev pub AreShort : ℕ → Bus → Type 0
 AreShort n bus = (seat : ℕ) → IsShort n (pipe_at seat bus)
@@ -38,7 +42,7 @@ PublishingGoesOn = (packets : List (List ℕ)) (packet : List ℕ) (before betwe
 
 -- for a tick, eight packets fit into each pipe
 abbrev pub TicksHaveRoom : Type 0
-TicksHaveRoom = (seat : ℕ) (name : Name) (packet : List ℕ) (held : Held) → MayBeGiven seat name packet held → message_id packet ≡ tick_mid → AreShort 64 held.bus
+TicksHaveRoom = (seat : ℕ) (name : Name) (packet : List ℕ) (held : Held) → MayBeGiven seat name packet held → message_id packet ≡ tick_mid → AreShort roomy_depth held.bus
 
 -- ---- an object that answers a packet by publishing alone
 

@@ -15,6 +15,10 @@ use Rattle.app_host.specs.Delivered.{executive_in}
 
 -- ---- one write
 
+-- more bytes than a step sends, however many applications: its count stays far below what 64 bits hold
+abbrev pub most_sent : ℕ
+most_sent = 1000000000000
+
 -- the services with nothing that waits to be written
 abbrev pub written_off : Services → Services
 written_off s = record s { outgoing = [] }

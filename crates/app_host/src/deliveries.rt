@@ -7,7 +7,7 @@ ghost use Rattle.app_host.specs.Hosted.{shown};
 ghost use Rattle.app_host.specs.Whole.{IsWhole, AreSeated};
 ghost use Rattle.app_host.specs.Load.{IsLight, load};
 ghost use Rattle.app_host.specs.Delivered.{HasDelivered};
-ghost use Rattle.app_host.specs.Writing.{IsFlushed, IsSent};
+ghost use Rattle.app_host.specs.Writing.{IsFlushed, IsSent, most_sent};
 
 use crate::error::WriteFault;
 use crate::host::Host;
@@ -50,7 +50,7 @@ impl Host {
     pub(crate) fn flush<W: ByteSink>(&mut self, out: &mut W, sent: u64) -> Result<u64, WriteFault>
         requires seated { AreSeated (shown meaning self.old).seats
             (shown meaning self.old).services }
-        requires room { sent + length self.old.services.outgoing ≤ 1000000000000 }
+        requires room { sent + length self.old.services.outgoing ≤ most_sent }
         ensures flushed { IsFlushed (shown meaning self.old) (shown meaning self.new) }
         ensures sent { IsSent sent (shown meaning self.old) (shown meaning self.new)
             (W.sink out.old) (W.sink out.new) result }

@@ -4,3 +4,4 @@ pub mod Filters
 pub mod Change
 pub mod Service
 pub mod Packet
+pub mod Text

@@ -4,6 +4,7 @@ ghost use Rattle.std.specs.Prelude.{◌≡◌, ◌+◌, ◌<◌, ◌≤◌, ◌*
 ghost use Rattle.std.specs.Fmt.{digit_glyph};
 ghost use Rattle.lc_model.specs.Events.Outgoing.{longest_event_text};
 ghost use Rattle.lc_model.specs.Events.Request.{numbered, hex_word as four_digits};
+ghost use Rattle.event_service.specs.Text.{hex_size, longest_number};
 
 use arrayvec::ArrayVec;
 use itoa::Buffer;
@@ -57,9 +58,9 @@ impl EventText {
 
     /// A space and a number in decimal digits. Condition: room for 11 bytes.
     pub fn push_number(&mut self, number: u32)
-        requires { length self.old + 11 ≤ longest_event_text }
+        requires { length self.old + longest_number ≤ longest_event_text }
         ensures text { self.new ≡ numbered self.old (number ∷ []) }
-        ensures size { length self.new ≤ length self.old + 11 }
+        ensures size { length self.new ≤ length self.old + longest_number }
     {
         let mut digits = Buffer::new();
         self.push(b" ");
@@ -68,7 +69,7 @@ impl EventText {
 
     /// Several numbers, each behind a space. Condition: room for 11 bytes each.
     pub fn push_numbers(&mut self, numbers: &[u16])
-        requires { length self.old + 11 * length numbers.now ≤ longest_event_text }
+        requires { length self.old + longest_number * length numbers.now ≤ longest_event_text }
         ensures { self.new ≡ numbered self.old numbers.now }
     {
         for number in numbers {
@@ -78,7 +79,7 @@ impl EventText {
 
     /// Four lower case hexadecimal digits. Condition: room for them.
     pub fn push_hex(&mut self, number: u16)
-        requires { length self.old + 4 ≤ longest_event_text }
+        requires { length self.old + hex_size ≤ longest_event_text }
         ensures { self.new ≡ self.old ++ four_digits number }
     {
         self.push(&[

@@ -1,7 +1,7 @@
 //! Sets of event types (cFE user's guide, event services; their bits are this project's own).
 
 ghost use Rattle.std.specs.Prelude.{⊤, ◌≡◌, ◌%◌, Bool, not, ◌==◌, [], ◌∷◌, codes, bit_and};
-ghost use Rattle.lc_model.specs.Events.Log.{kind_bit, has_kind};
+ghost use Rattle.lc_model.specs.Events.Log.{kind_bit, has_kind, sets_of_types};
 ghost use Rattle.lc_model.specs.Kept.Next.{kinds_set};
 ghost use Rattle.lc_model.specs.Kept.Call.{new_sender};
 ghost use Rattle.event_service.specs.Types.{bits_of};
@@ -48,7 +48,7 @@ impl Flags for EventTypes {
 impl EventTypes {
     /// The types of a command's byte, of which only the lower four bits count.
     pub fn of_command(byte: u8) -> EventTypes
-        ensures { bits_of result ≡ byte % 16 }
+        ensures { bits_of result ≡ byte % sets_of_types }
     {
         EventTypes(byte % 16)
     }

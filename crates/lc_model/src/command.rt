@@ -1,7 +1,7 @@
 //! Commands, as they are read from packets (cFS Limit Checker user's guide; codes and layouts are this project's own).
 
 ghost use Rattle.std.specs.Prelude.{◌≡◌, ◌≤◌, length};
-ghost use Rattle.lc_model.specs.Packet.{function_code, payload};
+ghost use Rattle.lc_model.specs.Packet.{command_header_size, function_code, payload};
 ghost use Rattle.lc_model.specs.Command.{answer_of, is_range, refusal_number, sample_request, takes};
 
 use crate::limits::TABLE_ENTRIES;
@@ -74,7 +74,7 @@ fn is_range(first: u16, last: u16) -> bool
 /// The sample request in a command: code 0, then first and last rule, an age flag and two bytes that don't count. The
 /// rules are all (0xFFFF twice) or a range below 176. Refusals are tried in the order of their numbers.
 pub fn sample_request(command: &[u8]) -> Result<SampleRequest, CommandRefusal>
-    requires { 8 ≤ length command.now }
+    requires { command_header_size ≤ length command.now }
     ensures { answer_of result ≡ sample_request (function_code command.now) (payload command.now) }
 {
     if function_code(command) != SAMPLE {

@@ -3,7 +3,7 @@
 
 ghost use Rattle.std.specs.Prelude.{◌≡◌, ◌≤◌, ◌+◌, ◌++◌, ◌%◌, ◌<◌, ◌&&◌, None, IfSome, is_some, length, nat_le};
 ghost use Rattle.lc_model.specs.Bytes as number;
-ghost use Rattle.lc_model.specs.Packet.{function_code, header_fault, is_own_mid, message_id, parity, stream_fault};
+ghost use Rattle.lc_model.specs.Packet.{function_code, header_fault, is_own_mid, length_offset, message_id, parity, primary_header_size, stream_fault};
 ghost use Rattle.lc_model.specs.Events.Outgoing.{sequence_request};
 
 use crate::mids;
@@ -39,7 +39,7 @@ pub fn message_id(packet: &[u8]) -> u16
 
 /// A command's function code.
 pub fn function_code(command: &[u8]) -> u8
-    requires { 7 ≤ length command.now }
+    requires { primary_header_size < length command.now }
     ensures { result ≡ function_code command.now }
 {
     command[6] % 128
@@ -102,10 +102,11 @@ pub fn stream_fault(bytes: &[u8]) -> Option<u8>
 /// The first of packets that stand one behind the other, and what stands behind it; none where the bytes are no whole packet. Of
 /// its header the length alone is read.
 pub fn first_packet(packets: &[u8]) -> Option<(&[u8], &[u8])>
-    ensures whole { is_some result ≡ (nat_le 6 (length packets.now) &&
-        nat_le (number.u16_at packets.now 4 + 7) (length packets.now)) }
+    ensures whole { is_some result ≡ (nat_le primary_header_size (length packets.now) &&
+        nat_le (number.u16_at packets.now 4 + length_offset) (length packets.now)) }
     ensures parts { IfSome result (λ parts. packets.now ≡ parts.0.now ++ parts.1.now) }
-    ensures size { IfSome result (λ parts. length parts.0.now ≡ number.u16_at packets.now 4 + 7) }
+    ensures size { IfSome result
+        (λ parts. length parts.0.now ≡ number.u16_at packets.now 4 + length_offset) }
 {
     if packets.len() < PRIMARY_HEADER {
         return None;

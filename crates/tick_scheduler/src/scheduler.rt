@@ -4,7 +4,7 @@ ghost use Rattle.std.specs.Prelude.{◌≡◌, ◌<◌, ◌≤◌, length, map, 
 ghost use Rattle.lc_model.specs.Host.Schedule.{entry_packet, IsSchedule, most_entries};
 ghost use Rattle.lc_model.specs.Kept.Next.{next_tick};
 ghost use Rattle.tick_scheduler.specs.Entry.{entries_of};
-ghost use Rattle.app_host.specs.Publishing.{AreShort, Publishes};
+ghost use Rattle.app_host.specs.Publishing.{AreShort, Publishes, roomy_depth};
 
 use crate::entry::{Entry, PACKET_SIZE};
 use crate::schedule::Schedule;
@@ -132,7 +132,7 @@ impl App for Scheduler {
 /// Publishes the packets of these entries, in order. Conditions: at most eight entries, and in each pipe room for as many.
 fn publish_all(entries: &[Entry], services: &mut Services)
     requires few { length entries.now ≤ most_entries }
-    requires room { AreShort 64 services.old.bus }
+    requires room { AreShort roomy_depth services.old.bus }
     ensures { Publishes (map entry_packet (entries_of entries.now)) services.old services.new }
 {
     // For the proof: what is published keeps the rules of the interface.
