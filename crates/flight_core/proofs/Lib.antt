@@ -12,3 +12,4 @@ mod Outset
 mod Failures
 mod Fitting
 mod Asides
+mod Worlds

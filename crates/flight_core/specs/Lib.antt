@@ -17,3 +17,4 @@ pub mod Failures
 pub mod Fitting
 pub mod Asides
 pub mod Promises
+pub mod Worlds

@@ -2,6 +2,9 @@
 
 ghost use Rattle.flight_core.specs.Cutting.{Begins, Comes, EndsBadly, EndsCut, EndsWhole, EveryCutting, Goes};
 ghost use Rattle.flight_core.specs.Promises.{RunsKeepTheirPromises};
+ghost use Rattle.flight_core.specs.Worlds.{HostsStandForTheTexts};
+
+use host_laws::{begins_as_the_world, keeps_to_the_world, records_of_bytes_are_fine};
 
 /// Bytes come and records are handed out, one after the other: whatever follows, the records of it all are those handed out,
 /// and then those of what is held and what follows.
@@ -28,3 +31,14 @@ pub fn every_cutting_has_the_records_of_the_whole()
 pub fn runs_keep_their_promises()
     ensures { RunsKeepTheirPromises }
 {}
+
+/// Between two records a host stands for the world that its records so far have made of the rule texts, and the bytes that it
+/// writes for the next one are the packets that this world sends: what `Host::step` promises, by the texts.
+pub fn hosts_stand_for_the_texts()
+    ensures { HostsStandForTheTexts }
+{
+    // For the proof: each record keeps the host in numbers to the world.
+    begins_as_the_world();
+    keeps_to_the_world();
+    records_of_bytes_are_fine();
+}

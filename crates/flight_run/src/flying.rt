@@ -1,13 +1,17 @@
 //! `run --schedule S --stream IN --out OUT RULES..`
 
-ghost use Rattle.std.specs.Prelude.{IfOk};
+ghost use Rattle.std.specs.Prelude.{◌≡◌, false, IfOk};
+ghost use Rattle.lc_model.specs.Host.Outcome.{devices};
+ghost use Rattle.flight_stock.specs.Stock.{own_mission};
 ghost use Rattle.flight_run.specs.Dispatch.{IsFlown};
+ghost use Rattle.flight_run.specs.Flown.{Flies};
 
 use crate::done::Done;
 use crate::fault::Fault;
 use crate::files::{is_apart, read};
 use flight_stock::launch;
-use lc_model::{Reading, Writing};
+use lc_model::{ByteSink, ByteSource, Reading, Writing};
+use std::alloc::Global;
 use std::fs::{File, Files};
 use tick_scheduler::{Schedule, parse_schedule};
 
@@ -34,6 +38,31 @@ fn texts_in<'a, R: Files + AllocGlobal>(
         texts.push(read(rt, name)?)?;
     }
     Ok(texts)
+}
+
+/// All that the program does between its files and its answer, over any reader and any device, which comes back: the host runs
+/// with four Limit Checkers, two schedulers and two counters in stock. What is answered is said by its `Display`, and ends the
+/// program with its status. Conditions: nothing was read or failed yet.
+pub fn fly<'a, R: ByteSource, W: ByteSink + Drop>(
+    alloc: Global,
+    texts: &[&[u8]],
+    plan: &Schedule,
+    reader: &mut R,
+    device: W,
+) -> (Result<Done, Fault<'a>>, W)
+    requires unread { (R.source reader.old).reads ≡ 0 }
+    requires readable { (R.source reader.old).failed ≡ false }
+    requires writable { (W.sink device).failed ≡ false }
+    ensures flies { let before_and_after = devices (R.source reader.old) (R.source reader.new)
+        (W.sink device) (W.sink result.1) in
+        Flies (own_mission texts.now plan.now) before_and_after result.0 }
+    ensures flown { IfOk result.0 IsFlown }
+{
+    let (answer, device) = launch(alloc, texts, plan, reader, device);
+    match answer {
+        Ok(report) => (Ok(Done::Flown(report)), device),
+        Err(error) => (Err(Fault::from(error)), device),
+    }
 }
 
 /// The files of rule texts, a schedule and a stream are opened in this order: the schedule, the texts, the stream, and what is
@@ -63,12 +92,12 @@ pub fn fly_files<'a, R: Files + AllocGlobal>(
         return Err(Fault::File(out));
     };
     let mut reader = Reading::new(input);
-    let (answer, _device) = launch(
+    let (outcome, _device) = fly(
         rt.alloc(),
         slices.as_slice(),
         &plan,
         &mut reader,
         Writing::new(output),
     );
-    Ok(Done::Flown(answer?))
+    outcome
 }

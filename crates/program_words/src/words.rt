@@ -1,6 +1,6 @@
 //! The words of a command line (this project's own), read by `clap`.
 
-ghost use Rattle.std.specs.Prelude.{◌≡◌, ◌≤◌, ◌<◌, false, length, map, codes, Err, IfOk, IsOk, IsSomeAnd, None, Ok, OnErr, Some};
+ghost use Rattle.std.specs.Prelude.{◌≡◌, ◌≤◌, ◌<◌, false, length, map, codes, Err, IfErr, IfOk, IsOk, IsSomeAnd, None, Ok, OnErr, Some};
 ghost use Rattle.clap.specs.Words.{all_of, app_of, first_of, found_of, kind_of, rows_of, rule_of, subcommand_rows_of};
 ghost use Rattle.clap.specs.declared.error.kind.ErrorKind.TheVariants.{OutOfMemory};
 ghost use Rattle.program_words.specs.declared.words.Plan.TheVariants.{Stored};
@@ -145,6 +145,8 @@ fn file_of<'a>(found: &ArgMatches<'a>, name: &str) -> Result<&'a str, WordsError
     ensures some { IfOk result
         (λ word. first_of name.now (rows_of (found_of found.now)) ≡ Some word.now) }
     ensures none { OnErr result (first_of name.now (rows_of (found_of found.now)) ≡ None) }
+    // It takes no memory, so that it isn't refused for want of it.
+    ensures judged { IfErr result (λ error. error ≡ Usage) }
 {
     found.get_str(name).ok_or(WordsError::Usage)
 }
@@ -168,6 +170,7 @@ fn compile_plan<'a>(found: &ArgMatches<'a>) -> Result<Plan<'a>, WordsError>
     ensures holds { IfOk result (HoldsRows (codes "compile", rows_of (found_of found.now))) }
     ensures refused { OnErr result
         (HasWhatItNeeds (codes "compile", rows_of (found_of found.now)) → ⊥) }
+    ensures judged { IfErr result (λ error. error ≡ Usage) }
 {
     Ok(Plan::Compile {
         rules: file_of(found, "RULES")?,

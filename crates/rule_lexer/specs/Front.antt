@@ -1,7 +1,7 @@
 -- What the lexer's steps find at the front of a text. This project's own.
 use Rattle.std.specs.Prelude.{◌≡◌, ℕ, ◌+◌, ◌≤◌, Bool, false, not, ◌||◌, ◌==◌, IsTrue, IsFalse, List, [], ◌∷◌, ◌++◌, length, take, drop}
 use Rattle.std.specs.Char.{is_ascii_digit}
-use Rattle.lc_model.specs.Text.Token.{Cuts, IsBad, IsLongest, is_blank, is_sign, is_token, line_feed, magnitude_text, number_sign, quote}
+use Rattle.lc_model.specs.Text.Token.{Cuts, IsBad, IsLongest, is_blank, is_sign, is_token, line_feed, magnitude_text, number_sign, quote, begins_nothing, not_a_number, overlong_name, not_a_string}
 use Rattle.rule_lexer.specs.declared.error.LexError.{LexError}
 use Rattle.rule_lexer.specs.declared.error.LexError.TheVariants.{BadByte, BadNumber, NameTooLong, BadString, TextTooLong, Memory}
 use Rattle.rule_lexer.specs.declared.lexeme.Lexeme.{Lexeme}
@@ -64,9 +64,9 @@ LacksSign text = (front rest : List ℕ) → front ++ rest ≡ text → IsFalse 
 
 -- what stands in front is this fault, whose place is this one
 abbrev pub IsBadFront : ℕ → List ℕ → LexError → Type 0
-IsBadFront here text (BadByte at) = (at ≡ here) × IsBad 1 text
-IsBadFront here text (BadNumber at) = (at ≡ here) × IsBad 2 text
-IsBadFront here text (NameTooLong at) = (at ≡ here) × IsBad 3 text
-IsBadFront here text (BadString at) = (at ≡ here) × IsBad 4 text
+IsBadFront here text (BadByte at) = (at ≡ here) × IsBad begins_nothing text
+IsBadFront here text (BadNumber at) = (at ≡ here) × IsBad not_a_number text
+IsBadFront here text (NameTooLong at) = (at ≡ here) × IsBad overlong_name text
+IsBadFront here text (BadString at) = (at ≡ here) × IsBad not_a_string text
 IsBadFront here text TextTooLong = ⊥
 IsBadFront here text Memory = ⊥

@@ -1,6 +1,6 @@
 //! Payloads whose fields are set by type and offset.
 
-ghost use Rattle.std.specs.Prelude.{◌≡◌, ◌≤◌, ◌+◌, IsTrue, true, length, take, codes, bytes_eq, IfOk, IfErr, Ok, Err};
+ghost use Rattle.std.specs.Prelude.{◌≡◌, ◌≤◌, ◌+◌, IsTrue, true, length, take, codes, bytes_eq, IfOk, IfErr, Ok, Err, ◌-◌};
 ghost use Rattle.lc_model.specs.Field.{is_in_type, width};
 ghost use Rattle.lc_model.specs.Packet.{longest_packet, telemetry_header_size};
 ghost use Rattle.lc_model.specs.Tables.Image.{bits_32, fits_32_bits};

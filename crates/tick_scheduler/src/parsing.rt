@@ -1,6 +1,6 @@
 //! From a text to its schedule, line by line.
 
-ghost use Rattle.std.specs.Prelude.{◌≡◌, ◌+◌, ◌<◌, ◌^◌, ◌∷◌, ℕ, List, Ok, Err, IfOk, IfErr, IsErr};
+ghost use Rattle.std.specs.Prelude.{◌≡◌, ◌≢◌, ◌+◌, ◌<◌, ◌^◌, ◌∷◌, ℕ, List, Ok, Err, IfOk, IfErr, IsErr};
 ghost use Rattle.lc_model.specs.Host.Schedule.{Schedule as Slots};
 ghost use Rattle.lc_model.specs.Host.ScheduleText.{entry_added, entry_in, empty_slots, lines_read, schedule_in, slots_in, ScheduleFault};
 ghost use Rattle.tick_scheduler.specs.Error.{IsRefused};
@@ -32,6 +32,8 @@ fn with_entry(mut schedule: Schedule, words: &[&[u8]], n: usize) -> Result<Sched
         (λ after. entry_added schedule (entry_in (texts_of words.now)) n ≡ Ok after) }
     ensures refused { IfErr result
         (IsRefused (entry_added schedule (entry_in (texts_of words.now)) n)) }
+    // It takes no memory, so that it isn't refused for want of it.
+    ensures judged { IfErr result (λ error. error ≢ Memory) }
 {
     let (slot, entry) = line::entry_in(words).ok_or(ScheduleError::BadLine { n })?;
     if slot >= schedule.len() {

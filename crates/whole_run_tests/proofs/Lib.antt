@@ -1,1 +1,4 @@
+mod WithStock
+mod Undisturbed
 mod LowVolts
+mod TwoTexts

@@ -1,2 +1,5 @@
--- What the proved run of these tests cites.
+-- What the proved runs of these tests cite.
+pub mod Endings
+pub mod WithStock
 pub mod LowVolts
+pub mod TwoTexts

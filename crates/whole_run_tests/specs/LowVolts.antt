@@ -1,30 +1,21 @@
 -- The low-volts text: what it calls for over any stream without raw files, and over two failing samples, byte for byte. Streams,
 -- packets and event texts are this project's own.
-use Rattle.std.specs.Prelude.{◌≡◌, ℕ, ⊤, List, [], ◌∷◌, ◌++◌, length, map, replicate, codes, Some, Contains}
+use Rattle.std.specs.Prelude.{◌≡◌, ℕ, ⊤, List, [], ◌∷◌, ◌++◌, length, replicate, codes, Some, Contains}
 use Rattle.lc_model.specs.declared.record.Moment.{Moment}
 use Rattle.lc_model.specs.declared.rule.EventKind.TheVariants.{Information, Error}
 use Rattle.lc_model.specs.Rule.{NamedRule}
 use Rattle.lc_model.specs.Text.Reading.{Reads}
 use Rattle.lc_model.specs.Bytes.{u16, u32, zero_filled}
-use Rattle.lc_model.specs.Name.{Name, host_name, lc_name, sch_name, counter_name}
+use Rattle.lc_model.specs.Name.{Name, app_name_size, host_name, lc_name, name_size}
 use Rattle.lc_model.specs.Packet.{command, executive_services_mid, sample_mid}
 use Rattle.lc_model.specs.Events.Outgoing.{event_packet, sequence_request}
-use Rattle.app_host.specs.Hosted.{Object}
 use Rattle.lc_model.specs.Tables.InForce.{layouts}
 use Rattle.lc_model.specs.Host.Schedule.{Schedule}
 use Rattle.lc_model.specs.Host.Stream.{StreamEntry, File, records_of}
-use Rattle.lc_model.specs.Host.Outcome.{Devices, Ending, Complete, Uncompiled, FailedToRead, FailedToWrite, ReachedTheBound, NoMemory, answer}
+use Rattle.lc_model.specs.Host.Outcome.{Devices, Ending, Uncompiled, FailedToRead, FailedToWrite, ReachedTheBound, NoMemory, answer}
 use Rattle.lc_model.specs.Host.Promise.{called_for}
-
--- ---- the stock
-
--- the names of some objects
-abbrev pub names_of : List Object → List Name
-names_of stock = map (λ (o : Object). o.called) stock
-
--- two Limit Checkers, a scheduler and a counter
-abbrev pub names : List Name
-names = lc_name ∷ lc_name ∷ sch_name ∷ counter_name ∷ []
+use Rattle.whole_run_tests.specs.Endings.{EndsWell}
+use Rattle.whole_run_tests.specs.WithStock.{names}
 
 -- ---- any stream
 
@@ -66,7 +57,7 @@ record_of kind body = kind ∷ (u32 100 ++ u16 0 ++ u32 (length body) ++ body)
 
 -- the compiled file of this half of the first text is stored under this name
 abbrev pub half_stored : List ℕ → ℕ → List ℕ
-half_stored name half = record_of 4 (zero_filled 40 name ++ half ∷ u16 0)
+half_stored name half = record_of 4 (zero_filled name_size name ++ half ∷ u16 0)
 
 -- 2,399 at 12 of a packet of 16 bytes with message id 0x0883
 abbrev pub voltage : List ℕ
@@ -80,7 +71,7 @@ sampling = record_of 1 (command sample_mid 0 0 (u16 0xFFFF ++ u16 0xFFFF ++ u16 
 abbrev pub two_failing_samples : List ℕ
 two_failing_samples =
     half_stored (codes "/cf/lc_def_wdt.tbl") 1 ++ half_stored (codes "/cf/lc_def_adt.tbl") 2
-    ++ record_of 1 (command executive_services_mid 0 1 (zero_filled 20 lc_name)) ++ voltage ++ sampling ++ voltage ++ sampling
+    ++ record_of 1 (command executive_services_mid 0 1 (zero_filled app_name_size lc_name)) ++ voltage ++ sampling ++ voltage ++ sampling
 
 -- ---- what is written: five events and one request for a sequence, 852 bytes
 
@@ -96,22 +87,9 @@ what_is_called_for =
     ++ sequence_request 0 7
     ++ event_packet 4 then lc_name 1001 Error (codes "low volts: AP = 0, FailCount = 2, RTS = 7")
 
--- ---- how the run ends
-
-module _ (d : Devices) (before : List ℕ) where
-  -- exactly these bytes are written behind what was there, and the answer counts seven records and 852 bytes
-  pub record WritesIt (records bytes : ℕ) : Type 0 where
-    pub gains : d.sink_after.gained ≡ Some (before ++ what_is_called_for)
-    pub counted : (records ≡ 7) × (bytes ≡ 852)
-
-  -- to its end; or a read or a write failed, or memory was wanted. It ends in no other way.
-  abbrev pub EndsWell : Ending → Type 0
-  EndsWell (Complete records bytes) = WritesIt records bytes
-  EndsWell FailedToRead = ⊤
-  EndsWell (FailedToWrite sent) = ⊤
-  EndsWell NoMemory = ⊤
-  EndsWell other = ⊥
+-- ---- how the run ends: seven records, and 852 bytes
 
 -- whatever was written before
 abbrev pub WritesTwoFailures : Devices → Ending → Type 0
-WritesTwoFailures d ending = (before : List ℕ) → d.source.rest ≡ Some two_failing_samples → d.sink.gained ≡ Some before → EndsWell d before ending
+WritesTwoFailures d ending = (before : List ℕ) → d.source.rest ≡ Some two_failing_samples → d.sink.gained ≡ Some before →
+    EndsWell 7 852 what_is_called_for d before ending

@@ -23,3 +23,5 @@ mod speed;
 mod steps;
 #[cfg(test)]
 mod two_failures;
+pub mod two_texts;
+pub mod with_stock;

@@ -5,14 +5,11 @@ ghost use Rattle.lc_model.specs.Host.Outcome.{devices};
 ghost use Rattle.flight_core.specs.Ending.{ending_of};
 ghost use Rattle.whole_run_tests.specs.LowVolts.{WritesByItsText, WritesTwoFailures};
 
-use app_host::App;
-use command_counter::Counter;
-use flight_core::{Report, RunError, run};
-use flight_stock::add;
+use crate::with_stock::run_with_stock;
+use flight_core::{Report, RunError};
 use lc_model::{ByteSink, ByteSource};
-use limit_checker::LimitChecker;
 use std::alloc::{AllocError, Global};
-use tick_scheduler::{Schedule, Scheduler};
+use tick_scheduler::Schedule;
 
 /// One rule, which fails twice below 2,400 before it requests sequence 7.
 pub const LOW_VOLTS: &[u8] =
@@ -41,14 +38,5 @@ pub fn run_low_volts<R: ByteSource, W: ByteSink>(
         (devices (R.source reader.old) (R.source reader.new) (W.sink writer.old)
         (W.sink writer.new)) (ending_of answer)) }
 {
-    let mut stock: Vec<Box<dyn App>> = Vec::new(alloc);
-    let checker = Box::new(alloc, LimitChecker::new(alloc)?)?;
-    add(&mut stock, schedule, b"LC", checker)?;
-    let spare = Box::new(alloc, LimitChecker::new(alloc)?)?;
-    add(&mut stock, schedule, b"LC", spare)?;
-    let scheduler = Box::new(alloc, Scheduler::new(alloc, schedule)?)?;
-    add(&mut stock, schedule, b"SCH", scheduler)?;
-    let counter = Box::new(alloc, Counter::new())?;
-    add(&mut stock, schedule, b"COUNTER", counter)?;
-    Ok(run(alloc, &[LOW_VOLTS], schedule, stock, reader, writer))
+    run_with_stock(alloc, &[LOW_VOLTS], schedule, reader, writer)
 }

@@ -82,7 +82,7 @@ module _ {A B : Type 0} (alike : A → B → Type 0) (images : Interpretation A)
       let rest = all_alike moment requests (delivered moment request w).0 (delivered moment request v).0 first.0 in
       (rest.0, ap₂ (λ a b. a ++ b) first.1 rest.1)
 
-  step_alike : (moment : Moment) (s : Step A) (t : Step B) → StepAlike alike images others s t → Sends (all_delivered moment s.1 s.0) (all_delivered moment t.1 t.0)
+  pub step_alike : (moment : Moment) (s : Step A) (t : Step B) → StepAlike alike images others s t → Sends (all_delivered moment s.1 s.0) (all_delivered moment t.1 t.0)
   step_alike moment s t h =
       subst (λ requests. Sends (all_delivered moment s.1 s.0) (all_delivered moment requests t.0)) h.requests (all_alike moment s.1 s.0 t.0 h.world)
 

@@ -119,7 +119,7 @@ module _ (layouts : List Layout) (texts : List Text) (compiled : Kind → ℕ �
   same_size (Opened table size image) (Unreadable fault) h = absurd h
   same_size (Opened table size image) (Opened table' size' image') h = h.1
 
-  brings_alike : (contents : Contents) → IsHalfBelow (length texts) contents →
+  pub brings_alike : (contents : Contents) → IsHalfBelow (length texts) contents →
       ((name : Name) (bytes : List ℕ) → contents ≡ File name bytes → CarriesHalf layouts texts bytes) → Brings contents
   brings_alike (Packet bytes) below carries = refl
   brings_alike Tick below carries = tt
