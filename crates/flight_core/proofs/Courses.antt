@@ -91,7 +91,7 @@ party_known Holders h all = λ seat some. all.seated seat
 party_known (Only leaving coming) h all = (seat_known leaving h.seats all.seated, spare_known coming h.stock all.spares)
 
 -- and where none is new, all are
-still_known : (old new : List Object) → All IsKnown old → All (Contains old) new → All IsKnown new
+pub still_known : (old new : List Object) → All IsKnown old → All (Contains old) new → All IsKnown new
 still_known old new all among k d less = All-contains IsKnown old (get_or new k d) all (among k d less)
 
 -- ---- what is written over records

@@ -8,17 +8,18 @@ use Rattle.lc_model.specs.Device.{Sink}
 use Rattle.lc_model.specs.Tables.HalvesAndBytes.{Text, TextImage, as_bytes, as_halves, byte_meanings, text_meanings}
 use Rattle.lc_model.specs.Tables.InForce.{edition, layouts}
 use Rattle.lc_model.specs.Host.React.{Input, react}
-use Rattle.lc_model.specs.Host.Run.{input_of, handled}
+use Rattle.lc_model.specs.Host.Run.{input_of, handled, world_after}
 use Rattle.lc_model.specs.Host.Schedule.{Schedule}
 use Rattle.lc_model.specs.Host.Stream.{StreamEntry, Contents, Packet, Tick, File, Half}
 use Rattle.lc_model.specs.Host.World.{World, first_world}
 use Rattle.lc_model.specs.Kept.Executive.{Member, Executive, step_by}
 use Rattle.lc_model.specs.Kept.Stations as model
-use Rattle.lc_model.specs.Laws.Correspondence.{IsImageOf}
+use Rattle.lc_model.specs.Laws.Correspondence.{IsImageOf, WorldAlike}
 use Rattle.lc_model.proofs.Tables.SpellingLaws.{bytes_agree_with_texts, bytes_follow_texts}
 use Rattle.lc_model.proofs.Host.RunsKept.{files_of_halves}
 use Rattle.lc_model.proofs.Host.SentOfTwo.{first_alike, step_alike}
 use Rattle.lc_model.proofs.Host.WholeRuns.{IsHalfBelow, brings_alike}
+use Rattle.host_laws.specs.Keeping.{KeepsTo}
 use Rattle.host_laws.specs.Statements.{AreBytes, BeginsSo, EachRecordKeeps, IsBrought, RecordsAreFine, SameStep}
 use Rattle.app_host.specs.Delivered.{executive_in}
 use Rattle.app_host.specs.Hosted.{Hosted}
@@ -50,7 +51,7 @@ module _ (schedule : Schedule) (texts : List Text) (compiled : Kind → ℕ → 
         bytes = first_world (map (λ (member : Member). member.called) stock);
         alike = first_alike (IsImageOf layouts texts) (as_bytes layouts) (as_halves layouts) (bytes_agree_with_texts layouts texts are.read are.hashes)
             (map (λ (member : Member). member.called) stock);
-        keeps = subst (λ e. KeepsTo (as_bytes layouts) schedule _ e) (sym (ap (λ (x : model.Host (List ℕ)). x.executive) first.host)) first_keeps.0;
+        keeps = subst (λ e. KeepsTo (as_bytes layouts) schedule (first_world (map (λ (member : Member). member.called) stock)) e) (sym (ap (λ (x : model.Host (List ℕ)). x.executive) first.host)) first_keeps.0;
         whole = first_keeps.1;
         known = known_first h stock first.host (all_not_other schedule stock first.profile);
       }
@@ -68,6 +69,8 @@ module _ (schedule : Schedule) (texts : List Text) (compiled : Kind → ℕ → 
         (fine edition texts compiled schedule (record { moment = moment; contents = contents } ∷ []) are.files (brings.brought, tt)).0
 
     -- with the world of the texts it goes on as before
+    together : WorldAlike (IsImageOf layouts texts) (as_bytes layouts) (as_halves layouts) (handled (as_bytes layouts) schedule moment input stands.bytes).0 (sent_for schedule texts compiled moment contents w).0
+        × ((handled (as_bytes layouts) schedule moment input stands.bytes).1 ≡ (sent_for schedule texts compiled moment contents w).1)
     together =
         let agree = bytes_agree_with_texts layouts texts are.read are.hashes in
         let alike = brings_alike layouts texts compiled are.hashes (files_of_halves edition texts compiled are.files) contents (half_below (length texts) contents brings.brought) brings.carries in
@@ -109,7 +112,7 @@ module _ (schedule : Schedule) (texts : List Text) (compiled : Kind → ℕ → 
   history : (w : World TextImage) (old new : Hosted) (entries : List StreamEntry) → StandsFor schedule texts w old → AllBringHalves texts entries →
       Takes schedule texts compiled old entries new →
       StandsFor schedule texts (world_after (as_halves layouts) schedule w (text_meanings layouts texts) entries) new
-  history w old .old [] stands all none = stands
+  history w old _ [] stands all none = stands
   history w old new (entry ∷ entries) stands all (one {between = between} before now steps others) =
       history (sent_for schedule texts compiled entry.moment entry.contents w).0 between new entries
       (goes_on w old entry.moment entry.contents stands all.0 between before now steps).stands all.1 others

@@ -1,3 +1,4 @@
+use Rattle.lc_model.specs.Tables.InForce.{layouts}
 use Rattle.flight_core.proofs.Worlds.{stand_for_the_texts}
 use Rattle.flight_core.proofs.laws.hosts_stand_for_the_texts.Goals as goal
 
