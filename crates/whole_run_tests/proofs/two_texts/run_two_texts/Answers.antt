@@ -2,5 +2,5 @@ use Rattle.std.proofs.lemmas.Result.{IfOk-weaker}
 use Rattle.whole_run_tests.proofs.TwoTexts.{writes_both}
 use Rattle.whole_run_tests.proofs.two_texts.run_two_texts.Goals as goal
 
-pub returns-clause-both : goal.returns-clause-both
-returns-clause-both c = IfOk-weaker _ _ _ (λ answer kept. writes_both _ _ _ kept) c.run_with_stock.ensures
+pub returns : goal.returns
+returns g c = record { both = IfOk-weaker _ _ _ (λ answer kept. writes_both _ _ _ kept) c.run_with_stock.ensures.promises }
