@@ -59,7 +59,7 @@ draining_first h sink whole light few none = record {
     count = refl;
     gains = nothing_taken sink.gained;
     own = record { host = refl; files = refl; roster = refl };
-    alone = λ none. record { nothing = refl; events = refl; tables = refl; seats = refl };
+    alone = λ none. record { nothing = refl; events = refl; tables = refl; bus = refl; counts = refl; seats = refl };
   };
   known = λ known. known;
   exact = λ determined. so_far_first h.services.moment h sink.gained determined few none;

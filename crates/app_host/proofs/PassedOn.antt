@@ -1,5 +1,5 @@
 -- All deliveries behind a publication.
-use Rattle.std.proofs.Common.{◌≡◌, true, false, refl, ap, sym, ◌∙◌, subst, ℕ, ◌≤◌, Bool, List, [], ◌∷◌, length, map, arith, if◌then◌else◌, Option, Some, None, Result, Ok, Err}
+use Rattle.std.proofs.Common.{◌≡◌, true, false, refl, ap, sym, ◌∙◌, subst, ℕ, ◌+◌, ◌≤◌, Bool, List, [], ◌∷◌, length, map, arith, if◌then◌else◌, Option, Some, None, Result, Ok, Err}
 use Rattle.std.specs.List.{AllByRecursion, concat}
 use Rattle.std.specs.Prelude.{IfSome, IsOk, OnOk, option_map, slice_index_or, All, Contains}
 use Rattle.std.proofs.lemmas.List.{length-map}
@@ -9,7 +9,7 @@ use Rattle.lc_model.specs.Packet.{message_id, tick_mid, sample_mid, lc_housekeep
 use Rattle.lc_model.specs.Kept.Executive.{Pipe, Executive, ready_seat, published_to, drained}
 use Rattle.lc_model.specs.Kept.Stations.{delivery_stations, last_calls}
 use Rattle.lc_model.specs.Laws.TablesByName.{TablesAreFound}
-use Rattle.lc_model.specs.Services.Bus.{Bus, seen, seen_pipe, IsPublished}
+use Rattle.lc_model.specs.Services.Bus.{Bus, seen, seen_pipe, published_as, IsPublished}
 use Rattle.lc_model.specs.Services.Events.{EventService, sender_at}
 use Rattle.lc_model.specs.Services.Tables.{TableService, IsTableService, tables_at}
 use Rattle.lc_model.proofs.Services.BusLaws.{published_is_seen}
@@ -28,10 +28,10 @@ use Rattle.app_host.specs.Roster.{roster_of}
 use Rattle.app_host.specs.Response.{Response, handing_on, Responds}
 use Rattle.app_host.proofs.Delivery.{shared_still}
 use Rattle.app_host.proofs.Frames.{StaysAt, seated_still}
-use Rattle.app_host.proofs.FirstPublished.{offered_at, offered_keeps, light_first, load_first, none_is_tick, who_waits_hears}
+use Rattle.app_host.proofs.FirstPublished.{unheard, offered_at, offered_keeps, light_first, load_first, none_is_tick, who_waits_hears}
 use Rattle.app_host.proofs.Heard.{heard_offered}
 use Rattle.app_host.proofs.Rosters.{same_roster}
-use Rattle.app_host.proofs.Responding.{responds_from}
+use Rattle.app_host.proofs.Responding.{IsStill, responds_from}
 
 module _ (packet : List ℕ) (old new : Bus) (published : IsPublished packet old new) (eight : length old ≡ 8) (quiet : ready_seat (seen old) ≡ None) where
   pipes_after : seen new ≡ published_to (seen old) packet
@@ -142,6 +142,10 @@ pub ok_holds : {P : Type 0} (result : Result (Unit {0}) BusError) → IsOk resul
 ok_holds (Ok done) is holds = holds
 ok_holds (Err e) is holds = cc
 
+-- a call was made
+pub some_call : {Q : Type 0} (given later n : ℕ) → given ≡ n + 1 → later ≡ given → later ≡ 0 → Q
+some_call given later n one same none = absurd (omega (arith, one, same, none))
+
 -- ---- a host with the packet on its bus
 
 -- the packet is published, and else all is as before
@@ -177,8 +181,16 @@ module _ (old first : Hosted) (packet : List ℕ) (offered : IsOffered packet ol
     tables = offered.tables i;
   }
 
-  pub offered_responds : (new : Hosted) (before now : Option (List ℕ)) (result : Result ℕ WriteFault) → Responds first.services.moment (handing_on first) first new before now result →
+  -- where no call was made and no packet waits, nobody has heard it
+  still_so : (new : Hosted) → (new.calls ≡ 0 → IsQuiet new) → new.calls + 0 ≡ 0 → new.services.bus ≡ first.services.bus → IsStill first old
+  still_so new quiet none same =
+      let so = offered.published in
+      let none_waits : ready_seat (seen (published_as so.number packet old.services.bus)) ≡ None =
+      ap (λ (bus : Bus). ready_seat (seen bus)) (sym so.published ∙ sym same) ∙ quiet (omega (arith, none)) in
+      record { bus = so.published ∙ unheard so.number packet old.services.bus 0 none_waits; counts = offered.counts }
+
+  pub offered_responds : (new : Hosted) → (new.calls ≡ 0 → IsQuiet new) → (before now : Option (List ℕ)) (result : Result ℕ WriteFault) → Responds first.services.moment (handing_on first) first new before now result →
       Responds old.services.moment (handing_on old) old new before now result
-  offered_responds new before now result responds =
-      responds_from old.services.moment (handing_on old) old first new offered.seats (λ none. none) before now result
+  offered_responds new quiet before now result responds =
+      responds_from old.services.moment (handing_on old) old first new offered.seats (still_so new quiet) (λ none. none) before now result
       (subst (λ (p : Moment × Response). Responds p.0 p.1 first new before now result) (λ i. (offered.moment i, handing_same i)) responds)

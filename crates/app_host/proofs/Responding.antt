@@ -1,5 +1,5 @@
 -- What HOST sends of its own, where it calls nobody.
-use Rattle.std.proofs.Common.{◌≡◌, false, refl, ap, sym, ◌∙◌, subst, inl, ℕ, ◌≤◌, nat_lt, List, [], length, take, map, arith, if◌then◌else◌, Option, Some, None, Result, Ok, Err}
+use Rattle.std.proofs.Common.{◌≡◌, false, refl, ap, sym, ◌∙◌, subst, inl, ℕ, ◌+◌, ◌≤◌, nat_lt, List, [], length, take, map, arith, if◌then◌else◌, Option, Some, None, Result, Ok, Err}
 use Rattle.std.specs.Prelude.{IfSome, option_map}
 use Rattle.std.specs.Io.KnownBytes.{Appends}
 use Rattle.lc_model.specs.declared.record.Moment.{Moment}
@@ -40,6 +40,12 @@ module _ (request : Request) (old mid new : Hosted) (before after : Sink) (none_
   events_then : new.services.events ≡ (asked_by_host moment (Some request) old.services.events).0
   events_then = ap (λ (s : Services). s.events) flushed.services ∙ told.events
 
+  bus_then : new.services.bus ≡ old.services.bus
+  bus_then = ap (λ (s : Services). s.bus) flushed.services ∙ told.bus
+
+  counts_then : new.services.counts ≡ old.services.counts
+  counts_then = ap (λ (s : Services). s.counts) flushed.services ∙ told.counts
+
   roster_then : roster_of new ≡ roster_of old
   roster_then = roster_still mid new flushed ∙ same_roster old mid told.stock (ap (map (option_map name_of)) told.seats)
 
@@ -50,7 +56,7 @@ module _ (request : Request) (old mid new : Hosted) (before after : Sink) (none_
     own = refl;
     few = omega arith;
     none_given = λ given. flushed.calls ∙ told.calls ∙ none_yet;
-    alone = λ none. record { nothing = refl; events = refl; tables = tables_then; seats = flushed.seats ∙ told.seats };
+    alone = λ none. record { nothing = refl; events = refl; tables = tables_then; bus = bus_then; counts = counts_then; seats = flushed.seats ∙ told.seats };
     gone = tt;
   }
 
@@ -80,8 +86,14 @@ module _ (request : Request) (old mid new : Hosted) (before after : Sink) (none_
 
 -- ---- what was begun elsewhere
 
+-- bus and sequence counts are the same
+pub record IsStill (mid old : Hosted) : Type 0 where
+  pub bus : mid.services.bus ≡ old.services.bus
+  pub counts : mid.services.counts ≡ old.services.counts
+
 -- the same response to a host with the same seats
 module _ (moment : Moment) (response : Response) (old mid new : Hosted) (seats : mid.seats ≡ old.seats)
+    (still : new.calls + response.changes ≡ 0 → new.services.bus ≡ mid.services.bus → IsStill mid old)
     (gone : IfSome response.leaves (λ seat. HasGone seat mid.seats (at_moment moment mid.services)) → IfSome response.leaves (λ seat. HasGone seat old.seats (at_moment moment old.services))) where
   abbrev called_from : HasCalled moment response mid new → HasCalled moment response old new
   called_from called = record {
@@ -90,7 +102,17 @@ module _ (moment : Moment) (response : Response) (old mid new : Hosted) (seats :
     own = called.own;
     few = called.few;
     none_given = called.none_given;
-    alone = λ none. let alone = called.alone none in record { nothing = alone.nothing; events = alone.events; tables = alone.tables; seats = alone.seats ∙ seats };
+    alone = λ none.
+        let alone = called.alone none in
+        let same = still none alone.bus in
+        record {
+          nothing = alone.nothing;
+          events = alone.events;
+          tables = alone.tables;
+          bus = alone.bus ∙ same.bus;
+          counts = alone.counts ∙ same.counts;
+          seats = alone.seats ∙ seats;
+        };
     gone = gone called.gone;
   }
 
@@ -99,7 +121,7 @@ module _ (moment : Moment) (response : Response) (old mid new : Hosted) (seats :
   responds_from before now (Err fault) part = record { called = called_from part.called; fewer = part.fewer; gains = part.gains; events = part.events; files = part.files; roster = part.roster }
 
 -- HOST tells of a change of its services
-module _ (old mid new : Hosted) (stock : mid.stock ≡ old.stock) (seats : mid.seats ≡ old.seats) (now_is : mid.services.moment ≡ old.services.moment) (asked request : Request)
+module _ (old mid new : Hosted) (stock : mid.stock ≡ old.stock) (seats : mid.seats ≡ old.seats) (now_is : mid.services.moment ≡ old.services.moment) (still : IsStill mid old) (asked request : Request)
     (is : asked ≡ request) (before now : Option (List ℕ)) (result : Result ℕ WriteFault) (responds : Responds mid.services.moment (only_telling asked mid) mid new before now result) where
   abbrev changed : Response
   changed = record (only_telling request old) { events = mid.services.events; tables = mid.services.tables }
@@ -118,7 +140,7 @@ module _ (old mid new : Hosted) (stock : mid.stock ≡ old.stock) (seats : mid.s
 
   pub responds_behind : Responds old.services.moment changed old new before now result
   responds_behind =
-      responds_from old.services.moment changed old mid new seats (λ none. none) before now result
+      responds_from old.services.moment changed old mid new seats (λ none same. still) (λ none. none) before now result
       (subst (λ (p : Moment × Response). Responds p.0 p.1 mid new before now result) (λ i. (now_is i, response_is i)) responds)
 
   -- where it is this answer to what is wanted
@@ -127,13 +149,13 @@ module _ (old mid new : Hosted) (stock : mid.stock ≡ old.stock) (seats : mid.s
 
 -- ---- files, and commands to services
 
-module _ (old mid new : Hosted) (stock : mid.stock ≡ old.stock) (seats : mid.seats ≡ old.seats) (now_is : mid.services.moment ≡ old.services.moment) (asked : Request)
+module _ (old mid new : Hosted) (stock : mid.stock ≡ old.stock) (seats : mid.seats ≡ old.seats) (now_is : mid.services.moment ≡ old.services.moment) (still : IsStill mid old) (asked : Request)
     (before now : Option (List ℕ)) (result : Result ℕ WriteFault) (responds : Responds mid.services.moment (only_telling asked mid) mid new before now result) where
   abbrev By : Response → Type 0
   By wanted = Responds old.services.moment wanted old new before now result
 
   by_request : (request : Request) → asked ≡ request → (wanted : Response) → wanted ≡ record (only_telling request old) { events = mid.services.events; tables = mid.services.tables } → By wanted
-  by_request request is = responds_as old mid new stock seats now_is asked request is before now result responds
+  by_request request is = responds_as old mid new stock seats now_is still asked request is before now result responds
 
   -- the event services alone changed, or the table services alone
   module _ (tables : mid.services.tables ≡ old.services.tables) where
@@ -181,7 +203,7 @@ pub orders_turned_away : (packet : List ℕ) (old ready new : Hosted) (answer : 
     asked ≡ command_refused executive_services refusal → (before now : Option (List ℕ)) (result : Result ℕ WriteFault) → Responds ready.services.moment (only_telling asked ready) ready new before now result →
     Responds old.services.moment (obeying_orders packet old answer) old new before now result
 orders_turned_away packet old ready new answer same refusal is asked told before now result responds =
-    orders_refused old ready new (ap (λ (h : Hosted). h.stock) same) (ap (λ (h : Hosted). h.seats) same) (ap (λ (h : Hosted). h.services.moment) same) asked before now result responds
+    orders_refused old ready new (ap (λ (h : Hosted). h.stock) same) (ap (λ (h : Hosted). h.seats) same) (ap (λ (h : Hosted). h.services.moment) same) (record { bus = ap (λ (h : Hosted). h.services.bus) same; counts = ap (λ (h : Hosted). h.services.counts) same }) asked before now result responds
     (ap (λ (h : Hosted). h.services.tables) same) (ap (λ (h : Hosted). h.services.events) same) packet answer refusal is told
 
 -- the same request by another name

@@ -81,6 +81,6 @@ module _ (moment : Moment) (body : Body) (old begun new : Hosted) (began : StepH
 
   pub responds_then : Responds begun.services.moment (response_to body begun) begun new before now result → Responds moment (response_to body old) old new before now result
   responds_then responds =
-      responds_from moment (response_to body old) old at_first new refl (λ gone. gone) before now result
+      responds_from moment (response_to body old) old at_first new refl (λ none same. record { bus = refl; counts = refl }) (λ gone. gone) before now result
       (subst (λ r. Responds moment r at_first new before now result) (same_response body)
       (subst (λ (h : Hosted). Responds h.services.moment (response_to body h) h new before now result) as_begun responds))

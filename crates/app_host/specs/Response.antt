@@ -107,11 +107,14 @@ asked_by_host moment (Some (Housekeeping mode points)) service = (service, [])
 
 -- ---- what is sent
 
--- no application was called: the services are as HOST's own work left them, and no object on a seat has changed
+-- no application was called: the services are as HOST's own work left them, the bus and the sequence counts as they were, and no
+-- object on a seat has changed
 pub record IsAlone (response : Response) (old new : Hosted) (theirs : List ℕ) (behind : EventService) : Type 0 where
   pub nothing : theirs ≡ []
   pub events : behind ≡ response.events
   pub tables : new.services.tables ≡ response.tables
+  pub bus : new.services.bus ≡ old.services.bus
+  pub counts : new.services.counts ≡ old.services.counts
   pub seats : new.seats ≡ old.seats
 
 -- what the applications have sent that the record called, 65,536 bytes a call at most, and the event services behind that: HOST's
