@@ -20,7 +20,7 @@ use Rattle.app_host.specs.Delivered.{executive_in, Becomes, HasDelivered}
 use Rattle.app_host.specs.Writing.{written_off, IsFlushed, IsAllSent, IsPartSent, IsCut, HandlesAll, HandlesPart, Handles}
 use Rattle.lc_model.proofs.Facts.{test_less}
 use Rattle.app_host.specs.Roster.{Roster, roster_of, ComesTo}
-use Rattle.app_host.specs.Response.{Response, handing_on, IsAlone, HasCalled, RespondsWhole, RespondsPart, Responds}
+use Rattle.app_host.specs.Response.{Response, handing_on, IsAlone, HasCalled, RespondsPart, RespondsWithCount, RespondsCounted}
 use Rattle.app_host.proofs.Flushed.{same_shared}
 use Rattle.app_host.proofs.Rosters.{roster_still, still_among}
 use Rattle.app_host.proofs.Course.{nothing_taken, taken_both, cut_behind, SoFar, so_far_first, so_far_more, cut_here, all_done, all_counted}
@@ -201,6 +201,7 @@ module _ (first now given later : Hosted) (sent seat : ℕ) (before mid after : 
     events = sym (ap (λ b. if b then later.services.events else later.services.events) (test_less total (length theirs) inside));
     files = own_then.files;
     roster = inl own_then.roster;
+    turned = tt;
   }
     where
       theirs : List ℕ
@@ -225,26 +226,30 @@ draining_end first now sent before after far none = record {
 }
 
 -- nor to what was written whole
-pub responds_end : (first now : Hosted) (sent : ℕ) (before after : Sink) → Draining first now sent before after → RespondsWhole first.services.moment (handing_on first) first now before.gained after.gained
+pub responds_end : (first now : Hosted) (sent : ℕ) (before after : Sink) → Draining first now sent before after → RespondsWithCount first.services.moment (handing_on first) sent first now before.gained after.gained
 responds_end first now sent before after far = record {
-  called = record {
-    theirs = far.own.theirs;
-    behind = now.services.events;
-    own = far.own.own.host;
-    few = omega (arith, far.small, far.own.count);
-    none_given = given_then now.calls;
-    alone = λ none. far.own.alone (omega (arith, none));
-    gone = tt;
+  responds = record {
+    called = record {
+      theirs = far.own.theirs;
+      behind = now.services.events;
+      own = far.own.own.host;
+      few = omega (arith, far.small, far.own.count);
+      none_given = given_then now.calls;
+      alone = λ none. far.own.alone (omega (arith, none));
+      gone = tt;
+    };
+    gains = subst (Appends before.gained after.gained) (sym (append-nil far.own.theirs)) far.own.gains;
+    events = refl;
+    files = far.own.own.files;
+    roster = far.own.own.roster;
+    turned = tt;
   };
-  gains = subst (Appends before.gained after.gained) (sym (append-nil far.own.theirs)) far.own.gains;
-  events = refl;
-  files = far.own.own.files;
-  roster = far.own.own.roster;
+  count = far.own.count ∙ ap length (sym (append-nil far.own.theirs));
 }
 
 -- an error that is passed on
 pub responds_short : (moment : Moment) (response : Response) (old new : Hosted) (before now : Option (List ℕ)) (result : Result ℕ WriteFault) (fault : WriteFault) → IsErrAnd result (λ e. e ≡ fault) →
-    RespondsPart moment response fault.sent old new before now → Responds moment response old new before now result
+    RespondsPart moment response fault.sent old new before now → RespondsCounted moment response old new before now result
 responds_short moment response old new before now (Ok done) fault is part = absurd is
 responds_short moment response old new before now (Err e) fault is part = subst (λ (f : WriteFault). RespondsPart moment response f.sent old new before now) (sym is) part
 

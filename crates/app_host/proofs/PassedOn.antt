@@ -25,7 +25,7 @@ use Rattle.app_host.specs.Delivered.{executive_in}
 use Rattle.app_host.specs.Writing.{IsDone, IsCut, Drains, PassesOn}
 use Rattle.app_host.specs.Roster as roster
 use Rattle.app_host.specs.Roster.{roster_of}
-use Rattle.app_host.specs.Response.{Response, handing_on, Responds}
+use Rattle.app_host.specs.Response.{Response, handing_on, RespondsCounted}
 use Rattle.app_host.proofs.Delivery.{shared_still}
 use Rattle.app_host.proofs.Frames.{StaysAt, seated_still}
 use Rattle.app_host.proofs.FirstPublished.{unheard, offered_at, offered_keeps, light_first, load_first, none_is_tick, who_waits_hears}
@@ -175,6 +175,7 @@ module _ (old first : Hosted) (packet : List ℕ) (offered : IsOffered packet ol
     delivers = true;
     leaves = None;
     changes = 0;
+    turn = None;
     left = roster_same i;
     come = roster_same i;
     events = offered.events i;
@@ -189,8 +190,8 @@ module _ (old first : Hosted) (packet : List ℕ) (offered : IsOffered packet ol
       ap (λ (bus : Bus). ready_seat (seen bus)) (sym so.published ∙ sym same) ∙ quiet (omega (arith, none)) in
       record { bus = so.published ∙ unheard so.number packet old.services.bus 0 none_waits; counts = offered.counts }
 
-  pub offered_responds : (new : Hosted) → (new.calls ≡ 0 → IsQuiet new) → (before now : Option (List ℕ)) (result : Result ℕ WriteFault) → Responds first.services.moment (handing_on first) first new before now result →
-      Responds old.services.moment (handing_on old) old new before now result
+  pub offered_responds : (new : Hosted) → (new.calls ≡ 0 → IsQuiet new) → (before now : Option (List ℕ)) (result : Result ℕ WriteFault) → RespondsCounted first.services.moment (handing_on first) first new before now result →
+      RespondsCounted old.services.moment (handing_on old) old new before now result
   offered_responds new quiet before now result responds =
-      responds_from old.services.moment (handing_on old) old first new offered.seats (still_so new quiet) (λ none. none) before now result
-      (subst (λ (p : Moment × Response). Responds p.0 p.1 first new before now result) (λ i. (offered.moment i, handing_same i)) responds)
+      responds_from old.services.moment (handing_on old) old first new offered.seats (still_so new quiet) (λ none. none) (λ turn wanted is. cc) before now result
+      (subst (λ (p : Moment × Response). RespondsCounted p.0 p.1 first new before now result) (λ i. (offered.moment i, handing_same i)) responds)

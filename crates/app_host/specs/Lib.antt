@@ -7,6 +7,7 @@ pub mod Error
 pub mod Object
 pub mod Hosted
 pub mod Objects
+pub mod Boxes
 pub mod Whole
 pub mod Party
 pub mod Load
@@ -19,6 +20,7 @@ pub mod Left
 pub mod Obeyed
 pub mod ObeyedTables
 pub mod Roster
+pub mod Turn
 pub mod Response
 pub mod Publishing
 pub mod Sending

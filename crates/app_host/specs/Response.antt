@@ -21,17 +21,19 @@ use Rattle.app_host.specs.Left.{HasGone}
 use Rattle.app_host.specs.Obeyed.{events_by}
 use Rattle.app_host.specs.ObeyedTables.{tables_by}
 use Rattle.app_host.specs.Roster.{Roster, roster_of, Succession, succession_by}
+use Rattle.app_host.specs.Turn.{Turn, without_comer, HasTurned}
 
 -- ---- what a record asks of HOST
 
 -- HOST's event, if it tells any; whether packets are given to applications; the seat that an object leaves, if any, and how many
--- objects retire and start at most; who is where when the one that leaves has left, and when the one that comes has come; and what
+-- objects retire and start at most; who leaves and who comes, where an order is obeyed; who is where when the one that leaves has left, and when the one that comes has come; and what
 -- the event and the table services are behind HOST's work and before its event
 pub record Response : Type 0 where
   pub request : Option Request
   pub delivers : Bool
   pub leaves : Option ℕ
   pub changes : ℕ
+  pub turn : Option Turn
   pub left : Roster
   pub come : Roster
   pub events : EventService
@@ -44,6 +46,7 @@ handing_on h = record {
   delivers = true;
   leaves = None;
   changes = 0;
+  turn = None;
   left = roster_of h;
   come = roster_of h;
   events = h.services.events;
@@ -72,7 +75,7 @@ obeying_tables packet h (Err refusal) = only_telling (command_refused table_serv
 -- a command to the executive services: one object at most retires, and one at most starts
 abbrev pub obeying_orders : List ℕ → Hosted → Result Succession Refusal → Response
 obeying_orders packet h (Ok succession) =
-    record (only_telling (command_done executive_services (function_code packet)) h) { leaves = succession.leaves; changes = 2; left = succession.left; come = succession.come }
+    record (only_telling (command_done executive_services (function_code packet)) h) { leaves = succession.leaves; changes = 2; turn = Some (record { leaves = succession.leaves; comes = succession.comes }); left = succession.left; come = succession.come }
 obeying_orders packet h (Err refusal) = only_telling (command_refused executive_services refusal) h
 
 -- a good packet goes to a service of the host, or to the applications
@@ -135,6 +138,7 @@ pub record RespondsWhole (moment : Moment) (response : Response) (old new : Host
   pub events : new.services.events ≡ (asked_by_host moment response.request called.behind).0
   pub files : new.services.tables.files ≡ response.tables.files
   pub roster : roster_of new ≡ response.come
+  pub turned : IfSome response.turn (λ turn. HasTurned turn moment old new called.theirs called.behind)
 
 -- a write failed, and so many bytes were taken, the first ones. Where that is inside what the applications sent, HOST has not asked
 -- for its event, and it may be that nobody has come.
@@ -145,8 +149,19 @@ pub record RespondsPart (moment : Moment) (response : Response) (sent : ℕ) (ol
   pub events : new.services.events ≡ (if nat_lt sent (length called.theirs) then called.behind else (asked_by_host moment response.request called.behind).0)
   pub files : new.services.tables.files ≡ response.tables.files
   pub roster : (roster_of new ≡ response.come) ⊎ ((roster_of new ≡ response.left) × (sent < length called.theirs))
+  pub turned : IfSome response.turn (λ turn. HasTurned turn moment old new called.theirs called.behind ⊎ (HasTurned (without_comer turn) moment old new called.theirs called.behind × (sent < length called.theirs)))
+
+-- all is written, so many bytes
+pub record RespondsWithCount (moment : Moment) (response : Response) (total : ℕ) (old new : Hosted) (before now : Option (List ℕ)) : Type 0 where
+  pub responds : RespondsWhole moment response old new before now
+  pub count : total ≡ length (responds.called.theirs ++ (asked_by_host moment response.request responds.called.behind).1)
 
 -- one of the two, by the answer
 abbrev pub Responds : {A : Type 0} → Moment → Response → Hosted → Hosted → Option (List ℕ) → Option (List ℕ) → Result A WriteFault → Type 0
 Responds moment response old new before now (Ok done) = RespondsWhole moment response old new before now
 Responds moment response old new before now (Err fault) = RespondsPart moment response fault.sent old new before now
+
+-- and by an answer with the number of bytes, which is theirs and HOST's
+abbrev pub RespondsCounted : Moment → Response → Hosted → Hosted → Option (List ℕ) → Option (List ℕ) → Result ℕ WriteFault → Type 0
+RespondsCounted moment response old new before now (Ok total) = RespondsWithCount moment response total old new before now
+RespondsCounted moment response old new before now (Err fault) = RespondsPart moment response fault.sent old new before now

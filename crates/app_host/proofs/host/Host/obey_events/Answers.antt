@@ -1,6 +1,5 @@
 use Rattle.std.proofs.Common.{refl, ap, ◌∙◌}
 use Rattle.std.specs.Prelude.{Some, option_map}
-use Rattle.lc_model.specs.Packet.{function_code}
 use Rattle.lc_model.specs.Command.{event_command_in}
 use Rattle.lc_model.specs.Events.Request.{event_services, command_done, command_refused}
 use Rattle.lc_model.specs.Services.Events.{EventService, sender_at}

@@ -1,5 +1,4 @@
 use Rattle.std.proofs.Common.{refl, ap, ◌∙◌}
-use Rattle.lc_model.specs.Packet.{function_code}
 use Rattle.lc_model.specs.Command.{table_command_in}
 use Rattle.lc_model.specs.Events.Request.{table_services, command_done, command_refused}
 use Rattle.app_host.proofs.TablesObeyed.{kept_by, whole_obeyed, whole_refused, is_obeyed, is_not_obeyed}
