@@ -1,6 +1,6 @@
 //! A stream comes in pieces.
 
-ghost use Rattle.std.specs.Prelude.{◌≡◌, ◌<◌, ◌≤◌, false, length};
+ghost use Rattle.std.specs.Prelude.{◌≡◌, ◌+◌, ◌<◌, ◌≤◌, false, length};
 ghost use Rattle.lc_model.specs.Host.Stream.{header_size, max_body};
 ghost use Rattle.host_laws.specs.Statements.{AreBytes};
 ghost use Rattle.flight_core.specs.Going.{Refills, TakesPiece};
