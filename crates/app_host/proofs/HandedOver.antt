@@ -24,7 +24,8 @@ use Rattle.app_host.proofs.Delivery.{HasFirst, oldest_is}
 use Rattle.app_host.proofs.Deliver.{may_give, deliver_done}
 use Rattle.app_host.proofs.FirstPublished.{first_not_ready}
 use Rattle.app_host.proofs.Draining.{Draining, draining_first}
-use Rattle.app_host.proofs.PassedOn.{light_after, load_after, whole_mid, IsOffered}
+use Rattle.app_host.specs.Heard.{IsOffered}
+use Rattle.app_host.proofs.PassedOn.{light_after, load_after, whole_mid}
 
 -- ---- nothing waits
 

@@ -45,6 +45,7 @@ module _ (packet : List ℕ) (Gone : ℕ → Type 0) (old ready : Hosted) (next 
     few = omega (arith, small);
     none_given = λ given. none_yet;
     alone = λ none. absurd (omega (arith, none));
+    heard = tt;
     gone = made.gone;
   }
 

@@ -18,6 +18,7 @@ use Rattle.app_host.specs.Hosted.{Hosted}
 use Rattle.app_host.specs.Writing.{IsFlushed, IsAllSent, IsPartSent, IsSent}
 use Rattle.app_host.specs.Told.{HasTold}
 use Rattle.app_host.specs.Roster.{name_of, roster_of, Succession}
+use Rattle.app_host.specs.Heard.{HasHeard}
 use Rattle.app_host.specs.Turn.{Turn, without_comer, HasTurned}
 use Rattle.app_host.specs.Response.{Response, only_telling, filing, obeying_events, obeying_tables, obeying_orders, asked_by_host, HasCalled, RespondsPart, RespondsWithCount, RespondsCounted}
 use Rattle.app_host.proofs.Rosters.{same_roster, roster_still}
@@ -58,6 +59,7 @@ module _ (request : Request) (old mid new : Hosted) (before after : Sink) (none_
     few = omega arith;
     none_given = λ given. flushed.calls ∙ told.calls ∙ none_yet;
     alone = λ none. record { nothing = refl; events = refl; tables = tables_then; bus = bus_then; counts = counts_then; seats = flushed.seats ∙ told.seats };
+    heard = tt;
     gone = tt;
   }
 
@@ -101,7 +103,12 @@ pub record IsStill (mid old : Hosted) : Type 0 where
 module _ (moment : Moment) (response : Response) (old mid new : Hosted) (seats : mid.seats ≡ old.seats)
     (still : new.calls + response.changes ≡ 0 → new.services.bus ≡ mid.services.bus → IsStill mid old)
     (gone : IfSome response.leaves (λ seat. HasGone seat mid.seats (at_moment moment mid.services)) → IfSome response.leaves (λ seat. HasGone seat old.seats (at_moment moment old.services)))
-    (turns : (turn wanted : Turn) → response.turn ≡ Some turn → (theirs : List ℕ) (behind : EventService) → HasTurned wanted moment mid new theirs behind → HasTurned wanted moment old new theirs behind) where
+    (turns : (turn wanted : Turn) → response.turn ≡ Some turn → (theirs : List ℕ) (behind : EventService) → HasTurned wanted moment mid new theirs behind → HasTurned wanted moment old new theirs behind)
+    (hears : (packet : List ℕ) → response.passes ≡ Some packet → (theirs : List ℕ) → HasHeard packet moment mid new theirs → HasHeard packet moment old new theirs) where
+  heard_from : (place : Option (List ℕ)) → response.passes ≡ place → (theirs : List ℕ) → IfSome place (λ packet. HasHeard packet moment mid new theirs) → IfSome place (λ packet. HasHeard packet moment old new theirs)
+  heard_from None is theirs heard = tt
+  heard_from (Some packet) is theirs heard = hears packet is theirs heard
+
   abbrev called_from : HasCalled moment response mid new → HasCalled moment response old new
   called_from called = record {
     theirs = called.theirs;
@@ -120,6 +127,7 @@ module _ (moment : Moment) (response : Response) (old mid new : Hosted) (seats :
           counts = alone.counts ∙ same.counts;
           seats = alone.seats ∙ seats;
         };
+    heard = heard_from response.passes refl called.theirs called.heard;
     gone = gone called.gone;
   }
 
@@ -170,6 +178,7 @@ module _ (old mid new : Hosted) (stock : mid.stock ≡ old.stock) (seats : mid.s
   response_is = λ i. record {
     request = Some (is i);
     delivers = false;
+    passes = None;
     leaves = None;
     changes = 0;
     turn = None;
@@ -181,7 +190,7 @@ module _ (old mid new : Hosted) (stock : mid.stock ≡ old.stock) (seats : mid.s
 
   pub responds_behind : RespondsCounted old.services.moment changed old new before now result
   responds_behind =
-      responds_from old.services.moment changed old mid new seats (λ none same. still) (λ none. none) (λ turn wanted is. cc) before now result
+      responds_from old.services.moment changed old mid new seats (λ none same. still) (λ none. none) (λ turn wanted is. cc) (λ packet is. cc) before now result
       (subst (λ (p : Moment × Response). RespondsCounted p.0 p.1 mid new before now result) (λ i. (now_is i, response_is i)) responds)
 
   -- where it is this answer to what is wanted

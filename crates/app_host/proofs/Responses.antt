@@ -14,8 +14,9 @@ use Rattle.app_host.specs.Hosted.{Hosted}
 use Rattle.app_host.specs.Obeyed.{events_by}
 use Rattle.app_host.specs.ObeyedTables.{tables_by}
 use Rattle.app_host.specs.Roster.{roster_of, succession_by}
+use Rattle.app_host.specs.Heard.{host_at, IsOffered, HasHeard}
 use Rattle.app_host.specs.Turn.{Turn, HasTurned}
-use Rattle.app_host.specs.Response.{Response, handing_on, only_telling, obeying_events, obeying_tables, obeying_orders, routed_to, response_to_packet, response_to, Responds, RespondsCounted}
+use Rattle.app_host.specs.Response.{Response, passing_on, only_telling, obeying_events, obeying_tables, obeying_orders, routed_to, response_to_packet, response_to, Responds, RespondsCounted}
 use Rattle.app_host.specs.Step.{StepHasBegun}
 use Rattle.app_host.proofs.Responding.{responds_from}
 
@@ -32,7 +33,7 @@ module _ (packet : List ℕ) (h : Hosted) where
   for_orders = obeying_orders packet h (succession_by packet (roster_of h))
 
   abbrev by_mid : ℕ → Response
-  by_mid mid = by_service mid for_events for_tables for_orders (handing_on h)
+  by_mid mid = by_service mid for_events for_tables for_orders (passing_on packet h)
 
   pub is_for_events : message_id packet ≡ event_services_mid → for_events ≡ routed_to packet h
   is_for_events is = sym (ap by_mid is)
@@ -102,9 +103,32 @@ module _ (moment : Moment) (body : Body) (old begun new : Hosted) (began : StepH
     counts = turned.counts;
   }
 
+  heard_then : (packet theirs : List ℕ) → HasHeard packet moment first_host new theirs → HasHeard packet moment old new theirs
+  heard_then packet theirs heard = record {
+    first = heard.first;
+    offered = offered_then packet heard.first heard.offered;
+    deliveries = heard.deliveries;
+    are = heard.are;
+    sent = heard.sent;
+    calls = heard.calls;
+  }
+    where
+      offered_then : (packet : List ℕ) (first : Hosted) → IsOffered packet (host_at moment first_host) first → IsOffered packet (host_at moment old) first
+      offered_then packet first offered = record {
+        stock = offered.stock;
+        seats = offered.seats;
+        is_closed = offered.is_closed;
+        events = offered.events;
+        tables = offered.tables;
+        counts = offered.counts;
+        moment = offered.moment;
+        outgoing = offered.outgoing;
+        published = offered.published;
+      }
+
   pub responds_then : RespondsCounted begun.services.moment (response_to body begun) begun new before now result → RespondsCounted moment (response_to body old) old new before now result
   responds_then responds =
-      responds_from moment (response_to body old) old first_host new refl (λ none same. record { bus = refl; counts = refl }) (λ gone. gone) (λ turn wanted is theirs behind turned. turned_then wanted theirs behind turned) before now result
+      responds_from moment (response_to body old) old first_host new refl (λ none same. record { bus = refl; counts = refl }) (λ gone. gone) (λ turn wanted is theirs behind turned. turned_then wanted theirs behind turned) (λ packet is theirs heard. heard_then packet theirs heard) before now result
       (subst (λ r. RespondsCounted moment r first_host new before now result) (same_response moment body old begun began body)
       (subst (λ (h : Hosted). RespondsCounted h.services.moment (response_to body h) h new before now result) (as_begun moment body old begun began) responds))
 

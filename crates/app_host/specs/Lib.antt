@@ -15,6 +15,7 @@ pub mod Delivered
 pub mod HandedOver
 pub mod Writing
 pub mod Texts
+pub mod Heard
 pub mod Told
 pub mod Left
 pub mod Obeyed

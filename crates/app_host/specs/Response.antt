@@ -11,12 +11,14 @@ use Rattle.lc_model.specs.Packet.{stream_fault, function_code, message_id, by_se
 use Rattle.lc_model.specs.Refusal.{Refusal}
 use Rattle.lc_model.specs.Command.{event_command_in, table_command_in}
 use Rattle.lc_model.specs.Events.Request.{Request, Event, Sequence, Housekeeping, bad_packet, file_stored, file_refused, event_services, table_services, executive_services, command_done, command_refused}
+use Rattle.lc_model.specs.Kept.Executive.{tick_packet}
 use Rattle.lc_model.specs.Services.Events.{EventService, event_asked}
 use Rattle.lc_model.specs.Services.Tables.{TableService, file_put}
 use Rattle.lc_model.specs.Services.Interface.{outgoing_room}
 use Rattle.app_host.specs.declared.error.WriteFault.{WriteFault}
 use Rattle.app_host.specs.Shared.{at_moment}
 use Rattle.app_host.specs.Hosted.{Hosted}
+use Rattle.app_host.specs.Heard.{HasHeard}
 use Rattle.app_host.specs.Left.{HasGone}
 use Rattle.app_host.specs.Obeyed.{events_by}
 use Rattle.app_host.specs.ObeyedTables.{tables_by}
@@ -25,12 +27,13 @@ use Rattle.app_host.specs.Turn.{Turn, without_comer, HasTurned}
 
 -- ---- what a record asks of HOST
 
--- HOST's event, if it tells any; whether packets are given to applications; the seat that an object leaves, if any, and how many
+-- HOST's event, if it tells any; whether packets are given to applications, and which packet is published for that; the seat that an object leaves, if any, and how many
 -- objects retire and start at most; who leaves and who comes, where an order is obeyed; who is where when the one that leaves has left, and when the one that comes has come; and what
 -- the event and the table services are behind HOST's work and before its event
 pub record Response : Type 0 where
   pub request : Option Request
   pub delivers : Bool
+  pub passes : Option (List ℕ)
   pub leaves : Option ℕ
   pub changes : ℕ
   pub turn : Option Turn
@@ -39,11 +42,12 @@ pub record Response : Type 0 where
   pub events : EventService
   pub tables : TableService
 
--- a packet or a tick is handed to the applications, and HOST tells nothing
+-- what is handed to the applications, where HOST tells nothing
 abbrev pub handing_on : Hosted → Response
 handing_on h = record {
   request = None;
   delivers = true;
+  passes = None;
   leaves = None;
   changes = 0;
   turn = None;
@@ -52,6 +56,10 @@ handing_on h = record {
   events = h.services.events;
   tables = h.services.tables;
 }
+
+-- a packet or a tick is published and handed to the applications, and HOST tells nothing
+abbrev pub passing_on : List ℕ → Hosted → Response
+passing_on packet h = record (handing_on h) { passes = Some packet }
 
 -- HOST tells this, and that is all
 abbrev pub only_telling : Request → Hosted → Response
@@ -85,7 +93,7 @@ routed_to packet h =
     (obeying_events packet h (events_by (event_command_in packet) h.services.events))
     (obeying_tables packet h (tables_by (table_command_in packet) h.services.tables))
     (obeying_orders packet h (succession_by packet (roster_of h)))
-    (handing_on h)
+    (passing_on packet h)
 
 -- any packet
 abbrev pub response_to_packet : List ℕ → Hosted → Response
@@ -94,7 +102,7 @@ response_to_packet packet h = option_map_or (λ reason. only_telling (bad_packet
 -- any record
 abbrev pub response_to : Body → Hosted → Response
 response_to (body.Packet bytes) h = response_to_packet bytes.now h
-response_to body.Tick h = handing_on h
+response_to body.Tick h = passing_on tick_packet h
 response_to (body.File name bytes) h = filing h (file_put name.now bytes.now h.services.tables)
 
 -- ---- HOST's packet
@@ -129,6 +137,7 @@ pub record HasCalled (moment : Moment) (response : Response) (old new : Hosted) 
   pub few : length theirs ≤ outgoing_room * (new.calls + response.changes)
   pub none_given : response.delivers ≡ false → new.calls ≡ 0
   pub alone : new.calls + response.changes ≡ 0 → IsAlone response old new theirs behind
+  pub heard : IfSome response.passes (λ packet. HasHeard packet moment old new theirs)
   pub gone : IfSome response.leaves (λ seat. HasGone seat old.seats (at_moment moment old.services))
 
 -- all is written, HOST's packet behind theirs
