@@ -89,6 +89,8 @@ module _ (pairs : List TablePair) (held after : Held) (f : Found) (given : Given
         roster = counted.responds.roster;
         turned = counted.responds.turned;
       };
+      between = between;
+      exact = λ those. (steps.exact those).host;
     };
     gains = counted.responds.gains;
     counted = counted.count;

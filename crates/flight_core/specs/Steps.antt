@@ -9,22 +9,27 @@ use Rattle.lc_model.specs.Host.Stream.{StreamEntry, records_of}
 use Rattle.lc_model.specs.Host.Outcome.{Devices, Ending, Uncompiled, FailedToWrite, NoMemory, IsOutcome}
 use Rattle.lc_model.specs.Host.Promise.{Mission}
 use Rattle.lc_model.specs.Kept.Executive.{Member}
-use Rattle.lc_model.specs.Kept.Stations.{first_host}
+use Rattle.lc_model.specs.Kept.Stations.{first_host, host_after}
 use Rattle.rpn_compiler.specs.declared.files.TablePair.{TablePair}
 use Rattle.app_host.specs.Hosted.{Hosted, in_numbers}
-use Rattle.app_host.specs.Step.{input_by}
+use Rattle.app_host.specs.Shared.{on_board}
+use Rattle.app_host.specs.Party.{AreKnownIn}
+use Rattle.app_host.specs.Step.{input_by, IsBetween, party_of}
 use Rattle.app_host.specs.Response.{response_to, asked_by_host, RespondsWhole, RespondsPart}
 use Rattle.flight_core.specs.Brought.{meanings_of}
 use Rattle.flight_core.specs.Compiled.{AreAllCompiled}
 
 -- ---- one record
 
--- one step from a host to the next: what it brings is what the record says, and these bytes are all that is written of it
+-- one step from a host to the next: what it brings is what the record says, and these bytes are all that is written of it. Where
+-- those that may take part are of this profile, what there is afterwards is exact.
 pub record IsOneStep (meanings : FileMeanings (List ℕ)) (entry : StreamEntry) (old new : Hosted) (part : List ℕ) : Type 0 where
   pub given : Given
   pub moment : given.moment ≡ entry.moment
   pub brings : input_by given.body ≡ input_of meanings entry.contents
   pub responds : RespondsWhole given.moment (response_to given.body old) old new (Some []) (Some part)
+  pub between : IsBetween new
+  pub exact : AreKnownIn (party_of (input_by given.body)) old → in_numbers new ≡ host_after on_board given.moment (in_numbers old) (input_by given.body)
 
 -- the same where a write failed: of these bytes so many were written, the first ones
 pub record IsCutStep (meanings : FileMeanings (List ℕ)) (entry : StreamEntry) (sent : ℕ) (old new : Hosted) (part : List ℕ) : Type 0 where
