@@ -24,7 +24,7 @@ use Rattle.app_host.specs.Objects.{HasAnswered}
 use Rattle.app_host.specs.Whole.{IsRunning, AreSeated, IsKnown, AreKnown}
 use Rattle.app_host.specs.Party.{AreKnownHearers, IsDetermined}
 use Rattle.app_host.specs.Load.{is_tick, packets_in, load, IsLight}
-use Rattle.app_host.specs.Delivered.{executive_in, Becomes, HasDelivered}
+use Rattle.app_host.specs.Delivered.{with_bus, executive_in, Becomes, HasDelivered}
 use Rattle.app_host.proofs.Found.{shown_in}
 use Rattle.app_host.proofs.Rosters.{same_roster, names_still}
 use Rattle.app_host.proofs.Frames.{fact_at_set, others_stay, seated_still, seated_with, alone_still}
@@ -32,7 +32,7 @@ use Rattle.app_host.proofs.Loads.{waits_here, tick_waits, falls, still_light, no
 use Rattle.app_host.proofs.Rules as model
 use Rattle.app_host.proofs.Published.{heard_at}
 use Rattle.app_host.proofs.Heard.{IsScheduled, IfHeard, entries_scheduled, heard_anyway, heard_behind, heard_then}
-use Rattle.app_host.proofs.Delivery.{HasFirst, first_packet, behind, pipe_is, waits, bus_then, shared_still, stays_taken}
+use Rattle.app_host.proofs.Delivery.{oldest_is, HasFirst, first_packet, behind, pipe_is, waits, bus_then, shared_still, stays_taken}
 
 -- ---- an object of this profile answers
 
@@ -69,6 +69,9 @@ module _ (law : TablesAreFound) (h new : Hosted) (now : Services) (seat : ℕ) (
     (seats : new.seats ≡ slice_set h.seats seat (Some o')) (stock : new.stock ≡ h.stock) (eight : length new.services.bus ≡ 8) where
   abbrev before : Services
   before = h.services
+
+  now_is : now ≡ with_bus (after before.bus (received seat before.bus)) before
+  now_is = λ i. record { bus = bus i; events = events i; tables = tables i; counts = counts i; moment = moment i; outgoing = outgoing i }
 
   sound_now : IsTableService now.tables
   sound_now = subst IsTableService (sym tables) sound
@@ -254,6 +257,15 @@ module _ (law : TablesAreFound) (h new : Hosted) (now : Services) (seat : ℕ) (
       host = answered.rules.call.others.host ∙ ap (λ (e : EventService). e.host) events;
       files = answered.rules.call.others.files ∙ ap (λ (t : TableService). t.files) tables;
       roster = same_roster h new stock (names_still h new seat o o' at answered.name seats);
+    };
+    packet = packet;
+    had = record {
+      oldest = oldest_is before.bus seat has ∙ ap Some (sym is);
+      object = o;
+      there = at;
+      now = o';
+      answered = subst (λ (s : Services). HasAnswered seat packet s new.services o o') now_is answered;
+      seats = seats;
     };
     known = known_then;
     determined = λ determined. determined_so (known_here determined) determined;

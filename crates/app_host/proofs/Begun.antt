@@ -174,6 +174,7 @@ module _ (law : TablesAreFound) (old new : Hosted) (seat : ℕ) (o o' : Object) 
     };
     known = λ known its_own. known_then its_own known;
     exact = exact_then;
+    taken = record { there = o'; started = started; others = seats };
   }
 
 -- by what became of the place

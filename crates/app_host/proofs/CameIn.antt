@@ -1,5 +1,5 @@
 -- The next one took its seat, and what it asked for is written.
-use Rattle.std.proofs.Common.{◌≡◌, ap, ap₂, sym, ◌∙◌, subst, inl, inr, ℕ, ◌+◌, ◌≤◌, List, [], ◌++◌, length, take, arith, length-append, Option, Result, Ok, Err}
+use Rattle.std.proofs.Common.{◌≡◌, ap, ap₂, sym, ◌∙◌, subst, inl, inr, ℕ, ◌+◌, ◌≤◌, List, [], ◌++◌, length, take, arith, length-append, refl, Option, Result, Ok, Err}
 use Rattle.std.specs.Prelude.{IsErrAnd, All, Contains, ◌⊎◌}
 use Rattle.std.specs.List.{concat, remove}
 use Rattle.std.specs.Io.KnownBytes.{Appends}
@@ -13,8 +13,9 @@ use Rattle.app_host.specs.Hosted.{Object, Hosted}
 use Rattle.app_host.specs.Whole.{AreSpares, AreKnown}
 use Rattle.app_host.specs.Delivered.{executive_in, Becomes}
 use Rattle.app_host.specs.Writing.{IsFlushed, IsAllSent, IsPartSent}
-use Rattle.app_host.specs.Ordered.{Next, Nobody, Spare, Same, IsKnownNext, followed_by, seated_next, HasFollowed, HasComeIn, HasFailed, ComesIn, HasEntered, HasNotEntered, Enters}
+use Rattle.app_host.specs.Ordered.{Next, Nobody, Spare, Same, IsKnownNext, followed_by, seated_next, comer_of, gone_in, HasCome, HasFollowed, HasComeIn, HasFailed, ComesIn, HasEntered, HasNotEntered, Enters}
 use Rattle.app_host.specs.Roster.{Roster, roster_of, ComesTo}
+use Rattle.app_host.specs.Turn.{ComesAs}
 use Rattle.app_host.proofs.Rosters.{roster_still, still_among}
 use Rattle.app_host.proofs.Course.{taken_both, cut_behind}
 use Rattle.app_host.proofs.Draining.{same_executive, still_known}
@@ -111,12 +112,22 @@ module _ (next : Next) (old one two new : Hosted) (sent : ℕ) (before mid now :
     roster = roster_still two new second ∙ followed.own.roster ∙ ap (seated_next next) (roster_still old one first);
   }
 
+  its_turn : HasCome next old new bytes
+  its_turn = record {
+    later = two.services;
+    came = subst (λ (x : List Object × Services × List (Option Object) × List (Option Object)). ComesAs (comer_of next) x.0 (gone_in next) x.1 two.services x.2 x.3)
+        (λ i. (first.stock i, first.services i, first.seats i, sym second.seats i)) followed.came;
+    sent = refl;
+    services = second.services;
+  }
+
   pub entered : (total : ℕ) → IsAllSent sent two new mid now total → HasEntered next total old new before.gained now.gained
   entered total rest = record {
     theirs = bytes;
     count = omega (arith, all.count, rest.count, size);
     gains = taken_both before.gained mid.gained now.gained old.services.outgoing two.services.outgoing all.gains rest.gains;
     own = comes_to;
+    come = its_turn;
   }
 
   pub not_entered : (total : ℕ) → IsPartSent sent two new mid now total → HasNotEntered next total old new before.gained now.gained
@@ -127,6 +138,7 @@ module _ (next : Next) (old one two new : Hosted) (sent : ℕ) (before mid now :
     gains = subst (Appends before.gained now.gained) (sym (cut_behind sent part.taken total old.services.outgoing two.services.outgoing part.count (let same : sent ≡ length old.services.outgoing = omega (arith, all.count) in same)))
         (taken_both before.gained mid.gained now.gained old.services.outgoing (take part.taken two.services.outgoing) all.gains part.gains);
     own = inl comes_to;
+    come = inl its_turn;
   }
 
 -- what waited was cut, and nobody came
@@ -138,6 +150,7 @@ nobody_entered next old one before now fits flushed total part = record {
   fewer = omega (arith, part.count, part.fewer);
   gains = subst (λ n. Appends before.gained now.gained (take n old.services.outgoing)) (let same : part.taken ≡ total = omega (arith, part.count) in same) part.gains;
   own = inr (record { host = ap (λ (s : Services). s.events.host) flushed.services; files = ap (λ (s : Services). s.tables.files) flushed.services; roster = roster_still old one flushed });
+  come = inr (record { seats = flushed.seats; sent = refl; services = flushed.services });
 }
 
 pub not_entered_so : (next : Next) (old new : Hosted) (before now : Option (List ℕ)) (result : Result ℕ WriteFault) (fault : WriteFault) → IsErrAnd result (λ e. e ≡ fault) →

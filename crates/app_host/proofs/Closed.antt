@@ -1,12 +1,10 @@
 -- Seat by seat all objects retire.
-use Rattle.std.proofs.Common.{◌≡◌, ◌≢◌, refl, ap, sym, ◌∙◌, subst, inl, inr, ℕ, ◌+◌, ◌<◌, ◌≤◌, Bool, true, false, nat_le, List, length, arith, Option, Some, None}
+use Rattle.std.proofs.Common.{◌≡◌, ◌≢◌, refl, ap, sym, ◌∙◌, subst, inl, inr, ℕ, ◌+◌, ◌<◌, ◌≤◌, Bool, true, false, nat_le, length, arith, Option, Some, None}
 use Rattle.std.specs.Prelude.{◌⊎◌, IfSome, slice_set}
 use Rattle.std.proofs.lemmas.List.{get_or-set_other, get_or_past}
 use Rattle.std.proofs.lemmas.Bool.{leb-true, leb-false}
 use Rattle.std.proofs.lemmas.Grind.{get_or-set_at}
-use Rattle.lc_model.specs.Services.Interface.{IsFreeSeat}
 use Rattle.app_host.specs.declared.services.Services.{Services}
-use Rattle.app_host.specs.Shared.{held_by}
 use Rattle.app_host.specs.Hosted.{Object, Hosted, object_at}
 use Rattle.app_host.specs.Objects.{IfBoth, HasRetired}
 use Rattle.app_host.specs.Left.{HasClosed, HasVacated, WasRetired}

@@ -1,8 +1,10 @@
 -- The loop of the deliveries.
-use Rattle.std.proofs.Common.{◌≡◌, true, false, refl, ap, sym, ◌∙◌, subst, ℕ, ◌+◌, ◌*◌, ◌<◌, ◌≤◌, inl, List, [], ◌++◌, length, take, map, arith, length-append, if◌then◌else◌, Option, Some, None, Result, Ok, Err}
+use Rattle.std.proofs.Common.{◌≡◌, true, false, refl, ap, sym, ◌∙◌, subst, ℕ, ◌+◌, ◌*◌, ◌<◌, ◌≤◌, List, [], ◌∷◌, ◌++◌, length, take, map, arith, length-append, Option, Some, None, Result, Ok, Err}
 use Rattle.std.specs.Prelude.{option_map, IsErrAnd}
 use Rattle.std.specs.Io.KnownBytes.{Appends}
+use Rattle.std.specs.List.{concat}
 use Rattle.std.proofs.lemmas.List.{append-nil}
+use Rattle.std.proofs.lemmas.List.Folds.{concat-append}
 use Rattle.lc_model.specs.declared.record.Moment.{Moment}
 use Rattle.lc_model.specs.Device.{Sink}
 use Rattle.lc_model.specs.Packet.{sample_mid, lc_housekeeping_request_mid}
@@ -18,20 +20,40 @@ use Rattle.app_host.specs.Party.{Party, Waiting, nobody, AreKnownHearers, IsDete
 use Rattle.app_host.specs.Load.{all_ticks, IsLight, load}
 use Rattle.app_host.specs.Delivered.{executive_in, Becomes, HasDelivered}
 use Rattle.app_host.specs.Writing.{written_off, IsFlushed, IsAllSent, IsPartSent, IsCut, HandlesAll, HandlesPart, Handles}
-use Rattle.lc_model.proofs.Facts.{test_less}
 use Rattle.app_host.specs.Roster.{Roster, roster_of, ComesTo}
-use Rattle.app_host.specs.Response.{Response, handing_on, IsAlone, HasCalled, RespondsWhole, RespondsPart, Responds}
+use Rattle.app_host.specs.Heard.{IsDelivery, AreDeliveries}
+use Rattle.app_host.specs.Response.{Response, handing_on, IsAlone, RespondsPart, RespondsCounted}
 use Rattle.app_host.proofs.Flushed.{same_shared}
 use Rattle.app_host.proofs.Rosters.{roster_still, still_among}
 use Rattle.app_host.proofs.Course.{nothing_taken, taken_both, cut_behind, SoFar, so_far_first, so_far_more, cut_here, all_done, all_counted}
 
 -- what the applications have sent so far, and that what is HOST's own stays
+pub record Listening (first now : Hosted) (theirs : List ℕ) : Type 0 where
+  pub own : ComesTo (roster_of first) first now
+  pub alone : now.calls ≡ 0 → IsAlone (handing_on first) first now theirs now.services.events
+  pub small : length theirs ≤ 65536 * now.calls
+  pub deliveries : List (List ℕ)
+  pub are : AreDeliveries deliveries first now
+  pub sent : theirs ≡ concat deliveries
+  pub calls : now.calls ≡ length deliveries
+
 pub record Hearing (first now : Hosted) (sent : ℕ) (before after : Option (List ℕ)) : Type 0 where
   pub theirs : List ℕ
   pub count : sent ≡ length theirs
   pub gains : Appends before after theirs
-  pub own : ComesTo (roster_of first) first now
-  pub alone : now.calls ≡ 0 → IsAlone (handing_on first) first now theirs now.services.events
+  pub listening : Listening first now theirs
+
+no_deliveries : (first : Hosted) → AreDeliveries [] first first
+unfolding AreDeliveries
+no_deliveries first = refl
+
+one_delivery_more : (deliveries : List (List ℕ)) (first mid now : Hosted) (bytes : List ℕ) → AreDeliveries deliveries first mid → IsDelivery mid now bytes → AreDeliveries (deliveries ++ bytes ∷ []) first now
+unfolding AreDeliveries
+one_delivery_more [] first mid now bytes same delivery = (now, subst (λ (h : Hosted). IsDelivery h now bytes) same delivery, refl)
+one_delivery_more (other ∷ deliveries) first mid now bytes are delivery = (are.0, are.1, one_delivery_more deliveries are.0 mid now bytes are.2 delivery)
+
+sent_behind : (deliveries : List (List ℕ)) (bytes : List ℕ) → concat (deliveries ++ bytes ∷ []) ≡ concat deliveries ++ bytes
+sent_behind deliveries bytes = concat-append deliveries (bytes ∷ []) ∙ ap (λ bs. concat deliveries ++ bs) (append-nil bytes)
 
 pub record Draining (first now : Hosted) (sent : ℕ) (before after : Sink) : Type 0 where
   pub whole : IsWhole now
@@ -58,15 +80,22 @@ draining_first h sink whole light few none = record {
     theirs = [];
     count = refl;
     gains = nothing_taken sink.gained;
-    own = record { host = refl; files = refl; roster = refl };
-    alone = λ none. record { nothing = refl; events = refl; tables = refl; seats = refl };
+    listening = record {
+      own = record { host = refl; files = refl; roster = refl };
+      alone = λ none. record { nothing = refl; events = refl; tables = refl; bus = refl; counts = refl; seats = refl };
+      small = omega arith;
+      deliveries = [];
+      are = no_deliveries h;
+      sent = refl;
+      calls = none;
+    };
   };
   known = λ known. known;
   exact = λ determined. so_far_first h.services.moment h sink.gained determined few none;
 }
 
 -- packets are given
-given_then : (calls : ℕ) → true ≡ false → calls ≡ 0
+pub given_then : (calls : ℕ) → true ≡ false → calls ≡ 0
 given_then calls never = cc
 
 -- nothing waits to be written any more
@@ -116,9 +145,37 @@ module _ (first now given later : Hosted) (sent seat : ℕ) (before mid after : 
 
   own_then : ComesTo (roster_of first) first later
   own_then = record {
-    host = ap (λ (s : Services). s.events.host) flushed.services ∙ delivered.own.host ∙ far.own.own.host;
-    files = ap (λ (s : Services). s.tables.files) flushed.services ∙ delivered.own.files ∙ far.own.own.files;
-    roster = roster_still given later flushed ∙ delivered.own.roster ∙ far.own.own.roster;
+    host = ap (λ (s : Services). s.events.host) flushed.services ∙ delivered.own.host ∙ far.own.listening.own.host;
+    files = ap (λ (s : Services). s.tables.files) flushed.services ∙ delivered.own.files ∙ far.own.listening.own.files;
+    roster = roster_still given later flushed ∙ delivered.own.roster ∙ far.own.listening.own.roster;
+  }
+
+  delivery : IsDelivery now later given.services.outgoing
+  delivery = record {
+    seat = seat;
+    packet = delivered.packet;
+    least = ready;
+    room = λ other. let short = far.light.short other in omega (arith, short);
+    answered = given;
+    had = delivered.had;
+    bytes_are = refl;
+    services = flushed.services;
+    seats = flushed.seats;
+    stock = flushed.stock ∙ delivered.stock;
+  }
+
+  abbrev pub theirs_then : List ℕ
+  theirs_then = far.own.theirs ++ given.services.outgoing
+
+  pub listening_then : Listening first later theirs_then
+  listening_then = record {
+    own = own_then;
+    alone = λ none. absurd (omega (arith, none, calls_then));
+    small = omega (arith, delivered.fits, far.own.listening.small, calls_then, length-append far.own.theirs given.services.outgoing);
+    deliveries = far.own.listening.deliveries ++ given.services.outgoing ∷ [];
+    are = one_delivery_more far.own.listening.deliveries first now later given.services.outgoing far.own.listening.are delivery;
+    sent = ap (λ bs. bs ++ given.services.outgoing) far.own.listening.sent ∙ sym (sent_behind far.own.listening.deliveries given.services.outgoing);
+    calls = omega (arith, calls_then, far.own.listening.calls, length-append far.own.listening.deliveries (given.services.outgoing ∷ []));
   }
 
   known_later : AreKnown first → AreKnown later
@@ -158,8 +215,7 @@ module _ (first now given later : Hosted) (sent seat : ℕ) (before mid after : 
       theirs = far.own.theirs ++ given.services.outgoing;
       count = omega (arith, all.count, far.own.count, length-append far.own.theirs given.services.outgoing);
       gains = taken_both before.gained mid.gained after.gained far.own.theirs given.services.outgoing far.own.gains all.gains;
-      own = own_then;
-      alone = λ none. absurd (omega (arith, none, calls_then));
+      listening = listening_then;
     };
     known = known_later;
     exact = λ determined. subst (λ n. SoFar first.services.moment (executive_in first) later n before.gained after.gained) (sym all.count) (more determined all.gains);
@@ -179,35 +235,17 @@ module _ (first now given later : Hosted) (sent seat : ℕ) (before mid after : 
         (sym part.count) (cut determined part.taken part.fewer part.gains);
   }
 
-  abbrev called_then : HasCalled first.services.moment (handing_on first) first later
-  called_then = record {
-    theirs = far.own.theirs ++ given.services.outgoing;
-    behind = later.services.events;
-    own = own_then.host;
-    none_given = given_then later.calls;
-    few = omega (arith, delivered.fits, far.own.count, far.small, calls_then, length-append far.own.theirs given.services.outgoing);
-    alone = λ none. absurd (omega (arith, none, calls_then));
-    gone = tt;
-  }
+  -- a write failed inside what this call sent
+  pub cut_inside : (total : ℕ) → IsPartSent sent given later mid after total → total < length theirs_then
+  cut_inside total part = omega (arith, part.count, part.fewer, far.own.count, length-append far.own.theirs given.services.outgoing)
 
-  -- HOST adds nothing to what was cut
-  pub responds_cut : (total : ℕ) → IsPartSent sent given later mid after total → RespondsPart first.services.moment (handing_on first) total first later before.gained after.gained
-  responds_cut total part = record {
-    called = called_then;
-    fewer = omega (arith, inside, ap length (append-nil theirs));
-    gains = subst (Appends before.gained after.gained)
-        (sym (ap (take total) (append-nil theirs) ∙ cut_behind sent part.taken total far.own.theirs given.services.outgoing part.count far.own.count))
-        (taken_both before.gained mid.gained after.gained far.own.theirs (take part.taken given.services.outgoing) far.own.gains part.gains);
-    events = sym (ap (λ b. if b then later.services.events else later.services.events) (test_less total (length theirs) inside));
-    files = own_then.files;
-    roster = inl own_then.roster;
-  }
-    where
-      theirs : List ℕ
-      theirs = far.own.theirs ++ given.services.outgoing
+  pub cut_gains : (total : ℕ) → IsPartSent sent given later mid after total → Appends before.gained after.gained (take total theirs_then)
+  cut_gains total part = subst (Appends before.gained after.gained)
+      (sym (cut_behind sent part.taken total far.own.theirs given.services.outgoing part.count far.own.count))
+      (taken_both before.gained mid.gained after.gained far.own.theirs (take part.taken given.services.outgoing) far.own.gains part.gains)
 
-      inside : total < length theirs
-      inside = omega (arith, part.count, part.fewer, far.own.count, length-append far.own.theirs given.services.outgoing)
+  pub some_calls : {P : Type 0} → later.calls ≡ 0 → P
+  some_calls none = absurd (omega (arith, none, calls_then))
 
 pub draining_end : (first now : Hosted) (sent : ℕ) (before after : Sink) → Draining first now sent before after → ready_seat (seen now.services.bus) ≡ None →
     HandlesAll Waiting (delivery_stations on_board first.services.moment 0 520 (executive_in first)) (drained on_board first.services.moment 520 (executive_in first))
@@ -215,7 +253,7 @@ pub draining_end : (first now : Hosted) (sent : ℕ) (before after : Sink) → D
 draining_end first now sent before after far none = record {
   whole = far.whole;
   quiet = none;
-  stock = still_among first now (ap (λ (r : Roster). r.stock) far.own.own.roster);
+  stock = still_among first now (ap (λ (r : Roster). r.stock) far.own.listening.own.roster);
   is_closed = far.is_closed;
   calls = omega (arith, far.few);
   fine = far.fine;
@@ -224,27 +262,9 @@ draining_end first now sent before after far none = record {
   count = λ determined. all_counted first.services.moment (executive_in first) now sent before.gained after.gained (far.exact determined) none;
 }
 
--- nor to what was written whole
-pub responds_end : (first now : Hosted) (sent : ℕ) (before after : Sink) → Draining first now sent before after → RespondsWhole first.services.moment (handing_on first) first now before.gained after.gained
-responds_end first now sent before after far = record {
-  called = record {
-    theirs = far.own.theirs;
-    behind = now.services.events;
-    own = far.own.own.host;
-    few = omega (arith, far.small, far.own.count);
-    none_given = given_then now.calls;
-    alone = λ none. far.own.alone (omega (arith, none));
-    gone = tt;
-  };
-  gains = subst (Appends before.gained after.gained) (sym (append-nil far.own.theirs)) far.own.gains;
-  events = refl;
-  files = far.own.own.files;
-  roster = far.own.own.roster;
-}
-
 -- an error that is passed on
 pub responds_short : (moment : Moment) (response : Response) (old new : Hosted) (before now : Option (List ℕ)) (result : Result ℕ WriteFault) (fault : WriteFault) → IsErrAnd result (λ e. e ≡ fault) →
-    RespondsPart moment response fault.sent old new before now → Responds moment response old new before now result
+    RespondsPart moment response fault.sent old new before now → RespondsCounted moment response old new before now result
 responds_short moment response old new before now (Ok done) fault is part = absurd is
 responds_short moment response old new before now (Err e) fault is part = subst (λ (f : WriteFault). RespondsPart moment response f.sent old new before now) (sym is) part
 

@@ -5,9 +5,9 @@ use Rattle.std.specs.Option.{option_or}
 use Rattle.std.specs.List.{sum_by, position_from}
 use Rattle.std.proofs.lemmas.List.{length-map}
 use Rattle.std.proofs.lemmas.List.Sums.{sum_by-cons, count_by-le-length}
-use Rattle.lc_model.specs.Packet.{header_fault}
+use Rattle.lc_model.specs.Packet.{header_fault, message_id}
 use Rattle.lc_model.specs.Kept.Executive.{Pipe, has_some, is_ready, ready_seat, hears, offered, published_to}
-use Rattle.lc_model.specs.Services.Bus.{Bus, Queue, Publication, seen, seen_pipe, is_full, hears_packet, is_blocked, publish_refusal}
+use Rattle.lc_model.specs.Services.Bus.{Bus, Queue, Publication, seen, seen_pipe, is_full, hears_packet, is_blocked, is_subscribed, offered_as, published_as, publish_refusal}
 use Rattle.lc_model.specs.Services.Interface.{waiting_in}
 use Rattle.packet_bus.specs.declared.error.BusError.{BusError}
 use Rattle.packet_bus.specs.Error.{refusal_in}
@@ -125,6 +125,26 @@ module _ (packet : List ℕ) (pipes : List (Option Pipe)) (eight : length pipes 
   load_first =
       let sum : load new ≤ length new * 65 = sum_bounded weight_of new None 65 (λ i. omega (arith, packets_at i, ticks_at i)) in
       omega (arith, sum, as_long)
+
+-- a packet behind which nothing waits anywhere was heard by nobody, and left the bus as it was
+unheard_at : (number : ℕ) (packet : List ℕ) (place : Option Queue) → is_ready (option_map seen_pipe (option_map (offered_as number packet) place)) ≡ false → option_map (offered_as number packet) place ≡ place
+unheard_at number packet None idle = refl
+unheard_at number packet (Some queue) idle = by_test (is_subscribed (message_id packet) queue) idle
+  where
+    some_wait : (waiting : List Publication) → has_some (map (λ (p : Publication). p.bytes) (waiting ++ record { number = number; bytes = packet } ∷ [])) ≡ true
+    some_wait [] = refl
+    some_wait (first ∷ waiting) = refl
+
+    by_test : (b : Bool) → has_some (seen_pipe (if b then record queue { waiting = queue.waiting ++ record { number = number; bytes = packet } ∷ [] } else queue)).waiting ≡ false →
+        ◌≡◌ {A = Option Queue} (Some (if b then record queue { waiting = queue.waiting ++ record { number = number; bytes = packet } ∷ [] } else queue)) (Some queue)
+    by_test true idle = let busy = some_wait queue.waiting in cc
+    by_test false idle = refl
+
+pub unheard : (number : ℕ) (packet : List ℕ) (bus : Bus) (i : ℕ) → position_from is_ready i (seen (published_as number packet bus)) ≡ None → published_as number packet bus ≡ bus
+unheard number packet [] i none = refl
+unheard number packet (place ∷ bus) i none =
+    let both = first_not_ready (option_map seen_pipe (option_map (offered_as number packet) place)) (seen (published_as number packet bus)) i none in
+    ap₂ (λ (first : Option Queue) (rest : Bus). first ∷ rest) (unheard_at number packet place both.0) (unheard number packet bus (i + 1) both.1)
 
 -- a pipe keeps its subscriptions
 pub offered_keeps : (packet : List ℕ) (pipe : Option Pipe) → option_map (λ (p : Pipe). p.subscriptions) (option_map (offered packet) pipe) ≡ option_map (λ (p : Pipe). p.subscriptions) pipe

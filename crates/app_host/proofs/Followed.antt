@@ -1,5 +1,5 @@
 -- The next one took its seat.
-use Rattle.std.proofs.Common.{◌≡◌, ap, ap₂, sym, ◌∙◌, subst, ℕ, suc, ◌<◌, List, [], ◌++◌, length, map, take, drop, arith, Some, None, get_or}
+use Rattle.std.proofs.Common.{◌≡◌, ap, ap₂, sym, ◌∙◌, subst, ℕ, suc, ◌<◌, List, [], ◌++◌, length, map, take, drop, arith, Option, Some, None, get_or}
 use Rattle.std.specs.Prelude.{option_map, All, slice_set}
 use Rattle.std.specs.List.{remove}
 use Rattle.std.proofs.lemmas.List.{take-map, drop-map, map-append, length-map}
@@ -15,6 +15,7 @@ use Rattle.app_host.specs.Shared.{on_board, shared}
 use Rattle.app_host.specs.Hosted.{Object, Hosted, spare_in, no_object, member_of}
 use Rattle.app_host.specs.Whole.{AreSeated, AreSpares, AreKnown}
 use Rattle.app_host.specs.Roster.{name_of}
+use Rattle.app_host.specs.Turn.{HasTaken}
 use Rattle.app_host.specs.Delivered.{executive_in, Becomes}
 use Rattle.app_host.specs.Ordered.{next_of, Spare, MayBegin, MayFollow, StaysWhole, ObjectHasBegun, HasFollowed}
 use Rattle.app_host.proofs.Found.{shown_at, shown_in}
@@ -94,6 +95,7 @@ module _ (old mid : Hosted) (place : ℕ) (less : place < length old.stock) (sto
     };
     known = λ known its_own. begun.known (known_mid known) (rw is its_own);
     exact = λ its_own. subst (Becomes new) step_is (begun.exact (rw is its_own));
+    came = subst (λ (x : Services × Object × List (Option Object)). HasTaken seat x.0 new.services x.1 x.2 new.seats) (λ i. (services i, is i, seats i)) begun.taken;
   }
     where
       step_is : begun_on on_board mid.services.moment seat (member_of o) (executive_in mid)

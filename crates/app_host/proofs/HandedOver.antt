@@ -11,7 +11,7 @@ use Rattle.lc_model.specs.Refusal as refusal
 use Rattle.lc_model.specs.Refusal.{Refusal, ◌>>=◌}
 use Rattle.lc_model.specs.Kept.Executive.{has_some, is_ready, ready_seat}
 use Rattle.lc_model.specs.Laws.TablesByName.{TablesAreFound}
-use Rattle.lc_model.specs.Services.Bus.{Bus, Queue, Publication, seen, seen_pipe, pipe_at, oldest_at, numbers_in, waiting_numbers, is_among, is_subscribed, hears_packet, offered_as, published_as, IsPublished, with_pipe, without_oldest, received, after}
+use Rattle.lc_model.specs.Services.Bus.{Bus, Queue, Publication, seen, seen_pipe, pipe_at, waiting_numbers, is_among, is_subscribed, hears_packet, offered_as, published_as, IsPublished, with_pipe, without_oldest, received, after}
 use Rattle.lc_model.specs.Services.Tables.{IsTableService}
 use Rattle.packet_bus.specs.Hearers.{only_hearer}
 use Rattle.app_host.specs.Hosted.{Object, Hosted, object_at}
@@ -24,7 +24,8 @@ use Rattle.app_host.proofs.Delivery.{HasFirst, oldest_is}
 use Rattle.app_host.proofs.Deliver.{may_give, deliver_done}
 use Rattle.app_host.proofs.FirstPublished.{first_not_ready}
 use Rattle.app_host.proofs.Draining.{Draining, draining_first}
-use Rattle.app_host.proofs.PassedOn.{light_after, load_after, whole_mid, IsOffered}
+use Rattle.app_host.specs.Heard.{IsOffered}
+use Rattle.app_host.proofs.PassedOn.{light_after, load_after, whole_mid}
 
 -- ---- nothing waits
 

@@ -26,6 +26,7 @@ pub mod Filed
 pub mod EventsObeyed
 pub mod EventsRead
 pub mod Responses
+pub mod Boxes
 pub mod Stepping
 pub mod Published
 pub mod Sent

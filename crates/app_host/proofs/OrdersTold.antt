@@ -1,8 +1,8 @@
 -- What HOST sends of its own for an order, behind the applications.
-use Rattle.std.proofs.Common.{◌≡◌, ap, sym, ◌∙◌, subst, inl, inr, ◌⊎◌, ℕ, ◌<◌, ◌≤◌, List, length, take, map, arith, length-append, if◌then◌else◌, Option, Some, Result, Ok}
+use Rattle.std.proofs.Common.{◌≡◌, ap, refl, sym, ◌∙◌, subst, inl, inr, ◌⊎◌, ℕ, ◌<◌, ◌≤◌, List, length, take, map, arith, length-append, if◌then◌else◌, Option, Some, Result, Ok}
 use Rattle.std.specs.Prelude.{option_map}
 use Rattle.std.specs.Io.KnownBytes.{Appends}
-use Rattle.std.proofs.lemmas.List.{take-append-le}
+use Rattle.std.proofs.lemmas.List.{take-append-le, append-nil}
 use Rattle.lc_model.specs.declared.record.Moment.{Moment}
 use Rattle.lc_model.specs.Device.{Sink}
 use Rattle.lc_model.specs.Packet.{function_code}
@@ -12,17 +12,18 @@ use Rattle.lc_model.specs.Services.Events.{EventService}
 use Rattle.lc_model.specs.Services.Tables.{TableService}
 use Rattle.lc_model.proofs.Facts.{test_less}
 use Rattle.app_host.specs.declared.services.Services.{Services}
-use Rattle.app_host.specs.Hosted.{Hosted}
-use Rattle.app_host.specs.Roster.{Succession, ComesTo, name_of, roster_of}
-use Rattle.app_host.specs.Response.{Response, obeying_orders, asked_by_host, HasCalled, RespondsWhole, RespondsPart}
-use Rattle.app_host.specs.Writing.{IsFlushed, IsAllSent, IsPartSent}
+use Rattle.app_host.specs.Hosted.{Object, Hosted}
+use Rattle.app_host.specs.Roster.{Comer, Again, Succession, ComesTo, name_of, roster_of}
+use Rattle.app_host.specs.Turn.{Turn, without_comer, ComesAs, HasTurned}
+use Rattle.app_host.specs.Response.{Response, obeying_orders, asked_by_host, HasCalled, RespondsWithCount, RespondsPart}
+use Rattle.app_host.specs.Writing.{written_off, IsFlushed, IsAllSent, IsPartSent}
 use Rattle.app_host.specs.Told.{HasTold}
-use Rattle.app_host.specs.Ordered.{Next, seated_next, HasMadeWay, HasEntered, HasNotEntered}
+use Rattle.app_host.specs.Ordered.{Next, Nobody, Spare, Same, comer_of, gone_in, seated_next, IsAgain, HasMadeWay, HasCome, HasStayed, HasEntered, HasNotEntered}
 use Rattle.app_host.proofs.Course.{taken_both, cut_behind}
 use Rattle.app_host.proofs.Rosters.{same_roster, roster_still}
 use Rattle.app_host.proofs.Responding.{by_less}
 
-module _ (packet : List ℕ) (old ready : Hosted) (next : Next) (answer : Result Succession Refusal) (made : HasMadeWay answer old ready next) where
+module _ (packet : List ℕ) (Gone : ℕ → Type 0) (old ready : Hosted) (next : Next) (answer : Result Succession Refusal) (made : HasMadeWay Gone answer old ready next) where
   abbrev moment : Moment
   moment = old.services.moment
 
@@ -44,8 +45,53 @@ module _ (packet : List ℕ) (old ready : Hosted) (next : Next) (answer : Result
     few = omega (arith, small);
     none_given = λ given. none_yet;
     alone = λ none. absurd (omega (arith, none));
+    heard = tt;
     gone = made.gone;
   }
+
+  -- ---- who left, and who came
+
+  abbrev turn : Turn
+  turn = record { leaves = made.succession.leaves; comes = made.succession.comes }
+
+  -- who comes again is the one that left
+  again_so : (n : Next) (object : Option Object) (before after : Services) (seats now : List (Option Object)) → IsAgain n object → ComesAs (comer_of n) ready.stock (gone_in n) before after seats now →
+      ComesAs (comer_of n) ready.stock object before after seats now
+  again_so Nobody object before after seats now again came = came
+  again_so (Spare place seat) object before after seats now again came = came
+  again_so (Same o seat) object before after seats now again came = subst (λ x. ComesAs (Again seat) ready.stock x before after seats now) (sym again) came
+
+  module _ (mid new : Hosted) (theirs : List ℕ) (behind : EventService) (events : behind ≡ mid.services.events) (bus : new.services.bus ≡ mid.services.bus)
+      (tables : new.services.tables ≡ mid.services.tables) (counts : new.services.counts ≡ mid.services.counts) (seats : new.seats ≡ mid.seats) where
+    turned_by : HasCome next ready mid theirs → HasTurned turn moment old new theirs behind
+    turned_by come = record {
+      after = ready.services;
+      later = come.later;
+      gone = made.object;
+      left = made.left_as;
+      come = subst (λ (x : Comer × List Object × List (Option Object) × List (Option Object)). ComesAs x.0 x.1 made.object (written_off ready.services) come.later x.2 x.3)
+          (λ i. (made.comes i, made.stock i, made.seats i, sym seats i))
+          (again_so next made.object (written_off ready.services) come.later ready.seats mid.seats made.again come.came);
+      sent = come.sent;
+      events = events ∙ ap (λ (s : Services). s.events) come.services;
+      bus = bus ∙ ap (λ (s : Services). s.bus) come.services;
+      tables = tables ∙ ap (λ (s : Services). s.tables) come.services;
+      counts = counts ∙ ap (λ (s : Services). s.counts) come.services;
+    }
+
+    stayed_by : HasStayed ready mid theirs → HasTurned (without_comer turn) moment old new theirs behind
+    stayed_by stay = record {
+      after = ready.services;
+      later = written_off ready.services;
+      gone = made.object;
+      left = made.left_as;
+      come = (refl, seats ∙ stay.seats ∙ made.seats);
+      sent = stay.sent ∙ sym (append-nil ready.services.outgoing);
+      events = events ∙ ap (λ (s : Services). s.events) stay.services;
+      bus = bus ∙ ap (λ (s : Services). s.bus) stay.services;
+      tables = tables ∙ ap (λ (s : Services). s.tables) stay.services;
+      counts = counts ∙ ap (λ (s : Services). s.counts) stay.services;
+    }
 
   -- ---- the application's output was cut
 
@@ -67,6 +113,14 @@ module _ (packet : List ℕ) (old ready : Hosted) (next : Next) (answer : Result
         by_place (inl comes) = inl (comes.roster ∙ made.come)
         by_place (inr comes) = inr (comes.roster ∙ made.left.roster, cut.fewer)
 
+    turned_then : HasTurned turn moment old new cut.theirs new.services.events ⊎ (HasTurned (without_comer turn) moment old new cut.theirs new.services.events × (sent < length cut.theirs))
+    turned_then = by_place cut.come
+      where
+        by_place : HasCome next ready new cut.theirs ⊎ HasStayed ready new cut.theirs →
+            HasTurned turn moment old new cut.theirs new.services.events ⊎ (HasTurned (without_comer turn) moment old new cut.theirs new.services.events × (sent < length cut.theirs))
+        by_place (inl come) = inl (turned_by new new cut.theirs new.services.events refl refl refl refl refl come)
+        by_place (inr stay) = inr (stayed_by new new cut.theirs new.services.events refl refl refl refl refl stay, cut.fewer)
+
     abbrev told : List ℕ
     told = (asked_by_host moment (Some request) new.services.events).1
 
@@ -78,6 +132,7 @@ module _ (packet : List ℕ) (old ready : Hosted) (next : Next) (answer : Result
       events = sym (ap (λ b. if b then new.services.events else (asked_by_host moment (Some request) new.services.events).0) (test_less sent (length cut.theirs) cut.fewer));
       files = own_then.1;
       roster = who_then;
+      turned = turned_then;
     })
 
   -- ---- HOST tells
@@ -109,13 +164,22 @@ module _ (packet : List ℕ) (old ready : Hosted) (next : Next) (answer : Result
     first : Appends before after.gained entered.theirs
     first = subst (λ (m : Option (List ℕ)). Appends before m entered.theirs) (sym same) entered.gains
 
-    pub responds_done : (total : ℕ) → IsAllSent sent two new after now total → RespondsWhole moment (obeying_orders packet old answer) old new before now.gained
-    responds_done total all = subst (λ r. RespondsWhole moment r old new before now.gained) (sym response_is) (record {
-      called = called;
-      gains = taken_both before after.gained now.gained entered.theirs packet_then.1 first (subst (Appends after.gained now.gained) sends all.gains);
-      events = events_then;
-      files = files_then;
-      roster = who;
+    turned : HasTurned turn moment old new entered.theirs one.services.events
+    turned = turned_by one new entered.theirs one.services.events refl
+        (ap (λ (s : Services). s.bus) flushed.services ∙ told.bus) (ap (λ (s : Services). s.tables) flushed.services ∙ told.tables)
+        (ap (λ (s : Services). s.counts) flushed.services ∙ told.counts) (flushed.seats ∙ told.seats) entered.come
+
+    pub responds_done : (total : ℕ) → IsAllSent sent two new after now total → RespondsWithCount moment (obeying_orders packet old answer) total old new before now.gained
+    responds_done total all = subst (λ r. RespondsWithCount moment r total old new before now.gained) (sym response_is) (record {
+      responds = record {
+        called = called;
+        gains = taken_both before after.gained now.gained entered.theirs packet_then.1 first (subst (Appends after.gained now.gained) sends all.gains);
+        events = events_then;
+        files = files_then;
+        roster = who;
+        turned = turned;
+      };
+      count = omega (arith, entered.count, all.count, ap length sends, length-append entered.theirs packet_then.1);
     })
 
     pub responds_partly : (total : ℕ) → IsPartSent sent two new after now total → RespondsPart moment (obeying_orders packet old answer) total old new before now.gained
@@ -128,4 +192,5 @@ module _ (packet : List ℕ) (old ready : Hosted) (next : Next) (answer : Result
       events = events_then ∙ sym (by_less total (length entered.theirs) one.services.events packet_then.0 (omega (arith, entered.count, part.count)));
       files = files_then;
       roster = inl who;
+      turned = inl turned;
     })

@@ -30,7 +30,8 @@ module _ (law : TablesAreFound) (request : Request) (old new : Hosted) (told : T
     (seated : AreSeated old.seats old.services) (idle : old.services.outgoing ≡ []) (stock : new.stock ≡ old.stock) (seats : new.seats ≡ old.seats) (closed : new.is_closed ≡ old.is_closed)
     (calls : new.calls ≡ old.calls)
     (events : new.services.events ≡ (asked_by_host old.services.moment (Some request) old.services.events).0)
-    (sends : new.services.outgoing ≡ old.services.outgoing ++ (asked_by_host old.services.moment (Some request) old.services.events).1) where
+    (sends : new.services.outgoing ≡ old.services.outgoing ++ (asked_by_host old.services.moment (Some request) old.services.events).1)
+    (counts : new.services.counts ≡ old.services.counts) where
   stays : (seat : ℕ) → StaysAt seat old.services new.services
   stays seat = record {
     sender = ap (option_map name_of) (told.others (Some seat) (λ e. cc));
@@ -46,6 +47,8 @@ module _ (law : TablesAreFound) (request : Request) (old new : Hosted) (told : T
     calls = calls;
     seated = rw seats (seated_still law old.seats old.services new.services sound (subst IsTableService (sym told.tables) sound) stays seated);
     pipes = ap seen told.bus;
+    bus = told.bus;
+    counts = counts;
     fits = omega (arith, size, ap length idle);
     executive = λ i. record {
       stock = map member_of (stock i);

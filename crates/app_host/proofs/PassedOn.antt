@@ -1,15 +1,15 @@
 -- All deliveries behind a publication.
-use Rattle.std.proofs.Common.{◌≡◌, true, false, refl, ap, sym, ◌∙◌, subst, ℕ, ◌≤◌, Bool, List, [], ◌∷◌, length, map, arith, if◌then◌else◌, Option, Some, None, Result, Ok, Err}
+use Rattle.std.proofs.Common.{◌≡◌, true, false, refl, ap, sym, ◌∙◌, subst, inl, ℕ, ◌+◌, ◌<◌, ◌≤◌, Bool, List, [], ◌∷◌, ◌++◌, length, take, map, arith, if◌then◌else◌, Option, Some, None, Result, Ok, Err}
 use Rattle.std.specs.List.{AllByRecursion, concat}
 use Rattle.std.specs.Prelude.{IfSome, IsOk, OnOk, option_map, slice_index_or, All, Contains}
-use Rattle.std.proofs.lemmas.List.{length-map}
+use Rattle.std.proofs.lemmas.List.{length-map, append-nil}
 use Rattle.lc_model.specs.declared.record.Moment.{Moment}
 use Rattle.lc_model.specs.Device.{Sink}
 use Rattle.lc_model.specs.Packet.{message_id, tick_mid, sample_mid, lc_housekeeping_request_mid}
 use Rattle.lc_model.specs.Kept.Executive.{Pipe, Executive, ready_seat, published_to, drained}
 use Rattle.lc_model.specs.Kept.Stations.{delivery_stations, last_calls}
 use Rattle.lc_model.specs.Laws.TablesByName.{TablesAreFound}
-use Rattle.lc_model.specs.Services.Bus.{Bus, seen, seen_pipe, IsPublished}
+use Rattle.lc_model.specs.Services.Bus.{Bus, seen, seen_pipe, published_as, IsPublished}
 use Rattle.lc_model.specs.Services.Events.{EventService, sender_at}
 use Rattle.lc_model.specs.Services.Tables.{TableService, IsTableService, tables_at}
 use Rattle.lc_model.proofs.Services.BusLaws.{published_is_seen}
@@ -21,17 +21,21 @@ use Rattle.app_host.specs.Hosted.{Object, Hosted, object_at, member_of}
 use Rattle.app_host.specs.Whole.{IsKnown, AreKnown, IsWhole, IsQuiet}
 use Rattle.app_host.specs.Load.{is_tick, packets_in, all_ticks, IsLight, load}
 use Rattle.app_host.specs.Party.{scheduled_mids, passing, AreKnownHearers, AreKnownIn, IsDetermined}
-use Rattle.app_host.specs.Delivered.{executive_in}
-use Rattle.app_host.specs.Writing.{IsDone, IsCut, Drains, PassesOn}
+use Rattle.app_host.specs.Delivered.{executive_in, HasDelivered}
+use Rattle.std.specs.Io.KnownBytes.{Appends}
+use Rattle.lc_model.proofs.Facts.{test_less}
+use Rattle.app_host.specs.Writing.{IsFlushed, IsPartSent, IsDone, IsCut, Drains, PassesOn}
 use Rattle.app_host.specs.Roster as roster
 use Rattle.app_host.specs.Roster.{roster_of}
-use Rattle.app_host.specs.Response.{Response, handing_on, Responds}
+use Rattle.app_host.specs.Heard.{IsOffered}
+use Rattle.app_host.specs.Response.{passing_on, HasCalled, RespondsPart, RespondsWithCount}
 use Rattle.app_host.proofs.Delivery.{shared_still}
 use Rattle.app_host.proofs.Frames.{StaysAt, seated_still}
-use Rattle.app_host.proofs.FirstPublished.{offered_at, offered_keeps, light_first, load_first, none_is_tick, who_waits_hears}
+use Rattle.app_host.proofs.FirstPublished.{unheard, offered_at, offered_keeps, light_first, load_first, none_is_tick, who_waits_hears}
 use Rattle.app_host.proofs.Heard.{heard_offered}
 use Rattle.app_host.proofs.Rosters.{same_roster}
-use Rattle.app_host.proofs.Responding.{responds_from}
+use Rattle.app_host.proofs.Responding.{IsStill}
+use Rattle.app_host.proofs.Draining.{Draining, Listening, given_then, cut_inside, cut_gains, listening_then, some_calls}
 
 module _ (packet : List ℕ) (old new : Bus) (published : IsPublished packet old new) (eight : length old ≡ 8) (quiet : ready_seat (seen old) ≡ None) where
   pipes_after : seen new ≡ published_to (seen old) packet
@@ -144,18 +148,6 @@ ok_holds (Err e) is holds = cc
 
 -- ---- a host with the packet on its bus
 
--- the packet is published, and else all is as before
-pub record IsOffered (packet : List ℕ) (old first : Hosted) : Type 0 where
-  pub stock : first.stock ≡ old.stock
-  pub seats : first.seats ≡ old.seats
-  pub is_closed : first.is_closed ≡ old.is_closed
-  pub events : first.services.events ≡ old.services.events
-  pub tables : first.services.tables ≡ old.services.tables
-  pub counts : first.services.counts ≡ old.services.counts
-  pub moment : first.services.moment ≡ old.services.moment
-  pub outgoing : first.services.outgoing ≡ old.services.outgoing
-  pub published : IsPublished packet old.services.bus first.services.bus
-
 module _ (old first : Hosted) (packet : List ℕ) (offered : IsOffered packet old first) where
   pub offered_passes : TablesAreFound → IsWhole old → IsQuiet old → IsTableService old.services.tables → (new : Hosted) (before now : Sink) (result : Result ℕ WriteFault) →
       Drains first new before now result → PassesOn packet old new before now result
@@ -165,20 +157,70 @@ module _ (old first : Hosted) (packet : List ℕ) (offered : IsOffered packet ol
   roster_same : roster_of first ≡ roster_of old
   roster_same = same_roster old first offered.stock (ap (map (option_map roster.name_of)) offered.seats)
 
-  handing_same : handing_on first ≡ handing_on old
-  handing_same = λ i. record {
-    request = None;
-    delivers = true;
-    leaves = None;
-    changes = 0;
-    left = roster_same i;
-    come = roster_same i;
-    events = offered.events i;
-    tables = offered.tables i;
+  -- where no call was made and no packet waits, nobody has heard it
+  still_so : (new : Hosted) → (new.calls ≡ 0 → IsQuiet new) → new.calls + 0 ≡ 0 → new.services.bus ≡ first.services.bus → IsStill first old
+  still_so new quiet none same =
+      let so = offered.published in
+      let none_waits : ready_seat (seen (published_as so.number packet old.services.bus)) ≡ None =
+      ap (λ (bus : Bus). ready_seat (seen bus)) (sym so.published ∙ sym same) ∙ quiet (omega (arith, none)) in
+      record { bus = so.published ∙ unheard so.number packet old.services.bus 0 none_waits; counts = offered.counts }
+
+  -- ---- what the applications sent
+
+  called_by : (new : Hosted) (theirs : List ℕ) → Listening first new theirs → (new.calls ≡ 0 → IsQuiet new) → HasCalled old.services.moment (passing_on packet old) old new
+  called_by new theirs listening quiet = record {
+    theirs = theirs;
+    behind = new.services.events;
+    own = listening.own.host ∙ ap (λ (e : EventService). e.host) offered.events;
+    few = omega (arith, listening.small);
+    none_given = given_then new.calls;
+    alone = λ none.
+        let calls : new.calls ≡ 0 = omega (arith, none) in
+        let alone = listening.alone calls in
+        let still = still_so new quiet none alone.bus in
+        record {
+          nothing = alone.nothing;
+          events = alone.events ∙ offered.events;
+          tables = alone.tables ∙ offered.tables;
+          bus = alone.bus ∙ still.bus;
+          counts = alone.counts ∙ still.counts;
+          seats = alone.seats ∙ offered.seats;
+        };
+    heard = record { first = first; offered = offered; deliveries = listening.deliveries; are = listening.are; sent = listening.sent; calls = listening.calls };
+    gone = tt;
   }
 
-  pub offered_responds : (new : Hosted) (before now : Option (List ℕ)) (result : Result ℕ WriteFault) → Responds first.services.moment (handing_on first) first new before now result →
-      Responds old.services.moment (handing_on old) old new before now result
-  offered_responds new before now result responds =
-      responds_from old.services.moment (handing_on old) old first new offered.seats (λ none. none) before now result
-      (subst (λ (p : Moment × Response). Responds p.0 p.1 first new before now result) (λ i. (offered.moment i, handing_same i)) responds)
+  -- where all was written HOST adds nothing
+  pub responds_end : (now : Hosted) (sent : ℕ) (before after : Sink) → Draining first now sent before after → ready_seat (seen now.services.bus) ≡ None →
+      RespondsWithCount old.services.moment (passing_on packet old) sent old now before.gained after.gained
+  unfolding called_by
+  responds_end now sent before after far none = record {
+    responds = record {
+      called = called_by now far.own.theirs far.own.listening (λ calls. none);
+      gains = subst (Appends before.gained after.gained) (sym (append-nil far.own.theirs)) far.own.gains;
+      events = refl;
+      files = far.own.listening.own.files ∙ ap (λ (t : TableService). t.files) offered.tables;
+      roster = far.own.listening.own.roster ∙ roster_same;
+      turned = tt;
+    };
+    count = far.own.count ∙ ap length (sym (append-nil far.own.theirs));
+  }
+
+  -- nor where a write failed
+  pub responds_cut : (now given later : Hosted) (sent seat : ℕ) (before mid after : Sink) (far : Draining first now sent before mid) (ready : ready_seat (seen now.services.bus) ≡ Some seat)
+      (delivered : HasDelivered seat now given) (flushed : IsFlushed given later) (total : ℕ) → IsPartSent sent given later mid after total →
+      RespondsPart old.services.moment (passing_on packet old) total old later before.gained after.gained
+  unfolding called_by
+  responds_cut now given later sent seat before mid after far ready delivered flushed total part =
+      let theirs = far.own.theirs ++ given.services.outgoing in
+      let inside = cut_inside first now given later sent seat before mid after far ready delivered flushed total part in
+      let listening = listening_then first now given later sent seat before mid after far ready delivered flushed in
+      record {
+        called = called_by later theirs listening (some_calls first now given later sent seat before mid after far ready delivered flushed);
+        fewer = subst (λ (bs : List ℕ). total < length bs) (sym (append-nil theirs)) inside;
+        gains = subst (λ (bs : List ℕ). Appends before.gained after.gained (take total bs)) (sym (append-nil theirs)) (cut_gains first now given later sent seat before mid after far ready delivered flushed total part);
+        events = sym (ap (λ b. if b then later.services.events else later.services.events) (test_less total (length theirs) inside));
+        files = listening.own.files ∙ ap (λ (t : TableService). t.files) offered.tables;
+        roster = inl (listening.own.roster ∙ roster_same);
+        turned = tt;
+      }

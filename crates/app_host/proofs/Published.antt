@@ -3,7 +3,7 @@ use Rattle.std.proofs.Common.{◌≡◌, ◌≢◌, inl, refl, ap, sym, ◌∙�
 use Rattle.std.specs.Prelude.{IfSome, IsTrue, OnOk, option_map, slice_index_or, slice_set}
 use Rattle.std.specs.Option.{option_or}
 use Rattle.std.specs.List.{AllByRecursion}
-use Rattle.std.proofs.lemmas.List.{append-nil, append_assoc}
+use Rattle.std.proofs.lemmas.List.{append_assoc}
 use Rattle.lc_model.specs.Name.{Name}
 use Rattle.lc_model.specs.Packet.{message_id, tick_mid, header_fault}
 use Rattle.lc_model.specs.Kept.Summary.{AppState}

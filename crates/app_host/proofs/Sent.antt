@@ -9,7 +9,7 @@ use Rattle.lc_model.specs.declared.record.Moment.{Moment}
 use Rattle.lc_model.specs.declared.mode.LcMode.{LcMode}
 use Rattle.lc_model.specs.Bytes.{u16, u32}
 use Rattle.lc_model.specs.Codes.{mode_code}
-use Rattle.lc_model.specs.Name.{Name, is_named}
+use Rattle.lc_model.specs.Name.{Name}
 use Rattle.lc_model.specs.Packet.{event_mid, sequence_mid, lc_housekeeping_mid, primary_header, telemetry}
 use Rattle.lc_model.specs.Events.Request.{Request, Sequence, Housekeeping, Standing}
 use Rattle.lc_model.specs.Events.Outgoing.{sequence_request, standing_byte}

@@ -1,6 +1,6 @@
 -- An event that is asked of the services is sent as the host in numbers sends it.
-use Rattle.std.proofs.Common.{◌≡◌, ◌≢◌, refl, ap, sym, ◌∙◌, subst, ℕ, zero, suc, ◌<◌, Bool, true, false, ◌==◌, List, [], ◌∷◌, ◌++◌, length, arith, if◌then◌else◌, Option, Some, None}
-use Rattle.std.specs.Prelude.{IfSome, option_map, option_to_list, slice_index_or}
+use Rattle.std.proofs.Common.{◌≡◌, ◌≢◌, refl, ap, sym, ◌∙◌, subst, ℕ, Bool, true, false, ◌==◌, List, [], ◌∷◌, ◌++◌, if◌then◌else◌, Option, Some, None}
+use Rattle.std.specs.Prelude.{IfSome, option_map, option_to_list}
 use Rattle.std.specs.List.{concat}
 use Rattle.std.proofs.lemmas.List.{append-nil, get_or-set_same, get_or-set_other}
 use Rattle.lc_model.specs.declared.record.Moment.{Moment}

@@ -1,11 +1,13 @@
 -- What one delivery leaves.
-use Rattle.std.specs.Prelude.{◌≡◌, ℕ, ◌+◌, ◌<◌, ◌≤◌, List, length}
+use Rattle.std.specs.Prelude.{◌≡◌, ℕ, ◌+◌, ◌<◌, ◌≤◌, List, length, Some, slice_set}
 use Rattle.std.specs.List.{concat}
 use Rattle.lc_model.specs.Kept.Executive.{Executive, Written, delivered_at}
-use Rattle.lc_model.specs.Services.Bus.{seen}
+use Rattle.lc_model.specs.Services.Bus.{Bus, seen, oldest_at, received, after}
 use Rattle.lc_model.specs.Services.Interface.{outgoing_room}
 use Rattle.app_host.specs.Shared.{on_board}
-use Rattle.app_host.specs.Hosted.{Hosted, executive_of}
+use Rattle.app_host.specs.declared.services.Services.{Services}
+use Rattle.app_host.specs.Hosted.{Object, Hosted, object_at, executive_of}
+use Rattle.app_host.specs.Objects.{HasAnswered}
 use Rattle.app_host.specs.Whole.{AreSeated, AreKnown}
 use Rattle.app_host.specs.Party.{IsDetermined}
 use Rattle.app_host.specs.Load.{IsLight, load}
@@ -20,6 +22,20 @@ pub record Becomes (h : Hosted) (step : Written (List ℕ)) : Type 0 where
   pub executive : executive_in h ≡ step.0
   pub outgoing : h.services.outgoing ≡ concat step.1
 
+-- the services with another bus
+abbrev pub with_bus : Bus → Services → Services
+with_bus bus s = record s { bus = bus }
+
+-- the object of a seat had the oldest packet of its pipe, which is out of the pipe before its call: what it published is heard by
+-- all that are subscribed to it, once each, and if it is of this profile it did what the definitions say. Nobody else was called.
+pub record HasHad (seat : ℕ) (packet : List ℕ) (old new : Hosted) : Type 0 where
+  pub oldest : oldest_at seat old.services.bus ≡ Some packet
+  pub object : Object
+  pub there : object_at seat old.seats ≡ Some object
+  pub now : Object
+  pub answered : HasAnswered seat packet (with_bus (after old.services.bus (received seat old.services.bus)) old.services) new.services object now
+  pub seats : new.seats ≡ slice_set old.seats seat (Some now)
+
 -- the object of a seat had the first packet of its pipe
 pub record HasDelivered (seat : ℕ) (old new : Hosted) : Type 0 where
   pub seated : AreSeated new.seats new.services
@@ -33,4 +49,6 @@ pub record HasDelivered (seat : ℕ) (old new : Hosted) : Type 0 where
   pub own : ComesTo (roster_of old) old new
   pub known : AreKnown old → AreKnown new
   pub determined : IsDetermined old → IsDetermined new
+  pub packet : List ℕ
+  pub had : HasHad seat packet old new
   pub exact : IsDetermined old → Becomes new (delivered_at on_board old.services.moment seat (executive_in old))

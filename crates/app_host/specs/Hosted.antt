@@ -2,8 +2,7 @@
 use Rattle.std.specs.Prelude.{ℕ, Bool, List, [], map, slice_index_or, Option, None, option_map}
 use Rattle.std.specs.Global.{Global}
 use Rattle.std.specs.declared.dyn_box.DynBox.{DynBox}
-use Rattle.lc_model.specs.Name.{Name}
-use Rattle.lc_model.specs.Kept.Summary.{AppState, Other}
+use Rattle.lc_model.specs.Kept.Summary.{Other}
 use Rattle.lc_model.specs.Kept.Executive.{Member, Executive}
 use Rattle.lc_model.specs.Kept.Stations as model
 use Rattle.lc_model.specs.Services.Bus.{seen}

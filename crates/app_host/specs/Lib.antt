@@ -7,6 +7,7 @@ pub mod Error
 pub mod Object
 pub mod Hosted
 pub mod Objects
+pub mod Boxes
 pub mod Whole
 pub mod Party
 pub mod Load
@@ -14,11 +15,13 @@ pub mod Delivered
 pub mod HandedOver
 pub mod Writing
 pub mod Texts
+pub mod Heard
 pub mod Told
 pub mod Left
 pub mod Obeyed
 pub mod ObeyedTables
 pub mod Roster
+pub mod Turn
 pub mod Response
 pub mod Publishing
 pub mod Sending

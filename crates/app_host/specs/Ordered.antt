@@ -1,5 +1,5 @@
 -- What an order to an application asks for and leaves.
-use Rattle.std.specs.Prelude.{◌≡◌, ◌⊎◌, ℕ, ◌*◌, ◌<◌, ◌≤◌, ⊤, true, false, List, [], length, take, Option, Some, None, option_to_list, Result, Ok, Err, IfSome, IsSomeAnd, slice_set}
+use Rattle.std.specs.Prelude.{◌≡◌, ◌⊎◌, ℕ, ◌*◌, ◌<◌, ◌≤◌, ⊤, true, false, List, [], length, take, ◌++◌, Option, Some, None, option_to_list, Result, Ok, Err, IfSome, IsSomeAnd, slice_set}
 use Rattle.std.specs.Global.{Global}
 use Rattle.std.specs.List.{concat}
 use Rattle.std.specs.declared.dyn_box.DynBox.{DynBox}
@@ -14,6 +14,7 @@ use Rattle.lc_model.specs.Events.Request.{executive_services}
 use Rattle.lc_model.specs.Kept.Executive.{Executive, Written, spare_at, begun_on, without_spare, ordered_now, answered_now, executive_service_now}
 use Rattle.lc_model.specs.Kept.Stations.{order_stations}
 use Rattle.lc_model.specs.Services.Interface.{outgoing_room}
+use Rattle.app_host.specs.declared.services.Services.{Services}
 use Rattle.app_host.specs.declared.orders.Order.{Order}
 use Rattle.app_host.specs.declared.orders.Order.TheVariants as given
 use Rattle.app_host.specs.declared.succession.Successor.{Successor}
@@ -28,8 +29,9 @@ use Rattle.app_host.specs.Party.{Party, party_by, AreKnownIn}
 use Rattle.app_host.specs.Delivered.{executive_in, Becomes}
 use Rattle.app_host.specs.Objects.{HasRetired}
 use Rattle.app_host.specs.Left.{HasGone, LeavesExactly}
-use Rattle.app_host.specs.Roster.{Roster, roster_of, with_seat, with_spare, Succession, ComesTo}
-use Rattle.app_host.specs.Writing.{Handles}
+use Rattle.app_host.specs.Roster.{Roster, roster_of, with_seat, with_spare, Comer, NobodyComes, FromStock, Again, Succession, ComesTo}
+use Rattle.app_host.specs.Turn.{LeavesAs, seats_without, HasTaken, ComesAs}
+use Rattle.app_host.specs.Writing.{written_off, Handles}
 
 -- ---- who takes a seat next
 
@@ -88,6 +90,18 @@ seated_next Nobody r = r
 seated_next (Spare place seat) r = with_spare place seat r
 seated_next (Same o seat) r = with_seat seat (Some o.called) r
 
+-- as who comes
+abbrev pub comer_of : Next → Comer
+comer_of Nobody = NobodyComes
+comer_of (Spare place seat) = FromStock place seat
+comer_of (Same o seat) = Again seat
+
+-- the one that gave its seat back, and comes again
+abbrev pub gone_in : Next → Option Object
+gone_in Nobody = None
+gone_in (Spare place seat) = None
+gone_in (Same o seat) = Some o
+
 -- ---- an object takes a seat, or gives it back
 
 -- the object began on the seat
@@ -97,6 +111,7 @@ pub record ObjectHasBegun (seat : ℕ) (o : Object) (old new : Hosted) : Type 0 
   pub own : ComesTo (with_seat seat (Some o.called) (roster_of old)) old new
   pub known : AreKnown old → IsKnown o → AreKnown new
   pub exact : IsKnown o → Becomes new (begun_on on_board old.services.moment seat (member_of o) (executive_in old))
+  pub taken : HasTaken seat old.services new.services o old.seats new.seats
 
 -- the next one took its seat
 pub record HasFollowed (next : Next) (old new : Hosted) : Type 0 where
@@ -105,6 +120,7 @@ pub record HasFollowed (next : Next) (old new : Hosted) : Type 0 where
   pub own : ComesTo (seated_next next (roster_of old)) old new
   pub known : AreKnown old → IsKnownNext old.stock next → AreKnown new
   pub exact : IsKnownNext old.stock next → Becomes new (followed_by old.services.moment next (executive_in old))
+  pub came : ComesAs (comer_of next) old.stock (gone_in next) old.services new.services old.seats new.seats
 
 -- this object gave the seat back
 pub record HasWithdrawn (seat : ℕ) (old new : Hosted) (o : Object) : Type 0 where
@@ -165,25 +181,37 @@ PreparesFor meaning party wanted old new (Err numbers) = (wanted ≡ Err numbers
 
 -- ---- who is where when an order is prepared, whatever the applications are
 
--- who leaves has left, and the next one makes of it what is wanted
-pub record HasMadeWay (wanted : Result Succession Refusal) (old new : Hosted) (next : Next) : Type 0 where
+-- where the next one comes again it is the one that has left
+abbrev pub IsAgain : Next → Option Object → Type 0
+IsAgain (Same o seat) gone = gone ≡ Some o
+IsAgain other _ = ⊤
+
+-- who leaves has left, and his box is gone; the next one makes of it what is wanted
+pub record HasMadeWay (Gone : ℕ → Type 0) (wanted : Result Succession Refusal) (old new : Hosted) (next : Next) : Type 0 where
   pub succession : Succession
   pub is : wanted ≡ Ok succession
   pub left : ComesTo succession.left old new
   pub come : seated_next next (roster_of new) ≡ succession.come
   pub gone : IfSome succession.leaves (λ seat. HasGone seat old.seats old.services)
+  pub box : IfSome succession.leaves Gone
+  pub comes : comer_of next ≡ succession.comes
+  pub object : Option Object
+  pub left_as : LeavesAs succession.leaves old.seats old.services new.services object
+  pub again : IsAgain next object
+  pub stock : new.stock ≡ old.stock
+  pub seats : new.seats ≡ seats_without succession.leaves old.seats
 
 -- one of the two, by the answer
-abbrev pub MakesWay : {X : Type 0} {D : X → Type 0} → (DynBox X Global D → Object) →
+abbrev pub MakesWay : {X : Type 0} {D : X → Type 0} → (DynBox X Global D → Object) → (ℕ → Type 0) →
     Result Succession Refusal → Hosted → Hosted → Result (Successor X D) HostError → Type 0
-MakesWay meaning wanted old new (Ok next) = HasMadeWay wanted old new (next_of meaning next)
-MakesWay meaning wanted old new (Err error) = (wanted ≡ Err (refusal_of error)) × (new ≡ old)
+MakesWay meaning Gone wanted old new (Ok next) = HasMadeWay Gone wanted old new (next_of meaning next)
+MakesWay meaning Gone wanted old new (Err error) = (wanted ≡ Err (refusal_of error)) × (new ≡ old)
 
 -- what makes way for an order, of a command that may be refused for its code or its length, too
-abbrev pub MakesWayFor : {X : Type 0} {D : X → Type 0} → (DynBox X Global D → Object) →
+abbrev pub MakesWayFor : {X : Type 0} {D : X → Type 0} → (DynBox X Global D → Object) → (ℕ → Type 0) →
     Result Succession Refusal → Hosted → Hosted → Result (Successor X D) Refusal → Type 0
-MakesWayFor meaning wanted old new (Ok next) = HasMadeWay wanted old new (next_of meaning next)
-MakesWayFor meaning wanted old new (Err numbers) = (wanted ≡ Err numbers) × (new ≡ old)
+MakesWayFor meaning Gone wanted old new (Ok next) = HasMadeWay Gone wanted old new (next_of meaning next)
+MakesWayFor meaning Gone wanted old new (Err numbers) = (wanted ≡ Err numbers) × (new ≡ old)
 
 -- ---- what is written
 
@@ -227,12 +255,26 @@ abbrev pub ComesIn : Next → Hosted → Hosted → Sink → Sink → Result ℕ
 ComesIn next old new before now (Ok sent) = HasComeIn next sent old new before now
 ComesIn next old new before now (Err fault) = HasFailed next fault.sent old new before now
 
+-- the next one came behind what waited, and this is what was to be written of both
+pub record HasCome (next : Next) (old new : Hosted) (theirs : List ℕ) : Type 0 where
+  pub later : Services
+  pub came : ComesAs (comer_of next) old.stock (gone_in next) (written_off old.services) later old.seats new.seats
+  pub sent : theirs ≡ old.services.outgoing ++ later.outgoing
+  pub services : new.services ≡ written_off later
+
+-- nobody came, and this is what waited
+pub record HasStayed (old new : Hosted) (theirs : List ℕ) : Type 0 where
+  pub seats : new.seats ≡ old.seats
+  pub sent : theirs ≡ old.services.outgoing
+  pub services : new.services ≡ written_off old.services
+
 -- all that waited is written, so many bytes, and the next one has its seat
 pub record HasEntered (next : Next) (sent : ℕ) (old new : Hosted) (before now : Option (List ℕ)) : Type 0 where
   pub theirs : List ℕ
   pub count : sent ≡ length theirs
   pub gains : Appends before now theirs
   pub own : ComesTo (seated_next next (roster_of old)) old new
+  pub come : HasCome next old new theirs
 
 -- the first bytes only, and the next one has its seat, or nobody has it
 pub record HasNotEntered (next : Next) (sent : ℕ) (old new : Hosted) (before now : Option (List ℕ)) : Type 0 where
@@ -241,6 +283,7 @@ pub record HasNotEntered (next : Next) (sent : ℕ) (old new : Hosted) (before n
   pub fewer : sent < length theirs
   pub gains : Appends before now (take sent theirs)
   pub own : ComesTo (seated_next next (roster_of old)) old new ⊎ ComesTo (roster_of old) old new
+  pub come : HasCome next old new theirs ⊎ HasStayed old new theirs
 
 -- one of the two, by the answer
 abbrev pub Enters : Next → Hosted → Hosted → Option (List ℕ) → Option (List ℕ) → Result ℕ WriteFault → Type 0

@@ -11,44 +11,55 @@ use Rattle.lc_model.specs.Packet.{stream_fault, function_code, message_id, by_se
 use Rattle.lc_model.specs.Refusal.{Refusal}
 use Rattle.lc_model.specs.Command.{event_command_in, table_command_in}
 use Rattle.lc_model.specs.Events.Request.{Request, Event, Sequence, Housekeeping, bad_packet, file_stored, file_refused, event_services, table_services, executive_services, command_done, command_refused}
+use Rattle.lc_model.specs.Kept.Executive.{tick_packet}
 use Rattle.lc_model.specs.Services.Events.{EventService, event_asked}
 use Rattle.lc_model.specs.Services.Tables.{TableService, file_put}
 use Rattle.lc_model.specs.Services.Interface.{outgoing_room}
 use Rattle.app_host.specs.declared.error.WriteFault.{WriteFault}
 use Rattle.app_host.specs.Shared.{at_moment}
 use Rattle.app_host.specs.Hosted.{Hosted}
+use Rattle.app_host.specs.Heard.{HasHeard}
 use Rattle.app_host.specs.Left.{HasGone}
 use Rattle.app_host.specs.Obeyed.{events_by}
 use Rattle.app_host.specs.ObeyedTables.{tables_by}
 use Rattle.app_host.specs.Roster.{Roster, roster_of, Succession, succession_by}
+use Rattle.app_host.specs.Turn.{Turn, without_comer, HasTurned}
 
 -- ---- what a record asks of HOST
 
--- HOST's event, if it tells any; whether packets are given to applications; the seat that an object leaves, if any, and how many
--- objects retire and start at most; who is where when the one that leaves has left, and when the one that comes has come; and what
+-- HOST's event, if it tells any; whether packets are given to applications, and which packet is published for that; the seat that an object leaves, if any, and how many
+-- objects retire and start at most; who leaves and who comes, where an order is obeyed; who is where when the one that leaves has left, and when the one that comes has come; and what
 -- the event and the table services are behind HOST's work and before its event
 pub record Response : Type 0 where
   pub request : Option Request
   pub delivers : Bool
+  pub passes : Option (List ℕ)
   pub leaves : Option ℕ
   pub changes : ℕ
+  pub turn : Option Turn
   pub left : Roster
   pub come : Roster
   pub events : EventService
   pub tables : TableService
 
--- a packet or a tick is handed to the applications, and HOST tells nothing
+-- what is handed to the applications, where HOST tells nothing
 abbrev pub handing_on : Hosted → Response
 handing_on h = record {
   request = None;
   delivers = true;
+  passes = None;
   leaves = None;
   changes = 0;
+  turn = None;
   left = roster_of h;
   come = roster_of h;
   events = h.services.events;
   tables = h.services.tables;
 }
+
+-- a packet or a tick is published and handed to the applications, and HOST tells nothing
+abbrev pub passing_on : List ℕ → Hosted → Response
+passing_on packet h = record (handing_on h) { passes = Some packet }
 
 -- HOST tells this, and that is all
 abbrev pub only_telling : Request → Hosted → Response
@@ -72,7 +83,7 @@ obeying_tables packet h (Err refusal) = only_telling (command_refused table_serv
 -- a command to the executive services: one object at most retires, and one at most starts
 abbrev pub obeying_orders : List ℕ → Hosted → Result Succession Refusal → Response
 obeying_orders packet h (Ok succession) =
-    record (only_telling (command_done executive_services (function_code packet)) h) { leaves = succession.leaves; changes = 2; left = succession.left; come = succession.come }
+    record (only_telling (command_done executive_services (function_code packet)) h) { leaves = succession.leaves; changes = 2; turn = Some (record { leaves = succession.leaves; comes = succession.comes }); left = succession.left; come = succession.come }
 obeying_orders packet h (Err refusal) = only_telling (command_refused executive_services refusal) h
 
 -- a good packet goes to a service of the host, or to the applications
@@ -82,7 +93,7 @@ routed_to packet h =
     (obeying_events packet h (events_by (event_command_in packet) h.services.events))
     (obeying_tables packet h (tables_by (table_command_in packet) h.services.tables))
     (obeying_orders packet h (succession_by packet (roster_of h)))
-    (handing_on h)
+    (passing_on packet h)
 
 -- any packet
 abbrev pub response_to_packet : List ℕ → Hosted → Response
@@ -91,7 +102,7 @@ response_to_packet packet h = option_map_or (λ reason. only_telling (bad_packet
 -- any record
 abbrev pub response_to : Body → Hosted → Response
 response_to (body.Packet bytes) h = response_to_packet bytes.now h
-response_to body.Tick h = handing_on h
+response_to body.Tick h = passing_on tick_packet h
 response_to (body.File name bytes) h = filing h (file_put name.now bytes.now h.services.tables)
 
 -- ---- HOST's packet
@@ -107,11 +118,14 @@ asked_by_host moment (Some (Housekeeping mode points)) service = (service, [])
 
 -- ---- what is sent
 
--- no application was called: the services are as HOST's own work left them, and no object on a seat has changed
+-- no application was called: the services are as HOST's own work left them, the bus and the sequence counts as they were, and no
+-- object on a seat has changed
 pub record IsAlone (response : Response) (old new : Hosted) (theirs : List ℕ) (behind : EventService) : Type 0 where
   pub nothing : theirs ≡ []
   pub events : behind ≡ response.events
   pub tables : new.services.tables ≡ response.tables
+  pub bus : new.services.bus ≡ old.services.bus
+  pub counts : new.services.counts ≡ old.services.counts
   pub seats : new.seats ≡ old.seats
 
 -- what the applications have sent that the record called, 65,536 bytes a call at most, and the event services behind that: HOST's
@@ -123,6 +137,7 @@ pub record HasCalled (moment : Moment) (response : Response) (old new : Hosted) 
   pub few : length theirs ≤ outgoing_room * (new.calls + response.changes)
   pub none_given : response.delivers ≡ false → new.calls ≡ 0
   pub alone : new.calls + response.changes ≡ 0 → IsAlone response old new theirs behind
+  pub heard : IfSome response.passes (λ packet. HasHeard packet moment old new theirs)
   pub gone : IfSome response.leaves (λ seat. HasGone seat old.seats (at_moment moment old.services))
 
 -- all is written, HOST's packet behind theirs
@@ -132,6 +147,7 @@ pub record RespondsWhole (moment : Moment) (response : Response) (old new : Host
   pub events : new.services.events ≡ (asked_by_host moment response.request called.behind).0
   pub files : new.services.tables.files ≡ response.tables.files
   pub roster : roster_of new ≡ response.come
+  pub turned : IfSome response.turn (λ turn. HasTurned turn moment old new called.theirs called.behind)
 
 -- a write failed, and so many bytes were taken, the first ones. Where that is inside what the applications sent, HOST has not asked
 -- for its event, and it may be that nobody has come.
@@ -142,8 +158,19 @@ pub record RespondsPart (moment : Moment) (response : Response) (sent : ℕ) (ol
   pub events : new.services.events ≡ (if nat_lt sent (length called.theirs) then called.behind else (asked_by_host moment response.request called.behind).0)
   pub files : new.services.tables.files ≡ response.tables.files
   pub roster : (roster_of new ≡ response.come) ⊎ ((roster_of new ≡ response.left) × (sent < length called.theirs))
+  pub turned : IfSome response.turn (λ turn. HasTurned turn moment old new called.theirs called.behind ⊎ (HasTurned (without_comer turn) moment old new called.theirs called.behind × (sent < length called.theirs)))
+
+-- all is written, so many bytes
+pub record RespondsWithCount (moment : Moment) (response : Response) (total : ℕ) (old new : Hosted) (before now : Option (List ℕ)) : Type 0 where
+  pub responds : RespondsWhole moment response old new before now
+  pub count : total ≡ length (responds.called.theirs ++ (asked_by_host moment response.request responds.called.behind).1)
 
 -- one of the two, by the answer
 abbrev pub Responds : {A : Type 0} → Moment → Response → Hosted → Hosted → Option (List ℕ) → Option (List ℕ) → Result A WriteFault → Type 0
 Responds moment response old new before now (Ok done) = RespondsWhole moment response old new before now
 Responds moment response old new before now (Err fault) = RespondsPart moment response fault.sent old new before now
+
+-- and by an answer with the number of bytes, which is theirs and HOST's
+abbrev pub RespondsCounted : Moment → Response → Hosted → Hosted → Option (List ℕ) → Option (List ℕ) → Result ℕ WriteFault → Type 0
+RespondsCounted moment response old new before now (Ok total) = RespondsWithCount moment response total old new before now
+RespondsCounted moment response old new before now (Err fault) = RespondsPart moment response fault.sent old new before now

@@ -53,9 +53,16 @@ with_seat seat name r = record r { seats = slice_set r.seats seat name }
 abbrev pub with_spare : ℕ → ℕ → Roster → Roster
 with_spare place seat r = record { stock = remove r.stock place; seats = slice_set r.seats seat (Some (spare_in r.stock place).called) }
 
--- the seat that is left, if any; and who is where when the one that leaves has left, and when the one that comes has come
+-- who comes to a seat: nobody, the spare at a place of the stock, or the one that has left the seat
+pub data Comer : Type 0 where
+  NobodyComes : Comer
+  FromStock : (place seat : ℕ) → Comer
+  Again : (seat : ℕ) → Comer
+
+-- the seat that is left, if any; who comes; and who is where when the one that leaves has left, and when the one that comes has come
 pub record Succession : Type 0 where
   pub leaves : Option ℕ
+  pub comes : Comer
   pub left : Roster
   pub come : Roster
 
@@ -67,17 +74,17 @@ ordered_by Start name r =
     else (do
       place ← found (first_spare_in name r) no_spare
       seat ← found (free_in r) no_free_seat
-      Ok (record { leaves = None; left = r; come = with_spare place seat r }))
+      Ok (record { leaves = None; comes = FromStock place seat; left = r; come = with_spare place seat r }))
 ordered_by Stop name r = do
   seat ← found (seat_in name r) not_running
-  Ok (record { leaves = Some seat; left = with_seat seat None r; come = with_seat seat None r })
+  Ok (record { leaves = Some seat; comes = NobodyComes; left = with_seat seat None r; come = with_seat seat None r })
 ordered_by Restart name r = do
   seat ← found (seat_in name r) not_running
-  Ok (record { leaves = Some seat; left = with_seat seat None r; come = r })
+  Ok (record { leaves = Some seat; comes = Again seat; left = with_seat seat None r; come = r })
 ordered_by Reload name r = do
   seat ← found (seat_in name r) not_running
   place ← found (first_spare_in name r) no_spare
-  Ok (record { leaves = Some seat; left = with_seat seat None r; come = with_spare place seat r })
+  Ok (record { leaves = Some seat; comes = FromStock place seat; left = with_seat seat None r; come = with_spare place seat r })
 
 -- what a command makes of it, which may be no order
 abbrev pub succession_by : List ℕ → Roster → Result Succession Refusal

@@ -31,6 +31,8 @@ pub record HasTold (request : Request) (old new : Hosted) : Type 0 where
   pub calls : new.calls ≡ old.calls
   pub seated : AreSeated new.seats new.services
   pub pipes : seen new.services.bus ≡ seen old.services.bus
+  pub bus : new.services.bus ≡ old.services.bus
+  pub counts : new.services.counts ≡ old.services.counts
   pub fits : length new.services.outgoing ≤ outgoing_room
   pub executive : executive_in new ≡ (telling request old).0
   pub outgoing : new.services.outgoing ≡ concat (telling request old).1

@@ -8,7 +8,7 @@ ghost use Rattle.lc_model.specs.Command.{event_command};
 ghost use Rattle.app_host.specs.Hosted.{shown};
 ghost use Rattle.app_host.specs.Whole.{IsWhole, IsQuiet};
 ghost use Rattle.app_host.specs.Told.{ObeysEvents};
-ghost use Rattle.app_host.specs.Response.{obeying_events, Responds};
+ghost use Rattle.app_host.specs.Response.{obeying_events, RespondsCounted};
 ghost use Rattle.app_host.specs.Obeyed.{obeyed_by, set_filter_by, reset_by, set_types_by, events_by};
 
 use crate::error::WriteFault;
@@ -97,7 +97,7 @@ impl Host {
         requires headers { command_header_size ≤ length packet.now }
         ensures handled { ObeysEvents packet.now (shown meaning self.old) (shown meaning self.new)
             (W.sink out.old) (W.sink out.new) result }
-        ensures own { Responds self.old.services.moment
+        ensures own { RespondsCounted self.old.services.moment
             (obeying_events packet.now (shown meaning self.old)
             (events_by (event_command (function_code packet.now) (payload packet.now))
             self.old.services.events)) (shown meaning self.old) (shown meaning self.new)

@@ -6,7 +6,7 @@ ghost use Rattle.lc_model.specs.Services.Tables.{file_put};
 ghost use Rattle.app_host.specs.Hosted.{shown};
 ghost use Rattle.app_host.specs.Whole.{IsWhole, IsQuiet};
 ghost use Rattle.app_host.specs.Told.{Files};
-ghost use Rattle.app_host.specs.Response.{filing, Responds};
+ghost use Rattle.app_host.specs.Response.{filing, RespondsCounted};
 
 use crate::error::WriteFault;
 use crate::host::Host;
@@ -28,7 +28,7 @@ impl Host {
         requires short { length name.now ≤ name_size }
         ensures handled { Files name.now bytes.now (shown meaning self.old) (shown meaning self.new)
             (W.sink out.old) (W.sink out.new) result }
-        ensures own { Responds self.old.services.moment
+        ensures own { RespondsCounted self.old.services.moment
             (filing (shown meaning self.old) (file_put name.now bytes.now self.old.services.tables))
             (shown meaning self.old) (shown meaning self.new) (W.sink out.old).gained
             (W.sink out.new).gained result }

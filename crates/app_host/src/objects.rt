@@ -36,7 +36,9 @@ pub(crate) fn give(app: &mut Box<dyn App>, seat: Seat, services: &mut Services, 
 /// The object of a seat gives it back.
 pub(crate) fn retire(app: &mut Box<dyn App>, seat: Seat, services: &mut Services)
     requires { MayRetire seat services.old (meaning app.old) }
-    ensures { HasRetired seat services.old services.new (meaning app.old) (meaning app.new) }
+    ensures retired { HasRetired seat services.old services.new (meaning app.old)
+        (meaning app.new) }
+    ensures same { app.new.vtable ≡ app.old.vtable }
 {
     app.retire(services);
 }

@@ -7,12 +7,13 @@ ghost use Rattle.lc_model.specs.Kept.Executive as kept;
 ghost use Rattle.lc_model.specs.Kept.Executive.{seat_count, executive_service_now};
 ghost use Rattle.lc_model.specs.Services.Interface.{outgoing_room};
 ghost use Rattle.app_host.specs.Shared.{on_board};
+ghost use Rattle.app_host.specs.Boxes.{BoxHasGone};
 ghost use Rattle.app_host.specs.Hosted.{shown};
 ghost use Rattle.app_host.specs.Whole.{AreSeated, AreSpares, IsWhole, IsQuiet};
 ghost use Rattle.app_host.specs.Delivered.{executive_in};
 ghost use Rattle.app_host.specs.Roster.{roster_of, seat_in, free_in, first_spare_in, ordered_by, succession_by};
 ghost use Rattle.app_host.specs.Party.{ordered, party_by};
-ghost use Rattle.app_host.specs.Response.{obeying_orders, Responds};
+ghost use Rattle.app_host.specs.Response.{obeying_orders, RespondsCounted};
 ghost use Rattle.app_host.specs.Ordered.{order_of, named_by, outcome_of, Prepares, MakesWay, PreparesFor, MakesWayFor, MayFollow, ComesIn, Enters, next_of, ObeysOrders};
 
 use crate::error::{HostError, WriteFault};
@@ -113,7 +114,7 @@ impl Host {
         ensures prepared { Prepares meaning (ordered Start name.now)
             (outcome_of Start name.now (shown meaning self.now)) (shown meaning self.now)
             (shown meaning self.now) result }
-        ensures own { MakesWay meaning
+        ensures own { MakesWay meaning (BoxHasGone meaning self.now.seats self.now.services)
             (ordered_by Start name.now (roster_of (shown meaning self.now)))
             (shown meaning self.now) (shown meaning self.now) result }
     {
@@ -135,7 +136,7 @@ impl Host {
         ensures prepared { Prepares meaning (ordered Stop name.now)
             (outcome_of Stop name.now (shown meaning self.old)) (shown meaning self.old)
             (shown meaning self.new) result }
-        ensures own { MakesWay meaning
+        ensures own { MakesWay meaning (BoxHasGone meaning self.old.seats self.old.services)
             (ordered_by Stop name.now (roster_of (shown meaning self.old))) (shown meaning self.old)
             (shown meaning self.new) result }
     {
@@ -154,7 +155,7 @@ impl Host {
         ensures prepared { Prepares meaning (ordered Restart name.now)
             (outcome_of Restart name.now (shown meaning self.old)) (shown meaning self.old)
             (shown meaning self.new) result }
-        ensures own { MakesWay meaning
+        ensures own { MakesWay meaning (BoxHasGone meaning self.old.seats self.old.services)
             (ordered_by Restart name.now (roster_of (shown meaning self.old)))
             (shown meaning self.old) (shown meaning self.new) result }
     {
@@ -171,7 +172,7 @@ impl Host {
         ensures prepared { Prepares meaning (ordered Reload name.now)
             (outcome_of Reload name.now (shown meaning self.old)) (shown meaning self.old)
             (shown meaning self.new) result }
-        ensures own { MakesWay meaning
+        ensures own { MakesWay meaning (BoxHasGone meaning self.old.seats self.old.services)
             (ordered_by Reload name.now (roster_of (shown meaning self.old)))
             (shown meaning self.old) (shown meaning self.new) result }
     {
@@ -193,7 +194,7 @@ impl Host {
         ensures prepared { Prepares meaning (ordered (order_of order) name.now)
             (outcome_of (order_of order) name.now (shown meaning self.old)) (shown meaning self.old)
             (shown meaning self.new) result }
-        ensures own { MakesWay meaning
+        ensures own { MakesWay meaning (BoxHasGone meaning self.old.seats self.old.services)
             (ordered_by (order_of order) name.now (roster_of (shown meaning self.old)))
             (shown meaning self.old) (shown meaning self.new) result }
     {
@@ -214,7 +215,7 @@ impl Host {
             (executive_service_now on_board self.old.services.moment packet.now
             (executive_in (shown meaning self.old))) (shown meaning self.old)
             (shown meaning self.new) result }
-        ensures own { MakesWayFor meaning
+        ensures own { MakesWayFor meaning (BoxHasGone meaning self.old.seats self.old.services)
             (succession_by packet.now (roster_of (shown meaning self.old))) (shown meaning self.old)
             (shown meaning self.new) result }
     {
@@ -256,11 +257,15 @@ impl Host {
         requires headers { command_header_size ≤ length packet.now }
         ensures handled { ObeysOrders packet.now (shown meaning self.old) (shown meaning self.new)
             (W.sink out.old) (W.sink out.new) result }
-        ensures own { Responds self.old.services.moment
+        ensures own { RespondsCounted self.old.services.moment
             (obeying_orders packet.now (shown meaning self.old)
             (succession_by packet.now (roster_of (shown meaning self.old))))
             (shown meaning self.old) (shown meaning self.new) (W.sink out.old).gained
             (W.sink out.new).gained result }
+        ensures gone { IfSome
+            (obeying_orders packet.now (shown meaning self.old)
+            (succession_by packet.now (roster_of (shown meaning self.old)))).leaves
+            (BoxHasGone meaning self.old.seats self.old.services) }
     {
         match self.take_order(packet) {
             Ok(next) => {

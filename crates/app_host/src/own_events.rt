@@ -6,7 +6,7 @@ ghost use Rattle.lc_model.specs.Events.Request.{Event, bad_packet};
 ghost use Rattle.app_host.specs.Hosted.{shown};
 ghost use Rattle.app_host.specs.Whole.{AreSeated, IsWhole, IsQuiet};
 ghost use Rattle.app_host.specs.Told.{HasTold, TellsAlone};
-ghost use Rattle.app_host.specs.Response.{only_telling, Responds};
+ghost use Rattle.app_host.specs.Response.{only_telling, RespondsCounted};
 
 use crate::error::WriteFault;
 use crate::host::Host;
@@ -41,7 +41,7 @@ impl Host {
         requires none_yet { self.old.calls ≡ 0 }
         ensures handled { TellsAlone (Event host_name id kind text.now) (shown meaning self.old)
             (shown meaning self.new) (W.sink out.old) (W.sink out.new) result }
-        ensures own { Responds self.old.services.moment
+        ensures own { RespondsCounted self.old.services.moment
             (only_telling (Event host_name id kind text.now) (shown meaning self.old))
             (shown meaning self.old) (shown meaning self.new) (W.sink out.old).gained
             (W.sink out.new).gained result }
@@ -61,7 +61,7 @@ impl Host {
         requires none_yet { self.old.calls ≡ 0 }
         ensures handled { TellsAlone (bad_packet reason) (shown meaning self.old)
             (shown meaning self.new) (W.sink out.old) (W.sink out.new) result }
-        ensures own { Responds self.old.services.moment
+        ensures own { RespondsCounted self.old.services.moment
             (only_telling (bad_packet reason) (shown meaning self.old)) (shown meaning self.old)
             (shown meaning self.new) (W.sink out.old).gained (W.sink out.new).gained result }
     {

@@ -10,7 +10,7 @@ ghost use Rattle.app_host.specs.Whole.{IsWhole, IsQuiet};
 ghost use Rattle.app_host.specs.Delivered.{HasDelivered};
 ghost use Rattle.app_host.specs.HandedOver.{with_packet};
 ghost use Rattle.app_host.specs.Writing.{PassesOn};
-ghost use Rattle.app_host.specs.Response.{handing_on, Responds};
+ghost use Rattle.app_host.specs.Response.{passing_on, RespondsCounted};
 
 use crate::error::WriteFault;
 use crate::host::Host;
@@ -57,7 +57,8 @@ impl Host {
         requires good { header_fault packet.now ≡ None }
         ensures handled { PassesOn packet.now (shown meaning self.old) (shown meaning self.new)
             (W.sink out.old) (W.sink out.new) result }
-        ensures own { Responds self.old.services.moment (handing_on (shown meaning self.old))
+        ensures own { RespondsCounted self.old.services.moment
+            (passing_on packet.now (shown meaning self.old))
             (shown meaning self.old) (shown meaning self.new) (W.sink out.old).gained
             (W.sink out.new).gained result }
     {
@@ -89,7 +90,8 @@ impl Host {
         requires none_yet { self.old.calls ≡ 0 }
         ensures handled { PassesOn tick_packet (shown meaning self.old) (shown meaning self.new)
             (W.sink out.old) (W.sink out.new) result }
-        ensures own { Responds self.old.services.moment (handing_on (shown meaning self.old))
+        ensures own { RespondsCounted self.old.services.moment
+            (passing_on tick_packet (shown meaning self.old))
             (shown meaning self.old) (shown meaning self.new) (W.sink out.old).gained
             (W.sink out.new).gained result }
     {

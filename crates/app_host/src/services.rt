@@ -81,6 +81,7 @@ impl Services {
         ensures outgoing { self.new.outgoing ≡ self.old.outgoing ++
             concat (option_to_list
             (event_asked from self.old.moment id kind text.now self.old.events).1) }
+        ensures counts { self.new.counts ≡ self.old.counts }
     {
         // For the proof: the senders of events have names of their own.
         self.events.is_service();

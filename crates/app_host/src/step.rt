@@ -1,11 +1,13 @@
 //! What one record leads to.
 
-ghost use Rattle.std.specs.Prelude.{◌≡◌, ◌≤◌, false, true, length, None};
+ghost use Rattle.std.specs.Prelude.{◌≡◌, ◌≤◌, false, true, length, None, IfSome};
 ghost use Rattle.lc_model.specs.Packet.{stream_fault, command_header_size};
 ghost use Rattle.lc_model.specs.Host.React.{Packet};
+ghost use Rattle.app_host.specs.Boxes.{BoxHasGone};
+ghost use Rattle.app_host.specs.Shared.{at_moment};
 ghost use Rattle.app_host.specs.Hosted.{shown};
 ghost use Rattle.app_host.specs.Whole.{IsWhole, IsQuiet};
-ghost use Rattle.app_host.specs.Response.{response_to, response_to_packet, routed_to, Responds};
+ghost use Rattle.app_host.specs.Response.{response_to, response_to_packet, routed_to, Responds, RespondsCounted};
 ghost use Rattle.app_host.specs.Step.{input_by, IsNamed, StepHasBegun, HandlesInput, IsBetween, IsTurnedAway, Steps, Counts, without_count};
 
 use crate::error::WriteFault;
@@ -32,6 +34,10 @@ impl Host {
             Responds entry.now.moment (response_to entry.now.body (shown meaning self.old))
             (shown meaning self.old) (shown meaning self.new) (W.sink out.old).gained
             (W.sink out.new).gained result }
+        ensures gone { (shown meaning self.old).is_closed ≡ false →
+            IfSome (response_to entry.now.body (shown meaning self.old)).leaves
+            (BoxHasGone meaning self.old.seats
+            (at_moment entry.now.moment self.old.services)) }
     {
         match self.step_counted(entry, out) {
             Ok(_total) => Ok(()),
@@ -58,8 +64,16 @@ impl Host {
             Responds entry.now.moment (response_to entry.now.body (shown meaning self.old))
             (shown meaning self.old) (shown meaning self.new) (W.sink out.old).gained
             (W.sink out.new).gained result }
+        ensures counted { (shown meaning self.old).is_closed ≡ false →
+            RespondsCounted entry.now.moment (response_to entry.now.body (shown meaning self.old))
+            (shown meaning self.old) (shown meaning self.new) (W.sink out.old).gained
+            (W.sink out.new).gained result }
         ensures count { (shown meaning self.old).is_closed ≡ false →
             Counts entry.now.moment (input_by entry.now.body) (shown meaning self.old) result }
+        ensures gone { (shown meaning self.old).is_closed ≡ false →
+            IfSome (response_to entry.now.body (shown meaning self.old)).leaves
+            (BoxHasGone meaning self.old.seats
+            (at_moment entry.now.moment self.old.services)) }
     {
         if self.closed {
             return Err(WriteFault { sent: 0 });
@@ -71,7 +85,8 @@ impl Host {
     /// A step begins, at this moment: no call was made in it.
     fn begin_step(&mut self, moment: Moment)
         requires whole { IsWhole (shown meaning self.old) }
-        ensures { StepHasBegun moment (shown meaning self.old) (shown meaning self.new) }
+        ensures begun { StepHasBegun moment (shown meaning self.old) (shown meaning self.new) }
+        ensures boxes { self.new.seats ≡ self.old.seats }
     {
         // For the proof: tables and files are within their bounds, each under a name of its own.
         self.services.tables.is_service();
@@ -87,9 +102,11 @@ impl Host {
         requires named { IsNamed body.now }
         ensures handled { HandlesInput (input_by body.now) (shown meaning self.old)
             (shown meaning self.new) (W.sink out.old) (W.sink out.new) result }
-        ensures own { Responds self.old.services.moment
+        ensures own { RespondsCounted self.old.services.moment
             (response_to body.now (shown meaning self.old)) (shown meaning self.old)
             (shown meaning self.new) (W.sink out.old).gained (W.sink out.new).gained result }
+        ensures gone { IfSome (response_to body.now (shown meaning self.old)).leaves
+            (BoxHasGone meaning self.old.seats self.old.services) }
     {
         match *body {
             Body::Packet(bytes) => self.take_packet(bytes, out),
@@ -105,9 +122,11 @@ impl Host {
         requires none_yet { self.old.calls ≡ 0 }
         ensures handled { HandlesInput (Packet packet.now) (shown meaning self.old)
             (shown meaning self.new) (W.sink out.old) (W.sink out.new) result }
-        ensures own { Responds self.old.services.moment
+        ensures own { RespondsCounted self.old.services.moment
             (response_to_packet packet.now (shown meaning self.old)) (shown meaning self.old)
             (shown meaning self.new) (W.sink out.old).gained (W.sink out.new).gained result }
+        ensures gone { IfSome (response_to_packet packet.now (shown meaning self.old)).leaves
+            (BoxHasGone meaning self.old.seats self.old.services) }
     {
         match stream_fault(packet) {
             Some(reason) => self.refuse_packet(reason, out),
@@ -124,9 +143,11 @@ impl Host {
         requires headers { command_header_size ≤ length packet.now }
         ensures handled { HandlesInput (Packet packet.now) (shown meaning self.old)
             (shown meaning self.new) (W.sink out.old) (W.sink out.new) result }
-        ensures own { Responds self.old.services.moment
+        ensures own { RespondsCounted self.old.services.moment
             (routed_to packet.now (shown meaning self.old)) (shown meaning self.old)
             (shown meaning self.new) (W.sink out.old).gained (W.sink out.new).gained result }
+        ensures gone { IfSome (routed_to packet.now (shown meaning self.old)).leaves
+            (BoxHasGone meaning self.old.seats self.old.services) }
     {
         match message_id(packet) {
             mids::EVENT_SERVICES => self.obey_events(packet, out),

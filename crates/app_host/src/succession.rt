@@ -2,6 +2,7 @@
 
 ghost use Rattle.std.specs.Prelude.{◌≡◌, map, option_map, slice_set, IfSome, IsSomeAnd, IsSome, None, []};
 ghost use Rattle.app_host.specs.Calls.{IsObject};
+ghost use Rattle.app_host.specs.Boxes.{BoxHasGone};
 ghost use Rattle.app_host.specs.Hosted.{Object, object_at, shown};
 ghost use Rattle.app_host.specs.Objects.{MayStartOn, HasStarted, MayRetire, HasRetired};
 ghost use Rattle.app_host.specs.Whole.{AreSeated, AreSpares};
@@ -40,6 +41,7 @@ fn withdraw_in(
     ensures gone { place.new ≡ None }
     ensures left { IfSome (option_map meaning place.old)
         (λ o. HasRetired seat services.old services.new o (meaning result)) }
+    ensures same { IfSome place.old (λ there. result.vtable ≡ there.vtable) }
 {
     let mut app = place.take().unwrap();
     retire(&mut app, seat, services);
@@ -58,6 +60,7 @@ fn withdraw_at(
         slice_set (map (option_map meaning) seats.old) seat None }
     ensures left { IfSome (object_at seat (map (option_map meaning) seats.old))
         (λ o. HasRetired seat services.old services.new o (meaning result)) }
+    ensures boxes { BoxHasGone meaning seats.old services.old seat }
 {
     withdraw_in(&mut seats[seat.index()], seat, services)
 }
@@ -102,8 +105,9 @@ impl Host {
             (shown meaning self.old).services }
         requires idle { self.old.services.outgoing ≡ [] }
         requires there { IsSome (object_at seat (shown meaning self.old).seats) }
-        ensures { HasWithdrawn seat (shown meaning self.old) (shown meaning self.new)
+        ensures withdrawn { HasWithdrawn seat (shown meaning self.old) (shown meaning self.new)
             (meaning result) }
+        ensures boxes { BoxHasGone meaning self.old.seats self.old.services seat }
     {
         // For the proof: tables and files are within their bounds, each under a name of its own.
         self.services.tables.is_service();

@@ -8,7 +8,7 @@ ghost use Rattle.lc_model.specs.Command.{Load, Manage, of_length, table_command}
 ghost use Rattle.app_host.specs.Hosted.{shown};
 ghost use Rattle.app_host.specs.Whole.{IsWhole, IsQuiet};
 ghost use Rattle.app_host.specs.Told.{ObeysTables};
-ghost use Rattle.app_host.specs.Response.{obeying_tables, Responds};
+ghost use Rattle.app_host.specs.Response.{obeying_tables, RespondsCounted};
 ghost use Rattle.app_host.specs.Obeyed.{obeyed_by};
 ghost use Rattle.app_host.specs.ObeyedTables.{tables_by};
 
@@ -115,7 +115,7 @@ impl Host {
         requires headers { command_header_size ≤ length packet.now }
         ensures handled { ObeysTables packet.now (shown meaning self.old) (shown meaning self.new)
             (W.sink out.old) (W.sink out.new) result }
-        ensures own { Responds self.old.services.moment
+        ensures own { RespondsCounted self.old.services.moment
             (obeying_tables packet.now (shown meaning self.old)
             (tables_by (table_command (function_code packet.now) (payload packet.now))
             self.old.services.tables)) (shown meaning self.old) (shown meaning self.new)

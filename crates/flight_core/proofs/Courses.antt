@@ -1,5 +1,5 @@
 -- A run between two steps, and how it ends.
-use Rattle.std.proofs.Common.{◌≡◌, refl, sym, ◌∙◌, ap, subst, ℕ, ◌+◌, ◌*◌, ◌<◌, ◌≤◌, ◌==◌, Bool, true, false, cond, List, [], ◌∷◌, ◌++◌, length, take, get_or, Option, Some, None, arith, append_assoc, length-append}
+use Rattle.std.proofs.Common.{◌≡◌, refl, sym, ◌∙◌, ap, subst, ℕ, ◌+◌, ◌*◌, ◌<◌, ◌≤◌, ◌==◌, Bool, true, false, cond, List, [], ◌∷◌, ◌++◌, length, take, get_or, Option, Some, None, arith, append_assoc, append-nil, length-append}
 use Rattle.std.specs.Prelude.{All, Contains, find, slice_index_or, IfSome, IsTrue}
 use Rattle.std.specs.List.{list_any, AllByRecursion, concat}
 use Rattle.std.specs.Io.KnownBytes.{Appends, Consumes}
@@ -32,6 +32,7 @@ use Rattle.flight_core.specs.Flight.{AreAllKnown, written_by}
 use Rattle.flight_core.specs.Going as going
 use Rattle.flight_core.specs.Going.{IsNext, IsHandled, IsCutShort, NoneIsHeld, MeetsNone, IsOver, IsBroken, IsAtBound}
 use Rattle.flight_core.specs.Records.{Held, nothing_held, front_of}
+use Rattle.flight_core.specs.Steps.{IsOneStep, AreSteps}
 
 -- ---- on board
 
@@ -94,6 +95,23 @@ party_known (Only leaving coming) h all = (seat_known leaving h.seats all.seated
 pub still_known : (old new : List Object) → All IsKnown old → All (Contains old) new → All IsKnown new
 still_known old new all among k d less = All-contains IsKnown old (get_or new k d) all (among k d less)
 
+-- ---- one step after the other
+
+no_steps : (meanings : FileMeanings (List ℕ)) (first : Hosted) → AreSteps meanings [] [] first first
+unfolding AreSteps
+no_steps meanings first = refl
+
+one_step_more : (meanings : FileMeanings (List ℕ)) (entries : List StreamEntry) (parts : List (List ℕ)) (first mid now : Hosted) (entry : StreamEntry) (part : List ℕ) →
+    AreSteps meanings entries parts first mid → IsOneStep meanings entry mid now part → AreSteps meanings (entries ++ entry ∷ []) (parts ++ part ∷ []) first now
+unfolding AreSteps
+one_step_more meanings [] [] first mid now entry part same step = (now, subst (λ (h : Hosted). IsOneStep meanings entry h now part) same step, refl)
+one_step_more meanings (e ∷ entries) (p ∷ parts) first mid now entry part steps step = (steps.0, steps.1, one_step_more meanings entries parts steps.0 mid now entry part steps.2 step)
+one_step_more meanings [] (p ∷ parts) first mid now entry part steps step = absurd steps
+one_step_more meanings (e ∷ entries) [] first mid now entry part steps step = absurd steps
+
+part_behind : (parts : List (List ℕ)) (part : List ℕ) → concat (parts ++ part ∷ []) ≡ concat parts ++ part
+part_behind parts part = concat-append parts (part ∷ []) ∙ ap (λ bs. concat parts ++ bs) (append-nil part)
+
 -- ---- what is written over records
 
 pub written_behind : (meanings : FileMeanings (List ℕ)) (e : Executive (List ℕ)) (entries others : List StreamEntry) →
@@ -139,6 +157,10 @@ module _ (n : ℕ) (meanings : FileMeanings (List ℕ)) (first : Hosted) where
     pub few : count + length held.bytes ≤ length come
     pub pieces : length come ≤ 8192 * source_now.reads
     pub small : bytes ≤ 18446744073709551616 * count
+    pub parts : List (List ℕ)
+    pub steps : AreSteps meanings entries parts first now
+    pub wrote : Appends sink.gained sink_now.gained (concat parts)
+    pub long : bytes ≡ length (concat parts)
     pub exact : AreAllKnown first → Exact now entries sink.gained sink_now.gained bytes
 
   pub nothing_yet : Begins → (source : Source) (sink : Sink) (held : Held) → held ≡ nothing_held n → IsBetween first → first.is_closed ≡ false → source.reads ≡ 0 → source.failed ≡ false → sink.failed ≡ false →
@@ -160,6 +182,10 @@ module _ (n : ℕ) (meanings : FileMeanings (List ℕ)) (first : Hosted) where
     few = subst (λ (h : Held). 0 + length h.bytes ≤ 0) (sym nothing) (let none : 0 + length (nothing_held n).bytes ≤ 0 = omega arith in none);
     pieces = omega arith;
     small = omega arith;
+    parts = [];
+    steps = no_steps meanings first;
+    wrote = Appends-nil sink.gained;
+    long = refl;
     exact = exact_first sink.gained;
   }
 
@@ -218,6 +244,10 @@ module _ (n : ℕ) (meanings : FileMeanings (List ℕ)) (first : Hosted) where
             (let fewer : count + 1 + length next.rest ≤ length far.come = omega (arith, next.shorter, far.few) in fewer);
         pieces = far.pieces;
         small = omega (arith, far.small, fits);
+        parts = far.parts ++ done.part ∷ [];
+        steps = one_step_more meanings far.entries far.parts first now new next.entry done.part far.steps done.step;
+        wrote = subst (Appends sink.gained sink_after.gained) (sym (part_behind far.parts done.part)) (Appends-trans _ _ _ _ _ far.wrote done.gains);
+        long = (λ i. far.long i + done.counted i) ∙ sym (length-append (concat far.parts) done.part) ∙ ap length (sym (part_behind far.parts done.part));
         exact = λ known.
             let e = far.exact known in
             let those = party_known (party_of (input_of meanings next.entry.contents)) now e.known in
@@ -227,7 +257,7 @@ module _ (n : ℕ) (meanings : FileMeanings (List ℕ)) (first : Hosted) where
 
   -- ---- the same where the output is told of another sink
 
-  pub told_of : (source : Source) (sink : Sink) (now : Hosted) (source_now : Source) (sink_now : Sink) (held : Held) (count bytes : ℕ) → SoFar source sink now source_now sink_now held count bytes →
+  unfoldable pub told_of : (source : Source) (sink : Sink) (now : Hosted) (source_now : Source) (sink_now : Sink) (held : Held) (count bytes : ℕ) → SoFar source sink now source_now sink_now held count bytes →
       (other : Sink) → other.failed ≡ sink_now.failed →
       ((written : List ℕ) → bytes ≡ length written → Appends sink.gained sink_now.gained written → Appends sink.gained other.gained written) →
       SoFar source sink now source_now other held count bytes
@@ -248,6 +278,10 @@ module _ (n : ℕ) (meanings : FileMeanings (List ℕ)) (first : Hosted) where
     few = far.few;
     pieces = far.pieces;
     small = far.small;
+    parts = far.parts;
+    steps = far.steps;
+    wrote = tells (concat far.parts) far.long far.wrote;
+    long = far.long;
     exact = λ known.
         let e = far.exact known in
         record { known = e.known; executive = e.executive; wrote = tells (written_by meanings first far.entries) e.long e.wrote; long = e.long };
@@ -255,10 +289,32 @@ module _ (n : ℕ) (meanings : FileMeanings (List ℕ)) (first : Hosted) where
 
   -- ---- nothing more is held, and a piece comes
 
-  pub idle : (source : Source) (sink : Sink) (now : Hosted) (source_now : Source) (sink_now : Sink) (held : Held) (count bytes : ℕ) → SoFar source sink now source_now sink_now held count bytes →
+  unfoldable pub idle : (source : Source) (sink : Sink) (now : Hosted) (source_now : Source) (sink_now : Sink) (held : Held) (count bytes : ℕ) → SoFar source sink now source_now sink_now held count bytes →
       (after : Held) (new : Hosted) (sink_after : Sink) → NoneIsHeld meanings held after now new sink_now sink_after → SoFar source sink new source_now sink_after after count bytes
   idle source sink now source_now sink_now held count bytes far after new sink_after none =
-      subst (λ (x : Held × Hosted × Sink). SoFar source sink x.1 source_now x.2 x.0 count bytes) (λ i. (sym none.same i, sym none.host i, sym none.idle i)) far
+      record {
+        between = subst IsBetween (sym none.host) far.between;
+        is_open = ap (λ (h : Hosted). h.is_closed) none.host ∙ far.is_open;
+        readable = far.readable;
+        writable = ap (λ (x : Sink). x.failed) none.idle ∙ far.writable;
+        of_texts = ap (λ (h : Held). h.texts) none.same ∙ far.of_texts;
+        good = ap (λ (h : Held). h.is_bad) none.same ∙ far.good;
+        come = far.come;
+        entries = far.entries;
+        took = far.took;
+        handed = subst (λ (h : Held). IsHandedOut n far.come far.entries h.bytes) (sym none.same) far.handed;
+        are = far.are;
+        many = far.many;
+        each = far.each;
+        few = subst (λ (h : Held). count + length h.bytes ≤ length far.come) (sym none.same) far.few;
+        pieces = far.pieces;
+        small = far.small;
+        parts = far.parts;
+        steps = subst (λ h. AreSteps meanings far.entries far.parts first h) (sym none.host) far.steps;
+        wrote = subst (λ (x : Sink). Appends sink.gained x.gained (concat far.parts)) (sym none.idle) far.wrote;
+        long = far.long;
+        exact = λ known. subst (λ (x : Hosted × Sink). Exact x.0 far.entries sink.gained x.1.gained bytes) (λ i. (sym none.host i, sym none.idle i)) (far.exact known);
+      }
 
   pub comes_more : Comes → (most : ℕ) (source : Source) (sink : Sink) (now : Hosted) (source_now : Source) (sink_now : Sink) (held : Held) (count bytes : ℕ) → SoFar source sink now source_now sink_now held count bytes →
       (after : Held) (source_after : Source) → going.Comes most held after source_now source_after → SoFar source sink now source_after sink_now after count bytes
@@ -281,5 +337,9 @@ module _ (n : ℕ) (meanings : FileMeanings (List ℕ)) (first : Hosted) where
         (let fewer : count + length (held.bytes ++ piece.piece) ≤ length (far.come ++ piece.piece) = omega (arith, far.few, length-append far.come piece.piece, length-append held.bytes piece.piece) in fewer);
     pieces = omega (arith, far.pieces, piece.one, piece.few, length-append far.come piece.piece);
     small = far.small;
+    parts = far.parts;
+    steps = far.steps;
+    wrote = far.wrote;
+    long = far.long;
     exact = far.exact;
   }

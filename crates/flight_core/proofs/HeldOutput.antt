@@ -1,10 +1,10 @@
 -- Bytes that are held behind those of a device, and what a device has been given.
-use Rattle.std.proofs.Common.{◌≡◌, refl, sym, ◌∙◌, ap, subst, ℕ, zero, suc, ◌+◌, ◌-◌, ◌<◌, ◌≤◌, false, inl, inr, List, [], ◌∷◌, ◌++◌, length, take, drop, Option, Some, None, arith, append_assoc, append-nil, length-append, length-drop}
+use Rattle.std.proofs.Common.{◌≡◌, refl, sym, ◌∙◌, ap, subst, ℕ, zero, suc, ◌-◌, ◌<◌, false, inl, inr, List, [], ◌∷◌, ◌++◌, length, take, drop, Option, Some, None, arith, append_assoc, append-nil, length-append, length-drop}
 use Rattle.std.proofs.lemmas.List.{take-append-drop}
 use Rattle.std.proofs.Math.Seq.{drop-append_seam, take-append_seam, take-length}
 use Rattle.std.specs.Io.KnownBytes.{Appends, Keeps, append_known}
 use Rattle.lc_model.specs.Device.{Sink, IsCutShort}
-use Rattle.flight_core.specs.Gathered.{with_held, none_held, behind, HasGrown, MayHold, IsGiven, IsStuck}
+use Rattle.flight_core.specs.Gathered.{none_held, behind, HasGrown, MayHold, IsGiven, IsStuck}
 
 -- ---- known bytes
 

@@ -8,6 +8,7 @@ mod HeldOutput
 mod Courses
 mod Endings
 mod Exits
+mod Reasons
 mod Outset
 mod Failures
 mod Fitting

@@ -1,5 +1,5 @@
 -- The next record of those that are held, as it was found, brought to the host and handled.
-use Rattle.std.proofs.Common.{◌≡◌, refl, sym, ◌∙◌, ap, subst, ℕ, ◌<◌, List, length, Option, Some, None}
+use Rattle.std.proofs.Common.{◌≡◌, refl, sym, ◌∙◌, ap, subst, ℕ, ◌<◌, List, ◌++◌, length, Option, Some, None}
 use Rattle.lc_model.specs.declared.record.Moment.{Moment}
 use Rattle.lc_model.specs.declared.record.Record.{Record as Given}
 use Rattle.lc_model.specs.Device.{Sink}
@@ -9,6 +9,7 @@ use Rattle.lc_model.specs.Host.Stream.{StreamEntry, Front, EndOfStream, Record, 
 use Rattle.rpn_compiler.specs.declared.files.TablePair.{TablePair}
 use Rattle.app_host.specs.Hosted.{Hosted}
 use Rattle.app_host.specs.Party.{AreKnownIn}
+use Rattle.app_host.specs.Response.{response_to, asked_by_host, RespondsPart, RespondsWithCount}
 use Rattle.app_host.specs.Step.{input_by, party_of, IsBetween, called_for, StepsWhole, StepsPart}
 use Rattle.flight_core.specs.declared.found.Found.{Found}
 use Rattle.flight_core.specs.declared.found.Found.TheVariants as found
@@ -67,19 +68,54 @@ module _ (pairs : List TablePair) (held after : Held) (f : Found) (given : Given
   input_is : input_by given.body ≡ input_of (meanings_of pairs) next.0.entry.contents
   input_is = taken.input ∙ ap (λ (e : StreamEntry). input_of (meanings_of pairs) e.contents) (sym next.1)
 
-  pub handled : (total : ℕ) → StepsWhole given.moment (input_by given.body) old new before now →
+  pub handled : (total : ℕ) → StepsWhole given.moment (input_by given.body) old new before now → RespondsWithCount given.moment (response_to given.body old) total old new before.gained now.gained →
       (AreKnownIn (party_of (input_by given.body)) old → total ≡ length (called_for given.moment (input_by given.body) old)) →
       IsHandled (meanings_of pairs) held after old new before now total
-  handled total steps count = record {
+  handled total steps counted count = record {
     next = next.0;
     between = between;
     steps = subst (λ (x : Moment × Input (List ℕ)). StepsWhole x.0 x.1 old new before now) (λ i. (moment_is i, input_is i)) steps;
     count = λ those. count (subst (λ (x : Input (List ℕ)). AreKnownIn (party_of x) old) (sym input_is) those) ∙ (λ i. length (called_for (moment_is i) (input_is i) old));
+    part = counted.responds.called.theirs ++ (asked_by_host given.moment (response_to given.body old).request counted.responds.called.behind).1;
+    step = record {
+      given = given;
+      moment = moment_is;
+      brings = input_is;
+      responds = record {
+        called = counted.responds.called;
+        gains = refl;
+        events = counted.responds.events;
+        files = counted.responds.files;
+        roster = counted.responds.roster;
+        turned = counted.responds.turned;
+      };
+      between = between;
+      exact = λ those. (steps.exact those).host;
+    };
+    gains = counted.responds.gains;
+    counted = counted.count;
   }
 
-  pub cut_short : (sent : ℕ) → StepsPart given.moment (input_by given.body) sent old new before now → IsCutShort (meanings_of pairs) held after old new before now sent
-  cut_short sent steps = record {
+  pub cut_short : (sent : ℕ) → StepsPart given.moment (input_by given.body) sent old new before now → RespondsPart given.moment (response_to given.body old) sent old new before.gained now.gained → IsCutShort (meanings_of pairs) held after old new before now sent
+  cut_short sent steps responds = record {
     next = next.0;
     between = between;
     steps = subst (λ (x : Moment × Input (List ℕ)). StepsPart x.0 x.1 sent old new before now) (λ i. (moment_is i, input_is i)) steps;
+    part = responds.called.theirs ++ (asked_by_host given.moment (response_to given.body old).request responds.called.behind).1;
+    step = record {
+      given = given;
+      moment = moment_is;
+      brings = input_is;
+      responds = record {
+        called = responds.called;
+        fewer = responds.fewer;
+        gains = refl;
+        events = responds.events;
+        files = responds.files;
+        roster = responds.roster;
+        turned = responds.turned;
+      };
+      all = refl;
+    };
+    gains = responds.gains;
   }

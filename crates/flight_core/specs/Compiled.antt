@@ -9,7 +9,7 @@ use Rattle.lc_model.specs.Rule.{NamedRule}
 use Rattle.lc_model.specs.Text.Reading.{TextRefusal}
 use Rattle.lc_model.specs.Tables.Compiling.{Compiles, IsRefused}
 use Rattle.lc_model.specs.Tables.HalvesAndBytes.{Text}
-use Rattle.lc_model.specs.Tables.InForce.{limits, arranged}
+use Rattle.lc_model.specs.Tables.InForce.{limits}
 use Rattle.lc_model.specs.Host.Promise.{AreCompiled}
 use Rattle.rpn_compiler.specs.declared.error.CompileError.{CompileError}
 use Rattle.rpn_compiler.specs.declared.error.CompileError.TheVariants as compiler

@@ -1,6 +1,6 @@
 -- What each step of a run leaves: a record that is handled, a piece that comes, and why it goes no further.
-use Rattle.std.specs.Prelude.{◌≡◌, ℕ, ◌+◌, ◌<◌, ◌≤◌, Bool, true, false, List, [], ◌++◌, length, Option, Some, None, Result, Ok, Err}
-use Rattle.std.specs.Io.KnownBytes.{Consumes, IsAtEnd, Keeps}
+use Rattle.std.specs.Prelude.{◌≡◌, ℕ, ◌+◌, ◌<◌, ◌≤◌, Bool, true, false, List, [], ◌++◌, length, take, Option, Some, None, Result, Ok, Err}
+use Rattle.std.specs.Io.KnownBytes.{Appends, Consumes, IsAtEnd, Keeps}
 use Rattle.lc_model.specs.Device.{Source, Sink}
 use Rattle.lc_model.specs.Host.Run.{input_of}
 use Rattle.lc_model.specs.Host.Stream.{StreamEntry, Record, NoRecord}
@@ -14,6 +14,7 @@ use Rattle.flight_core.specs.declared.halt.Halt.TheVariants as halt
 use Rattle.flight_core.specs.Front.{part_of}
 use Rattle.flight_core.specs.Gathered.{with_held, IsStuck}
 use Rattle.flight_core.specs.Records.{Held, front_of, next_number, piece_size}
+use Rattle.flight_core.specs.Steps.{IsOneStep, IsCutStep}
 
 -- ---- the next record
 
@@ -32,12 +33,19 @@ module _ (meanings : FileMeanings (List ℕ)) (held after : Held) (old new : Hos
     pub between : IsBetween new
     pub steps : StepsWhole next.entry.moment (input_of meanings next.entry.contents) old new before now
     pub count : AreKnownIn (party_of (input_of meanings next.entry.contents)) old → total ≡ length (called_for next.entry.moment (input_of meanings next.entry.contents) old)
+    pub part : List ℕ
+    pub step : IsOneStep meanings next.entry old new part
+    pub gains : Appends before.gained now.gained part
+    pub counted : total ≡ length part
 
   -- a write failed, behind so many bytes of it
   pub record IsCutShort (sent : ℕ) : Type 0 where
     pub next : IsNext held after
     pub between : IsBetween new
     pub steps : StepsPart next.entry.moment (input_of meanings next.entry.contents) sent old new before now
+    pub part : List ℕ
+    pub step : IsCutStep meanings next.entry sent old new part
+    pub gains : Appends before.gained now.gained (take sent part)
 
   -- no whole record is held
   pub record NoneIsHeld : Type 0 where

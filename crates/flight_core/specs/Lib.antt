@@ -10,6 +10,7 @@ pub mod Ending
 pub mod Compiled
 pub mod Brought
 pub mod Gathered
+pub mod Steps
 pub mod Going
 pub mod Flight
 pub mod Run

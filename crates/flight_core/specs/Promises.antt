@@ -9,6 +9,7 @@ use Rattle.flight_core.specs.Compiled.{NamesTheNumber}
 use Rattle.flight_core.specs.Ending.{ending_of}
 use Rattle.flight_core.specs.Failures.{TellsFailures}
 use Rattle.flight_core.specs.Fitting.{RefusesUnfitAlone}
+use Rattle.flight_core.specs.Steps.{AnswersForItsReason}
 
 -- what a run promises with this profile's applications in stock
 pub record PromisesOfProfile (m : Mission) (d : Devices) (ending : Ending) : Type 0 where
@@ -38,6 +39,9 @@ pub record Promises (OfProfile : Type 0) (m : Mission) (d : Devices) (result : R
   pub refuses : RefusesUnfitAlone m.sources d (ending_of result)
   -- of a number of that text that is out of its range: which one it is
   pub named : IfErr result (NamesTheNumber m.sources)
+  -- each record was one step, whatever the applications are, and each answer is given for its reason alone: a failed read or
+  -- write, no record or a cut one, and the bound of reads only where that is so, with the numbers that are so
+  pub reasons : AnswersForItsReason m d (ending_of result)
   -- however it ends: at most so many reads were made
   pub bounded : d.source_after.reads ≤ m.most_reads
 

@@ -3,9 +3,11 @@
 ghost use Rattle.std.specs.Prelude.{◌≡◌, ◌+◌, ◌*◌, ◌^◌, ◌<◌, ◌≤◌, false, [], length, Err};
 ghost use Rattle.lc_model.specs.Host.Outcome.{devices};
 ghost use Rattle.app_host.specs.Hosted.{shown};
-ghost use Rattle.flight_core.specs.Brought.{AreWhole};
+ghost use Rattle.flight_core.specs.Brought.{AreWhole, meanings_of};
+ghost use Rattle.flight_core.specs.Ending.{ending_of};
 ghost use Rattle.flight_core.specs.Flight.{FliesSo, RunHasBegun, ended_by, stopped_by};
 ghost use Rattle.flight_core.specs.Records.{nothing_held};
+ghost use Rattle.flight_core.specs.Steps.{IsForItsReason};
 ghost use Rattle.app_host.specs.Step.{IsBetween};
 
 use crate::error::{Report, RunError};
@@ -66,6 +68,10 @@ pub(crate) fn fly<R: ByteSource, T: ByteSink, O: Outlet<T>>(
         FliesSo pairs.now most (seen host.old)
         (devices (R.source reader.old) (R.source reader.new) (O.device out.old)
         (O.device out.new)) result }
+    ensures reasons { let seen = shown (λ b. (⟦<dyn App as App>⟧ b.vtable).meaning b.value) in
+        IsForItsReason (length pairs.now) (meanings_of pairs.now) (seen host.old) most
+        (devices (R.source reader.old) (R.source reader.new) (O.device out.old) (O.device out.new))
+        (ending_of result) }
     ensures between { let seen = shown (λ b. (⟦<dyn App as App>⟧ b.vtable).meaning b.value) in
         IsBetween (seen host.new) }
     ensures begun { RunHasBegun result }

@@ -9,6 +9,7 @@ ghost use Rattle.flight_core.specs.Compiled.{NamesTheNumber, sources_of};
 ghost use Rattle.flight_core.specs.Ending.{ending_of};
 ghost use Rattle.flight_core.specs.Fitting.{RefusesUnfitAlone};
 ghost use Rattle.flight_core.specs.Promises.{Promises};
+ghost use Rattle.flight_core.specs.Steps.{AnswersForItsReason, RunsForItsReason};
 ghost use Rattle.flight_core.specs.Run.{AreOfProfile, IsOfProfile, RefusesNone, RunsSo, members_of, mission_of};
 
 use crate::compiling::compile_all;
@@ -46,6 +47,9 @@ fn run_compiled<R: ByteSource, T: ByteSink, O: Outlet<T>>(
         RunsSo pairs.now (members_of (map meaning stock.items)) (length pairs.now) reads
         (devices (R.source reader.old) (R.source reader.new) (O.device out.old)
         (O.device out.new)) result }
+    ensures reasons { RunsForItsReason pairs.now (members_of (map meaning stock.items)) reads
+        (devices (R.source reader.old) (R.source reader.new) (O.device out.old) (O.device out.new))
+        (ending_of result) }
     ensures judged { RefusesNone
         (devices (R.source reader.old) (R.source reader.new) (O.device out.old)
         (O.device out.new)) result }
@@ -124,6 +128,10 @@ pub(crate) fn begin<R: ByteSource, T: ByteSink, O: Outlet<T>>(
         (devices (R.source reader.old) (R.source reader.new) (O.device out.old)
         (O.device out.new)) (ending_of result) }
     ensures named { IfErr result (NamesTheNumber (sources_of texts.now)) }
+    ensures reasons { AnswersForItsReason
+        (mission_of texts.now schedule.now (map meaning stock.items) reads)
+        (devices (R.source reader.old) (R.source reader.new) (O.device out.old) (O.device out.new))
+        (ending_of result) }
     ensures bounded { (R.source reader.new).reads ≤ reads }
 {
     // For the proof: the host in numbers writes what a mission calls for.

@@ -41,7 +41,7 @@ pub keeps : {OfProfile : Type 0} → OfProfile → (texts : List (Bor (List ℕ)
     stock ≡ own_names → Promises OfProfile (mission_with texts schedule stock) d result → Promises ⊤ (own_mission texts schedule) d result
 keeps {OfProfile} is texts schedule stock d result same promises =
     let own = subst (λ names. Promises OfProfile (mission_with texts schedule names) d result) same promises in
-    record { profile = λ nothing. own.profile is; refuses = own.refuses; named = own.named; bounded = own.bounded }
+    record { profile = λ nothing. own.profile is; refuses = own.refuses; named = own.named; reasons = own.reasons; bounded = own.bounded }
 
 -- what is so of the device that was there
 pub of_the_device : {W : Type 0} (old : Option W) (device : W) (So : W → Type 0) → old ≡ Some device → So device → IfSome old So

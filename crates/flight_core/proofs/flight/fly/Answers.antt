@@ -3,7 +3,8 @@ use Rattle.lc_model.specs.Tables.InForce.{layouts}
 use Rattle.flight_core.specs.Flight.{stopped_by}
 use Rattle.flight_core.proofs.Courses.{goes_on_board, takes_on_board, one_more, idle, comes_more}
 use Rattle.flight_core.proofs.Cutting.{begins, comes, goes, ends_badly, ends_whole, ends_cut}
-use Rattle.flight_core.proofs.Exits.{begins_so, shows_device, goes_on_behind, stops_by, reads_by, ends_by}
+use Rattle.flight_core.proofs.Exits.{begins_so, shows_device, goes_on_behind, profile_stops, profile_reads, profile_ends}
+use Rattle.flight_core.proofs.Reasons.{reason_to_stop, reason_to_read_no_more, reason_to_end}
 use Rattle.flight_core.proofs.flight.fly.Goals as goal
 
 pub loop-total-init : goal.loop-total-init
@@ -40,7 +41,7 @@ pub returns-in-Ok-false-clause-outcome : goal.returns-in-Ok-false-clause-outcome
 returns-in-Ok-false-clause-outcome g c = λ known output same.
     let none = rw c.in-Ok-None.field-0-is at c.in-Ok-None.ensures.next in
     let over = rw c.in-Ok-false.field-0-test at c.in-Ok-false.ensures.refilled in
-    ends_by (record {
+    profile_ends (record {
       goes_on = goes_on_board (c.goes_on.ensures layouts);
       takes = takes_on_board (c.writes_are_the_steps.ensures.taken layouts);
       brings = c.records_of_bytes_are_fine.ensures.brought;
@@ -54,7 +55,7 @@ returns-in-Ok-false-clause-outcome g c = λ known output same.
 pub returns-in-Err-refill-clause-outcome : goal.returns-in-Err-refill-clause-outcome
 returns-in-Err-refill-clause-outcome g c = λ known output same.
     let none = rw c.in-Ok-None.field-0-is at c.in-Ok-None.ensures.next in
-    reads_by (record {
+    profile_reads (record {
       goes_on = goes_on_board (c.goes_on.ensures layouts);
       takes = takes_on_board (c.writes_are_the_steps.ensures.taken layouts);
       brings = c.records_of_bytes_are_fine.ensures.brought;
@@ -68,7 +69,7 @@ returns-in-Err-refill-clause-outcome g c = λ known output same.
 
 pub returns-in-Err-clause-outcome : goal.returns-in-Err-clause-outcome
 returns-in-Err-clause-outcome g c = λ known output same.
-    stops_by (record {
+    profile_stops (record {
       goes_on = goes_on_board (c.goes_on.ensures layouts);
       takes = takes_on_board (c.writes_are_the_steps.ensures.taken layouts);
       brings = c.records_of_bytes_are_fine.ensures.brought;
@@ -77,5 +78,49 @@ returns-in-Err-clause-outcome g c = λ known output same.
       whole = ends_whole;
       cut = ends_cut;
     }) _ _ _ _ _ _ known output same _ _ _ _ _ _ c.loop-total.invariant.far _ _ _ _ _ _ _ (g.met.O.Outlet.shows c.handle_next.new.writer)
+    (g.met.O.Outlet.grows c.final_reason-reason.new.out _ c.requires.had) c.in-Err.halt c.final_reason-reason.result c.in-Err.ensures.next c.final_reason-reason.ensures
+    c.stopped-in-Err.result (c.stopped-in-Err.ensures.so ∙ ap (λ held. stopped_by c.final_reason-reason.result c.loop-total.report.records c.loop-total.report.bytes held) c.held_in-in-Err.ensures)
+
+pub returns-in-Ok-false-clause-reasons : goal.returns-in-Ok-false-clause-reasons
+returns-in-Ok-false-clause-reasons g c =
+    let none = rw c.in-Ok-None.field-0-is at c.in-Ok-None.ensures.next in
+    let over = rw c.in-Ok-false.field-0-test at c.in-Ok-false.ensures.refilled in
+    reason_to_end (record {
+      goes_on = goes_on_board (c.goes_on.ensures layouts);
+      takes = takes_on_board (c.writes_are_the_steps.ensures.taken layouts);
+      brings = c.records_of_bytes_are_fine.ensures.brought;
+      goes = goes;
+      bad = ends_badly;
+      whole = ends_whole;
+      cut = ends_cut;
+    }) _ _ _ _ _ _ _ _ _ _ _ _ c.loop-total.invariant.far _ _ _ _ _ _ _ (g.met.O.Outlet.shows c.handle_next.new.writer)
+    (g.met.O.Outlet.grows c.refill.new.out _ c.requires.had) none _ _ over c.loop-total.report refl refl c.ended.result c.ended.ensures.so
+
+pub returns-in-Err-refill-clause-reasons : goal.returns-in-Err-refill-clause-reasons
+returns-in-Err-refill-clause-reasons g c =
+    let none = rw c.in-Ok-None.field-0-is at c.in-Ok-None.ensures.next in
+    reason_to_read_no_more (record {
+      goes_on = goes_on_board (c.goes_on.ensures layouts);
+      takes = takes_on_board (c.writes_are_the_steps.ensures.taken layouts);
+      brings = c.records_of_bytes_are_fine.ensures.brought;
+      goes = goes;
+      bad = ends_badly;
+      whole = ends_whole;
+      cut = ends_cut;
+    }) _ _ _ _ _ _ _ _ _ _ _ _ c.loop-total.invariant.far _ _ _ _ _ _ _ (g.met.O.Outlet.shows c.handle_next.new.writer)
+    (g.met.O.Outlet.grows c.refill.new.out _ c.requires.had) none _ _ c.in-Err-refill.halt c.in-Err-refill.ensures.refilled
+    c.stopped.result (c.stopped.ensures.so ∙ ap (λ held. stopped_by c.in-Err-refill.halt c.loop-total.report.records c.loop-total.report.bytes held) c.held_in.ensures)
+
+pub returns-in-Err-clause-reasons : goal.returns-in-Err-clause-reasons
+returns-in-Err-clause-reasons g c =
+    reason_to_stop (record {
+      goes_on = goes_on_board (c.goes_on.ensures layouts);
+      takes = takes_on_board (c.writes_are_the_steps.ensures.taken layouts);
+      brings = c.records_of_bytes_are_fine.ensures.brought;
+      goes = goes;
+      bad = ends_badly;
+      whole = ends_whole;
+      cut = ends_cut;
+    }) _ _ _ _ _ _ _ _ _ _ _ _ c.loop-total.invariant.far _ _ _ _ _ _ _ (g.met.O.Outlet.shows c.handle_next.new.writer)
     (g.met.O.Outlet.grows c.final_reason-reason.new.out _ c.requires.had) c.in-Err.halt c.final_reason-reason.result c.in-Err.ensures.next c.final_reason-reason.ensures
     c.stopped-in-Err.result (c.stopped-in-Err.ensures.so ∙ ap (λ held. stopped_by c.final_reason-reason.result c.loop-total.report.records c.loop-total.report.bytes held) c.held_in-in-Err.ensures)

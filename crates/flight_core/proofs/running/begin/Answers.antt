@@ -3,6 +3,7 @@ use Rattle.flight_core.specs.Brought.{AreWhole}
 use Rattle.flight_core.specs.Compiled.{sources_of, AreAllCompiled}
 use Rattle.flight_core.proofs.Fitting.{named, none_named, refused, taken}
 use Rattle.flight_core.proofs.Outset.{all_not_other, whole_files, is_run}
+use Rattle.flight_core.proofs.Reasons.{answers_for, none_answered}
 use Rattle.flight_core.proofs.running.begin.Goals as goal
 
 pub run_compiled-requires-clause-files : goal.run_compiled-requires-clause-files
@@ -32,3 +33,10 @@ returns-in-Ok-clause-named g c = none_named (sources_of c.args.texts.now) _ _ c.
 
 pub returns-in-Err-clause-named : goal.returns-in-Err-clause-named
 returns-in-Err-clause-named g c = named (sources_of c.args.texts.now) _ c.in-Err.ensures.refused
+
+pub returns-in-Ok-clause-reasons : goal.returns-in-Ok-clause-reasons
+returns-in-Ok-clause-reasons g c =
+    answers_for _ _ c.as_slice.result.now (subst (AreAllCompiled (sources_of c.args.texts.now)) (sym c.as_slice.ensures.value) c.in-Ok.ensures.compiled) _ refl _ c.run_compiled.ensures.reasons
+
+pub returns-in-Err-clause-reasons : goal.returns-in-Err-clause-reasons
+returns-in-Err-clause-reasons g c = none_answered _ _ (sources_of c.args.texts.now) _ c.in-Err.ensures.refused

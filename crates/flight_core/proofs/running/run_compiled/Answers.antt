@@ -1,5 +1,6 @@
 use Rattle.flight_core.proofs.Fitting.{begun}
 use Rattle.flight_core.proofs.Outset.{runs_so}
+use Rattle.flight_core.proofs.Reasons.{runs_for}
 use Rattle.flight_core.proofs.running.run_compiled.Goals as goal
 
 pub returns-in-Ok-clause-run : goal.returns-in-Ok-clause-run
@@ -7,3 +8,6 @@ returns-in-Ok-clause-run g c = λ profile. runs_so _ _ _ _ _ c.in-Ok.ensures.fir
 
 pub returns-in-Ok-clause-judged : goal.returns-in-Ok-clause-judged
 returns-in-Ok-clause-judged g c = begun _ _ c.fly-result.ensures.begun
+
+pub returns-in-Ok-clause-reasons : goal.returns-in-Ok-clause-reasons
+returns-in-Ok-clause-reasons g c = runs_for _ _ _ _ _ c.in-Ok.ensures.first _ c.fly-result.ensures.reasons

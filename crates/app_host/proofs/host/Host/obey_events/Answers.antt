@@ -1,6 +1,5 @@
 use Rattle.std.proofs.Common.{refl, ap, ◌∙◌}
 use Rattle.std.specs.Prelude.{Some, option_map}
-use Rattle.lc_model.specs.Packet.{function_code}
 use Rattle.lc_model.specs.Command.{event_command_in}
 use Rattle.lc_model.specs.Events.Request.{event_services, command_done, command_refused}
 use Rattle.lc_model.specs.Services.Events.{EventService, sender_at}
@@ -38,10 +37,10 @@ returns-in-Err-clause-handled g c =
 
 pub returns-in-Ok-clause-own : goal.returns-in-Ok-clause-own
 returns-in-Ok-clause-own g c =
-    events_obeyed _ _ _ refl refl refl _ _ _ c.tell_alone.result c.tell_alone.ensures.own refl c.args.packet.now _ c.in-Ok.ensures.answer
+    events_obeyed _ _ _ refl refl refl (record { bus = refl; counts = refl }) _ _ _ c.tell_alone.result c.tell_alone.ensures.own refl c.args.packet.now _ c.in-Ok.ensures.answer
     (c.command_done-text.ensures ∙ ap (command_done event_services) c.function_code.ensures)
 
 pub returns-in-Err-clause-own : goal.returns-in-Err-clause-own
 returns-in-Err-clause-own g c =
-    events_refused _ _ _ refl refl refl _ _ _ c.tell_alone-in-Err.result c.tell_alone-in-Err.ensures.own refl c.in-Err.ensures.refused c.args.packet.now _ c.in-Err.numbers c.in-Err.ensures.answer
+    events_refused _ _ _ refl refl refl (record { bus = refl; counts = refl }) _ _ _ c.tell_alone-in-Err.result c.tell_alone-in-Err.ensures.own refl c.in-Err.ensures.refused c.args.packet.now _ c.in-Err.numbers c.in-Err.ensures.answer
     (c.command_refused-text.ensures ∙ ap (command_refused event_services) c.as_slice.ensures.numbers)

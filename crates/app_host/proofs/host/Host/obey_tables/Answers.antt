@@ -1,5 +1,4 @@
 use Rattle.std.proofs.Common.{refl, ap, ◌∙◌}
-use Rattle.lc_model.specs.Packet.{function_code}
 use Rattle.lc_model.specs.Command.{table_command_in}
 use Rattle.lc_model.specs.Events.Request.{table_services, command_done, command_refused}
 use Rattle.app_host.proofs.TablesObeyed.{kept_by, whole_obeyed, whole_refused, is_obeyed, is_not_obeyed}
@@ -36,10 +35,10 @@ returns-in-Err-clause-handled g c =
 
 pub returns-in-Ok-clause-own : goal.returns-in-Ok-clause-own
 returns-in-Ok-clause-own g c =
-    tables_obeyed _ _ _ refl refl refl _ _ _ c.tell_alone.result c.tell_alone.ensures.own refl c.args.packet.now _ c.in-Ok.ensures.answer
+    tables_obeyed _ _ _ refl refl refl (record { bus = refl; counts = refl }) _ _ _ c.tell_alone.result c.tell_alone.ensures.own refl c.args.packet.now _ c.in-Ok.ensures.answer
     (c.command_done-text.ensures ∙ ap (command_done table_services) c.function_code.ensures)
 
 pub returns-in-Err-clause-own : goal.returns-in-Err-clause-own
 returns-in-Err-clause-own g c =
-    tables_refused _ _ _ refl refl refl _ _ _ c.tell_alone-in-Err.result c.tell_alone-in-Err.ensures.own refl c.in-Err.ensures.refused c.args.packet.now _ c.in-Err.numbers c.in-Err.ensures.answer
+    tables_refused _ _ _ refl refl refl (record { bus = refl; counts = refl }) _ _ _ c.tell_alone-in-Err.result c.tell_alone-in-Err.ensures.own refl c.in-Err.ensures.refused c.args.packet.now _ c.in-Err.numbers c.in-Err.ensures.answer
     (c.command_refused-text.ensures ∙ ap (command_refused table_services) c.as_slice.ensures.numbers)

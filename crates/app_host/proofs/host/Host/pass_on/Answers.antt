@@ -3,9 +3,9 @@ use Rattle.lc_model.specs.Kept.Executive.{ready_seat}
 use Rattle.lc_model.specs.Services.Bus.{seen}
 use Rattle.app_host.specs.declared.services.Services.{Services}
 use Rattle.app_host.proofs.FirstPublished.{is_published}
-use Rattle.app_host.proofs.PassedOn.{whole_mid, light_after, load_after, published_so, ok_holds, offered_passes, offered_responds}
+use Rattle.app_host.proofs.PassedOn.{whole_mid, light_after, load_after, published_so, ok_holds, offered_passes, responds_cut, responds_end}
 use Rattle.app_host.proofs.HandedOver.{ready_first, offered_first, handing_first}
-use Rattle.app_host.proofs.Draining.{draining_first, draining_next, draining_cut, draining_end, responds_cut, responds_end, responds_short, cut_short}
+use Rattle.app_host.proofs.Draining.{draining_first, draining_next, draining_cut, draining_end, responds_short, cut_short}
 use Rattle.lc_model.proofs.Services.TableNames.{tables_are_found}
 use Rattle.app_host.proofs.host.Host.pass_on.Goals as goal
 use Rattle.app_host.proofs.host.Host.pass_on.Goals.{in-Some+in_ok-sent-in-Some, in-None}
@@ -82,13 +82,12 @@ pub returns-in_err-sent-in-Some-clause-own : goal.returns-in_err-sent-in-Some-cl
 returns-in_err-sent-in-Some-clause-own g c =
     let law = tables_are_found in
     let only = sym c.only_hearer.ensures.only ∙ c.in-Some.is in
-    offered_responds _ _ c.args.packet.now (offered_first law c.args.packet.now _ c.requires.whole c.requires.quiet c.is_service.ensures c.requires.good c.only_hearer.ensures.eight c.in-Some.seat only)
-    _ _ _ c.from_residual.result
-    (responds_short _ _ _ _ _ _ c.from_residual.result c.in_err-sent-in-Some.field-0.0 c.from_residual.ensures.1
-    (responds_cut _ _ _ _ 0 c.in-Some.seat _ _ _
+    responds_short _ _ _ _ _ _ c.from_residual.result c.in_err-sent-in-Some.field-0.0 c.from_residual.ensures.1
+    (responds_cut _ _ c.args.packet.now (offered_first law c.args.packet.now _ c.requires.whole c.requires.quiet c.is_service.ensures c.requires.good c.only_hearer.ensures.eight c.in-Some.seat only)
+    _ _ _ 0 c.in-Some.seat _ _ _
     (handing_first law c.args.packet.now _ c.requires.whole c.requires.quiet c.is_service.ensures c.requires.good c.only_hearer.ensures.eight c.in-Some.seat only _ c.requires.none_yet)
     (ready_first law c.args.packet.now _ c.requires.whole c.requires.quiet c.is_service.ensures c.requires.good c.only_hearer.ensures.eight c.in-Some.seat only)
-    c.hand_over-next.ensures.delivered c.flush.ensures.flushed c.in_err-sent-in-Some.field-0.0.sent c.in_err-sent-in-Some.ensures.sent))
+    c.hand_over-next.ensures.delivered c.flush.ensures.flushed c.in_err-sent-in-Some.field-0.0.sent c.in_err-sent-in-Some.ensures.sent)
 
 pub returns-in_err-sent-clause-handled : goal.returns-in_err-sent-clause-handled
 returns-in_err-sent-clause-handled g c =
@@ -100,10 +99,10 @@ returns-in_err-sent-clause-handled g c =
 
 pub returns-in_err-sent-clause-own : goal.returns-in_err-sent-clause-own
 returns-in_err-sent-clause-own g c =
-    offered_responds _ c.loop-next.invariant.first c.args.packet.now c.loop-next.invariant.offered _ _ _ c.from_residual-in_err-sent.result
-    (responds_short _ _ _ _ _ _ c.from_residual-in_err-sent.result c.in_err-sent.field-0.0 c.from_residual-in_err-sent.ensures.1
-    (responds_cut _ _ _ _ c.loop-next.sent c.in-Some-next.seat _ _ _ c.loop-next.invariant.far (sym c.loop-next.invariant.next ∙ c.in-Some-next.is)
-    c.deliver-next.ensures.delivered c.flush-in-Some-next.ensures.flushed c.in_err-sent.field-0.0.sent c.in_err-sent.ensures.sent))
+    responds_short _ _ _ _ _ _ c.from_residual-in_err-sent.result c.in_err-sent.field-0.0 c.from_residual-in_err-sent.ensures.1
+    (responds_cut _ c.loop-next.invariant.first c.args.packet.now c.loop-next.invariant.offered
+    _ _ _ c.loop-next.sent c.in-Some-next.seat _ _ _ c.loop-next.invariant.far (sym c.loop-next.invariant.next ∙ c.in-Some-next.is)
+    c.deliver-next.ensures.delivered c.flush-in-Some-next.ensures.flushed c.in_err-sent.field-0.0.sent c.in_err-sent.ensures.sent)
 
 pub returns-clause-handled : goal.returns-clause-handled
 returns-clause-handled g c =
@@ -112,4 +111,5 @@ returns-clause-handled g c =
 
 pub returns-clause-own : goal.returns-clause-own
 returns-clause-own g c =
-    offered_responds _ c.loop-next.invariant.first c.args.packet.now c.loop-next.invariant.offered _ _ _ (Ok c.loop-next.sent) (responds_end _ _ _ _ _ c.loop-next.invariant.far)
+    responds_end _ c.loop-next.invariant.first c.args.packet.now c.loop-next.invariant.offered _ c.loop-next.sent _ _ c.loop-next.invariant.far
+    (sym c.loop-next.invariant.next ∙ c.in_default.is)

@@ -3,7 +3,7 @@ use Rattle.lc_model.specs.Kept.Executive.{ready_seat}
 use Rattle.lc_model.specs.Services.Bus.{seen}
 use Rattle.app_host.specs.Hosted.{Hosted, shown}
 use Rattle.app_host.specs.Load.{load}
-use Rattle.app_host.proofs.PassedOn.{IsOffered}
+use Rattle.app_host.specs.Heard.{IsOffered}
 use Rattle.app_host.proofs.Draining.{Draining}
 use Rattle.app_host.proofs.host.Host.pass_on.Given as goal
 

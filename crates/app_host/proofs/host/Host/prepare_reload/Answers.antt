@@ -7,8 +7,8 @@ withdraw-requires-clause-there g c = is_there _ c.args.name.now c.requires.whole
 
 pub returns-in-Some-first_spare-clause-prepared : goal.returns-in-Some-first_spare-clause-prepared
 returns-in-Some-first_spare-clause-prepared g c =
-    reload_ready _ c.args.name.now c.requires.whole _ c.runs_at.ensures.kept c.in-Some.seat c.in-Some.is _ _ c.withdraw.ensures _ c.in-Some-first_spare.place c.first_spare.ensures.kept c.in-Some-first_spare.is
+    reload_ready _ c.args.name.now c.requires.whole _ c.runs_at.ensures.kept c.in-Some.seat c.in-Some.is _ _ c.withdraw.ensures.withdrawn _ c.in-Some-first_spare.place c.first_spare.ensures.kept c.in-Some-first_spare.is
 
 pub returns-in-Some-first_spare-clause-own : goal.returns-in-Some-first_spare-clause-own
 returns-in-Some-first_spare-clause-own g c =
-    reload_made _ _ c.args.name.now c.in-Some.seat _ c.withdraw.ensures _ c.runs_at.ensures.own c.in-Some.is _ c.in-Some-first_spare.place c.first_spare.ensures.own c.in-Some-first_spare.is
+    reload_made _ _ _ c.args.name.now c.in-Some.seat _ c.withdraw.ensures.withdrawn c.withdraw.ensures.boxes _ c.runs_at.ensures.own c.in-Some.is _ c.in-Some-first_spare.place c.first_spare.ensures.own c.in-Some-first_spare.is

@@ -10,4 +10,4 @@ returns-in-Some-free-clause-prepared g c =
 
 pub returns-in-Some-free-clause-own : goal.returns-in-Some-free-clause-own
 returns-in-Some-free-clause-own g c =
-    start_made _ c.args.name.now _ _ _ c.runs_at.ensures.own (sym c.is_some.ensures ∙ c.if-is_some.false) c.first_spare.ensures.own c.free.ensures.own c.in-Some.place c.in-Some-free.seat c.in-Some.is c.in-Some-free.is
+    start_made _ _ c.args.name.now _ _ _ c.runs_at.ensures.own (sym c.is_some.ensures ∙ c.if-is_some.false) c.first_spare.ensures.own c.free.ensures.own c.in-Some.place c.in-Some-free.seat c.in-Some.is c.in-Some-free.is

@@ -6,7 +6,7 @@ pub withdraw-requires-clause-there : goal.withdraw-requires-clause-there
 withdraw-requires-clause-there g c = is_there _ c.args.name.now c.requires.whole _ c.in-Some.seat c.runs_at.ensures.kept c.in-Some.is
 
 pub returns-in-Some-clause-prepared : goal.returns-in-Some-clause-prepared
-returns-in-Some-clause-prepared g c = stop_ready _ c.args.name.now c.requires.whole _ c.runs_at.ensures.kept c.in-Some.seat c.in-Some.is _ _ c.withdraw.ensures
+returns-in-Some-clause-prepared g c = stop_ready _ c.args.name.now c.requires.whole _ c.runs_at.ensures.kept c.in-Some.seat c.in-Some.is _ _ c.withdraw.ensures.withdrawn
 
 pub returns-in-Some-clause-own : goal.returns-in-Some-clause-own
-returns-in-Some-clause-own g c = stop_made _ _ c.args.name.now c.in-Some.seat _ c.withdraw.ensures _ c.runs_at.ensures.own c.in-Some.is
+returns-in-Some-clause-own g c = stop_made _ _ _ c.args.name.now c.in-Some.seat _ c.withdraw.ensures.withdrawn c.withdraw.ensures.boxes _ c.runs_at.ensures.own c.in-Some.is

@@ -33,9 +33,9 @@ returns-in-Err-clause-handled g c =
     (c.file_refused-text.ensures ∙ ap file_refused (c.as_slice.ensures.numbers ∙ c.of_tables-numbers.ensures)) _ _ _ c.tell_alone-in-Err.result c.tell_alone-in-Err.ensures.handled
 
 pub returns-in-Ok-clause-own : goal.returns-in-Ok-clause-own
-returns-in-Ok-clause-own g c = file_kept _ _ _ refl refl refl _ _ _ c.tell_alone.result c.tell_alone.ensures.own refl _ c.in-Ok.ensures.answer c.file_stored-text.ensures
+returns-in-Ok-clause-own g c = file_kept _ _ _ refl refl refl (record { bus = refl; counts = refl }) _ _ _ c.tell_alone.result c.tell_alone.ensures.own refl _ c.in-Ok.ensures.answer c.file_stored-text.ensures
 
 pub returns-in-Err-clause-own : goal.returns-in-Err-clause-own
 returns-in-Err-clause-own g c =
-    file_turned_away _ _ _ refl refl refl _ _ _ c.tell_alone-in-Err.result c.tell_alone-in-Err.ensures.own refl c.in-Err.ensures.refused _ (refusal_of c.in-Err.error) c.in-Err.ensures.answer
+    file_turned_away _ _ _ refl refl refl (record { bus = refl; counts = refl }) _ _ _ c.tell_alone-in-Err.result c.tell_alone-in-Err.ensures.own refl c.in-Err.ensures.refused _ (refusal_of c.in-Err.error) c.in-Err.ensures.answer
     (c.file_refused-text.ensures ∙ ap file_refused (c.as_slice.ensures.numbers ∙ c.of_tables-numbers.ensures))

@@ -1,6 +1,8 @@
 use Rattle.std.proofs.Common.{sym}
 use Rattle.app_host.proofs.Stepping.{refused_so}
 use Rattle.app_host.proofs.Responses.{turned_away}
+use Rattle.app_host.proofs.Boxes as boxes
+use Rattle.app_host.specs.Hosted.{shown}
 use Rattle.app_host.proofs.host.Host.take_packet.Goals as goal
 
 pub returns-in-Some-clause-handled : goal.returns-in-Some-clause-handled
@@ -9,3 +11,6 @@ returns-in-Some-clause-handled g c =
 
 pub returns-in-Some-clause-own : goal.returns-in-Some-clause-own
 returns-in-Some-clause-own g c = turned_away _ _ _ _ _ c.refuse_packet.result c.args.packet.now c.in-Some.reason (sym c.in-Some.ensures.fault) c.refuse_packet.ensures.own
+
+pub returns-in-Some-clause-gone : goal.returns-in-Some-clause-gone
+returns-in-Some-clause-gone g c = boxes.turned_away _ c.args.packet.now (shown (λ b. (goal.App-dyn g (b.vtable, b.value)).meaning b.value) c.args.self.now) c.in-Some.reason (sym c.in-Some.ensures.fault)

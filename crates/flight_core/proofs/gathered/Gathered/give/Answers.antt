@@ -1,5 +1,4 @@
-use Rattle.std.proofs.Common.{rules, ◌≡◌, ◌≤◌, length}
-use Rattle.flight_core.proofs.HeldOutput.{all_given, part_given, grows}
+use Rattle.flight_core.proofs.HeldOutput.{grows}
 use Rattle.flight_core.proofs.gathered.Gathered.give.Goals as goal
 
 pub invariant_of-self-clause-grown : goal.invariant_of-self-clause-grown
