@@ -136,6 +136,7 @@ UNUSABLE = [
         forbidden=["other"],
     ),
     unusable("a stream to a folder", b"folder", b"it is a folder", "scenario script folder", {"script": b"", "folder": FOLDER}),
+    unusable("a stream in a folder that isn't there", b"none/made", NOT_THERE, "scenario script none/made", {"script": b""}),
     unusable("a stream to a full device", b"/dev/full", FULL, "scenario script /dev/full", {"script": b"tick\n"}),
     unusable("a report without its schedule", b"none", NOT_THERE, "report none stream /dev/full rules"),
     unusable("a report without its stream", b"none", NOT_THERE, "report schedule none /dev/full rules"),

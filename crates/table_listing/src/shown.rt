@@ -59,7 +59,7 @@ impl Display for NamedByte {
 }
 
 /// The bytes of a name, to stand between quotes: each byte that can't be printed, each quote and each backslash as `\x` and two
-/// digits. So a name ends where its quote stands, and each name is shown in its own way.
+/// digits. So a name ends where its quote stands.
 #[derive(Clone, Copy)]
 pub struct Named<'a>(pub &'a [u8]);
 
