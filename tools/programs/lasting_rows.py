@@ -197,22 +197,16 @@ BOUNDED = [
     ),
 ]
 
-# Where the signal of a pipe that nobody reads is ignored, the program ends by the write's error, and else by the signal.
-SIGPIPE = -13
-
-
-def gone(title, words, files, **others):
-    words = ["flight_tools", *words.split()]
-    return [
-        Row(f"{title} ends quietly", words, files, prints_to=GONE, **others),
-        Row(f"{title} ends by the system's signal", words, files, prints_to=GONE, status=SIGPIPE, is_killed=True, **others),
-    ]
-
-
 GONE_READERS = [
-    *gone("a listing that nobody reads", "stream file", {"file": BUS_STREAM}),
-    *gone("a help that nobody reads", "--help", {}),
-    *gone("a run whose packets nobody reads", "live schedule rules", FILES, reads=TWO_FAILING_SAMPLES),
+    Row("a listing that nobody reads ends quietly", ["flight_tools", "stream", "file"], {"file": BUS_STREAM}, prints_to=GONE),
+    Row("a help that nobody reads ends quietly", ["flight_tools", "--help"], prints_to=GONE),
+    Row(
+        "a run whose packets nobody reads ends quietly",
+        ["flight_tools", "live", "schedule", "rules"],
+        FILES,
+        reads=TWO_FAILING_SAMPLES,
+        prints_to=GONE,
+    ),
 ]
 
 LIVE = [

@@ -57,8 +57,7 @@ class Row:
     `prints_to` is a device in the place of standard output, and GONE one that nobody reads. `reads` is what stands on standard
     input. `forbidden` are files of `before` that the system lets nobody open; the call is then of a user without rights.
     `most_memory` is the most address space in bytes that the call has, and `longest_file` the longest file that it may write,
-    where there is such a bound: a longer one is an error of its write, or kills the call where `is_killed`, and so does a pipe that
-    nobody reads.
+    where there is such a bound: a longer one is an error of its write, or kills the call where `is_killed`.
     """
 
     title: str

@@ -150,7 +150,7 @@ def to_one_that_dies(programs):
         written(place, {"schedule": NO_ENTRIES, "rules": LOW_VOLTS})
         pipe = subprocess.PIPE
         words = [programs["flight_tools"], "live", "schedule", "rules"]
-        ran = subprocess.Popen(words, cwd=place, stdin=pipe, stdout=pipe, stderr=pipe, bufsize=0, restore_signals=False)
+        ran = subprocess.Popen(words, cwd=place, stdin=pipe, stdout=pipe, stderr=pipe, bufsize=0)
         try:
             os.write(ran.stdin.fileno(), beginning())
             read_exactly(ran.stdout.fileno(), len(STARTED))
@@ -232,6 +232,17 @@ def with_quotes_in_a_name(programs):
         return [] if found == expected else [f"it was {found} and should be {expected}"]
 
 
+def from_no_input(programs):
+    """A stream that can't be read is said as any file is."""
+    with tempfile.TemporaryDirectory(prefix="try-programs-") as place:
+        written(place, {"schedule": NO_ENTRIES, "rules": LOW_VOLTS})
+        words = f"{programs['flight_tools']} live schedule rules < ."
+        ran = subprocess.run(["sh", "-c", words], cwd=place, capture_output=True, timeout=SECONDS)
+        found = (ran.returncode, ran.stdout, ran.stderr)
+        expected = (3, b"", b"cannot use standard input: it is a folder\n")
+        return [] if found == expected else [f"it ended with {found} and should with {expected}"]
+
+
 def script_faults(title, words, line, status=125, parallel=None, **variables):
     """The script for many streams ends with this status and this line. It finds `parallel` only where that is given, as a script."""
 
@@ -263,6 +274,7 @@ TRIALS = [
     Trial("a stream from one writer after the other", from_writers_in_turn),
     Trial("a stream from a process that dies is cut", from_one_that_dies),
     Trial("packets to a process that dies end the run quietly", to_one_that_dies),
+    Trial("a folder as the stream of a run as it comes", from_no_input),
     Trial("no memory is taken for a hole of 3 GB", of_a_sparse_file),
     Trial("a stream is listed in pieces, and its script says it again", in_pieces),
     Trial("a page keeps the rights of the old one", with_the_old_rights),

@@ -42,16 +42,21 @@ fault_of_page name page.Write (Some kind) = fault.File name (why_of kind)
 fault_of_page name page.Write None = fault.File name why.Failed
 fault_of_page name error noted = fault.Report error
 
--- standard output can't be used, for this reason
-abbrev pub IsUnusableOutput : Why → Fault → Type 0
-IsUnusableOutput reason (fault.File name found) = (name.now ≡ codes "standard output") × (found ≡ reason)
-IsUnusableOutput reason other = ⊥
+-- what has this name can't be used, for this reason
+abbrev pub IsUnusable : List ℕ → Why → Fault → Type 0
+IsUnusable of reason (fault.File name found) = (name.now ≡ of) × (found ≡ reason)
+IsUnusable of reason other = ⊥
 
--- by the kind of its error: where nobody reads any more the program ends quietly
+-- standard input, by the kind of its error
+abbrev pub IsOfInput : ErrorKind → Fault → Type 0
+IsOfInput kind.OutOfMemory found = found ≡ fault.Memory
+IsOfInput rest found = IsUnusable (codes "standard input") (why_of rest) found
+
+-- standard output, by the kind of its error: where nobody reads any more the program ends quietly
 abbrev pub IsOfOutput : ErrorKind → Fault → Type 0
 IsOfOutput kind.OutOfMemory found = found ≡ fault.Memory
 IsOfOutput kind.BrokenPipe found = found ≡ fault.Gone
-IsOfOutput rest found = IsUnusableOutput (why_of rest) found
+IsOfOutput rest found = IsUnusable (codes "standard output") (why_of rest) found
 
 -- the same of what was listed
 abbrev pub IsListed : Result (Unit {0}) Error → Result (Unit {0}) Fault → Type 0
@@ -59,9 +64,10 @@ IsListed (Ok none) answer = answer ≡ Ok none
 IsListed (Err error) (Ok none) = ⊥
 IsListed (Err error) (Err found) = IsOfOutput (error_kind error) found
 
--- of a run whose output is standard output, and failed by an error of this kind, if it was noted
-abbrev pub IsAnswered : Result Report RunError → Option ErrorKind → Result Report Fault → Type 0
-IsAnswered (Ok report) noted answer = answer ≡ Ok report
-IsAnswered (Err run.Memory) noted answer = answer ≡ Err fault.Memory
-IsAnswered (Err (run.Write sent)) (Some kind) (Err found) = IsOfOutput kind found
-IsAnswered (Err error) noted answer = answer ≡ Err (fault.Run error)
+-- of a run from standard input to standard output, which failed by errors of these kinds, if they were noted
+abbrev pub IsAnswered : Result Report RunError → Option ErrorKind → Option ErrorKind → Result Report Fault → Type 0
+IsAnswered (Ok report) read written answer = answer ≡ Ok report
+IsAnswered (Err run.Memory) read written answer = answer ≡ Err fault.Memory
+IsAnswered (Err run.Read) (Some kind) written (Err found) = IsOfInput kind found
+IsAnswered (Err (run.Write sent)) read (Some kind) (Err found) = IsOfOutput kind found
+IsAnswered (Err error) read written answer = answer ≡ Err (fault.Run error)

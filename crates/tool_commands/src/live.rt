@@ -4,7 +4,7 @@ ghost use Rattle.tool_commands.specs.Cause.{IsAnswered};
 
 use crate::fault::Fault;
 use crate::given::{schedule_in, texts_in};
-use crate::output::output_fault;
+use crate::output::{input_fault, output_fault};
 use flight_core::{Report, RunError};
 use flight_stock::launch;
 use lc_model::{Reading, Writing};
@@ -13,18 +13,20 @@ use std::cell::Cell;
 use std::fs::Files;
 use std::io::{self, Eprint, ErrorKind, Read, Write};
 
-/// How a run ended, where its output failed by this kind of error, if it did.
+/// How a run ended, where its input and its output failed by these kinds of errors, if they did.
 fn answered<'a>(
     answer: Result<Report, RunError>,
-    kind: Option<ErrorKind>,
+    read: Option<ErrorKind>,
+    written: Option<ErrorKind>,
 ) -> Result<Report, Fault<'a>>
-    ensures { IsAnswered answer kind result }
+    ensures { IsAnswered answer read written result }
 {
-    match (answer, kind) {
-        (Ok(report), _) => Ok(report),
-        (Err(RunError::Memory), _) => Err(Fault::Memory),
-        (Err(RunError::Write { .. }), Some(kind)) => Err(output_fault(kind)),
-        (Err(error), _) => Err(Fault::Run(error)),
+    match (answer, read, written) {
+        (Ok(report), _, _) => Ok(report),
+        (Err(RunError::Memory), _, _) => Err(Fault::Memory),
+        (Err(RunError::Read), Some(kind), _) => Err(input_fault(kind)),
+        (Err(RunError::Write { .. }), _, Some(kind)) => Err(output_fault(kind)),
+        (Err(error), _, _) => Err(Fault::Run(error)),
     }
 }
 
@@ -61,11 +63,11 @@ pub fn run<'a, R: Files + Eprint + AllocGlobal, I: Read + Drop, W: Write>(
     for text in &texts {
         slices.push(text.as_slice())?;
     }
-    let kind = Cell::new(None);
-    let mut reader = Reading::new(input);
-    let writer = Writing::new(Noting::new(Prompt { writer: out }, &kind));
+    let (read, written) = (Cell::new(None), Cell::new(None));
+    let mut reader = Reading::new(Noting::new(input, &read));
+    let writer = Writing::new(Noting::new(Prompt { writer: out }, &written));
     let (answer, _device) = launch(rt.alloc(), slices.as_slice(), &plan, &mut reader, writer);
-    let Report { records, bytes } = answered(answer, kind.get())?;
+    let Report { records, bytes } = answered(answer, read.get(), written.get())?;
     let _said = eprintln!(rt; "records {records}, bytes {bytes}");
     Ok(())
 }
