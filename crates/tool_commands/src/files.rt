@@ -1,6 +1,6 @@
 //! Files as the tools use them: read up to a bound, and written beside their names.
 
-ghost use Rattle.std.specs.Prelude.{◌≡◌};
+ghost use Rattle.std.specs.Prelude.{◌≡◌, ◌≤◌, IfOk, vec_len};
 ghost use Rattle.tool_commands.specs.Cause.{fault_of_file};
 
 use crate::fault::Fault;
@@ -31,7 +31,9 @@ pub fn read<'a, R: Files + AllocGlobal>(
     rt: &R,
     name: &'a str,
     most: u64,
-) -> Result<Vec<u8>, Fault<'a>> {
+) -> Result<Vec<u8>, Fault<'a>>
+    ensures { IfOk result (λ bytes. vec_len bytes ≤ most) }
+{
     read_all(rt, name, most).map_err(|fault| fault_at(name, fault))
 }
 
