@@ -1,11 +1,12 @@
-"""What `flight_run` never loses: a file that is read stays, a write that fails is said, and memory is bounded, however long a
-stream is."""
+"""What is never lost: a file that is read stays, and so does what stood under the name of a result until there is another; a
+write that fails is said; and memory is bounded, however long a file is."""
 
 from compile_rows import ADT, WDT
-from records import LOW, LOW_VOLTS, NO_ENTRIES, OF_TWO_FAILING_SAMPLES, STARTED, TWO_FAILING_SAMPLES, beginning, record
-from row import Link, Row
+from records import LOW, LOW_VOLTS, NO_ENTRIES, OF_TWO_FAILING_SAMPLES, STARTED, TWO_FAILING_SAMPLES, beginning, filled, record
+from row import GONE, Begins, Link, Row, Twin
+from tool_rows import BUS_SCRIPT, BUS_STREAM
 
-FILES = {"schedule": NO_ENTRIES, "stream": TWO_FAILING_SAMPLES, "rules": LOW_VOLTS, "link": Link("stream")}
+FILES = {"schedule": NO_ENTRIES, "stream": TWO_FAILING_SAMPLES, "rules": LOW_VOLTS, "link": Link("stream"), "twin": Twin("stream")}
 
 
 def itself_run(title, out, rules="rules"):
@@ -18,10 +19,16 @@ def itself_compiled(title, words, name):
     return Row(title, ["flight_run", "compile", *words.split()], {"rules": LOW_VOLTS}, status=3, error=b"cannot use %s\n" % name)
 
 
+def itself_tool(title, words, name):
+    line = b"cannot use %s: the same call reads it, or writes it twice\n" % name
+    return Row(title, ["flight_tools", *words.split()], {**FILES, "script": b"tick\n"}, status=3, error=line)
+
+
 ITSELF = [
     itself_run("the output is the stream", "stream"),
     itself_run("the output is the stream by another name", "./stream"),
     itself_run("the output leads to the stream", "link"),
+    itself_run("the output is the stream's second name", "twin"),
     itself_run("the output is the schedule", "schedule"),
     itself_run("the output is a rule text", "rules"),
     itself_run("the output is the second rule text", "stream", "rules stream"),
@@ -35,6 +42,11 @@ ITSELF = [
         {"rules": LOW_VOLTS},
         output=b"compiled: 1 watchpoints, 1 rules\n",
     ),
+    itself_tool("a stream is its script", "scenario script script", b"script"),
+    itself_tool("a page is its schedule", "report schedule stream schedule rules", b"schedule"),
+    itself_tool("a page is its stream", "report schedule stream ./stream rules", b"./stream"),
+    itself_tool("a page is its stream's second name", "report schedule stream twin rules", b"twin"),
+    itself_tool("a page is one of its rule texts", "report schedule stream rules rules", b"rules"),
 ]
 
 RUN = "flight_run run --schedule schedule --stream stream --out".split()
@@ -72,13 +84,109 @@ FAILED = [
     ),
 ]
 
+REPORT = ["flight_tools", "report", "schedule", "stream", "page", "rules"]
+OLD = {**FILES, "stream": BUS_STREAM, "page": b"an old page"}
+
+OLD_RESULTS = [
+    Row(
+        "a text that is refused leaves the old page",
+        REPORT,
+        {**OLD, "rules": b"packet BUS"},
+        status=1,
+        error=b"text 0: expected `=` at 10\n",
+    ),
+    Row(
+        "a page that doesn't fit leaves the old one",
+        REPORT,
+        OLD,
+        status=3,
+        error=b"cannot use page: the device is full\n",
+        longest_file=1_000,
+    ),
+    Row(
+        "a report that is killed leaves the old page",
+        REPORT,
+        OLD,
+        status=-25,
+        after={"page.part0": Begins(b"<!DOCTYPE html>\n")},
+        longest_file=1_000,
+        is_killed=True,
+    ),
+    Row(
+        "a page takes the place of the old one, past names that are taken",
+        REPORT,
+        {**OLD, "page.part0": b"another's"},
+        after={"page": Begins(b"<!DOCTYPE html>\n")},
+    ),
+    Row(
+        "a script that is refused leaves the old stream",
+        ["flight_tools", "scenario", "script", "stream"],
+        {"script": b"tick\ntock\n", "stream": b"an old stream"},
+        status=1,
+        error=b"script: line 2: no statement\n",
+    ),
+    Row(
+        "a stream by a name that leads to another",
+        ["flight_tools", "scenario", "script", "link"],
+        {"script": BUS_SCRIPT, "stream": b"an old stream", "link": Link("stream")},
+        after={"stream": BUS_STREAM},
+    ),
+]
+
 MIB = 1_048_576
 
-# Records that lead to nothing.
+# Files of the longest bodies, which lead to one line each, and records that lead to nothing.
+LONG_PACKETS = (bytes([0x18, 0xA9, 0xC0, 0, 0xFF, 0xFF]) + bytes(65_536)) * 250
+LONG_RECORDS = record(1, bytes(65_536)) * 250
 MANY_RECORDS = LOW * 1_200_000
 
 
+def too_long(title, words, name, most):
+    line = b"cannot use %s: it has more than %d bytes\n" % (name, most)
+    return Row(title, ["flight_tools", *words.split()], FILES, status=3, error=line, most_memory=256 * MIB)
+
+
 BOUNDED = [
+    too_long("a table without an end", "table /dev/zero", b"/dev/zero", 32_768),
+    too_long("a schedule without an end", "report /dev/zero stream page rules", b"/dev/zero", 65_536),
+    too_long("a script without an end", "scenario /dev/zero stream", b"/dev/zero", 67_108_864),
+    too_long("a page of a stream without an end", "report schedule /dev/zero page rules", b"/dev/zero", 67_108_864),
+    Row(
+        "a rule text without an end",
+        ["flight_tools", "report", "schedule", "stream", "page", "/dev/zero"],
+        FILES,
+        status=1,
+        error=b"text 0: the text has over 65,536 bytes\n",
+        most_memory=16 * MIB,
+    ),
+    Row(
+        "a schedule of 65,537 bytes, which flight_run can't use either",
+        REPORT,
+        {**FILES, "schedule": filled(NO_ENTRIES, b"\n", 65_537)},
+        status=3,
+        error=b"cannot use schedule: it has more than 65536 bytes\n",
+    ),
+    Row(
+        "a stream without an end",
+        ["flight_tools", "stream", "/dev/zero"],
+        status=4,
+        output=b"1 is no record\n",
+        most_memory=16 * MIB,
+    ),
+    Row(
+        "a listing of 16 MB of records, in pieces",
+        ["flight_tools", "stream", "file"],
+        {"file": LONG_RECORDS},
+        output=b"".join(b"%d 100 0 packet 0000 65536 bytes\n" % (number + 1) for number in range(250)),
+        most_memory=12 * MIB,
+    ),
+    Row(
+        "a listing of 16 MB of packets, in pieces",
+        ["flight_tools", "packets", "file"],
+        {"file": LONG_PACKETS},
+        output=b"".join(b"%d - packet 0x18A9 of 65542 bytes\n" % (number + 1) for number in range(250)),
+        most_memory=12 * MIB,
+    ),
     Row(
         "a run over 32 MB of telemetry, in the memory of a short one",
         [*RUN, "out", "rules"],
@@ -89,4 +197,53 @@ BOUNDED = [
     ),
 ]
 
-ROWS = [*ITSELF, *FAILED, *BOUNDED]
+GONE_READERS = [
+    Row("a listing that nobody reads ends quietly", ["flight_tools", "stream", "file"], {"file": BUS_STREAM}, prints_to=GONE),
+    Row("a help that nobody reads ends quietly", ["flight_tools", "--help"], prints_to=GONE),
+    Row(
+        "a run whose packets nobody reads ends quietly",
+        ["flight_tools", "live", "schedule", "rules"],
+        FILES,
+        reads=TWO_FAILING_SAMPLES,
+        prints_to=GONE,
+    ),
+]
+
+LIVE = [
+    Row(
+        "a run as it comes",
+        ["flight_tools", "live", "schedule", "rules"],
+        FILES,
+        reads=TWO_FAILING_SAMPLES,
+        output=OF_TWO_FAILING_SAMPLES,
+        error=b"records 7, bytes 852\n",
+    ),
+    Row(
+        "a run as it comes, of a stream that is cut",
+        ["flight_tools", "live", "schedule", "rules"],
+        FILES,
+        status=4,
+        reads=TWO_FAILING_SAMPLES[:180],
+        output=STARTED,
+        error=b"the stream ends inside record 5\n",
+    ),
+    Row(
+        "a run as it comes, of a text that is refused",
+        ["flight_tools", "live", "schedule", "rules"],
+        {**FILES, "rules": b"packet"},
+        status=1,
+        reads=TWO_FAILING_SAMPLES,
+        error=b"text 0: expected a name at 6\n",
+    ),
+    Row(
+        "a run as it comes, to a full device",
+        ["flight_tools", "live", "schedule", "rules"],
+        FILES,
+        status=3,
+        reads=TWO_FAILING_SAMPLES,
+        prints_to="/dev/full",
+        error=b"cannot use standard output: the device is full\n",
+    ),
+]
+
+ROWS = [*ITSELF, *FAILED, *OLD_RESULTS, *BOUNDED, *GONE_READERS, *LIVE]

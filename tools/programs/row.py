@@ -15,6 +15,13 @@ class Link:
 
 
 @dataclass(frozen=True)
+class Twin:
+    """A second name of another file of the folder (a hard link)."""
+
+    of: str
+
+
+@dataclass(frozen=True)
 class Sized:
     """A file of so many bytes with this SHA-256."""
 
@@ -45,12 +52,12 @@ class Begins:
 class Row:
     """One call of a program, in a new folder that has the files of `before`.
 
-    A file is its bytes, FOLDER, a Link to a name, or, behind the call, Sized or Begins. `after` has the files that the call makes
+    A file is its bytes, FOLDER, a Link to a name, the Twin of a name before it, or, behind the call, Sized or Begins. `after` has the files that the call makes
     or changes; all others stay as they were, and no further ones come. `first` are calls before, which end with status 0.
     `prints_to` is a device in the place of standard output, and GONE one that nobody reads. `reads` is what stands on standard
-    input. `most_memory` is the most address space in bytes that the call has, and
-    `longest_file` the longest file that it may write, where there is such a bound: a longer one is an error of its write, or kills
-    the call where `is_killed`.
+    input. `forbidden` are files of `before` that the system lets nobody open; the call is then of a user without rights.
+    `most_memory` is the most address space in bytes that the call has, and `longest_file` the longest file that it may write,
+    where there is such a bound: a longer one is an error of its write, or kills the call where `is_killed`.
     """
 
     title: str
@@ -63,6 +70,7 @@ class Row:
     first: list = field(default_factory=list)
     prints_to: str = ""
     reads: bytes = b""
+    forbidden: list = field(default_factory=list)
     most_memory: int = 0
     longest_file: int = 0
     is_killed: bool = False

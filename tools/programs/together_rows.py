@@ -1,12 +1,14 @@
-"""Calls beside others: what comes to a program piece by piece, what goes on to one that dies, and the script for many streams."""
+"""Calls that a row can't say: what comes to a program piece by piece, what goes on to one that dies, files that are holes, several
+calls behind each other, and the script for many streams."""
 
 import os
 import select
+import socket
 import subprocess
 import tempfile
 from dataclasses import dataclass
 
-from records import LOW, LOW_VOLTS, NO_ENTRIES, SAMPLE, STARTED, beginning, requested
+from records import LOW, LOW_VOLTS, NO_ENTRIES, SAMPLE, STARTED, beginning, record, requested
 
 SECONDS = 20
 TOP = os.path.join(os.path.dirname(os.path.abspath(__file__)), "..", "..")
@@ -65,6 +67,50 @@ class Trial:
     faults: object
 
 
+def through_pipes(programs):
+    """`flight_tools live` between two pipes."""
+    with tempfile.TemporaryDirectory(prefix="try-programs-") as place:
+        written(place, {"schedule": NO_ENTRIES, "rules": LOW_VOLTS})
+        pipe = subprocess.PIPE
+        words = [programs["flight_tools"], "live", "schedule", "rules"]
+        ran = subprocess.Popen(words, cwd=place, stdin=pipe, stdout=pipe, stderr=pipe, bufsize=0)
+        faults = step_by_step(ran.stdin.fileno(), ran.stdout.fileno())
+        ran.stdin.close()
+        ran.stdin = None
+        return faults + ended(ran, 0, b"records 7, bytes 852\n")
+
+
+def through_a_socket(programs):
+    """`flight_tools live` at one end of a socket, as `socat` or a service manager would put it there."""
+    with tempfile.TemporaryDirectory(prefix="try-programs-") as place:
+        written(place, {"schedule": NO_ENTRIES, "rules": LOW_VOLTS})
+        ours, its = socket.socketpair()
+        words = [programs["flight_tools"], "live", "schedule", "rules"]
+        ran = subprocess.Popen(words, cwd=place, stdin=its, stdout=its, stderr=subprocess.PIPE)
+        its.close()
+        faults = step_by_step(ours.fileno(), ours.fileno())
+        ours.shutdown(socket.SHUT_WR)
+        faults += ended(ran, 0, b"records 7, bytes 852\n")
+        ours.close()
+        return faults
+
+
+def from_writers_in_turn(programs):
+    """The stream comes through a named pipe that a shell keeps open, from one writer after the other, each of which ends inside a
+    record; the packets go through `cat`."""
+    with tempfile.TemporaryDirectory(prefix="try-programs-") as place:
+        stream = beginning() + 2 * (LOW + SAMPLE)
+        pieces = {f"piece{number}": stream[number * 30 : number * 30 + 30] for number in range(len(stream) // 30 + 1)}
+        written(place, {"schedule": NO_ENTRIES, "rules": LOW_VOLTS, **pieces})
+        os.mkfifo(os.path.join(place, "stream"))
+        turns = "; ".join(f"cat piece{number}" for number in range(len(pieces)))
+        line = f"({turns}) > stream & {programs['flight_tools']} live schedule rules < stream | cat; wait"
+        ran = subprocess.run(["sh", "-c", line], cwd=place, capture_output=True, timeout=SECONDS)
+        found = (ran.returncode, ran.stdout, ran.stderr)
+        expected = (0, STARTED + requested(4), b"records 7, bytes 852\n")
+        return [] if found == expected else [f"it ended with {found} and should with {expected}"]
+
+
 def through_fifos(programs):
     """`flight_run run` between two named pipes: what it says on standard output is not looked at here."""
     with tempfile.TemporaryDirectory(prefix="try-programs-") as place:
@@ -80,6 +126,121 @@ def through_fifos(programs):
         faults += ended(ran, 0, b"")
         os.close(packets)
         return faults
+
+
+def from_one_that_dies(programs):
+    """The stream comes from a process that is killed inside a record."""
+    with tempfile.TemporaryDirectory(prefix="try-programs-") as place:
+        written(place, {"schedule": NO_ENTRIES, "rules": LOW_VOLTS, "front": beginning() + LOW[:5]})
+        source = subprocess.Popen(["sh", "-c", "cat front; exec sleep 600"], cwd=place, stdout=subprocess.PIPE)
+        words = [programs["flight_tools"], "live", "schedule", "rules"]
+        pipe = subprocess.PIPE
+        ran = subprocess.Popen(words, cwd=place, stdin=source.stdout, stdout=pipe, stderr=pipe, bufsize=0)
+        source.stdout.close()
+        found = read_exactly(ran.stdout.fileno(), len(STARTED))
+        source.kill()
+        source.wait()
+        faults = [] if found == STARTED else [f"{len(found)} bytes came of {len(STARTED)}"]
+        return faults + ended(ran, 4, b"the stream ends inside record 4\n")
+
+
+def to_one_that_dies(programs):
+    """Who reads the packets goes away, and the next write ends the run without a word."""
+    with tempfile.TemporaryDirectory(prefix="try-programs-") as place:
+        written(place, {"schedule": NO_ENTRIES, "rules": LOW_VOLTS})
+        pipe = subprocess.PIPE
+        words = [programs["flight_tools"], "live", "schedule", "rules"]
+        ran = subprocess.Popen(words, cwd=place, stdin=pipe, stdout=pipe, stderr=pipe, bufsize=0)
+        try:
+            os.write(ran.stdin.fileno(), beginning())
+            read_exactly(ran.stdout.fileno(), len(STARTED))
+            ran.stdout.close()
+            ran.stdout = None
+            os.write(ran.stdin.fileno(), 2 * (LOW + SAMPLE))
+        except BrokenPipeError:
+            return ["it didn't read its stream"]
+        return ended(ran, 0, b"")
+
+
+def of_a_sparse_file(programs):
+    """No command takes the memory of a file of 3 GB that is a hole, with 256 MiB to have."""
+    with tempfile.TemporaryDirectory(prefix="try-programs-") as place:
+        written(place, {"schedule": NO_ENTRIES, "rules": LOW_VOLTS, "stream": b""})
+        with open(os.path.join(place, "hole"), "wb") as hole:
+            hole.truncate(3 << 30)
+        calls = {
+            "table hole": (3, b"cannot use hole: it has more than 32768 bytes\n"),
+            "stream hole": (4, b""),
+            "scenario hole made": (3, b"cannot use hole: it has more than 67108864 bytes\n"),
+            "report hole stream page rules": (3, b"cannot use hole: it has more than 65536 bytes\n"),
+            "report schedule hole page rules": (3, b"cannot use hole: it has more than 67108864 bytes\n"),
+            "report schedule stream page hole": (1, b"text 0: the text has over 65,536 bytes\n"),
+            "live schedule hole": (1, b"text 0: the text has over 65,536 bytes\n"),
+        }
+        faults = []
+        for words, expected in calls.items():
+            words = ["sh", "-c", f"ulimit -v 262144; exec {programs['flight_tools']} {words}"]
+            ran = subprocess.run(words, cwd=place, stdin=subprocess.DEVNULL, capture_output=True, timeout=SECONDS)
+            found = (ran.returncode, ran.stderr)
+            if found != expected:
+                faults.append(f"{words[2]} ended with {found} and should with {expected}")
+        return faults
+
+
+def in_pieces(programs):
+    """A stream of many sizes of records, whose ends lie anywhere in a piece, is listed record by record; its script says it again."""
+    sizes = [(number * 997) % 5_000 for number in range(200)]
+    stream = b"".join(record(3, b"name".ljust(40, b"\0") + bytes(size)) for size in sizes)
+    lines = b"".join(b"%d 100 0 file name %d bytes\n" % (number + 1, size) for number, size in enumerate(sizes))
+    with tempfile.TemporaryDirectory(prefix="try-programs-") as place:
+        written(place, {"stream": stream})
+        tool = programs["flight_tools"]
+        listed = subprocess.run([tool, "stream", "stream"], cwd=place, capture_output=True, timeout=SECONDS)
+        script = subprocess.run([tool, "stream", "--whole", "stream"], cwd=place, capture_output=True, timeout=SECONDS)
+        written(place, {"script": script.stdout})
+        made = subprocess.run([tool, "scenario", "script", "again"], cwd=place, capture_output=True, timeout=SECONDS)
+        with open(os.path.join(place, "again"), "rb") as again:
+            is_again = again.read() == stream
+        found = (listed.returncode, listed.stdout == lines, script.returncode, made.returncode, is_again)
+        return [] if found == (0, True, 0, 0, True) else [f"it was {found}: {listed.stdout[:200]} {listed.stderr[:200]}"]
+
+
+def with_the_old_rights(programs):
+    """A page that takes the place of another has what the system allowed of that one."""
+    with tempfile.TemporaryDirectory(prefix="try-programs-") as place:
+        written(place, {"schedule": NO_ENTRIES, "rules": LOW_VOLTS, "stream": b"", "page": b"an old page"})
+        page = os.path.join(place, "page")
+        os.chmod(page, 0o604)
+        words = [programs["flight_tools"], "report", "schedule", "stream", "page", "rules"]
+        ran = subprocess.run(words, cwd=place, capture_output=True, timeout=SECONDS)
+        found = (ran.returncode, os.stat(page).st_mode & 0o777, sorted(os.listdir(place)))
+        expected = (0, 0o604, ["page", "rules", "schedule", "stream"])
+        return [] if found == expected else [f"it was {found} and should be {expected}"]
+
+
+def with_quotes_in_a_name(programs):
+    """A table's name with quotes and a backslash reads as one name."""
+    with tempfile.TemporaryDirectory(prefix="try-programs-") as place:
+        written(place, {"rules": LOW_VOLTS})
+        subprocess.run([programs["flight_run"], "compile", "rules", "wdt", "adt"], cwd=place, capture_output=True, timeout=SECONDS)
+        with open(os.path.join(place, "wdt"), "r+b") as table:
+            table.seek(76)
+            table.write(b'A" description "\\'.ljust(40, b"\0"))
+        ran = subprocess.run([programs["flight_tools"], "table", "wdt"], cwd=place, capture_output=True, timeout=SECONDS)
+        found = (ran.returncode, ran.stdout.split(b"\n")[1:2])
+        expected = (0, [b'table: "A\\x22 description \\x22\\x5c" description "" reserved 0 offset 0 bytes 4264'])
+        return [] if found == expected else [f"it was {found} and should be {expected}"]
+
+
+def from_no_input(programs):
+    """A stream that can't be read is said as any file is."""
+    with tempfile.TemporaryDirectory(prefix="try-programs-") as place:
+        written(place, {"schedule": NO_ENTRIES, "rules": LOW_VOLTS})
+        words = f"{programs['flight_tools']} live schedule rules < ."
+        ran = subprocess.run(["sh", "-c", words], cwd=place, capture_output=True, timeout=SECONDS)
+        found = (ran.returncode, ran.stdout, ran.stderr)
+        expected = (3, b"", b"cannot use standard input: it is a folder\n")
+        return [] if found == expected else [f"it ended with {found} and should with {expected}"]
 
 
 def script_faults(title, words, line, status=125, parallel=None, **variables):
@@ -107,7 +268,17 @@ PASSES = ["passes", "schedule", "rules"]
 PARALLEL = b"#!/bin/sh\nexit 7\n"
 
 TRIALS = [
+    Trial("packets come through pipes before more of the stream does", through_pipes),
     Trial("packets come through named pipes before more of the stream does", through_fifos),
+    Trial("packets come through a socket before more of the stream does", through_a_socket),
+    Trial("a stream from one writer after the other", from_writers_in_turn),
+    Trial("a stream from a process that dies is cut", from_one_that_dies),
+    Trial("packets to a process that dies end the run quietly", to_one_that_dies),
+    Trial("a folder as the stream of a run as it comes", from_no_input),
+    Trial("no memory is taken for a hole of 3 GB", of_a_sparse_file),
+    Trial("a stream is listed in pieces, and its script says it again", in_pieces),
+    Trial("a page keeps the rights of the old one", with_the_old_rights),
+    Trial("a quote within a table's name ends no name", with_quotes_in_a_name),
     script_faults("many streams without words", [], b"many_streams: usage: many_streams.sh FOLDER SCHEDULE RULES..\n"),
     script_faults("many streams without their folder", ["none", "schedule", "rules"], b"many_streams: there is no folder none\n"),
     script_faults(

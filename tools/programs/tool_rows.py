@@ -2,6 +2,7 @@
 
 import hashlib
 import os
+import re
 
 from records import LOW_VOLTS
 from row import FOLDER, Begins, Row
@@ -52,13 +53,13 @@ LISTINGS = [
         status=1,
         output=b"refused 51: the file has under 116 bytes\n",
     ),
-    Row("packets, and bytes behind them", ["flight_tools", "packets", "file"], {"file": PACKETS}, output=b"""\
+    Row("packets, and bytes behind them", ["flight_tools", "packets", "file"], {"file": PACKETS}, status=4, output=b"""\
 1 - sequence request 7, count 0
 2 - sequence request 7, count 0
 cut behind packet 2: 1 bytes are no whole packet
 """),
     Row("the packets of the README's run", ["flight_tools", "packets", "file"], {"file": BUS_PACKETS}, output=BUS_LINES),
-    Row("a stream", ["flight_tools", "stream", "file"], {"file": BUS_STREAM[:65]}, output=b"""\
+    Row("a stream that is cut", ["flight_tools", "stream", "file"], {"file": BUS_STREAM[:65]}, status=4, output=b"""\
 1 100 0 half wdt 0 /cf/lc_def_wdt.tbl
 2 is cut short
 """),
@@ -98,32 +99,60 @@ REPORTS = [
         error=b"schedule: line 2 is no line of a schedule\n",
     ),
     Row(
-        "a text that is refused leaves an empty page",
+        "a text that is refused makes no page",
         REPORT,
         {**FILES, "rules": b"packet BUS"},
         status=1,
         error=b"text 0: expected `=` at 10\n",
-        after={"page": b""},
     ),
+    Row("a page of a stream that is cut", REPORT, {**FILES, "stream": BUS_STREAM[:-1]}, status=4, after={"page": PAGE}),
 ]
 
 
-def unusable(title, name, words, files=FILES, **others):
-    return Row(title, ["flight_tools", *words.split()], files, status=3, error=b"cannot use %s\n" % name, **others)
+NOT_THERE = b"there is none of that name"
+FULL = b"the device is full"
+
+
+def unusable(title, name, why, words, files=FILES, **others):
+    line = b"cannot use %s: %s\n" % (name, why)
+    return Row(title, ["flight_tools", *words.split()], files, status=3, error=line, **others)
 
 
 UNUSABLE = [
-    *(unusable(f"{command} of a file that isn't there", b"none", f"{command} none") for command in ("table", "stream", "packets")),
-    unusable("a script that isn't there", b"none", "scenario none /dev/full"),
-    unusable("a folder as packets", b"folder", "packets folder", {"folder": FOLDER}),
-    unusable("a stream to a full device", b"/dev/full", "scenario script /dev/full", {"script": b"tick\n"}),
-    unusable("a report without its schedule", b"none", "report none stream /dev/full rules"),
-    unusable("a report without its stream", b"none", "report schedule none /dev/full rules"),
-    unusable("a report without its rules", b"none", "report schedule stream /dev/full none"),
-    unusable("a report without its second rules", b"none", "report schedule stream /dev/full rules none"),
-    unusable("a page to a full device", b"/dev/full", "report schedule stream /dev/full rules"),
-    unusable("a listing to a full device", b"standard output", "stream stream", prints_to="/dev/full"),
+    *(
+        unusable(f"{command} of a file that isn't there", b"none", NOT_THERE, f"{command} none")
+        for command in ("table", "stream", "packets")
+    ),
+    unusable("a script that isn't there", b"none", NOT_THERE, "scenario none /dev/full"),
+    unusable("a folder as packets", b"folder", b"it is a folder", "packets folder", {"folder": FOLDER}),
+    unusable("a file in a file", b"file/x", b"what stands before its last / is no folder", "table file/x", {"file": b""}),
+    unusable("a file that the system forbids", b"file", b"the system does not allow it", "table file", {"file": b""}, forbidden=["file"]),
+    unusable(
+        "a page in a folder that the system forbids",
+        b"page",
+        b"the system does not allow it",
+        "report schedule stream page rules",
+        {**FILES, "other": b""},
+        forbidden=["other"],
+    ),
+    unusable("a stream to a folder", b"folder", b"it is a folder", "scenario script folder", {"script": b"", "folder": FOLDER}),
+    unusable("a stream in a folder that isn't there", b"none/made", NOT_THERE, "scenario script none/made", {"script": b""}),
+    unusable("a stream to a full device", b"/dev/full", FULL, "scenario script /dev/full", {"script": b"tick\n"}),
+    unusable("a report without its schedule", b"none", NOT_THERE, "report none stream /dev/full rules"),
+    unusable("a report without its stream", b"none", NOT_THERE, "report schedule none /dev/full rules"),
+    unusable("a report without its rules", b"none", NOT_THERE, "report schedule stream /dev/full none"),
+    unusable("a report without its second rules", b"none", NOT_THERE, "report schedule stream /dev/full rules none"),
+    unusable("a page to a full device", b"/dev/full", FULL, "report schedule stream /dev/full rules"),
+    *(
+        unusable(f"{words} to a full device", b"standard output", FULL, words, prints_to="/dev/full")
+        for words in ("stream stream", "--help", "help live", "--version")
+    ),
+    unusable("a run as it comes without its schedule", b"none", NOT_THERE, "live none rules"),
+    unusable("a run as it comes without its rules", b"none", NOT_THERE, "live schedule none"),
 ]
+
+# The version of the changelog's first heading.
+VERSION = re.search(rb"^## (\S+)$", read("../CHANGELOG.md"), re.M)[1]
 
 HELP = b"""\
 Tables, streams, packets and runs as text, and streams from scripts
@@ -136,17 +165,26 @@ Commands:
   packets   Says what the packets are that a run wrote
   scenario  Makes a stream from a script
   report    Makes a page of a run, for a browser
+  live      Runs a stream from standard input as it comes, to standard output
   help      Print this message or the help of the given subcommand(s)
 
 Options:
-  -h, --help  Print help
+  -h, --help     Print help
+  -V, --version  Print version
 """
 
 WORDS = [
+    Row("a version is no fault", ["flight_tools", "--version"], output=b"flight_tools %s\n" % VERSION),
+    Row(
+        "a word that is no text",
+        ["flight_tools", b"\xFF"],
+        status=2,
+        error=b"a word of the command line is no text (UTF-8)\n",
+    ),
     Row("help is no fault", ["flight_tools", "--help"], output=HELP),
     Row("no command", ["flight_tools"], status=2, error=b"""\
 error: 'flight_tools' requires a subcommand but one was not provided
-  [subcommands: table, stream, packets, scenario, report, help]
+  [subcommands: table, stream, packets, scenario, report, live, help]
 
 Usage: flight_tools <COMMAND>
 

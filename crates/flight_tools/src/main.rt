@@ -1,21 +1,31 @@
-//! The second program: what a flight team looks at. Tables, streams, packets and runs as text, and streams from scripts.
+//! The second program: what a flight team looks at. Tables, streams, packets and runs as text, streams from scripts, and runs as
+//! they come.
 #![tactic(auto)]
 
-use std::alloc::{AllocError, Global};
-use std::env::{self, Env};
-use std::io::{ErrorKind, IsTerminal};
-use std::process::ExitCode;
-use tool_commands::{Fault, fail, main_on};
+ghost use Rattle.flight_tools.specs.Words.{IsWithoutWords};
 
-/// What is said where words can't be had from the system.
-const COMMAND_LINE: &str = "command line";
+use program_files::lent;
+use std::env::{self, Env};
+use std::fs::Files;
+use std::io::{Eprint, ErrorKind, Input, IsTerminal, Print};
+use std::process::ExitCode;
+use tool_commands::{Fault, main_on, tell};
+
+/// Where the system has no words for the program: want of memory, or words that are no text.
+fn fault_without_words(kind: ErrorKind) -> Fault<'static>
+    ensures { IsWithoutWords kind result }
+{
+    match kind {
+        ErrorKind::OutOfMemory => Fault::Memory,
+        _ => Fault::NoText,
+    }
+}
 
 /// The words of the command line. What isn't text is no word.
 fn words_of<R: Env + AllocGlobal>(rt: &R) -> Result<Vec<String>, Fault<'static>> {
     let args = match env::args(rt) {
         Ok(args) => args,
-        Err(error) if error.kind() == ErrorKind::OutOfMemory => return Err(Fault::Memory),
-        Err(_) => return Err(Fault::File(COMMAND_LINE)),
+        Err(error) => return Err(fault_without_words(error.kind())),
     };
     let mut words = Vec::new(rt.alloc());
     for word in args {
@@ -24,22 +34,21 @@ fn words_of<R: Env + AllocGlobal>(rt: &R) -> Result<Vec<String>, Fault<'static>>
     Ok(words)
 }
 
-/// The same, lent.
-fn lent<'a>(alloc: Global, words: &'a [String]) -> Result<Vec<&'a str>, AllocError> {
-    let mut lent = Vec::new(alloc);
-    for word in words {
-        lent.push(word.as_str())?;
+/// Does what the words of the command line say, and answers the exit status.
+fn status_on<R: Env + Files + Input + Print + Eprint + AllocGlobal>(
+    rt: &R,
+    is_watched: bool,
+) -> u8 {
+    let own = match words_of(rt) {
+        Ok(own) => own,
+        Err(fault) => return tell(rt, &Err(fault)),
+    };
+    match lent(rt.alloc(), own.as_slice()) {
+        Ok(words) => main_on(rt, words.as_slice(), is_watched),
+        Err(_) => tell(rt, &Err(Fault::Memory)),
     }
-    Ok(lent)
 }
 
 fn main(rt: HostRuntime) -> ExitCode {
-    let status = match words_of(&rt) {
-        Ok(own) => match lent(rt.alloc(), own.as_slice()) {
-            Ok(words) => main_on(&rt, words.as_slice(), rt.stderr().is_terminal()),
-            Err(_) => fail(&rt, &Fault::Memory),
-        },
-        Err(fault) => fail(&rt, &fault),
-    };
-    ExitCode::from(status)
+    ExitCode::from(status_on(&rt, rt.stderr().is_terminal()))
 }

@@ -1,19 +1,19 @@
-//! A writer that notes why it failed.
+//! A device that notes why it failed.
 
 use std::cell::Cell;
-use std::io::{self, ErrorKind, Write};
+use std::io::{self, ErrorKind, Read, Write};
 
-/// Writes to a writer, and notes the kind of its first error.
+/// Reads from a device, or writes to it, and notes the kind of its first error.
 #[derive(Drop)]
-pub struct Noting<'a, W: Drop> {
-    writer: W,
+pub struct Noting<'a, D: Drop> {
+    device: D,
     kind: &'a Cell<Option<ErrorKind>>,
 }
 
-impl<'a, W: Write + Drop> Noting<'a, W> {
+impl<'a, D: Drop> Noting<'a, D> {
     /// The note is written into this cell.
-    pub fn new(writer: W, kind: &'a Cell<Option<ErrorKind>>) -> Noting<'a, W> {
-        Noting { writer, kind }
+    pub fn new(device: D, kind: &'a Cell<Option<ErrorKind>>) -> Noting<'a, D> {
+        Noting { device, kind }
     }
 
     fn note(&self, error: &io::Error) {
@@ -23,9 +23,19 @@ impl<'a, W: Write + Drop> Noting<'a, W> {
     }
 }
 
+impl<R: Read + Drop> Read for Noting<'_, R> {
+    fn read(&mut self, room: &mut [u8]) -> io::Result<usize> {
+        let read = self.device.read(room);
+        if let Err(error) = &read {
+            self.note(error);
+        }
+        read
+    }
+}
+
 impl<W: Write + Drop> Write for Noting<'_, W> {
     fn write(&mut self, bytes: &[u8]) -> io::Result<usize> {
-        let written = self.writer.write(bytes);
+        let written = self.device.write(bytes);
         if let Err(error) = &written {
             self.note(error);
         }
@@ -33,7 +43,7 @@ impl<W: Write + Drop> Write for Noting<'_, W> {
     }
 
     fn flush(&mut self) -> io::Result<()> {
-        let flushed = self.writer.flush();
+        let flushed = self.device.flush();
         if let Err(error) = &flushed {
             self.note(error);
         }

@@ -1,5 +1,7 @@
 //! Files that are read whole.
 
+ghost use Rattle.std.specs.Prelude.{◌≤◌, IfOk, vec_len};
+
 use crate::why::{FileFault, Why, fault_of};
 use std::fs::{File, Files};
 use std::io::Read;
@@ -22,11 +24,9 @@ pub fn read_front<R: Files + AllocGlobal>(
 }
 
 /// The bytes of a file that has so many at most. One byte more of it is read.
-pub fn read_all<R: Files + AllocGlobal>(
-    rt: &R,
-    name: &str,
-    most: u64,
-) -> Result<Vec<u8>, FileFault> {
+pub fn read_all<R: Files + AllocGlobal>(rt: &R, name: &str, most: u64) -> Result<Vec<u8>, FileFault>
+    ensures { IfOk result (λ bytes. vec_len bytes ≤ most) }
+{
     let bytes = read_front(rt, name, most.saturating_add(1))?;
     if bytes.len() as u64 > most {
         return Err(FileFault::Unusable(Why::TooLong(most)));

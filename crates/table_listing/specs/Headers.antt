@@ -4,7 +4,7 @@ use Rattle.std.specs.Fmt.{decimal}
 use Rattle.lc_model.specs.Bytes.{u16_at}
 use Rattle.lc_model.specs.Tables.Image.{own_count, watchpoint_count, hash_of}
 use Rattle.table_listing.specs.declared.headers.PreambleLines.{PreambleLines}
-use Rattle.table_listing.specs.Shown.{in_hex, shown}
+use Rattle.table_listing.specs.Shown.{in_hex, named}
 use Rattle.table_listing.specs.Words.{kind_word}
 
 -- file: content type 0x63464531 subtype 8 spacecraft 66 processor 1 application 0 seconds 0 subseconds 0
@@ -16,7 +16,7 @@ file_line spacecraft processor application seconds subseconds =
 -- table: "LC.LC_WDT" description "" reserved 0 offset 0 bytes 4264
 abbrev pub table_line : List ℕ → List ℕ → ℕ → ℕ → List ℕ
 table_line name description reserved size =
-    codes "table: \"" ++ (shown name ++ (codes "\" description \"" ++ (shown description ++ (codes "\" reserved "
+    codes "table: \"" ++ (named name ++ (codes "\" description \"" ++ (named description ++ (codes "\" reserved "
     ++ (decimal reserved ++ (codes " offset 0 bytes " ++ decimal size))))))
 
 -- image: kind 1 watchpoints version 1 entries 1 watchpoints 1

@@ -1,5 +1,5 @@
 -- Bytes and numbers as they are shown. This project's own.
-use Rattle.std.specs.Prelude.{ℕ, ◌^◌, ◌-◌, ◌&&◌, Bool, true, false, if◌then◌else◌, nat_le, List, [], ◌∷◌, ◌++◌, flat_map, codes}
+use Rattle.std.specs.Prelude.{ℕ, ◌^◌, ◌-◌, ◌&&◌, ◌||◌, ◌==◌, Bool, true, false, if◌then◌else◌, nat_le, List, [], ◌∷◌, ◌++◌, flat_map, codes}
 use Rattle.std.specs.Fmt.{digits, padded_integral, format_spec}
 
 -- hexadecimal digits: two small ones of a byte
@@ -29,3 +29,11 @@ shown_byte b = if is_printable b then b ∷ [] else codes "\\x" ++ two_digits b
 -- bytes, one behind the other
 abbrev pub shown : List ℕ → List ℕ
 shown = flat_map shown_byte
+
+-- a byte of a name: a quote, which ends the name where it is shown, and a backslash, which stands before digits, are shown by their digits too
+abbrev pub named_byte : ℕ → List ℕ
+named_byte b = if b == 0x22 || b == 0x5C then codes "\\x" ++ two_digits b else shown_byte b
+
+-- the bytes of a name
+abbrev pub named : List ℕ → List ℕ
+named = flat_map named_byte

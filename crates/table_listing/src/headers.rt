@@ -6,7 +6,7 @@ ghost use Rattle.lc_model.specs.Name.{name_in};
 ghost use Rattle.lc_model.specs.Tables.Image.{preamble_length};
 ghost use Rattle.table_listing.specs.Headers.{file_line, table_line, preamble_lines, preamble_lines_of};
 
-use crate::shown::{InHex, Shown};
+use crate::shown::{InHex, Named};
 use crate::words::kind_word;
 use std::fmt::{self, Display, Formatter, Write};
 use table_file::{TableFile, preamble};
@@ -77,7 +77,8 @@ impl Display for FileLine {
 }
 
 /// The line of a table's header, with the file's description, as `table: "LC.LC_WDT" description "" reserved 0 offset 0 bytes
-/// 4264`: the texts up to their first zero byte, and the bytes of the image. Each file that is opened has offset 0.
+/// 4264`: both texts up to their first zero byte, in which
+/// quotes and backslashes are `\x22` and `\x5c`, and the bytes of the image. Each file that is opened has offset 0.
 #[derive(Clone, Copy)]
 pub struct TableLine<'a> {
     pub name: &'a [u8],
@@ -113,7 +114,7 @@ impl Display for TableLine<'_> {
             reserved,
             size,
         } = *self;
-        let (name, description) = (Shown(name), Shown(description));
+        let (name, description) = (Named(name), Named(description));
         write!(
             f,
             "table: \"{name}\" description \"{description}\" reserved {reserved} offset 0 bytes {size}"

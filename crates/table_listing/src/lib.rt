@@ -20,4 +20,4 @@ pub use headers::{FileLine, PreambleLines, TableLine};
 pub use judged::{FaultLine, RefusalLine};
 pub use lines::{ActionpointLine, WatchpointLine};
 pub use listing::list_table;
-pub use shown::{InHex, Shown};
+pub use shown::{InHex, Named, Shown};

@@ -1,7 +1,7 @@
 //! Bytes as they are shown.
 
 ghost use Rattle.std.specs.Prelude.{Some};
-ghost use Rattle.table_listing.specs.Shown.{in_hex, shown, shown_byte};
+ghost use Rattle.table_listing.specs.Shown.{in_hex, named, named_byte, shown, shown_byte};
 
 use std::fmt::{self, Display, Formatter, Write};
 
@@ -23,8 +23,8 @@ impl Display for ShownByte {
     }
 }
 
-/// Bytes that are mostly text, each byte that can't be printed as `\x` and two digits. A backslash stands for itself, as in the
-/// texts of rules.
+/// The text of an event, each byte that can't be printed as `\x` and two digits. A backslash stands for itself, as in the texts of
+/// rules, none of which has a quote.
 #[derive(Clone, Copy)]
 pub struct Shown<'a>(pub &'a [u8]);
 
@@ -34,6 +34,41 @@ impl Display for Shown<'_> {
     fn fmt<W: Write>(&self, f: &mut Formatter<W>) -> fmt::Result {
         for byte in self.0 {
             let byte = ShownByte(*byte);
+            write!(f, "{byte}")?;
+        }
+        Ok(())
+    }
+}
+
+/// A byte of a name: a quote and a backslash are `\x` and two digits, and others as they are shown.
+#[derive(Clone, Copy)]
+struct NamedByte(u8);
+
+impl Display for NamedByte {
+    ghost output = { λ byte. Some (named_byte byte.0) };
+
+    fn fmt<W: Write>(&self, f: &mut Formatter<W>) -> fmt::Result {
+        let byte = self.0;
+        if byte == b'"' || byte == b'\\' {
+            write!(f, "\\x{byte:02x}")
+        } else {
+            let byte = ShownByte(byte);
+            write!(f, "{byte}")
+        }
+    }
+}
+
+/// The bytes of a name, to stand between quotes: each byte that can't be printed, each quote and each backslash as `\x` and two
+/// digits. So a name ends where its quote stands.
+#[derive(Clone, Copy)]
+pub struct Named<'a>(pub &'a [u8]);
+
+impl Display for Named<'_> {
+    ghost output = { λ bytes. Some (named bytes.0.now) };
+
+    fn fmt<W: Write>(&self, f: &mut Formatter<W>) -> fmt::Result {
+        for byte in self.0 {
+            let byte = NamedByte(*byte);
             write!(f, "{byte}")?;
         }
         Ok(())

@@ -1,1 +1,3 @@
+pub mod Cause
 pub mod Status
+pub mod Words

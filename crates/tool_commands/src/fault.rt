@@ -1,11 +1,12 @@
 //! What ends the program with another status than 0, and the line that says so.
 
 ghost use Rattle.std.specs.Prelude.{◌≡◌};
-ghost use Rattle.tool_commands.specs.Status.{HasStatus};
+ghost use Rattle.tool_commands.specs.Status.{status_of, stopped};
 ghost use Rattle.tool_commands.specs.declared.fault.Fault.TheVariants.{Memory};
 
 use clap::Error;
-use clap::error::ErrorKind;
+use flight_core::RunError;
+use program_files::Why;
 use run_report::ReportError;
 use std::alloc::{AllocError, AllocFailed};
 use std::fmt::{self, Display, Formatter, Write};
@@ -15,18 +16,26 @@ use tick_scheduler::ScheduleError;
 /// Why the program ended.
 #[derive(Debug, Drop)]
 pub enum Fault<'a> {
-    /// What `clap` says of the words: that they are no command, or the help that was asked for.
+    /// What `clap` says of words that are no command.
     Words(Error),
+    /// A word that is no text.
+    NoText,
     /// A table file with a fault, which its listing says.
     Table,
+    /// A stream or packets that end early, which the listing or the page says.
+    Early,
     /// A script that says no stream, by its file's name.
     Script(&'a str, ScriptError),
     /// A schedule that is refused, by its file's name.
     Schedule(&'a str, ScheduleError),
     /// A rule text that is refused.
     Report(ReportError),
-    /// A file can't be opened, read or written, or standard output can't.
-    File(&'a str),
+    /// A run that was stopped.
+    Run(RunError),
+    /// A file can't be opened, read or written, or standard output can't, and why.
+    File(&'a str, Why),
+    /// Nobody reads standard output any more.
+    Gone,
     /// No memory.
     Memory,
 }
@@ -47,26 +56,31 @@ impl<T: Drop> From<AllocFailed<T>> for Fault<'_> {
     }
 }
 
-impl From<Error> for Fault<'_> {
-    fn from(error: Error) -> Self {
-        match error.kind() {
-            ErrorKind::OutOfMemory => Fault::Memory,
-            _ => Fault::Words(error),
-        }
+/// The status of a run that was stopped: 1 a rule text is refused, 3 a device failed, 4 the stream, 5 no memory.
+fn status_of_run(error: RunError) -> u8
+    ensures { result ≡ stopped error }
+{
+    match error {
+        RunError::Compile { .. } => 1,
+        RunError::Read | RunError::Write { .. } => 3,
+        RunError::BadRecord { .. } | RunError::Truncated { .. } | RunError::ReadBound => 4,
+        RunError::Memory => 5,
     }
 }
 
 impl Fault<'_> {
-    /// The exit status: 0 help was asked for; 1 a table file has a fault, or a script, a schedule or a rule text is refused; 2 the words are no command; 3 a
-    /// file; 5 no memory.
+    /// The exit status: 0 nobody reads any more; 1 a table file has a fault, or a script, a schedule or a rule text is refused; 2
+    /// the words are no command; 3 a file or a device; 4 a stream or packets end early; 5 no memory.
     pub fn status(&self) -> u8
-        ensures { HasStatus self.now result }
+        ensures { result ≡ status_of self.now }
     {
         match self {
-            Fault::Words(error) if !error.use_stderr() => 0,
+            Fault::Gone => 0,
             Fault::Table | Fault::Script(..) | Fault::Schedule(..) | Fault::Report(_) => 1,
-            Fault::Words(_) => 2,
-            Fault::File(_) => 3,
+            Fault::Words(_) | Fault::NoText => 2,
+            Fault::File(..) => 3,
+            Fault::Early => 4,
+            Fault::Run(error) => status_of_run(*error),
             Fault::Memory => 5,
         }
     }
@@ -76,11 +90,13 @@ impl Display for Fault<'_> {
     fn fmt<W: Write>(&self, f: &mut Formatter<W>) -> fmt::Result {
         match self {
             Fault::Words(error) => write!(f, "{error}"),
-            Fault::Table => Ok(()),
+            Fault::NoText => writeln!(f, "a word of the command line is no text (UTF-8)"),
+            Fault::Table | Fault::Early | Fault::Gone => Ok(()),
             Fault::Script(name, error) => writeln!(f, "{name}: {error}"),
             Fault::Schedule(name, error) => writeln!(f, "{name}: {error}"),
             Fault::Report(error) => writeln!(f, "{error}"),
-            Fault::File(name) => writeln!(f, "cannot use {name}"),
+            Fault::Run(error) => writeln!(f, "{error}"),
+            Fault::File(name, why) => writeln!(f, "cannot use {name}: {why}"),
             Fault::Memory => writeln!(f, "no memory"),
         }
     }

@@ -1,10 +1,17 @@
-//! What a flight team looks at: tables, streams, packets and runs as text, and streams from scripts, by the words of a command
-//! line.
+//! What a flight team looks at: tables, streams, packets and runs as text, streams from scripts, and runs as they come, by the
+//! words of a command line.
 #![tactic(auto)]
 
+ghost use Rattle.std.specs.Prelude.{◌≡◌};
+ghost use Rattle.tool_commands.specs.Status.{status_by};
+
 mod fault;
+mod feed;
 mod files;
+mod given;
 mod listing;
+mod live;
+mod output;
 mod report;
 mod scenario;
 mod words;
@@ -12,33 +19,36 @@ mod words;
 pub use crate::fault::Fault;
 use crate::words::{Plan, read_words};
 use std::fs::Files;
-use std::io::{self, BufWriter, Eprint, Print, Write};
+use std::io::{self, BufWriter, Eprint, Input, Print, Read, Write};
 
 /// Does what the words say, the program's name first, and answers the exit status. A listing goes to standard output, with what
-/// it finds wrong with its file; what ends the program with another status than 0 to standard error. Where a person watches
-/// standard error, a report tells there how far it is.
-pub fn main_on<R: Files + Print + Eprint + AllocGlobal>(
+/// it finds wrong with its file, and so do help, the version, and the packets of a run as it comes; all else to standard error.
+/// Where a person watches standard error, a report tells there how far it is. What is left of a listing where standard output
+/// fails is not tried again.
+pub fn main_on<R: Files + Input + Print + Eprint + AllocGlobal>(
     rt: &R,
     words: &[&str],
     is_watched: bool,
 ) -> u8 {
     let Ok(mut out) = BufWriter::new(rt.alloc(), io::writer(rt)) else {
-        return fail(rt, &Fault::Memory);
+        return tell(rt, &Err(Fault::Memory));
     };
-    match obey(rt, words, &mut out, is_watched) {
-        Ok(()) => 0,
-        Err(fault) => fail(rt, &fault),
-    }
+    let answer = obey(rt, words, rt.reader(), &mut out, is_watched);
+    let (_output, _unwritten) = out.into_parts();
+    tell(rt, &answer)
 }
 
-/// Does what the words say. Listings are written to `out`, which stands for standard output.
-pub fn obey<'a, R: Files + Eprint + AllocGlobal, W: Write>(
+/// Does what the words say. A run as it comes reads from `input`, which stands for standard input; listings and packets are
+/// written to `out`, which stands for standard output.
+pub fn obey<'a, R: Files + Eprint + AllocGlobal, I: Read + Drop, W: Write>(
     rt: &R,
     words: &'a [&'a str],
+    input: I,
     out: &mut W,
     is_watched: bool,
 ) -> Result<(), Fault<'a>> {
     match read_words(rt.alloc(), words)? {
+        Plan::Said(text) => listing::said(&text, out),
         Plan::Table { file } => listing::table(rt, file, out),
         Plan::Stream { file, whole } => listing::stream(rt, file, whole, out),
         Plan::Packets { file } => listing::packets(rt, file, out),
@@ -49,14 +59,19 @@ pub fn obey<'a, R: Files + Eprint + AllocGlobal, W: Write>(
             page,
             rules,
         } => report::make_page(rt, schedule, stream, page, rules.as_slice(), is_watched),
+        Plan::Live { schedule, rules } => live::run(rt, schedule, rules.as_slice(), input, out),
     }
 }
 
-/// Says what the fault is, and answers the status. Help goes to standard output.
-pub fn fail<R: Print + Eprint>(rt: &R, fault: &Fault<'_>) -> u8 {
-    let _said = match fault {
-        Fault::Words(error) => error.print(rt),
-        fault => eprint!(rt; "{fault}"),
-    };
-    fault.status()
+/// Says on standard error what the fault is, where there is one, and answers the status.
+pub fn tell<R: Eprint>(rt: &R, answer: &Result<(), Fault<'_>>) -> u8
+    ensures { result ≡ status_by answer.now }
+{
+    match answer {
+        Ok(()) => 0,
+        Err(fault) => {
+            let _said = eprint!(rt; "{fault}");
+            fault.status()
+        }
+    }
 }

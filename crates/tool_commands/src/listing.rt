@@ -1,23 +1,27 @@
 //! What is listed.
 
 use crate::fault::Fault;
-use crate::files::read;
-use packet_listing::list_packets;
+use crate::feed::{Feed, feed_of};
+use crate::files::{LONGEST_TABLE, read};
+use crate::output::{STANDARD_OUTPUT, listed, output_fault};
+use clap::Error;
+use lc_model::packet::first_packet;
+use packet_listing::Line;
+use program_files::{Noting, Why};
+use std::alloc::Global;
+use std::cell::Cell;
 use std::fs::Files;
-use std::io::{self, ErrorKind, Write};
-use stream_script::{write_listing, write_script};
+use std::io::{Read, Write};
+use stream_script::{Front, front_of, write_listing_from, write_script};
 use table_listing::{ListingError, list_table};
 
-/// What is said of a failed print.
-const STANDARD_OUTPUT: &str = "standard output";
+/// Records and packets count up to here.
+const MOST_COUNTED: usize = usize::MAX / 2;
 
-/// All of a listing was written, or that failed.
-fn finish<'a, W: Write>(out: &mut W, listed: io::Result<()>) -> Result<(), Fault<'a>> {
-    match listed {
-        Ok(()) if out.flush().is_ok() => Ok(()),
-        Err(error) if error.kind() == ErrorKind::OutOfMemory => Err(Fault::Memory),
-        _ => Err(Fault::File(STANDARD_OUTPUT)),
-    }
+/// Writes the help or the version that was asked for.
+pub fn said<'a, W: Write>(text: &Error, out: &mut W) -> Result<(), Fault<'a>> {
+    listed(write!(out, "{text}"))?;
+    listed(out.flush())
 }
 
 /// Lists what a table file holds. One with a fault ends the program with another status.
@@ -26,42 +30,144 @@ pub fn table<'a, R: Files + AllocGlobal, W: Write>(
     file: &'a str,
     out: &mut W,
 ) -> Result<(), Fault<'a>> {
-    let bytes = read(rt, file)?;
-    match list_table(rt.alloc(), bytes.as_slice(), out) {
-        Ok(true) => finish(out, Ok(())),
-        Ok(false) => {
-            finish(out, Ok(()))?;
-            Err(Fault::Table)
+    let bytes = read(rt, file, LONGEST_TABLE)?;
+    let kind = Cell::new(None);
+    let mut noted = Noting::new(out, &kind);
+    match list_table(rt.alloc(), bytes.as_slice(), &mut noted) {
+        Ok(is_sound) => {
+            listed(noted.flush())?;
+            if is_sound { Ok(()) } else { Err(Fault::Table) }
         }
         Err(ListingError::Memory) => Err(Fault::Memory),
-        Err(ListingError::Write) => Err(Fault::File(STANDARD_OUTPUT)),
+        Err(ListingError::Write) => Err(match kind.get() {
+            Some(kind) => output_fault(kind),
+            None => Fault::File(STANDARD_OUTPUT, Why::Failed),
+        }),
     }
 }
 
-/// Lists the records of a stream, or writes the script that says them.
+/// How many whole records stand in front, how long they are together, and what stands behind them.
+fn whole_records(bytes: &[u8]) -> (usize, usize, Front) {
+    let mut count = 0usize;
+    let mut size = 0usize;
+    let mut rest = bytes;
+    for _ in 0..bytes.len() {
+        match front_of(rest) {
+            Front::Record { kind: _, size: one } => {
+                let (_, behind) = rest.split_at(one);
+                rest = behind;
+                count = count.saturating_add(1);
+                size = size.saturating_add(one);
+            }
+            _ => break,
+        }
+    }
+    (count, size, front_of(rest))
+}
+
+/// The text of records, the first of which has this number.
+fn text_of<'a>(
+    alloc: Global,
+    first: usize,
+    records: &[u8],
+    whole: bool,
+) -> Result<Vec<u8>, Fault<'a>> {
+    let text = if whole {
+        write_script(alloc, records)?
+    } else {
+        write_listing_from(alloc, first.min(MOST_COUNTED), records)?
+    };
+    Ok(text)
+}
+
+/// Lists the records of a stream, or writes the script that says them, piece by piece. A stream that ends early has another
+/// status.
 pub fn stream<'a, R: Files + AllocGlobal, W: Write>(
     rt: &R,
     file: &'a str,
     whole: bool,
     out: &mut W,
 ) -> Result<(), Fault<'a>> {
-    let bytes = read(rt, file)?;
-    let text = if whole {
-        write_script(rt.alloc(), bytes.as_slice())?
-    } else {
-        write_listing(rt.alloc(), bytes.as_slice())?
-    };
-    let listed = out.write_all(text.as_slice());
-    finish(out, listed)
+    let mut feed = feed_of(rt, file)?;
+    let mut first = 1usize;
+    for _ in 0..u64::MAX {
+        let is_more = feed.read_on()?;
+        let (count, size, behind) = whole_records(feed.held());
+        let is_last = !is_more || matches!(behind, Front::NoRecord);
+        let listed_size = if is_last { feed.held().len() } else { size };
+        let records = feed
+            .held()
+            .split_at_checked(listed_size)
+            .map_or(&[][..], |it| it.0);
+        let text = text_of(rt.alloc(), first, records, whole)?;
+        listed(out.write_all(text.as_slice()))?;
+        if is_last {
+            listed(out.flush())?;
+            return ended_with(matches!(behind, Front::End));
+        }
+        feed.let_go(size);
+        first = first.saturating_add(count);
+    }
+    Ok(())
 }
 
-/// Lists the packets of a file.
+/// The end of what is listed, which is whole or not.
+fn ended_with<'a>(is_whole: bool) -> Result<(), Fault<'a>> {
+    if is_whole { Ok(()) } else { Err(Fault::Early) }
+}
+
+/// Lists the whole packets that are held, behind so many, and answers how many there are then, and how many bytes they have.
+fn list_whole<W: Write>(
+    packets: &[u8],
+    before: u64,
+    out: &mut W,
+) -> Result<(u64, usize), Fault<'static>> {
+    let mut number = before;
+    let mut rest = packets;
+    for _ in 0..packets.len() {
+        let Some((packet, behind)) = first_packet(rest) else {
+            break;
+        };
+        number = number.saturating_add(1);
+        listed(writeln!(out, "{}", Line { number, packet }))?;
+        rest = behind;
+    }
+    Ok((number, packets.len().saturating_sub(rest.len())))
+}
+
+/// Lists the packets of a file, piece by piece. Bytes behind the last whole packet have another status.
 pub fn packets<'a, R: Files + AllocGlobal, W: Write>(
     rt: &R,
     file: &'a str,
     out: &mut W,
 ) -> Result<(), Fault<'a>> {
-    let bytes = read(rt, file)?;
-    let listed = list_packets(bytes.as_slice(), out);
-    finish(out, listed)
+    let mut feed = feed_of(rt, file)?;
+    let mut number = 0u64;
+    for _ in 0..u64::MAX {
+        let is_more = feed.read_on()?;
+        let (count, size) = list_whole(feed.held(), number, out)?;
+        number = count;
+        feed.let_go(size);
+        if !is_more {
+            return end_of_packets(&feed, number, out);
+        }
+    }
+    Ok(())
+}
+
+/// What is left behind the last packet.
+fn end_of_packets<'a, F: Read + Drop, W: Write>(
+    feed: &Feed<'_, F>,
+    number: u64,
+    out: &mut W,
+) -> Result<(), Fault<'a>> {
+    let left = feed.held().len();
+    if left > 0 {
+        listed(writeln!(
+            out,
+            "cut behind packet {number}: {left} bytes are no whole packet"
+        ))?;
+    }
+    listed(out.flush())?;
+    ended_with(left == 0)
 }

@@ -1,11 +1,18 @@
 //! `report SCHEDULE STREAM PAGE RULES..`
 
+ghost use Rattle.std.specs.Prelude.{◌≡◌};
+ghost use Rattle.tool_commands.specs.Cause.{fault_of_page};
+
 use crate::fault::Fault;
-use crate::files::read;
+use crate::files::{LONGEST_WHOLE, fault_at, is_apart, read};
+use crate::given::{schedule_in, texts_in};
+use program_files::{Noting, Why, begin, discard, keep, reason_for};
 use run_report::{Progress, ReportError, Source, write_page};
-use std::fs::{File, Files};
-use std::io::{BufWriter, Eprint, Write};
-use tick_scheduler::{Schedule, ScheduleError, parse_schedule};
+use std::alloc::Global;
+use std::cell::Cell;
+use std::fs::Files;
+use std::io::{BufWriter, Eprint, ErrorKind, Write};
+use tick_scheduler::Schedule;
 
 /// Of how many steps each is told, at most.
 const TOLD: usize = 20;
@@ -26,29 +33,40 @@ impl<R: Eprint> Progress for Told<'_, R> {
     }
 }
 
-/// The schedule in a file.
-fn schedule_in<'a, R: Files + AllocGlobal>(rt: &R, name: &'a str) -> Result<Schedule, Fault<'a>> {
-    let text = read(rt, name)?;
-    match parse_schedule(rt.alloc(), text.as_slice()) {
-        Ok(schedule) => Ok(schedule),
-        Err(ScheduleError::Memory) => Err(Fault::Memory),
-        Err(error) => Err(Fault::Schedule(name, error)),
+/// Why there is no page of this name, where a write failed by this kind of error, if one did.
+fn page_fault(page: &str, error: ReportError, kind: Option<ErrorKind>) -> Fault<'_>
+    ensures { result ≡ fault_of_page page.entry error kind }
+{
+    match (error, kind) {
+        (ReportError::Memory, _) => Fault::Memory,
+        (ReportError::Write, Some(kind)) => Fault::File(page, reason_for(kind)),
+        (ReportError::Write, None) => Fault::File(page, Why::Failed),
+        (error, _) => Fault::Report(error),
     }
 }
 
-/// The texts in these files.
-fn texts_in<'a, R: Files + AllocGlobal>(
-    rt: &R,
-    names: &[&'a str],
-) -> Result<Vec<Vec<u8>>, Fault<'a>> {
-    let mut texts = Vec::new(rt.alloc());
-    for name in names {
-        texts.push(read(rt, name)?)?;
-    }
-    Ok(texts)
+/// Writes the page, and all of it is with the device. Answers whether the stream has an end.
+fn write_to<R: Eprint, F: Write + Drop>(
+    alloc: Global,
+    schedule: &Schedule,
+    stream: &[u8],
+    sources: &[Source<'_>],
+    file: F,
+    told: &mut Told<'_, R>,
+) -> Result<bool, ReportError> {
+    let Ok(mut out) = BufWriter::new(alloc, file) else {
+        return Err(ReportError::Memory);
+    };
+    let written = write_page(alloc, schedule, stream, sources, &mut out, told);
+    let flushed = out.flush();
+    let (_file, _unwritten) = out.into_parts();
+    let is_whole = written?;
+    flushed?;
+    Ok(is_whole)
 }
 
-/// A run of these rule texts over a stream, as a page. All files are read before the page's file is made.
+/// A run of these rule texts over a stream, as a page, which is written beside its name and takes it at the end. A stream that
+/// ends early has a page, and another status.
 pub fn make_page<'a, R: Files + Eprint + AllocGlobal>(
     rt: &R,
     schedule: &'a str,
@@ -57,9 +75,11 @@ pub fn make_page<'a, R: Files + Eprint + AllocGlobal>(
     rules: &[&'a str],
     is_watched: bool,
 ) -> Result<(), Fault<'a>> {
-    let schedule = schedule_in(rt, schedule)?;
-    let stream = read(rt, stream)?;
+    let plan = schedule_in(rt, schedule)?;
+    let bytes = read(rt, stream, LONGEST_WHOLE)?;
     let texts = texts_in(rt, rules)?;
+    is_apart(rt, page, &[schedule, stream])?;
+    is_apart(rt, page, rules)?;
     let mut sources = Vec::new(rt.alloc());
     for (name, text) in rules.iter().zip(texts.iter()) {
         sources.push(Source {
@@ -67,26 +87,24 @@ pub fn make_page<'a, R: Files + Eprint + AllocGlobal>(
             text: text.as_slice(),
         })?;
     }
-    let Ok(file) = File::create(rt, page) else {
-        return Err(Fault::File(page));
-    };
-    let Ok(mut out) = BufWriter::new(rt.alloc(), file) else {
-        return Err(Fault::Memory);
-    };
-    let mut told = Told { rt, is_watched };
-    let written = write_page(
+    let mut draft = begin(rt, page).map_err(|fault| fault_at(page, fault))?;
+    let kind = Cell::new(None);
+    let written = write_to(
         rt.alloc(),
-        &schedule,
-        stream.as_slice(),
+        &plan,
+        bytes.as_slice(),
         sources.as_slice(),
-        &mut out,
-        &mut told,
+        Noting::new(&mut draft.file, &kind),
+        &mut Told { rt, is_watched },
     );
-    let flushed = out.flush().is_ok();
     match written {
-        Ok(_) if flushed => Ok(()),
-        Ok(_) | Err(ReportError::Write) => Err(Fault::File(page)),
-        Err(ReportError::Memory) => Err(Fault::Memory),
-        Err(error) => Err(Fault::Report(error)),
+        Ok(is_whole) => {
+            keep(rt, draft).map_err(|fault| fault_at(page, fault))?;
+            if is_whole { Ok(()) } else { Err(Fault::Early) }
+        }
+        Err(error) => {
+            discard(rt, draft);
+            Err(page_fault(page, error, kind.get()))
+        }
     }
 }

@@ -1,20 +1,42 @@
 //! `scenario SCRIPT STREAM`
 
+ghost use Rattle.std.specs.Prelude.{◌≡◌};
+ghost use Rattle.tool_commands.specs.Cause.{fault_of_script};
+
 use crate::fault::Fault;
-use crate::files::{read, write};
+use crate::files::{LONGEST_WHOLE, fault_at, is_apart, read};
+use program_files::{begin, discard, fault_of, keep};
 use std::fs::Files;
+use std::io::Write;
 use stream_script::{ScriptError, read_script};
 
-/// The script's file is read, and the stream that it says is written.
+/// The fault of a script in a file of this name.
+fn script_fault(name: &str, error: ScriptError) -> Fault<'_>
+    ensures { result ≡ fault_of_script name.entry error }
+{
+    match error {
+        ScriptError::Memory => Fault::Memory,
+        error => Fault::Script(name, error),
+    }
+}
+
+/// The script's file is read, and the stream that it says is written beside its name, which it takes at the end.
 pub fn make_stream<'a, R: Files + AllocGlobal>(
     rt: &R,
     script: &'a str,
     stream: &'a str,
 ) -> Result<(), Fault<'a>> {
-    let text = read(rt, script)?;
-    match read_script(rt.alloc(), text.as_slice()) {
-        Ok(bytes) => write(rt, stream, bytes.as_slice()),
-        Err(ScriptError::Memory) => Err(Fault::Memory),
-        Err(error) => Err(Fault::Script(script, error)),
+    let text = read(rt, script, LONGEST_WHOLE)?;
+    is_apart(rt, stream, &[script])?;
+    let bytes = read_script(rt.alloc(), text.as_slice()).map_err(|error| script_fault(
+        script, error,
+    ))?;
+    let mut draft = begin(rt, stream).map_err(|fault| fault_at(stream, fault))?;
+    match draft.file.write_all(bytes.as_slice()) {
+        Ok(()) => keep(rt, draft).map_err(|fault| fault_at(stream, fault)),
+        Err(error) => {
+            discard(rt, draft);
+            Err(fault_at(stream, fault_of(&error)))
+        }
     }
 }

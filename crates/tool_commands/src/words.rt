@@ -1,12 +1,20 @@
 //! The words of a command line (this project's own), read by `clap`.
 
+ghost use Rattle.std.specs.Prelude.{◌≡◌, codes, map, IfOk, IfSome, IsSomeAnd, Some};
+ghost use Rattle.clap.specs.Words.{all_of, first_of, found_of, kind_of, rows_of, subcommand_rows_of};
+ghost use Rattle.tool_commands.specs.Words.{HoldsRows, answer_by};
+
+use crate::fault::Fault;
 use clap::error::ErrorKind;
 use clap::{Arg, ArgAction, ArgMatches, Command, Error};
+use lc_model::VERSION;
 use std::alloc::{AllocError, Global};
 
 /// What the program is to do.
 #[derive(Drop)]
 pub enum Plan<'a> {
+    /// `--help`, `help COMMAND` or `--version`: what `clap` says.
+    Said(Error),
     /// `table FILE`: a table file as text.
     Table {
         file: &'a str,
@@ -32,6 +40,11 @@ pub enum Plan<'a> {
         page: &'a str,
         rules: Vec<&'a str>,
     },
+    /// `live SCHEDULE RULES..`: a run over a stream as it comes, from standard input to standard output.
+    Live {
+        schedule: &'a str,
+        rules: Vec<&'a str>,
+    },
 }
 
 /// What a command takes beside its files.
@@ -53,7 +66,7 @@ struct Row {
 }
 
 /// All commands, as the help lists them.
-const ROWS: [Row; 5] = [
+const ROWS: [Row; 6] = [
     Row {
         word: "table",
         about: "Says what a table file holds",
@@ -89,6 +102,12 @@ const ROWS: [Row; 5] = [
             ("STREAM", "A stream of records"),
             ("PAGE", "The page, which is written"),
         ],
+        more: More::Rules,
+    },
+    Row {
+        word: "live",
+        about: "Runs a stream from standard input as it comes, to standard output",
+        files: &[("SCHEDULE", "The schedule")],
         more: More::Rules,
     },
 ];
@@ -133,6 +152,7 @@ fn command_of<'a>(alloc: Global, row: &Row) -> Result<Command<'a>, AllocError> {
 fn all_words<'a>(alloc: Global) -> Result<Command<'a>, AllocError> {
     let mut words = Command::new(alloc, "flight_tools")
         .about("Tables, streams, packets and runs as text, and streams from scripts")
+        .version(VERSION)
         .subcommand_required(true);
     for row in &ROWS {
         words = words.subcommand(command_of(alloc, row)?)?;
@@ -140,62 +160,150 @@ fn all_words<'a>(alloc: Global) -> Result<Command<'a>, AllocError> {
     Ok(words)
 }
 
+/// What is to be done where `clap` finds no command: help and the version are asked for, and other words are at fault.
+fn without_command<'a>(error: Error) -> Result<Plan<'a>, Fault<'a>>
+    ensures { result ≡ answer_by (kind_of error) error }
+{
+    match error.kind() {
+        ErrorKind::DisplayHelp | ErrorKind::DisplayVersion => Ok(Plan::Said(error)),
+        ErrorKind::OutOfMemory => Err(Fault::Memory),
+        _ => Err(Fault::Words(error)),
+    }
+}
+
+/// Where a word of a command isn't there, which `clap` refuses before.
+fn missing_word<'a>(alloc: Global) -> Result<Plan<'a>, Fault<'a>> {
+    without_command(all_words(alloc)?.error(
+        ErrorKind::MissingRequiredArgument,
+        "a word is missing",
+    )?)
+}
+
 /// Reads the words of a command line, the program's name first. An option stands anywhere among the files; `--` ends them.
 ///
-/// Errors: what `clap` says of words that are none of the commands; and the help where it is asked for.
-pub fn read_words<'a>(alloc: Global, words: &'a [&'a str]) -> Result<Plan<'a>, Error> {
-    let matches = all_words(alloc)?.try_get_matches_from(words)?;
-    match given_plan(alloc, &matches)? {
-        Some(plan) => Ok(plan),
-        None => {
-            Err(all_words(alloc)?.error(ErrorKind::MissingRequiredArgument, "a word is missing")?)
-        }
+/// Errors: `Words` with what `clap` says of words that are none of the commands; `Memory`.
+pub fn read_words<'a>(alloc: Global, words: &'a [&'a str]) -> Result<Plan<'a>, Fault<'a>> {
+    match all_words(alloc)?.try_get_matches_from(words) {
+        Ok(matches) => match given_plan(alloc, &matches)? {
+            Some(plan) => Ok(plan),
+            None => missing_word(alloc),
+        },
+        Err(error) => without_command(error),
     }
 }
 
 /// The plan of the command that was found, where no word of it is missing.
-fn given_plan<'a>(alloc: Global, matches: &ArgMatches<'a>) -> Result<Option<Plan<'a>>, AllocError> {
+fn given_plan<'a>(alloc: Global, matches: &ArgMatches<'a>) -> Result<Option<Plan<'a>>, AllocError>
+    ensures { IfOk result (λ plan. IfSome plan
+        (λ plan. IsSomeAnd (subcommand_rows_of matches.now) (λ command. HoldsRows command plan))) }
+{
     match matches.subcommand() {
-        Some(("report", found)) => given_report(alloc, found),
-        Some((word, found)) => Ok(given_files(word, found)),
-        None => Ok(None),
+        Some(("table", found)) => Ok(table_plan(found)),
+        Some(("stream", found)) => Ok(stream_plan(found)),
+        Some(("packets", found)) => Ok(packets_plan(found)),
+        Some(("scenario", found)) => Ok(scenario_plan(found)),
+        Some(("report", found)) => report_plan(alloc, found),
+        Some(("live", found)) => live_plan(alloc, found),
+        _ => Ok(None),
     }
 }
 
-/// The plan of a report.
-fn given_report<'a>(alloc: Global, found: &ArgMatches<'a>) -> Result<Option<Plan<'a>>, AllocError> {
+/// The file of a name.
+fn file_of<'a>(found: &ArgMatches<'a>, name: &str) -> Option<&'a str>
+    ensures { IfSome result
+        (λ word. first_of name.now (rows_of (found_of found.now)) ≡ Some word.now) }
+{
+    found.get_str(name)
+}
+
+/// The rule texts.
+fn rules_of<'a>(alloc: Global, found: &ArgMatches<'a>) -> Result<Option<Vec<&'a str>>, AllocError>
+    ensures { IfOk result (λ rules. IfSome rules
+        (λ words. all_of (codes "RULES") (rows_of (found_of found.now)) ≡
+        Some (map (λ word. word.now) words.items))) }
+{
     match found.get_strs("RULES") {
-        Some(rules) => Ok(report_of(found, Vec::from_slice(alloc, rules)?)),
+        Some(rules) => Ok(Some(Vec::from_slice(alloc, rules)?)),
         None => Ok(None),
     }
 }
 
-fn report_of<'a>(found: &ArgMatches<'a>, rules: Vec<&'a str>) -> Option<Plan<'a>> {
+fn table_plan<'a>(found: &ArgMatches<'a>) -> Option<Plan<'a>>
+    ensures { IfSome result (HoldsRows (codes "table", rows_of (found_of found.now))) }
+{
+    Some(Plan::Table {
+        file: file_of(found, "FILE")?,
+    })
+}
+
+fn stream_plan<'a>(found: &ArgMatches<'a>) -> Option<Plan<'a>>
+    ensures { IfSome result (HoldsRows (codes "stream", rows_of (found_of found.now))) }
+{
+    Some(Plan::Stream {
+        file: file_of(found, "FILE")?,
+        whole: found.get_flag("whole"),
+    })
+}
+
+fn packets_plan<'a>(found: &ArgMatches<'a>) -> Option<Plan<'a>>
+    ensures { IfSome result (HoldsRows (codes "packets", rows_of (found_of found.now))) }
+{
+    Some(Plan::Packets {
+        file: file_of(found, "FILE")?,
+    })
+}
+
+fn scenario_plan<'a>(found: &ArgMatches<'a>) -> Option<Plan<'a>>
+    ensures { IfSome result (HoldsRows (codes "scenario", rows_of (found_of found.now))) }
+{
+    Some(Plan::Scenario {
+        script: file_of(found, "SCRIPT")?,
+        stream: file_of(found, "STREAM")?,
+    })
+}
+
+/// The plan of a report of these rule texts.
+fn report_of<'a>(found: &ArgMatches<'a>, rules: Vec<&'a str>) -> Option<Plan<'a>>
+    requires { all_of (codes "RULES") (rows_of (found_of found.now)) ≡
+        Some (map (λ word. word.now) rules.items) }
+    ensures { IfSome result (HoldsRows (codes "report", rows_of (found_of found.now))) }
+{
     Some(Plan::Report {
-        schedule: found.get_str("SCHEDULE")?,
-        stream: found.get_str("STREAM")?,
-        page: found.get_str("PAGE")?,
+        schedule: file_of(found, "SCHEDULE")?,
+        stream: file_of(found, "STREAM")?,
+        page: file_of(found, "PAGE")?,
         rules,
     })
 }
 
-/// The plan of another command.
-fn given_files<'a>(word: &str, found: &ArgMatches<'a>) -> Option<Plan<'a>> {
-    match word {
-        "table" => Some(Plan::Table {
-            file: found.get_str("FILE")?,
-        }),
-        "stream" => Some(Plan::Stream {
-            file: found.get_str("FILE")?,
-            whole: found.get_flag("whole"),
-        }),
-        "packets" => Some(Plan::Packets {
-            file: found.get_str("FILE")?,
-        }),
-        "scenario" => Some(Plan::Scenario {
-            script: found.get_str("SCRIPT")?,
-            stream: found.get_str("STREAM")?,
-        }),
-        _ => None,
+fn report_plan<'a>(alloc: Global, found: &ArgMatches<'a>) -> Result<Option<Plan<'a>>, AllocError>
+    ensures { IfOk result (λ plan. IfSome plan
+        (HoldsRows (codes "report", rows_of (found_of found.now)))) }
+{
+    match rules_of(alloc, found)? {
+        Some(rules) => Ok(report_of(found, rules)),
+        None => Ok(None),
+    }
+}
+
+/// The plan of a run of these rule texts, as it comes.
+fn live_of<'a>(found: &ArgMatches<'a>, rules: Vec<&'a str>) -> Option<Plan<'a>>
+    requires { all_of (codes "RULES") (rows_of (found_of found.now)) ≡
+        Some (map (λ word. word.now) rules.items) }
+    ensures { IfSome result (HoldsRows (codes "live", rows_of (found_of found.now))) }
+{
+    Some(Plan::Live {
+        schedule: file_of(found, "SCHEDULE")?,
+        rules,
+    })
+}
+
+fn live_plan<'a>(alloc: Global, found: &ArgMatches<'a>) -> Result<Option<Plan<'a>>, AllocError>
+    ensures { IfOk result (λ plan. IfSome plan
+        (HoldsRows (codes "live", rows_of (found_of found.now)))) }
+{
+    match rules_of(alloc, found)? {
+        Some(rules) => Ok(live_of(found, rules)),
+        None => Ok(None),
     }
 }

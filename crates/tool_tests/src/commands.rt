@@ -6,7 +6,7 @@ use run_report::{Silent, Source, write_page};
 use std::alloc::{AllocError, Global};
 use std::env::{self, Env};
 use std::fs::{self, Files};
-use std::io::Eprint;
+use std::io::{self, Eprint};
 use std::process::Abort;
 use tick_scheduler::parse_schedule;
 use tool_commands::obey;
@@ -58,7 +58,7 @@ const ROWS: &[Row] = &[
     ),
     (
         &["packets", "@packets"],
-        0,
+        4,
         "",
         "1 - sequence request 7, count 0\n2 - sequence request 7, count 1\ncut behind packet 2: 1 bytes are no whole packet\n",
     ),
@@ -107,43 +107,58 @@ const ROWS: &[Row] = &[
         "",
     ),
     // Files that can't be read, and those that can't be written.
-    (&["table", "@none"], 3, "cannot use @none\n", ""),
-    (&["stream", "@none"], 3, "cannot use @none\n", ""),
-    (&["packets", "@none"], 3, "cannot use @none\n", ""),
+    (
+        &["table", "@none"],
+        3,
+        "cannot use @none: there is none of that name\n",
+        "",
+    ),
+    (
+        &["stream", "@none"],
+        3,
+        "cannot use @none: there is none of that name\n",
+        "",
+    ),
+    (
+        &["packets", "@none"],
+        3,
+        "cannot use @none: there is none of that name\n",
+        "",
+    ),
     (
         &["scenario", "@none", "/dev/full"],
         3,
-        "cannot use @none\n",
+        "cannot use @none: there is none of that name\n",
         "",
     ),
     (
         &["scenario", "@script", "/dev/full"],
         3,
-        "cannot use /dev/full\n",
+        "cannot use /dev/full: the device is full\n",
         "",
     ),
     (
         &["report", "@none", "@stream", "/dev/full", "@first"],
         3,
-        "cannot use @none\n",
+        "cannot use @none: there is none of that name\n",
         "",
     ),
     (
         &["report", "@schedule", "@none", "/dev/full", "@first"],
         3,
-        "cannot use @none\n",
+        "cannot use @none: there is none of that name\n",
         "",
     ),
     (
         &["report", "@schedule", "@stream", "/dev/full", "@none"],
         3,
-        "cannot use @none\n",
+        "cannot use @none: there is none of that name\n",
         "",
     ),
     (
         &["report", "@schedule", "@stream", "/dev/full", "@first"],
         3,
-        "cannot use /dev/full\n",
+        "cannot use /dev/full: the device is full\n",
         "",
     ),
 ];
@@ -192,7 +207,7 @@ fn ended<R: Abort + Files + Eprint + AllocGlobal>(
     words: &[&str],
     out: &mut Vec<u8>,
 ) -> (u8, String) {
-    match obey(rt, words, out, false) {
+    match obey(rt, words, io::empty(), out, false) {
         Ok(()) => (0, String::new(rt.alloc())),
         Err(fault) => {
             let line = format!(in rt.alloc(); "{fault}").expect(rt, "memory for a line");
@@ -266,22 +281,51 @@ fn words_over_files(rt: HostRuntime) {
     fs::remove_dir_all(&rt, folder).expect(&rt, "a folder that goes");
 }
 
-/// Words, and the status of the fault that ends them.
-const FAULTS: &[(&[&str], u8)] = &[
-    (&["flight_tools", "--help"], 0),
-    (&["flight_tools", "tables"], 2),
-    (&["flight_tools", "table"], 2),
-    (&["flight_tools"], 2),
+/// Words that no command has, which end with status 2, and with nothing on standard output.
+const FAULTS: &[&[&str]] = &[
+    &["flight_tools", "tables"],
+    &["flight_tools", "table"],
+    &["flight_tools"],
 ];
 
 #[test]
-fn help_is_no_fault_and_other_words_are(rt: HostRuntime) {
-    for &(words, expected) in FAULTS {
+fn other_words_are_a_fault(rt: HostRuntime) {
+    for &words in FAULTS {
         let mut out = Vec::new(rt.alloc());
-        let status = match obey(&rt, words, &mut out, false) {
+        let status = match obey(&rt, words, io::empty(), &mut out, false) {
             Ok(()) => None,
             Err(fault) => Some(fault.status()),
         };
-        same(&rt, words, status, Some(expected));
+        same(&rt, words, (status, out.len()), (Some(2), 0));
+    }
+}
+
+/// Words that ask for help or for the version, and how what is printed begins.
+const ASKED: &[(&[&str], &str)] = &[
+    (
+        &["flight_tools", "--help"],
+        "Tables, streams, packets and runs",
+    ),
+    (
+        &["flight_tools", "help", "live"],
+        "Runs a stream from standard input",
+    ),
+    (
+        &["flight_tools", "table", "--help"],
+        "Says what a table file holds",
+    ),
+    (&["flight_tools", "--version"], "flight_tools "),
+];
+
+#[test]
+fn help_and_the_version_are_no_fault(rt: HostRuntime) {
+    for &(words, expected) in ASKED {
+        let mut out = Vec::new(rt.alloc());
+        let status = match obey(&rt, words, io::empty(), &mut out, false) {
+            Ok(()) => 0,
+            Err(fault) => fault.status(),
+        };
+        let begins = out.as_slice().starts_with(expected.as_bytes());
+        same(&rt, words, (status, begins), (0, true));
     }
 }

@@ -108,6 +108,33 @@ fn listings_of_sound_files(rt: HostRuntime) {
     ends(&rt, file.as_slice(), true, FIRST);
 }
 
+/// A name and a description with quotes, a backslash, and what can't be printed: `"A" "\x`, and a quote behind a tab.
+const QUOTED: &[(usize, &[u8])] = &[(32, b"\t\""), (76, b"\"A\" \"\\x\0")];
+
+const QUOTED_LINE: &[u8] =
+    b"table: \"\\x22A\\x22 \\x22\\x5cx\" description \"\\x09\\x22\" reserved 0 offset 0 bytes 4264";
+
+#[test]
+fn a_quote_within_a_name_ends_no_name(rt: HostRuntime) {
+    let mut file = watchpoints(&rt);
+    for &(place, bytes) in QUOTED {
+        for (at, byte) in bytes.iter().enumerate() {
+            if let Some(there) = file.get_mut(place.saturating_add(at)) {
+                *there = *byte;
+            }
+        }
+    }
+    let mut listing = Vec::new(rt.alloc());
+    let is_sound = list_table(rt.alloc(), file.as_slice(), &mut listing).expect(&rt, "no listing");
+    let line = listing.as_slice().split(|byte| *byte == b'\n').nth(1);
+    same(
+        &rt,
+        QUOTED_LINE,
+        (is_sound, line),
+        (true, Some(QUOTED_LINE)),
+    );
+}
+
 /// Bytes that are changed, and the listing's last line.
 type Row = (&'static [(usize, u8)], &'static str);
 

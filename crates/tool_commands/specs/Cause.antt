@@ -1,0 +1,73 @@
+-- Which fault each failure is. This project's own.
+use Rattle.std.specs.Prelude.{◌≡◌, codes, List, ℕ, Option, Some, None, Result, Ok, Err}
+use Rattle.std.specs.Borrow.{Bor}
+use Rattle.std.specs.IoError.{error_kind}
+use Rattle.std_io.specs.declared.io.error.Error.{Error}
+use Rattle.std_io.specs.declared.io.kind.ErrorKind.{ErrorKind}
+use Rattle.std_io.specs.declared.io.kind.ErrorKind.TheVariants as kind
+use Rattle.program_files.specs.Why.{why_of}
+use Rattle.program_files.specs.declared.why.Why.{Why}
+use Rattle.program_files.specs.declared.why.Why.TheVariants as why
+use Rattle.program_files.specs.declared.why.FileFault.{FileFault}
+use Rattle.program_files.specs.declared.why.FileFault.TheVariants as file
+use Rattle.flight_core.specs.declared.error.Report.{Report}
+use Rattle.flight_core.specs.declared.error.RunError.{RunError}
+use Rattle.flight_core.specs.declared.error.RunError.TheVariants as run
+use Rattle.run_report.specs.declared.error.ReportError.{ReportError}
+use Rattle.run_report.specs.declared.error.ReportError.TheVariants as page
+use Rattle.stream_script.specs.declared.error.ScriptError.{ScriptError}
+use Rattle.stream_script.specs.declared.error.ScriptError.TheVariants as script
+use Rattle.tick_scheduler.specs.declared.error.ScheduleError.{ScheduleError}
+use Rattle.tick_scheduler.specs.declared.error.ScheduleError.TheVariants as schedule
+use Rattle.tool_commands.specs.declared.fault.Fault.{Fault}
+use Rattle.tool_commands.specs.declared.fault.Fault.TheVariants as fault
+
+-- want of memory is one fault, wherever it arose
+abbrev pub fault_of_file : Bor (List ℕ) → FileFault → Fault
+fault_of_file name file.Memory = fault.Memory
+fault_of_file name (file.Unusable why) = fault.File name why
+
+abbrev pub fault_of_script : Bor (List ℕ) → ScriptError → Fault
+fault_of_script name script.Memory = fault.Memory
+fault_of_script name error = fault.Script name error
+
+abbrev pub fault_of_schedule : Bor (List ℕ) → ScheduleError → Fault
+fault_of_schedule name schedule.Memory = fault.Memory
+fault_of_schedule name error = fault.Schedule name error
+
+-- of a page, whose write failed by an error of this kind, if it was noted
+abbrev pub fault_of_page : Bor (List ℕ) → ReportError → Option ErrorKind → Fault
+fault_of_page name page.Memory noted = fault.Memory
+fault_of_page name page.Write (Some kind) = fault.File name (why_of kind)
+fault_of_page name page.Write None = fault.File name why.Failed
+fault_of_page name error noted = fault.Report error
+
+-- what has this name can't be used, for this reason
+abbrev pub IsUnusable : List ℕ → Why → Fault → Type 0
+IsUnusable of reason (fault.File name found) = (name.now ≡ of) × (found ≡ reason)
+IsUnusable of reason other = ⊥
+
+-- standard input, by the kind of its error
+abbrev pub IsOfInput : ErrorKind → Fault → Type 0
+IsOfInput kind.OutOfMemory found = found ≡ fault.Memory
+IsOfInput rest found = IsUnusable (codes "standard input") (why_of rest) found
+
+-- standard output, by the kind of its error: where nobody reads any more the program ends quietly
+abbrev pub IsOfOutput : ErrorKind → Fault → Type 0
+IsOfOutput kind.OutOfMemory found = found ≡ fault.Memory
+IsOfOutput kind.BrokenPipe found = found ≡ fault.Gone
+IsOfOutput rest found = IsUnusable (codes "standard output") (why_of rest) found
+
+-- the same of what was listed
+abbrev pub IsListed : Result (Unit {0}) Error → Result (Unit {0}) Fault → Type 0
+IsListed (Ok none) answer = answer ≡ Ok none
+IsListed (Err error) (Ok none) = ⊥
+IsListed (Err error) (Err found) = IsOfOutput (error_kind error) found
+
+-- of a run from standard input to standard output, which failed by errors of these kinds, if they were noted
+abbrev pub IsAnswered : Result Report RunError → Option ErrorKind → Option ErrorKind → Result Report Fault → Type 0
+IsAnswered (Ok report) read written answer = answer ≡ Ok report
+IsAnswered (Err run.Memory) read written answer = answer ≡ Err fault.Memory
+IsAnswered (Err run.Read) (Some kind) written (Err found) = IsOfInput kind found
+IsAnswered (Err (run.Write sent)) read (Some kind) (Err found) = IsOfOutput kind found
+IsAnswered (Err error) read written answer = answer ≡ Err (fault.Run error)

@@ -1,0 +1,44 @@
+//! Standard input and standard output, and how they fail.
+
+ghost use Rattle.tool_commands.specs.Cause.{IsListed, IsOfInput, IsOfOutput};
+
+use crate::fault::Fault;
+use program_files::reason_for;
+use std::io::{self, ErrorKind};
+
+/// What is said of standard input.
+const STANDARD_INPUT: &str = "standard input";
+
+/// What is said of standard output.
+pub const STANDARD_OUTPUT: &str = "standard output";
+
+/// Of an error of standard input.
+pub fn input_fault(kind: ErrorKind) -> Fault<'static>
+    ensures { IsOfInput kind result }
+{
+    match kind {
+        ErrorKind::OutOfMemory => Fault::Memory,
+        kind => Fault::File(STANDARD_INPUT, reason_for(kind)),
+    }
+}
+
+/// Of an error of standard output: where nobody reads any more the program ends quietly.
+pub fn output_fault(kind: ErrorKind) -> Fault<'static>
+    ensures { IsOfOutput kind result }
+{
+    match kind {
+        ErrorKind::OutOfMemory => Fault::Memory,
+        ErrorKind::BrokenPipe => Fault::Gone,
+        kind => Fault::File(STANDARD_OUTPUT, reason_for(kind)),
+    }
+}
+
+/// The same of what was listed.
+pub fn listed(written: io::Result<()>) -> Result<(), Fault<'static>>
+    ensures { IsListed written result }
+{
+    match written {
+        Ok(()) => Ok(()),
+        Err(error) => Err(output_fault(error.kind())),
+    }
+}
