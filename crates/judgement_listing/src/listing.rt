@@ -103,7 +103,7 @@ fn write_comparison<W: Write>(
     let what = match judged.says {
         Constancy::Always => "always",
         Constancy::Never => "never",
-        Constancy::Varies | Constancy::Unknown => return Ok(()),
+        Constancy::Varies => return Ok(()),
     };
     let name = subject.name;
     let term = ShownTerm {
