@@ -124,8 +124,8 @@ fn can_be_false(alloc: Global, cond: &Cond) -> Result<Finding, AllocError>
     can_be_true(alloc, &other, RULE_STEPS)
 }
 
-/// A rule's condition judged.
-fn judge_rule(alloc: Global, cond: &Cond) -> Result<RuleJudgement, AllocError>
+/// A condition judged: whether it can be true, whether it can be false, and its comparisons.
+pub fn judge_condition(alloc: Global, cond: &Cond) -> Result<RuleJudgement, AllocError>
     ensures { IfOk result (λ judged. IsRuleJudged (condition_of cond.now) judged) }
 {
     let fails = can_be_true(alloc, cond, RULE_STEPS)?;
@@ -145,7 +145,7 @@ fn judge_rules(alloc: Global, rules: &[Rule]) -> Result<Vec<RuleJudgement>, Allo
 {
     let mut judged = Vec::new(alloc);
     for rule in rules {
-        judged.push(judge_rule(alloc, &rule.cond)?)?;
+        judged.push(judge_condition(alloc, &rule.cond)?)?;
     }
     Ok(judged)
 }
