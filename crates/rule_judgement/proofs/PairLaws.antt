@@ -1,7 +1,6 @@
 -- Of two rules it is told how they go together.
-use Rattle.std.proofs.Common.{◌≡◌, ℕ, zero, suc, ◌≤◌, ◌<◌, Bool, true, false, not, List, [], ◌∷◌, ◌++◌, length, slice_get, get_or, refl, ap, sym, ◌∙◌, subst, arith, Option, Some, None, inl, inr, ◌⊎◌}
-use Rattle.std.specs.Prelude.{Contains, IsTrue, IsFalse}
-use Rattle.std.specs.Option.{option_map_or}
+use Rattle.std.proofs.Common.{◌≡◌, ℕ, zero, suc, ◌≤◌, ◌<◌, Bool, true, false, not, List, [], ◌∷◌, ◌++◌, length, slice_get, get_or, refl, sym, ◌∙◌, subst, arith, Option, Some, None, inl, inr, ◌⊎◌}
+use Rattle.std.specs.Prelude.{Contains, IsTrue}
 use Rattle.std.proofs.lemmas.List.Elements.{Contains-append_left, Contains-push}
 use Rattle.lc_model.specs.Condition.{Condition, And, Join, Not, condition_of}
 use Rattle.lc_model.specs.Rule.{NamedRule, rule_of, rules_of}

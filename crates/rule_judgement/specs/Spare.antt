@@ -32,9 +32,9 @@ pub record IsSpare (rules : List NamedRule) (s : SpareComparison) : Type 0 where
 
 -- ---- which are told
 
--- so many steps are left for each comparison, however many there are: enough for rules of ten different ones
+-- so many steps are left for each comparison, however many there are: enough for rules of eight different ones
 abbrev pub least_spare_steps : ℕ
-least_spare_steps = 2 ^ 10
+least_spare_steps = 2 ^ 8
 
 -- for numbers of the fields the condition says something else with the comparison taken so; or it has so many comparisons that it
 -- may not be known

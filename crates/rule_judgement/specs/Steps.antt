@@ -1,5 +1,5 @@
 -- How many steps are enough to decide a condition. This project's own.
-use Rattle.std.specs.Prelude.{◌≡◌, ℕ, ◌+◌, ◌^◌, ◌≤◌, ◌<◌, nat_le, ◌==◌, ◌&&◌, Bool, IsFalse, List, [], ◌∷◌, length, filter, slice_get, Some, Contains}
+use Rattle.std.specs.Prelude.{◌≡◌, ℕ, ◌+◌, ◌^◌, ◌≤◌, ◌<◌, nat_le, ◌==◌, Bool, IsFalse, List, [], ◌∷◌, length, filter, slice_get, Some, Contains}
 use Rattle.std.specs.Bool.{beq}
 use Rattle.std.specs.List.{AllByRecursion, list_all}
 use Rattle.std.specs.declared.vec.Vec.{Vec}

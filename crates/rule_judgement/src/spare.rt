@@ -20,8 +20,8 @@ use crate::pairs::{TEXT_STEPS, ask};
 use lc_model::{CmpOp, Cond, Rule, Rules, Term};
 use std::alloc::{AllocError, Global};
 
-/// The steps that each question has, also where those for all are used up: enough for ten different comparisons.
-const LEAST_SPARE_STEPS: u32 = 1 << 10;
+/// The steps that each question has, also where those for all are used up: enough for eight different comparisons.
+const LEAST_SPARE_STEPS: u32 = 1 << 8;
 
 /// The number of a comparison's operator.
 fn operator(op: CmpOp) -> u8
@@ -252,7 +252,7 @@ fn judge_terms(
 }
 
 /// The comparisons of a text's rules without which these say the same, each taken as true or as false. Each is found of rules
-/// that have at most ten different comparisons; of others as many as in `TEXT_STEPS` steps for all.
+/// that have at most eight different comparisons; of others as many as in `TEXT_STEPS` steps for all.
 pub fn spare_comparisons(alloc: Global, rules: &Rules) -> Result<Vec<SpareComparison>, AllocError>
     ensures sound { IfOk result (λ spare. AllByRecursion (IsSpare rules.now) spare.items) }
     ensures told { IfOk result (λ spare. AreToldOrNeeded rules.now spare.items) }

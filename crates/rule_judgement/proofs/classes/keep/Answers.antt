@@ -1,6 +1,5 @@
-use Rattle.std.proofs.Common.{rules, subst, sym, ◌∙◌, length}
-use Rattle.rule_judgement.specs.Steps.{AreApart, says_alike}
-use Rattle.std.specs.Prelude.{IsFalse}
+use Rattle.std.proofs.Common.{rules, subst, sym}
+use Rattle.rule_judgement.specs.Steps.{AreApart}
 use Rattle.std.specs.List.{AllByRecursion}
 use Rattle.rule_judgement.proofs.StepLaws.{apart_more}
 use Rattle.rule_judgement.proofs.classes.keep.Goals as goal

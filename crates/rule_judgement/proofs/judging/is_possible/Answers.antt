@@ -1,4 +1,3 @@
-use Rattle.std.proofs.Common.{rules}
 use Rattle.lc_model.specs.Condition.{condition_of}
 use Rattle.rule_judgement.proofs.StepLaws.{one_is_decided}
 use Rattle.rule_judgement.proofs.judging.is_possible.Goals as goal

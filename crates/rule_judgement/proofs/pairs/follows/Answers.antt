@@ -1,4 +1,4 @@
-use Rattle.std.proofs.Common.{rules, ◌∙◌}
+use Rattle.std.proofs.Common.{◌∙◌}
 use Rattle.lc_model.specs.Condition.{condition_of}
 use Rattle.rule_judgement.proofs.Known.{never_but_is_wherever}
 use Rattle.rule_judgement.proofs.PairLaws.{differ_by, differ_by_few, never_by}

@@ -1,5 +1,5 @@
 use Rattle.std.proofs.Common.{subst}
-use Rattle.std.specs.Prelude.{IfOk, IsFalse, IsTrue}
+use Rattle.std.specs.Prelude.{IfOk, IsTrue}
 use Rattle.lc_model.specs.Condition.{condition_of}
 use Rattle.rule_judgement.specs.Judgement.{NeverFails}
 use Rattle.rule_judgement.proofs.SpareLaws.{all_matter}

@@ -1,4 +1,3 @@
-use Rattle.std.proofs.Common.{rules, refl, subst}
 use Rattle.lc_model.specs.Rule.{rules_of}
 use Rattle.rule_judgement.proofs.SpareLaws.{again_is_told, new_is_told}
 use Rattle.rule_judgement.proofs.spare.judge_at.Goals as goal

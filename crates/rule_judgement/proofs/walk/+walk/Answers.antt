@@ -1,5 +1,4 @@
 use Rattle.lc_model.specs.Condition.{condition_of}
-use Rattle.lc_model.specs.Tables.Equation.{mentions}
 use Rattle.rule_judgement.specs.Search.{IsWalked}
 use Rattle.rule_judgement.specs.Fields.{field_number}
 use Rattle.std.proofs.Common.{rules, ◌≡◌, ◌<◌, length, arith, ◌∙◌, subst}
