@@ -1,10 +1,12 @@
-//! Why a rule text has no listing.
+//! Why a rule text, or a pair of tables, has no listing.
 
 use field_checker::CheckError;
 use rule_lexer::LexError;
 use rule_parser::ParseError;
 use std::alloc::{AllocError, AllocFailed};
 use std::io;
+use table_file::FileError;
+use table_validator::TableFault;
 use thiserror::Error;
 
 /// Why nothing, or not all, was written.
@@ -22,6 +24,15 @@ pub enum ListingError {
     /// Its items mean no rules.
     #[error("{0}")]
     Check(CheckError),
+    /// A table file's headers have a fault.
+    #[error("{0}")]
+    File(FileError),
+    /// A table has a fault.
+    #[error("{0}")]
+    Table(TableFault),
+    /// The tables are of two rule texts.
+    #[error("the tables are of two rule texts")]
+    Apart,
     /// The writer refused bytes.
     #[error("the listing can't be written")]
     Write,
@@ -54,6 +65,18 @@ impl From<ParseError> for ListingError {
 impl From<CheckError> for ListingError {
     fn from(error: CheckError) -> ListingError {
         ListingError::Check(error)
+    }
+}
+
+impl From<FileError> for ListingError {
+    fn from(error: FileError) -> ListingError {
+        ListingError::File(error)
+    }
+}
+
+impl From<TableFault> for ListingError {
+    fn from(fault: TableFault) -> ListingError {
+        ListingError::Table(fault)
     }
 }
 

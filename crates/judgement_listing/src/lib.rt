@@ -6,7 +6,13 @@ mod error;
 mod fields;
 mod lines;
 mod listing;
+mod marking;
+mod schedule;
+mod tables;
 mod text;
 
 pub use error::ListingError;
 pub use listing::{Which, list_judgement};
+pub use marking::list_actionpoints;
+pub use schedule::{list_unsampled, unsampled_rules};
+pub use tables::{condition_at, terms_of};

@@ -19,6 +19,78 @@ impl Display for Shown<'_> {
     }
 }
 
+/// What is judged.
+#[derive(Clone, Copy)]
+pub enum Title<'a> {
+    /// The rule of this name.
+    Rule(&'a [u8]),
+    /// The actionpoint of this number, from 0.
+    Actionpoint(usize),
+}
+
+impl Display for Title<'_> {
+    fn fmt<W: Write>(&self, f: &mut Formatter<W>) -> fmt::Result {
+        match *self {
+            Title::Rule(name) => {
+                let name = Shown(name);
+                write!(f, "{name}")
+            }
+            Title::Actionpoint(number) => write!(f, "actionpoint {number}"),
+        }
+    }
+}
+
+/// What a field is called.
+#[derive(Clone, Copy)]
+pub enum FieldName<'a> {
+    /// As the text names it.
+    Text(&'a [u8]),
+    /// As the watchpoint of this number, from 0, in which a table has it first.
+    Watchpoint(usize),
+}
+
+impl Display for FieldName<'_> {
+    fn fmt<W: Write>(&self, f: &mut Formatter<W>) -> fmt::Result {
+        match *self {
+            FieldName::Text(name) => {
+                let name = Shown(name);
+                write!(f, "{name}")
+            }
+            FieldName::Watchpoint(number) => write!(f, "w{number}"),
+        }
+    }
+}
+
+/// Where fields have their names from.
+#[derive(Clone, Copy)]
+pub enum Names<'a> {
+    /// From a rule text.
+    Text(&'a FieldNames<'a>),
+    /// From the watchpoints of a table.
+    Table(&'a [Term]),
+}
+
+impl<'a> Names<'a> {
+    /// The first name of the field that a term reads.
+    pub fn name(&self, term: &Term) -> FieldName<'a> {
+        match *self {
+            Names::Text(names) => FieldName::Text(names.name(term)),
+            Names::Table(watchpoints) => FieldName::Watchpoint(first_reader(watchpoints, term)),
+        }
+    }
+}
+
+/// The number of the first of some watchpoints that reads the field that a term reads; their count where none does.
+fn first_reader(watchpoints: &[Term], term: &Term) -> usize {
+    let field = field_of(term);
+    for (number, watchpoint) in watchpoints.iter().enumerate() {
+        if field_of(watchpoint) == field {
+            return number;
+        }
+    }
+    watchpoints.len()
+}
+
 /// The sign of a comparison.
 fn sign(op: CmpOp) -> &'static str {
     match op {
@@ -34,13 +106,13 @@ fn sign(op: CmpOp) -> &'static str {
 /// A comparison, as `VOLTS < 2400`.
 #[derive(Clone, Copy)]
 pub struct ShownTerm<'a> {
-    pub name: &'a [u8],
+    pub name: FieldName<'a>,
     pub term: Term,
 }
 
 impl Display for ShownTerm<'_> {
     fn fmt<W: Write>(&self, f: &mut Formatter<W>) -> fmt::Result {
-        let (name, sign, value) = (Shown(self.name), sign(self.term.op), self.term.value);
+        let (name, sign, value) = (self.name, sign(self.term.op), self.term.value);
         write!(f, "{name} {sign} {value}")
     }
 }
@@ -58,7 +130,7 @@ fn is_read_before(terms: &[Term], at: usize, field: &Field) -> bool {
 /// What the fields of some terms are in packets, as `VOLTS = 2399, DEGREES = 61`; those alone that have a packet.
 #[derive(Clone, Copy)]
 pub struct Values<'a> {
-    pub names: &'a FieldNames<'a>,
+    pub names: Names<'a>,
     pub terms: &'a [Term],
     pub packets: &'a [Vec<u8>],
 }
@@ -71,7 +143,7 @@ impl Display for Values<'_> {
                 continue;
             }
             if let Some(value) = value_with(term, self.packets) {
-                let name = Shown(self.names.name(term));
+                let name = self.names.name(term);
                 write!(f, "{comma}{name} = {value}")?;
                 comma = ", ";
             }

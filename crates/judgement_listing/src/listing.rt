@@ -2,7 +2,7 @@
 
 use crate::error::ListingError;
 use crate::fields::FieldNames;
-use crate::lines::{Shown, ShownTerm, Values};
+use crate::lines::{Names, Shown, ShownTerm, Title, Values};
 use crate::text::RuleText;
 use lc_model::{Rule, Term};
 use rule_judgement::{
@@ -38,11 +38,11 @@ fn why(reason: Reason) -> &'static str {
     }
 }
 
-/// A rule that is to be written of.
+/// A rule or an actionpoint that is to be written of.
 #[derive(Clone, Copy)]
 struct Subject<'a> {
-    name: Shown<'a>,
-    names: &'a FieldNames<'a>,
+    name: Title<'a>,
+    names: Names<'a>,
     terms: &'a [Term],
 }
 
@@ -103,7 +103,7 @@ fn write_comparison<W: Write>(
     let what = match judged.says {
         Constancy::Always => "always",
         Constancy::Never => "never",
-        Constancy::Varies | Constancy::Unknown => return Ok(()),
+        Constancy::Varies => return Ok(()),
     };
     let name = subject.name;
     let term = ShownTerm {
@@ -114,18 +114,18 @@ fn write_comparison<W: Write>(
     Ok(())
 }
 
-/// Writes what is found of a rule.
-fn write_subject<W: Write>(
+/// Writes what is found of a rule or an actionpoint.
+pub(crate) fn write_subject<W: Write>(
     alloc: Global,
-    names: &FieldNames<'_>,
-    rule: &Rule,
+    names: Names<'_>,
+    name: Title<'_>,
     judged: &RuleJudgement,
     which: Which,
     out: &mut W,
 ) -> Result<(), ListingError> {
     let terms = terms_in(alloc, &judged.comparisons)?;
     let subject = Subject {
-        name: Shown(rule.name.as_slice()),
+        name,
         names,
         terms: &terms,
     };
@@ -134,6 +134,19 @@ fn write_subject<W: Write>(
         write_comparison(subject, comparison, out)?;
     }
     Ok(())
+}
+
+/// Writes what is found of a rule of a text.
+fn write_judged<W: Write>(
+    alloc: Global,
+    names: &FieldNames<'_>,
+    rule: &Rule,
+    judged: &RuleJudgement,
+    which: Which,
+    out: &mut W,
+) -> Result<(), ListingError> {
+    let name = Title::Rule(rule.name.as_slice());
+    write_subject(alloc, Names::Text(names), name, judged, which, out)
 }
 
 /// Whether a rule both can fail and can pass.
@@ -197,7 +210,7 @@ fn write_spare<W: Write>(
     }
     let name = Shown(rule.name.as_slice());
     let term = ShownTerm {
-        name: text.names.name(&spare.term),
+        name: Names::Text(&text.names).name(&spare.term),
         term: spare.term,
     };
     let value = spare.taken_as;
@@ -245,7 +258,7 @@ pub fn list_judgement<W: Write>(
     let spare = spare_comparisons(alloc, &text.rules.rules)?;
     let rules = text.rules.rules.as_slice();
     for (rule, judged) in rules.iter().zip(&judgement.rules) {
-        write_subject(alloc, &text.names, rule, judged, which, out)?;
+        write_judged(alloc, &text.names, rule, judged, which, out)?;
     }
     for pair in &pairs {
         write_pair(rules, &judgement, pair, out)?;

@@ -1,5 +1,5 @@
-//! Rule texts judged as data, each file of `data/` a row; and 4,000 conditions made at random, whose judgements are compared with
-//! what trying all values shows.
+//! Rule texts judged as data, each file of `data/` a row, two of them as tables and one by schedules, too; and 4,000 conditions
+//! made at random, whose judgements are compared with what trying all values shows.
 #![tactic(auto)]
 
 mod comparing;
@@ -10,10 +10,10 @@ mod trying;
 
 use crate::comparing::Counts;
 use crate::measuring::measure;
-use judgement_listing::{Which, list_judgement};
-use lc_model::SampleRequest;
-use rule_judgement::never_sampled;
+use judgement_listing::{Which, list_actionpoints, list_judgement, list_unsampled};
+use rpn_compiler::compile;
 use std::{env, fs};
+use tick_scheduler::parse_schedule;
 
 /// The texts, in the order in which they are judged.
 const TEXTS: [&str; 6] = [
@@ -51,24 +51,45 @@ fn show_counts(rt: &HostRuntime, what: &str, counts: Counts) -> anyhow::Result<(
     Ok(())
 }
 
-/// Sample requests: the first rule and the last.
-const SAMPLES: [SampleRequest; 2] = [
-    SampleRequest {
-        first: 0,
-        last: 2,
-        ages: true,
-    },
-    SampleRequest {
-        first: 4,
-        last: 5,
-        ages: false,
-    },
-];
+/// Prints which rules of a text a schedule never samples.
+fn show_unsampled(rt: &HostRuntime, name: &str, schedule: &str) -> anyhow::Result<()> {
+    println!(rt; "{name} by {schedule}")?;
+    let source = fs::read(rt, name)?;
+    let text = fs::read(rt, schedule)?;
+    let schedule = parse_schedule(rt.alloc(), &text)?;
+    list_unsampled(rt.alloc(), &source, &schedule, &mut rt.stdout())?;
+    Ok(())
+}
 
-/// Prints which of eight rules none of these requests takes.
-fn show_unsampled(rt: &HostRuntime) -> anyhow::Result<()> {
-    for rule in &never_sampled(rt.alloc(), 8, &SAMPLES)? {
-        println!(rt; "rule {rule} is never sampled")?;
+/// Prints what is found of the actionpoints that a text is compiled to.
+fn show_tables(rt: &HostRuntime, name: &str) -> anyhow::Result<()> {
+    println!(rt; "the tables of {name}")?;
+    let source = fs::read(rt, name)?;
+    let tables = compile(rt.alloc(), &source)?;
+    list_actionpoints(
+        rt.alloc(),
+        &tables.wdt,
+        &tables.adt,
+        Which::All,
+        &mut rt.stdout(),
+    )?;
+    Ok(())
+}
+
+/// Prints that tables of two texts don't go together.
+fn show_apart(rt: &HostRuntime, name: &str, other: &str) -> anyhow::Result<()> {
+    let (source, second) = (fs::read(rt, name)?, fs::read(rt, other)?);
+    let tables = compile(rt.alloc(), &source)?;
+    let others = compile(rt.alloc(), &second)?;
+    let mut out = rt.stdout();
+    if let Err(error) = list_actionpoints(
+        rt.alloc(),
+        &tables.wdt,
+        &others.adt,
+        Which::Warnings,
+        &mut out,
+    ) {
+        println!(rt; "{name} with {other}: {error}")?;
     }
     Ok(())
 }
@@ -78,7 +99,11 @@ fn show_all(rt: &HostRuntime) -> anyhow::Result<()> {
     for name in TEXTS {
         show(rt, name)?;
     }
-    show_unsampled(rt)?;
+    show_unsampled(rt, "double_rules.rules", "gaps.schedule")?;
+    show_unsampled(rt, "double_rules.rules", "all.schedule")?;
+    show_tables(rt, "dead_rules.rules")?;
+    show_tables(rt, "shared_bits.rules")?;
+    show_apart(rt, "dead_rules.rules", "double_rules.rules")?;
     show_counts(rt, "free fields", Counts::of_free_fields(rt.alloc())?)?;
     show_counts(rt, "shared bits", Counts::of_shared_bits(rt.alloc())?)
 }

@@ -142,15 +142,20 @@ pub fn two_rules(
     Ok(Rules::from_vec(rules))
 }
 
-/// A table of 176 rules of sixteen comparisons each, of one sequence.
+/// A table of 176 rules of sixteen comparisons each, of one sequence or of one each.
 pub fn full_table(
     alloc: Global,
     fields: &[Field],
+    of_one_sequence: bool,
     random: &mut Random,
 ) -> Result<Rules, AllocError> {
     let mut rules = Vec::new(alloc);
-    for _ in 0..TABLE_ENTRIES {
-        rules.push(rule(alloc, fields, FULL_DEPTH, Shape::Full, random)?)?;
+    for number in 0..TABLE_ENTRIES {
+        let mut made = rule(alloc, fields, FULL_DEPTH, Shape::Full, random)?;
+        if !of_one_sequence {
+            made.sequence = number as u16;
+        }
+        rules.push(made)?;
     }
     Ok(Rules::from_vec(rules))
 }

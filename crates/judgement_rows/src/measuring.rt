@@ -25,7 +25,7 @@ fn fields(alloc: Global, count: u16) -> Result<Vec<Field>, AllocError> {
 fn measure_table(rt: &HostRuntime, count: u16) -> anyhow::Result<()> {
     let alloc = rt.alloc();
     let fields = fields(alloc, count)?;
-    let rules = full_table(alloc, &fields, &mut Random::from_seed(50))?;
+    let rules = full_table(alloc, &fields, true, &mut Random::from_seed(50))?;
     let start = Instant::now(rt)?;
     let _judgement = judge(alloc, &rules)?;
     let judged = start.elapsed(rt)?.as_micros();
@@ -38,14 +38,28 @@ fn measure_table(rt: &HostRuntime, count: u16) -> anyhow::Result<()> {
     println!(rt;
         "176 rules of 16 comparisons over {count} fields, in microseconds: rules {judged}"
     )?;
-    println!(rt; "  pairs {paired} ({pairs} told), spare comparisons {spared} ({spare} told)")?;
+    println!(rt; "  pairs of one sequence {paired} ({pairs} told)")?;
+    println!(rt; "  spare comparisons {spared} ({spare} told)")?;
+    Ok(())
+}
+
+/// Prints how long the pairs with a common field take of a table in which each rule has its own sequence.
+fn measure_pairs(rt: &HostRuntime, count: u16) -> anyhow::Result<()> {
+    let alloc = rt.alloc();
+    let fields = fields(alloc, count)?;
+    let rules = full_table(alloc, &fields, false, &mut Random::from_seed(50))?;
+    let start = Instant::now(rt)?;
+    let pairs = judge_pairs(alloc, &rules)?.len();
+    let paired = start.elapsed(rt)?.as_micros();
+    println!(rt; "  pairs of a common field among {count} fields {paired} ({pairs} told)")?;
     Ok(())
 }
 
 /// Measures tables over many fields, over few, and over one.
 pub fn measure(rt: &HostRuntime) -> anyhow::Result<()> {
-    measure_table(rt, 176)?;
-    measure_table(rt, 16)?;
-    measure_table(rt, 4)?;
-    measure_table(rt, 1)
+    for count in [176, 16, 4, 1] {
+        measure_table(rt, count)?;
+        measure_pairs(rt, count)?;
+    }
+    Ok(())
 }

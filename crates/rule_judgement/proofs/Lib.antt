@@ -10,6 +10,9 @@ pub mod SameSide
 pub mod Each
 pub mod FieldLaws
 pub mod ClassLaws
+pub mod StepLaws
+pub mod PairLaws
+pub mod SpareLaws
 pub mod SeenLaws
 pub mod CalledSteps
 pub mod CalledLaws

@@ -1,13 +1,14 @@
 -- What is found of a condition, and what shows it. This project's own.
-use Rattle.std.specs.Prelude.{◌≡◌, ℕ, ◌<◌, ℤ, List, map, slice_get, Option, Some, None, IsTrue}
+use Rattle.std.specs.Prelude.{◌≡◌, ℕ, ◌^◌, ◌<◌, ◌==◌, ◌||◌, ℤ, Bool, true, false, List, map, slice_get, Contains, Option, Some, None, IsTrue, ◌⊎◌}
 use Rattle.std.specs.List.{AllByRecursion, AllZip}
+use Rattle.std.specs.Option.{option_map_or}
 use Rattle.std.specs.declared.vec.Vec.{Vec}
 use Rattle.std.specs.Global.{Global}
 use Rattle.lc_model.specs.declared.truth.Truth.TheVariants.{True}
 use Rattle.lc_model.specs.Field.{value_of}
 use Rattle.lc_model.specs.Packet.{stream_fault, message_id, is_telemetry_mid}
 use Rattle.lc_model.specs.declared.field.Term.{Term}
-use Rattle.lc_model.specs.Condition.{Condition, Watch, Not}
+use Rattle.lc_model.specs.Condition.{And, Condition, Watch, Not, Join}
 use Rattle.lc_model.specs.Rule.{NamedRule}
 use Rattle.lc_model.specs.Tables.Equation.{mentions}
 use Rattle.lc_model.specs.LimitChecker.Watch.{History, Packet, truth_of}
@@ -24,14 +25,16 @@ use Rattle.rule_judgement.specs.declared.finding.Relation.{Relation}
 use Rattle.rule_judgement.specs.declared.finding.Relation.TheVariants as relation
 use Rattle.rule_judgement.specs.declared.finding.PairJudgement.{PairJudgement}
 use Rattle.rule_judgement.specs.Judgement.{NeverFails, HoldsForSome, FailsWherever}
+use Rattle.rule_judgement.specs.Steps.{AreFewFor, AreFewByNames}
+use Rattle.rule_judgement.specs.Fields.{read_one_field}
 
 -- ---- numbers
 
--- no numbers of its fields make the condition true, or some do
-abbrev pub IsDecided : Condition → Decision → Type 0
-IsDecided c decision.Never = NeverFails c
-IsDecided c (decision.Holds fields bits) = HoldsForSome c
-IsDecided c decision.Spent = Unit {0}
+-- no numbers of its fields make the condition true, or some do, or so many steps may be too few
+abbrev pub IsDecided : Condition → ℕ → Decision → Type 0
+IsDecided c steps decision.Never = NeverFails c
+IsDecided c steps (decision.Holds fields bits) = HoldsForSome c
+IsDecided c steps decision.Spent = AreFewByNames c steps
 
 -- ---- packets
 
@@ -57,27 +60,31 @@ pub record Shows (c : Condition) (packets : List (Vec ℕ Global)) : Type 0 wher
 -- ---- findings
 
 -- nothing that may be seen makes the condition true; these packets do; or numbers of its fields do, each field being free
-abbrev pub IsFound : Condition → Finding → Type 0
-IsFound c finding.Never = NeverFails c
-IsFound c (finding.Possible packets) = Shows c packets.items
-IsFound c (finding.Unknown reason.Overlap) = HoldsForSome c
-IsFound c (finding.Unknown reason.Steps) = Unit {0}
+-- or so many steps may be too few
+abbrev pub IsFound : Condition → ℕ → Finding → Type 0
+IsFound c steps finding.Never = NeverFails c
+IsFound c steps (finding.Possible packets) = Shows c packets.items
+IsFound c steps (finding.Unknown reason.Overlap) = HoldsForSome c
+IsFound c steps (finding.Unknown reason.Steps) = AreFewFor c steps
 
 -- the comparison holds of all numbers that its field may have, or of none; or of some, and not of others
 abbrev pub IsConstancy : Term → Constancy → Type 0
 IsConstancy t constancy.Always = NeverFails (Not (Watch t))
 IsConstancy t constancy.Never = NeverFails (Watch t)
 IsConstancy t constancy.Varies = HoldsForSome (Watch t) × HoldsForSome (Not (Watch t))
-IsConstancy t constancy.Unknown = Unit {0}
 
 -- these comparisons, each judged
 abbrev pub AreComparisons : List Term → List ComparisonJudgement → Type 0
 AreComparisons terms judged = AllZip (λ (t : Term) (j : ComparisonJudgement). (j.term ≡ t) × IsConstancy t j.says) terms judged
 
+-- the most steps for a rule: enough for any that has at most twenty different comparisons
+abbrev pub rule_steps : ℕ
+rule_steps = 2 ^ 20
+
 -- whether a rule with this condition can fail, and whether it can pass, and its comparisons
 pub record IsRuleJudged (c : Condition) (j : RuleJudgement) : Type 0 where
-  pub fails : IsFound c j.fails
-  pub passes : IsFound (Not c) j.passes
+  pub fails : IsFound c rule_steps j.fails
+  pub passes : IsFound (Not c) rule_steps j.passes
   pub comparisons : AreComparisons (mentions c) j.comparisons.items
 
 -- each rule judged, in their order
@@ -100,3 +107,55 @@ pub record IsPair (rules : List NamedRule) (p : PairJudgement) : Type 0 where
   pub second : NamedRule
   pub second_is : slice_get rules p.second ≡ Some second
   pub related : IsRelated first.action.condition second.action.condition p.relation
+
+-- ---- which pairs are told
+
+-- the rules request one sequence, or read a common field
+abbrev pub are_near : NamedRule → NamedRule → Bool
+are_near first second =
+    (first.action.sequence == second.action.sequence) || read_one_field (mentions first.action.condition) (mentions second.action.condition)
+
+-- so many steps are left for each question about two rules, however many there are: enough for eight different comparisons
+abbrev pub least_pair_steps : ℕ
+least_pair_steps = 2 ^ 8
+
+-- numbers of the fields make the first condition true and the second one false; or the two have so many comparisons that it may
+-- not be known
+abbrev pub MayDiffer : Condition → Condition → Type 0
+MayDiffer a b = HoldsForSome (Join And a (Not b)) ⊎ AreFewFor (Join And a (Not b)) least_pair_steps
+
+-- the second rule is said to fail wherever the first one does
+abbrev pub says_second : Relation → Bool
+says_second relation.Same = true
+says_second relation.FirstFollows = false
+says_second relation.SecondFollows = true
+
+-- and the first one wherever the second one does
+abbrev pub says_first : Relation → Bool
+says_first relation.Same = true
+says_first relation.FirstFollows = true
+says_first relation.SecondFollows = false
+
+-- that is said, or not so, or may not be known
+pub record IsRelationSettled (a b : Condition) (found : Option Relation) : Type 0 where
+  pub second : IsTrue (option_map_or says_second found false) ⊎ MayDiffer a b
+  pub first : IsTrue (option_map_or says_first found false) ⊎ MayDiffer b a
+
+-- some pair says it of the rules of these numbers
+abbrev pub IsSaid : (Relation → Bool) → List PairJudgement → (first second : ℕ) → Type 0
+IsSaid says pairs first second =
+    (p : PairJudgement) × Contains pairs p × (p.first ≡ first) × (p.second ≡ second) × IsTrue (says p.relation)
+
+-- of two rules it is told how they go together
+pub record IsPairSettled (pairs : List PairJudgement) (i j : ℕ) (a b : Condition) : Type 0 where
+  pub second : IsSaid says_second pairs i j ⊎ MayDiffer a b
+  pub first : IsSaid says_first pairs i j ⊎ MayDiffer b a
+
+-- of the rules of these numbers, where they are near
+abbrev pub IsSettledAt : List NamedRule → List PairJudgement → (i j : ℕ) → Type 0
+IsSettledAt rules pairs i j = (first second : NamedRule) → slice_get rules i ≡ Some first → slice_get rules j ≡ Some second →
+    IsTrue (are_near first second) → IsPairSettled pairs i j first.action.condition second.action.condition
+
+-- of all pairs of rules that are near
+abbrev pub AreSettled : List NamedRule → List PairJudgement → Type 0
+AreSettled rules pairs = (i j : ℕ) → i < j → IsSettledAt rules pairs i j

@@ -5,6 +5,7 @@ pub mod Numbers
 pub mod Fields
 pub mod Classes
 pub mod Search
+pub mod Steps
 pub mod Findings
 pub mod Called
 pub mod Reach

@@ -1,11 +1,13 @@
 -- Comparisons that a rule can do without. This project's own.
-use Rattle.std.specs.Prelude.{◌≡◌, Bool, true, false, List, slice_get, Some, if◌then◌else◌}
+use Rattle.std.specs.Prelude.{◌≡◌, ℕ, ◌^◌, ◌<◌, Bool, true, false, List, slice_get, Contains, Some, if◌then◌else◌, ◌⊎◌}
+use Rattle.std.specs.List.{AllByRecursion}
 use Rattle.lc_model.specs.declared.field.Term.{Term}
 use Rattle.lc_model.specs.Condition.{And, Or, Xor, Condition, Watch, Not, Join}
 use Rattle.lc_model.specs.Rule.{NamedRule}
-use Rattle.lc_model.specs.Tables.Equation.{same_term}
+use Rattle.lc_model.specs.Tables.Equation.{same_term, mentions}
 use Rattle.rule_judgement.specs.declared.finding.SpareComparison.{SpareComparison}
-use Rattle.rule_judgement.specs.Judgement.{NeverFails}
+use Rattle.rule_judgement.specs.Judgement.{NeverFails, HoldsForSome}
+use Rattle.rule_judgement.specs.Steps.{AreFewFor}
 
 -- true, or false, wherever the comparison is known
 abbrev pub constant : Bool → Term → Condition
@@ -27,3 +29,39 @@ pub record IsSpare (rules : List NamedRule) (s : SpareComparison) : Type 0 where
   pub rule : NamedRule
   pub rule_is : slice_get rules s.rule ≡ Some rule
   pub without : CanDoWithout rule.action.condition s.term s.taken_as
+
+-- ---- which are told
+
+-- so many steps are left for each comparison, however many there are: enough for rules of eight different ones
+abbrev pub least_spare_steps : ℕ
+least_spare_steps = 2 ^ 8
+
+-- for numbers of the fields the condition says something else with the comparison taken so; or it has so many comparisons that it
+-- may not be known
+abbrev pub MayMatter : Condition → Term → Bool → Type 0
+MayMatter c t value = HoldsForSome (Join Xor c (replaced t (constant value t) c)) ⊎ AreFewFor c least_spare_steps
+
+-- with either value
+abbrev pub MayBeNeeded : Condition → Term → Type 0
+MayBeNeeded c t = MayMatter c t true × MayMatter c t false
+
+-- the comparison stands in the rule of this number
+abbrev pub IsOf : List NamedRule → ℕ → Term → Type 0
+IsOf rules i t = (rule : NamedRule) → slice_get rules i ≡ Some rule → Contains (mentions rule.action.condition) t
+
+-- it is told of the rule of this number
+abbrev pub IsTold : List SpareComparison → ℕ → Term → Type 0
+IsTold spare i t = (s : SpareComparison) × Contains spare s × (s.rule ≡ i) × (s.term ≡ t)
+
+-- it is, or it may be needed
+abbrev pub IsToldOrNeeded : List NamedRule → List SpareComparison → ℕ → Term → Type 0
+IsToldOrNeeded rules spare i t = (rule : NamedRule) → slice_get rules i ≡ Some rule → IsTold spare i t ⊎ MayBeNeeded rule.action.condition t
+
+-- so of the first ones of some terms
+abbrev pub AreToldUpTo : List NamedRule → List SpareComparison → ℕ → List Term → ℕ → Type 0
+AreToldUpTo rules spare i terms count = (k : ℕ) (t : Term) → k < count → slice_get terms k ≡ Some t → IsToldOrNeeded rules spare i t
+
+-- so of each comparison of each rule
+abbrev pub AreToldOrNeeded : List NamedRule → List SpareComparison → Type 0
+AreToldOrNeeded rules spare = (i : ℕ) (rule : NamedRule) → slice_get rules i ≡ Some rule →
+    AllByRecursion (λ t. IsTold spare i t ⊎ MayBeNeeded rule.action.condition t) (mentions rule.action.condition)

@@ -1,10 +1,11 @@
 //! A few numbers of a field for all that it may have.
 
-ghost use Rattle.std.specs.Prelude.{◌≡◌, ◌==◌, ℕ, Contains, IfOk, IsTrue, OnOk, filter, length};
+ghost use Rattle.std.specs.Prelude.{◌≡◌, ◌==◌, ℕ, Contains, IfOk, IsFalse, IsTrue, OnOk, filter, length};
 ghost use Rattle.std.specs.List.{AllByRecursion};
 ghost use Rattle.rule_judgement.specs.Classes.{Covers, RepresentAll, SaysTheSame};
 ghost use Rattle.rule_judgement.specs.Fields.{field_number};
 ghost use Rattle.rule_judgement.specs.Search.{AreRepresented};
+ghost use Rattle.rule_judgement.specs.Steps.{AreApart, AreNotMany, says_alike};
 
 use crate::fields::{Field, number};
 use crate::numbers::next_bits;
@@ -15,8 +16,11 @@ use std::alloc::{AllocError, Global};
 
 /// Whether the comparisons say of some of these numbers what they say of this one.
 fn is_represented(kept: &[u32], terms: &[Term], bits: u32) -> bool
-    ensures { IsTrue result → (candidate : ℕ) × Contains kept.now candidate × AllByRecursion (λ t.
+    ensures one { IsTrue result →
+        (candidate : ℕ) × Contains kept.now candidate × AllByRecursion (λ t.
         SaysTheSame t candidate bits) terms.now }
+    ensures none { IsFalse result → AllByRecursion (λ candidate.
+        IsFalse (says_alike terms.now candidate bits)) kept.now }
 {
     for one in kept {
         if says_the_same(terms, *one, bits) {
@@ -29,6 +33,8 @@ fn is_represented(kept: &[u32], terms: &[Term], bits: u32) -> bool
 /// The least number that fits the mask and reaches the threshold joins those kept, unless one of them stands for it.
 fn keep(kept: &mut Vec<u32>, terms: &[Term], mask: u32, threshold: u64) -> Result<(), AllocError>
     ensures covers { OnOk result (Covers terms.now mask kept.new.items threshold) }
+    ensures apart { OnOk result (AreApart terms.now kept.old.items →
+        AreApart terms.now kept.new.items) }
     ensures others { OnOk result ((n : ℕ) → Covers terms.now mask kept.old.items n →
         Covers terms.now mask kept.new.items n) }
 {
@@ -44,7 +50,8 @@ fn keep(kept: &mut Vec<u32>, terms: &[Term], mask: u32, threshold: u64) -> Resul
 /// For all numbers of a field with this mask a few, so that its comparisons say of each number what they say of one of these.
 fn candidates(alloc: Global, terms: &[Term], mask: u32) -> Result<Vec<u32>, AllocError>
     requires { AllByRecursion (λ t. t.mask ≡ mask) terms.now }
-    ensures { IfOk result (λ kept. RepresentAll terms.now kept.items) }
+    ensures represent { IfOk result (λ kept. RepresentAll terms.now kept.items) }
+    ensures apart { IfOk result (λ kept. AreApart terms.now kept.items) }
 {
     let mut kept = Vec::new(alloc);
     keep(&mut kept, terms, mask, 0)?;
@@ -81,6 +88,8 @@ pub(crate) fn rows_of(
 ) -> Result<Vec<Vec<u32>>, AllocError>
     ensures represent { IfOk result (λ rows.
         AreRepresented (field_number fields.now) terms.now rows.items) }
+    ensures few { IfOk result (λ rows.
+        AreNotMany (field_number fields.now) terms.now rows.items) }
     ensures each { IfOk result (λ rows. length rows.items ≡ length fields.now) }
 {
     let mut rows = Vec::new(alloc);

@@ -1,9 +1,10 @@
 //! Whether numbers of its fields make a condition true.
 
-ghost use Rattle.std.specs.Prelude.{◌≡◌, IfOk, Some, false, true};
+ghost use Rattle.std.specs.Prelude.{◌≡◌, IfOk, None, Some, false, true};
 ghost use Rattle.lc_model.specs.Condition.{condition_of};
 ghost use Rattle.rule_judgement.specs.Findings.{IsDecided};
 ghost use Rattle.rule_judgement.specs.Judgement.{HoldsForSome, NeverFails};
+ghost use Rattle.rule_judgement.specs.Steps.{AreFewByNames};
 
 use crate::classes::rows_of;
 use crate::fields::{Field, collect, fields_of};
@@ -24,7 +25,7 @@ pub(crate) enum Decision {
 
 /// Looks for bits of its fields that make the condition true, in so many steps at most; what it takes is taken from them.
 pub(crate) fn decide(alloc: Global, cond: &Cond, steps: &mut u32) -> Result<Decision, AllocError>
-    ensures { IfOk result (λ decision. IsDecided (condition_of cond.now) decision) }
+    ensures { IfOk result (λ decision. IsDecided (condition_of cond.now) steps.old decision) }
 {
     let mut terms = Vec::new(alloc);
     collect(cond, &mut terms)?;
@@ -46,6 +47,7 @@ pub(crate) fn holds_for_some(
 ) -> Result<Option<bool>, AllocError>
     ensures some { IfOk result (λ some. some ≡ Some true → HoldsForSome (condition_of cond.now)) }
     ensures never { IfOk result (λ some. some ≡ Some false → NeverFails (condition_of cond.now)) }
+    ensures none { IfOk result (λ some. some ≡ None → AreFewByNames (condition_of cond.now) steps.old) }
 {
     match decide(alloc, cond, steps)? {
         Decision::Holds { .. } => Ok(Some(true)),

@@ -2,11 +2,11 @@
 
 ghost use Rattle.std.specs.Prelude.{◌≡◌, ◌++◌, IsTrue};
 ghost use Rattle.std.specs.Prelude.{IfOk, OnOk};
-ghost use Rattle.std.specs.List.{AllByRecursion};
+ghost use Rattle.std.specs.List.{AllByRecursion, list_any};
 ghost use Rattle.lc_model.specs.Codes.{type_code};
 ghost use Rattle.lc_model.specs.Condition.{condition_of};
 ghost use Rattle.lc_model.specs.Tables.Equation.{mentions};
-ghost use Rattle.rule_judgement.specs.Fields.{HasField, field_number, is_field_of};
+ghost use Rattle.rule_judgement.specs.Fields.{HasField, field_number, field_read, is_field_of};
 
 use lc_model::{Cond, FieldType, Term};
 use std::alloc::{AllocError, Global};
@@ -43,7 +43,8 @@ pub(crate) fn code(kind: FieldType) -> u8
 
 /// The field that the term reads.
 pub fn field_of(term: &Term) -> Field
-    ensures { IsTrue (is_field_of term.now result) }
+    ensures reads { IsTrue (is_field_of term.now result) }
+    ensures exact { result ≡ field_read term.now }
 {
     Field {
         kind: term.kind,
@@ -61,6 +62,18 @@ pub(crate) fn reads(term: &Term, field: &Field) -> bool
         && term.mid == field.mid
         && term.offset == field.offset
         && term.mask == field.mask
+}
+
+/// Whether one of the terms reads the field.
+pub(crate) fn is_read(terms: &[Term], field: &Field) -> bool
+    ensures { result ≡ list_any (λ t. is_field_of t field.now) terms.now }
+{
+    for term in terms {
+        if reads(term, field) {
+            return true;
+        }
+    }
+    false
 }
 
 /// Which of the fields the term reads; their count where none.

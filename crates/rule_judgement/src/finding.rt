@@ -8,7 +8,7 @@ pub enum Reason {
     /// Numbers of its fields make it true, but fields share bits, with each other or with a packet's header, or end behind the
     /// longest packet, so that these numbers don't come together.
     Overlap,
-    /// To try all numbers would take more steps than were allowed.
+    /// It has so many different comparisons, n of them, that the steps that were allowed may be too few: they are fewer than 2^n.
     Steps,
 }
 
@@ -32,8 +32,6 @@ pub enum Constancy {
     Never,
     /// It holds of some, and not of others.
     Varies,
-    /// It is not known.
-    Unknown,
 }
 
 /// A comparison of a rule.

@@ -1,12 +1,12 @@
 //! Conditions and rules judged, each by itself.
 
-ghost use Rattle.std.specs.Prelude.{◌≡◌, IfOk, Some, false, true};
+ghost use Rattle.std.specs.Prelude.{◌≡◌, IfOk, IsFalse, IsTrue, length};
 ghost use Rattle.lc_model.specs.Condition.{Not, Watch, condition_of};
 ghost use Rattle.rule_judgement.specs.declared.finding.Constancy.TheVariants.{Always, Never, Varies};
 ghost use Rattle.lc_model.specs.Rule.{rules_of};
 ghost use Rattle.lc_model.specs.Tables.Equation.{mentions};
 ghost use Rattle.rule_judgement.specs.Judgement.{HoldsForSome, NeverFails};
-ghost use Rattle.rule_judgement.specs.Findings.{AreComparisons, AreJudged, IsConstancy, IsFound, IsRuleJudged};
+ghost use Rattle.rule_judgement.specs.Findings.{AreComparisons, AreJudged, IsConstancy, IsFound, IsRuleJudged, rule_steps};
 
 use crate::conditions::negated;
 use crate::deciding::{Decision, decide, holds_for_some};
@@ -17,12 +17,13 @@ use crate::seen::shows;
 use lc_model::{Cond, Rule, Rules, Term};
 use std::alloc::{AllocError, Global};
 
-/// The most steps for one rule, or for one comparison.
+/// The most steps for one rule, or for one comparison: enough for any rule of at most twenty different comparisons.
 pub const RULE_STEPS: u32 = 1 << 20;
 
-/// Whether the condition can be true. At most so many partial choices of its fields' numbers are gone on from.
+/// Whether the condition can be true. At most so many choices of a number for one of its fields are made; 2^n are enough for
+/// n different comparisons.
 pub fn can_be_true(alloc: Global, cond: &Cond, steps: u32) -> Result<Finding, AllocError>
-    ensures { IfOk result (λ finding. IsFound (condition_of cond.now) finding) }
+    ensures { IfOk result (λ finding. IsFound (condition_of cond.now) steps finding) }
 {
     let mut left = steps;
     match decide(alloc, cond, &mut left)? {
@@ -39,38 +40,49 @@ pub fn can_be_true(alloc: Global, cond: &Cond, steps: u32) -> Result<Finding, Al
     }
 }
 
+/// Whether some numbers make a condition of one comparison true.
+fn is_possible(alloc: Global, cond: &Cond) -> Result<bool, AllocError>
+    requires { length (mentions (condition_of cond.now)) ≡ 1 }
+    ensures some { IfOk result (λ some. IsTrue some → HoldsForSome (condition_of cond.now)) }
+    ensures never { IfOk result (λ some. IsFalse some → NeverFails (condition_of cond.now)) }
+{
+    let mut steps = RULE_STEPS;
+    match holds_for_some(alloc, cond, &mut steps)? {
+        Some(some) => Ok(some),
+        // One comparison takes fewer steps.
+        None => Ok(true),
+    }
+}
+
 /// Whether the comparison holds of some numbers.
-fn holds(alloc: Global, term: &Term) -> Result<Option<bool>, AllocError>
-    ensures some { IfOk result (λ some. some ≡ Some true → HoldsForSome (Watch term.now)) }
-    ensures never { IfOk result (λ some. some ≡ Some false → NeverFails (Watch term.now)) }
+fn holds(alloc: Global, term: &Term) -> Result<bool, AllocError>
+    ensures some { IfOk result (λ some. IsTrue some → HoldsForSome (Watch term.now)) }
+    ensures never { IfOk result (λ some. IsFalse some → NeverFails (Watch term.now)) }
 {
     let cond = Cond::Watch(*term);
-    let mut steps = RULE_STEPS;
-    holds_for_some(alloc, &cond, &mut steps)
+    is_possible(alloc, &cond)
 }
 
 /// Whether it doesn't hold of some.
-fn misses(alloc: Global, term: &Term) -> Result<Option<bool>, AllocError>
-    ensures some { IfOk result (λ some. some ≡ Some true → HoldsForSome (Not (Watch term.now))) }
-    ensures never { IfOk result (λ some. some ≡ Some false → NeverFails (Not (Watch term.now))) }
+fn misses(alloc: Global, term: &Term) -> Result<bool, AllocError>
+    ensures some { IfOk result (λ some. IsTrue some → HoldsForSome (Not (Watch term.now))) }
+    ensures never { IfOk result (λ some. IsFalse some → NeverFails (Not (Watch term.now))) }
 {
     let cond = Cond::Watch(*term);
     let other = negated(alloc, &cond)?;
-    let mut steps = RULE_STEPS;
-    holds_for_some(alloc, &other, &mut steps)
+    is_possible(alloc, &other)
 }
 
 /// What it says by these two.
-fn says(holds: Option<bool>, misses: Option<bool>) -> Constancy
-    ensures never { result ≡ Never → holds ≡ Some false }
-    ensures always { result ≡ Always → misses ≡ Some false }
-    ensures varies { result ≡ Varies → (holds ≡ Some true) × (misses ≡ Some true) }
+fn says(holds: bool, misses: bool) -> Constancy
+    ensures never { result ≡ Never → IsFalse holds }
+    ensures always { result ≡ Always → IsFalse misses }
+    ensures varies { result ≡ Varies → IsTrue holds × IsTrue misses }
 {
     match (holds, misses) {
-        (Some(false), _) => Constancy::Never,
-        (_, Some(false)) => Constancy::Always,
-        (Some(true), Some(true)) => Constancy::Varies,
-        _ => Constancy::Unknown,
+        (false, _) => Constancy::Never,
+        (true, false) => Constancy::Always,
+        (true, true) => Constancy::Varies,
     }
 }
 
@@ -96,7 +108,7 @@ fn comparisons(alloc: Global, terms: &[Term]) -> Result<Vec<ComparisonJudgement>
 }
 
 /// The comparisons of a condition, in the order in which they stand.
-fn mentioned(alloc: Global, cond: &Cond) -> Result<Vec<Term>, AllocError>
+pub(crate) fn mentioned(alloc: Global, cond: &Cond) -> Result<Vec<Term>, AllocError>
     ensures { IfOk result (λ terms. terms.items ≡ mentions (condition_of cond.now)) }
 {
     let mut terms = Vec::new(alloc);
@@ -106,14 +118,14 @@ fn mentioned(alloc: Global, cond: &Cond) -> Result<Vec<Term>, AllocError>
 
 /// Whether the condition can be false.
 fn can_be_false(alloc: Global, cond: &Cond) -> Result<Finding, AllocError>
-    ensures { IfOk result (λ finding. IsFound (Not (condition_of cond.now)) finding) }
+    ensures { IfOk result (λ finding. IsFound (Not (condition_of cond.now)) rule_steps finding) }
 {
     let other = negated(alloc, cond)?;
     can_be_true(alloc, &other, RULE_STEPS)
 }
 
-/// A rule's condition judged.
-fn judge_rule(alloc: Global, cond: &Cond) -> Result<RuleJudgement, AllocError>
+/// A condition judged: whether it can be true, whether it can be false, and its comparisons.
+pub fn judge_condition(alloc: Global, cond: &Cond) -> Result<RuleJudgement, AllocError>
     ensures { IfOk result (λ judged. IsRuleJudged (condition_of cond.now) judged) }
 {
     let fails = can_be_true(alloc, cond, RULE_STEPS)?;
@@ -133,7 +145,7 @@ fn judge_rules(alloc: Global, rules: &[Rule]) -> Result<Vec<RuleJudgement>, Allo
 {
     let mut judged = Vec::new(alloc);
     for rule in rules {
-        judged.push(judge_rule(alloc, &rule.cond)?)?;
+        judged.push(judge_condition(alloc, &rule.cond)?)?;
     }
     Ok(judged)
 }

@@ -23,7 +23,7 @@ pub use finding::{
     ComparisonJudgement, Constancy, Finding, Judgement, PairJudgement, Reason, Relation,
     RuleJudgement, SpareComparison,
 };
-pub use judging::{RULE_STEPS, can_be_true, judge};
+pub use judging::{RULE_STEPS, can_be_true, judge, judge_condition};
 pub use pairs::{TEXT_STEPS, judge_pairs};
 pub use reach::{never_read, never_sampled};
 pub use seen::value_with;

@@ -1,10 +1,9 @@
 //! What a comparison says of a field's bits.
 
-ghost use Rattle.std.specs.Prelude.{◌≡◌, Some, IsTrue, if◌then◌else◌};
-ghost use Rattle.lc_model.specs.declared.truth.Truth.TheVariants.{False, True};
-ghost use Rattle.std.specs.List.{AllByRecursion};
+ghost use Rattle.std.specs.Prelude.{◌≡◌, Some};
 ghost use Rattle.lc_model.specs.Field.{compares, twos_complement};
-ghost use Rattle.rule_judgement.specs.Classes.{SaysTheSame, sign_weight, truth_there};
+ghost use Rattle.rule_judgement.specs.Classes.{sign_weight, truth_there};
+ghost use Rattle.rule_judgement.specs.Steps.{holds_of, says_alike};
 
 use lc_model::{CmpOp, FieldType, Term, Truth};
 
@@ -60,7 +59,7 @@ pub(crate) fn outcome(term: &Term, bits: u32) -> Truth
 
 /// Whether the term's comparison holds of these bits.
 fn holds(term: &Term, bits: u32) -> bool
-    ensures { truth_there term.now (Some bits) ≡ (if result then True else False) }
+    ensures { result ≡ holds_of term.now bits }
 {
     compares(term.op, signed(term.kind, bits & term.mask), term.value)
 }
@@ -80,7 +79,7 @@ pub(crate) fn sign_weight(kind: FieldType) -> u64
 
 /// Whether all these comparisons say the same of two numbers' bits.
 pub(crate) fn says_the_same(terms: &[Term], one: u32, other: u32) -> bool
-    ensures { IsTrue result → AllByRecursion (λ t. SaysTheSame t one other) terms.now }
+    ensures { result ≡ says_alike terms.now one other }
 {
     for term in terms {
         if holds(term, one) != holds(term, other) {

@@ -1,59 +1,80 @@
 //! Rules judged two by two.
 
-ghost use Rattle.std.specs.Prelude.{◌≡◌, ◌<◌, IfOk, IfSome, IsTrue, OnOk, Some, false, length};
+ghost use Rattle.std.specs.Prelude.{◌≡◌, ◌<◌, ℕ, Contains, IfOk, IfSome, IsFalse, IsTrue, None, OnOk, Some, false, length, true};
 ghost use Rattle.std.specs.List.{AllByRecursion};
 ghost use Rattle.lc_model.specs.Condition.{And, Join, Not, condition_of};
-ghost use Rattle.lc_model.specs.Rule.{rules_of};
-ghost use Rattle.rule_judgement.specs.Findings.{IsPair, IsRelated};
-ghost use Rattle.rule_judgement.specs.Judgement.{FailsWherever, NeverFails};
+ghost use Rattle.lc_model.specs.Rule.{rule_of, rules_of};
+ghost use Rattle.rule_judgement.specs.declared.finding.PairJudgement.{PairJudgement as Pair};
+ghost use Rattle.rule_judgement.specs.Fields.{read_one_field};
+ghost use Rattle.rule_judgement.specs.Findings.{AreSettled, IsPair, IsRelated, IsRelationSettled, IsSettledAt, MayDiffer, are_near, least_pair_steps};
+ghost use Rattle.rule_judgement.specs.Judgement.{FailsWherever, HoldsForSome, NeverFails};
+ghost use Rattle.rule_judgement.specs.Steps.{AreFewByNames};
 
 use crate::conditions::but_not;
 use crate::deciding::holds_for_some;
-use crate::fields::{collect, field_of, reads};
+use crate::fields::{field_of, is_read};
 use crate::finding::{PairJudgement, Relation};
+use crate::judging::mentioned;
 use lc_model::{Cond, Rule, Rules, Term};
 use std::alloc::{AllocError, Global};
 
 /// The most steps for one question about two rules.
 const PAIR_STEPS: u32 = 1 << 14;
 
-/// The most steps for all pairs of a text.
+/// The steps that each question has, also where those for all pairs are used up: enough for eight different comparisons.
+const LEAST_PAIR_STEPS: u32 = 1 << 8;
+
+/// The steps for all pairs of a text, beyond the least that each question has.
 pub const TEXT_STEPS: u32 = 1 << 21;
 
-/// Whether some numbers make the condition true; none where it is not known. At most `PAIR_STEPS` of the steps are taken.
-pub(crate) fn ask(alloc: Global, cond: &Cond, steps: &mut u32) -> Result<Option<bool>, AllocError>
-    ensures { IfOk result (λ some. some ≡ Some false → NeverFails (condition_of cond.now)) }
+/// Whether some numbers make the condition true; none where it is not known. At most `PAIR_STEPS` of the steps are taken; the
+/// least number of steps may be taken in any case.
+pub(crate) fn ask(
+    alloc: Global,
+    cond: &Cond,
+    least: u32,
+    steps: &mut u32,
+) -> Result<Option<bool>, AllocError>
+    ensures some { IfOk result (λ some. some ≡ Some true → HoldsForSome (condition_of cond.now)) }
+    ensures never { IfOk result (λ some. some ≡ Some false → NeverFails (condition_of cond.now)) }
+    ensures none { IfOk result (λ some. some ≡ None → AreFewByNames (condition_of cond.now) least) }
 {
-    let given = PAIR_STEPS.min(*steps);
+    let given = PAIR_STEPS.min(*steps).max(least);
     let mut left = given;
     let some = holds_for_some(alloc, cond, &mut left)?;
     *steps -= given.saturating_sub(left).min(*steps);
     Ok(some)
 }
 
-/// Whether for some numbers the first condition is true and the second one false; none where it is not known. As many steps as
-/// are left may be taken.
+/// Whether for some numbers the first condition is true and the second one false; none where it is not known.
 fn are_apart(
     alloc: Global,
     first: &Cond,
     second: &Cond,
     steps: &mut u32,
 ) -> Result<Option<bool>, AllocError>
-    ensures { IfOk result (λ some. some ≡ Some false →
+    ensures some { IfOk result (λ some. some ≡ Some true →
+        HoldsForSome (Join And (condition_of first.now) (Not (condition_of second.now)))) }
+    ensures never { IfOk result (λ some. some ≡ Some false →
         NeverFails (Join And (condition_of first.now) (Not (condition_of second.now)))) }
+    ensures none { IfOk result (λ some. some ≡ None →
+        AreFewByNames (Join And (condition_of first.now) (Not (condition_of second.now)))
+        least_pair_steps) }
 {
     let apart = but_not(alloc, first, second)?;
-    ask(alloc, &apart, steps)
+    ask(alloc, &apart, LEAST_PAIR_STEPS, steps)
 }
 
 /// Whether the second condition is known to be true wherever the first one is and all is known.
 fn follows(alloc: Global, first: &Cond, second: &Cond, steps: &mut u32) -> Result<bool, AllocError>
-    ensures { IfOk result (λ follows. IsTrue follows →
+    ensures follows { IfOk result (λ follows. IsTrue follows →
         FailsWherever (condition_of first.now) (condition_of second.now)) }
+    ensures differ { IfOk result (λ follows. IsFalse follows →
+        MayDiffer (condition_of first.now) (condition_of second.now)) }
 {
     match are_apart(alloc, first, second, steps)? {
-        Some(false) => Ok(true),
-        _ => Ok(false),
+        Some(apart) => Ok(!apart),
+        None => Ok(false),
     }
 }
 
@@ -64,8 +85,10 @@ fn relation(
     second: &Cond,
     steps: &mut u32,
 ) -> Result<Option<Relation>, AllocError>
-    ensures { IfOk result (λ found. IfSome found (λ relation.
+    ensures related { IfOk result (λ found. IfSome found (λ relation.
         IsRelated (condition_of first.now) (condition_of second.now) relation)) }
+    ensures settled { IfOk result (λ found.
+        IsRelationSettled (condition_of first.now) (condition_of second.now) found) }
 {
     let second_follows = follows(alloc, first, second, steps)?;
     let first_follows = follows(alloc, second, first, steps)?;
@@ -77,18 +100,28 @@ fn relation(
     }
 }
 
-/// Whether some field is read by a term of both.
-fn have_common_field(first: &[Term], second: &[Term]) -> bool {
+/// Whether some term of the first list reads the same field as one of the second.
+fn read_one_field(first: &[Term], second: &[Term]) -> bool
+    ensures { result ≡ read_one_field first.now second.now }
+{
     for term in first {
-        let field = field_of(term);
-        if second.iter().any(|other| reads(other, &field)) {
+        if is_read(second, &field_of(term)) {
             return true;
         }
     }
     false
 }
 
-/// The two rules join the pairs, if it is known how they go together.
+/// Whether the rules request one sequence, or read a common field.
+fn are_near(alloc: Global, first: &Rule, second: &Rule) -> Result<bool, AllocError>
+    ensures { IfOk result (λ near. near ≡ are_near (rule_of first.now) (rule_of second.now)) }
+{
+    let own = mentioned(alloc, &first.cond)?;
+    let other = mentioned(alloc, &second.cond)?;
+    Ok(first.sequence == second.sequence || read_one_field(&own, &other))
+}
+
+/// The two rules join the pairs, if they are near and it is known how they go together.
 fn judge_pair(
     alloc: Global,
     rules: &[Rule],
@@ -99,67 +132,58 @@ fn judge_pair(
 ) -> Result<(), AllocError>
     requires order { first < second }
     requires inside { second < length rules.now }
-    ensures { OnOk result (AllByRecursion (IsPair (rules_of rules.now)) pairs.old.items →
+    ensures sound { OnOk result (AllByRecursion (IsPair (rules_of rules.now)) pairs.old.items →
         AllByRecursion (IsPair (rules_of rules.now)) pairs.new.items) }
+    ensures kept { OnOk result ((p : Pair) → Contains pairs.old.items p →
+        Contains pairs.new.items p) }
+    ensures settled { OnOk result (IsSettledAt (rules_of rules.now) pairs.new.items first second) }
 {
-    if let Some(relation) = relation(alloc, &rules[first].cond, &rules[second].cond, steps)? {
-        pairs.push(PairJudgement {
+    if !are_near(alloc, &rules[first], &rules[second])? {
+        return Ok(());
+    }
+    match relation(alloc, &rules[first].cond, &rules[second].cond, steps)? {
+        Some(relation) => Ok(pairs.push(PairJudgement {
             first,
             second,
             relation,
-        })?;
+        })?),
+        None => Ok(()),
     }
-    Ok(())
 }
 
-/// A rule's pairs with the rules before it that request its sequence or read one of its fields join the others.
+/// A rule's pairs with the rules before it join the others.
 fn judge_with_earlier(
     alloc: Global,
     rules: &[Rule],
-    terms: &[Vec<Term>],
     second: usize,
     steps: &mut u32,
     pairs: &mut Vec<PairJudgement>,
 ) -> Result<(), AllocError>
-    requires inside { second < length rules.now }
-    requires terms { length terms.now ≡ length rules.now }
-    ensures { OnOk result (AllByRecursion (IsPair (rules_of rules.now)) pairs.old.items →
+    requires { second < length rules.now }
+    ensures sound { OnOk result (AllByRecursion (IsPair (rules_of rules.now)) pairs.old.items →
         AllByRecursion (IsPair (rules_of rules.now)) pairs.new.items) }
+    ensures kept { OnOk result ((p : Pair) → Contains pairs.old.items p →
+        Contains pairs.new.items p) }
+    ensures settled { OnOk result ((first : ℕ) → first < second →
+        IsSettledAt (rules_of rules.now) pairs.new.items first second) }
 {
     for first in 0..second {
-        if rules[first].sequence == rules[second].sequence
-            || have_common_field(&terms[first], &terms[second])
-        {
-            judge_pair(alloc, rules, first, second, steps, pairs)?;
-        }
+        judge_pair(alloc, rules, first, second, steps, pairs)?;
     }
     Ok(())
 }
 
-/// The terms of each rule.
-fn terms_of(alloc: Global, rules: &[Rule]) -> Result<Vec<Vec<Term>>, AllocError>
-    ensures { IfOk result (λ terms. length terms.items ≡ length rules.now) }
-{
-    let mut all = Vec::new(alloc);
-    for rule in rules {
-        let mut terms = Vec::new(alloc);
-        collect(&rule.cond, &mut terms)?;
-        all.push(terms)?;
-    }
-    Ok(all)
-}
-
-/// The pairs of rules with one sequence or one field of which it is found that one fails wherever the other does, in
-/// `TEXT_STEPS` steps for all.
+/// The pairs of rules with one sequence or a common field of which it is found that one fails wherever the other does. Each
+/// pair is found that has at most eight different comparisons; of others as many as in `TEXT_STEPS` steps for all.
 pub fn judge_pairs(alloc: Global, rules: &Rules) -> Result<Vec<PairJudgement>, AllocError>
-    ensures { IfOk result (λ pairs. AllByRecursion (IsPair rules.now) pairs.items) }
+    ensures sound { IfOk result (λ pairs. AllByRecursion (IsPair rules.now) pairs.items) }
+    ensures settled { IfOk result (λ pairs. AreSettled rules.now pairs.items) }
 {
     let rules = rules.as_slice();
-    let terms = terms_of(alloc, rules)?;
     let mut steps = TEXT_STEPS;
     let mut pairs = Vec::new(alloc);
     for second in 0..rules.len() {
-        judge_with_earlier(alloc, rules, &terms, second, &mut steps, &mut pairs)?;
+        judge_with_earlier(alloc, rules, second, &mut steps, &mut pairs)?;
     }
     Ok(pairs)
 }

@@ -1,19 +1,27 @@
 //! Comparisons that a rule can do without.
 
-ghost use Rattle.std.specs.Prelude.{◌≡◌, ◌<◌, IfOk, IfSome, OnOk, Some, false, length};
+ghost use Rattle.std.specs.Prelude.{◌≡◌, ◌⊎◌, ◌+◌, ◌<◌, ℕ, Contains, IfOk, IfSome, IsFalse, IsTrue, None, OnOk, Some, length, slice_get};
 ghost use Rattle.std.specs.List.{AllByRecursion};
+ghost use Rattle.lc_model.specs.declared.field.Term.{Term as Comparison};
 ghost use Rattle.lc_model.specs.Codes.{operator_code};
 ghost use Rattle.lc_model.specs.Condition.{Join, Xor, condition_of};
 ghost use Rattle.lc_model.specs.Rule.{rules_of};
-ghost use Rattle.lc_model.specs.Tables.Equation.{same_term};
-ghost use Rattle.rule_judgement.specs.Spare.{CanDoWithout, IsSpare, constant, replaced};
+ghost use Rattle.lc_model.specs.Tables.Equation.{mentions, same_term};
+ghost use Rattle.rule_judgement.specs.declared.finding.SpareComparison.{SpareComparison as Spare};
+ghost use Rattle.rule_judgement.specs.Spare.{AreToldOrNeeded, AreToldUpTo, CanDoWithout, IsOf, IsSpare, IsToldOrNeeded, MayBeNeeded, MayMatter, constant, least_spare_steps, replaced};
+ghost use Rattle.rule_judgement.specs.Judgement.{HoldsForSome, NeverFails};
+ghost use Rattle.rule_judgement.specs.Steps.{AreFewByNames};
 
 use crate::conditions::copied;
-use crate::fields::{code, collect};
+use crate::fields::code;
 use crate::finding::SpareComparison;
+use crate::judging::mentioned;
 use crate::pairs::{TEXT_STEPS, ask};
 use lc_model::{CmpOp, Cond, Rule, Rules, Term};
 use std::alloc::{AllocError, Global};
+
+/// The steps that each question has, also where those for all are used up: enough for eight different comparisons.
+const LEAST_SPARE_STEPS: u32 = 1 << 8;
 
 /// The number of a comparison's operator.
 fn operator(op: CmpOp) -> u8
@@ -98,19 +106,35 @@ fn difference(alloc: Global, cond: &Cond, term: &Term, value: bool) -> Result<Co
     Ok(Cond::Xor(Box::new(alloc, (first, second))?))
 }
 
-/// Whether for some numbers they differ; none where it is not known. As many steps as are left may be taken.
-fn differs(
+/// Whether it is known that no numbers make the condition true.
+fn is_never_true(alloc: Global, cond: &Cond, steps: &mut u32) -> Result<bool, AllocError>
+    ensures never { IfOk result (λ never. IsTrue never → NeverFails (condition_of cond.now)) }
+    ensures other { IfOk result (λ never. IsFalse never →
+        HoldsForSome (condition_of cond.now) ⊎
+        AreFewByNames (condition_of cond.now) least_spare_steps) }
+{
+    match ask(alloc, cond, LEAST_SPARE_STEPS, steps)? {
+        Some(some) => Ok(!some),
+        None => Ok(false),
+    }
+}
+
+/// Whether the rule is known to say the same with the term taken so.
+fn does_without(
     alloc: Global,
     cond: &Cond,
     term: &Term,
     value: bool,
     steps: &mut u32,
-) -> Result<Option<bool>, AllocError>
-    ensures { IfOk result (λ some. some ≡ Some false →
+) -> Result<bool, AllocError>
+    requires { Contains (mentions (condition_of cond.now)) term.now }
+    ensures without { IfOk result (λ spare. IsTrue spare →
         CanDoWithout (condition_of cond.now) term.now value) }
+    ensures matters { IfOk result (λ spare. IsFalse spare →
+        MayMatter (condition_of cond.now) term.now value) }
 {
     let both = difference(alloc, cond, term, value)?;
-    ask(alloc, &both, steps)
+    is_never_true(alloc, &both, steps)
 }
 
 /// As which of both the rule can take the term, if as one.
@@ -120,13 +144,16 @@ fn taken_as(
     term: &Term,
     steps: &mut u32,
 ) -> Result<Option<bool>, AllocError>
-    ensures { IfOk result (λ found. IfSome found (λ value.
+    requires { Contains (mentions (condition_of cond.now)) term.now }
+    ensures without { IfOk result (λ found. IfSome found (λ value.
         CanDoWithout (condition_of cond.now) term.now value)) }
+    ensures needed { IfOk result (λ found. found ≡ None →
+        MayBeNeeded (condition_of cond.now) term.now) }
 {
-    if let Some(false) = differs(alloc, cond, term, true, steps)? {
+    if does_without(alloc, cond, term, true, steps)? {
         return Ok(Some(true));
     }
-    if let Some(false) = differs(alloc, cond, term, false, steps)? {
+    if does_without(alloc, cond, term, false, steps)? {
         return Ok(Some(false));
     }
     Ok(None)
@@ -141,31 +168,64 @@ fn judge_term(
     steps: &mut u32,
     spare: &mut Vec<SpareComparison>,
 ) -> Result<(), AllocError>
-    requires { rule < length rules.now }
-    ensures { OnOk result (AllByRecursion (IsSpare (rules_of rules.now)) spare.old.items →
+    requires inside { rule < length rules.now }
+    requires own { IsOf (rules_of rules.now) rule term.now }
+    ensures sound { OnOk result (AllByRecursion (IsSpare (rules_of rules.now)) spare.old.items →
         AllByRecursion (IsSpare (rules_of rules.now)) spare.new.items) }
+    ensures kept { OnOk result ((s : Spare) → Contains spare.old.items s →
+        Contains spare.new.items s) }
+    ensures told { OnOk result (IsToldOrNeeded (rules_of rules.now) spare.new.items rule term.now) }
 {
-    if let Some(taken_as) = taken_as(alloc, &rules[rule].cond, term, steps)? {
-        spare.push(SpareComparison {
+    match taken_as(alloc, &rules[rule].cond, term, steps)? {
+        Some(taken_as) => Ok(spare.push(SpareComparison {
             rule,
             term: *term,
             taken_as,
-        })?;
+        })?),
+        None => Ok(()),
     }
-    Ok(())
 }
 
 /// Whether an earlier one of the terms is the same.
-fn is_again(terms: &[Term], at: usize) -> bool {
-    let Some(term) = terms.get(at) else {
-        return false;
-    };
-    for (i, other) in terms.iter().enumerate() {
-        if i < at && are_one(other, term) {
+fn is_again(terms: &[Term], at: usize) -> bool
+    requires { at < length terms.now }
+    ensures { IsTrue result →
+        (i : ℕ) × (i < at) × (slice_get terms.now i ≡ slice_get terms.now at) }
+{
+    for i in 0..at {
+        if are_one(&terms[i], &terms[at]) {
             return true;
         }
     }
     false
+}
+
+/// One of a rule's terms joins the others, if it is known that the rule can do without it, unless it stands before already.
+fn judge_at(
+    alloc: Global,
+    rules: &[Rule],
+    rule: usize,
+    terms: &[Term],
+    at: usize,
+    steps: &mut u32,
+    spare: &mut Vec<SpareComparison>,
+) -> Result<(), AllocError>
+    requires rule { rule < length rules.now }
+    requires at { at < length terms.now }
+    requires own { (t : Comparison) → slice_get terms.now at ≡ Some t →
+        IsOf (rules_of rules.now) rule t }
+    ensures sound { OnOk result (AllByRecursion (IsSpare (rules_of rules.now)) spare.old.items →
+        AllByRecursion (IsSpare (rules_of rules.now)) spare.new.items) }
+    ensures kept { OnOk result ((s : Spare) → Contains spare.old.items s →
+        Contains spare.new.items s) }
+    ensures told { OnOk result (AreToldUpTo (rules_of rules.now) spare.old.items rule terms.now at →
+        AreToldUpTo (rules_of rules.now) spare.new.items rule terms.now (at + 1)) }
+{
+    if is_again(terms, at) {
+        return Ok(());
+    }
+    judge_term(alloc, rules, rule, &terms[at], steps, spare)?;
+    Ok(())
 }
 
 /// The terms of a rule that it can do without join the others.
@@ -177,23 +237,25 @@ fn judge_terms(
     spare: &mut Vec<SpareComparison>,
 ) -> Result<(), AllocError>
     requires { rule < length rules.now }
-    ensures { OnOk result (AllByRecursion (IsSpare (rules_of rules.now)) spare.old.items →
+    ensures sound { OnOk result (AllByRecursion (IsSpare (rules_of rules.now)) spare.old.items →
         AllByRecursion (IsSpare (rules_of rules.now)) spare.new.items) }
+    ensures kept { OnOk result ((s : Spare) → Contains spare.old.items s →
+        Contains spare.new.items s) }
+    ensures told { OnOk result ((t : Comparison) → IsOf (rules_of rules.now) rule t →
+        IsToldOrNeeded (rules_of rules.now) spare.new.items rule t) }
 {
-    let mut terms = Vec::new(alloc);
-    collect(&rules[rule].cond, &mut terms)?;
+    let terms = mentioned(alloc, &rules[rule].cond)?;
     for at in 0..terms.len() {
-        if !is_again(&terms, at) {
-            judge_term(alloc, rules, rule, &terms[at], steps, spare)?;
-        }
+        judge_at(alloc, rules, rule, &terms, at, steps, spare)?;
     }
     Ok(())
 }
 
-/// The comparisons of a text's rules without which these say the same, each taken as true or as false, in `TEXT_STEPS` steps for
-/// all.
+/// The comparisons of a text's rules without which these say the same, each taken as true or as false. Each is found of rules
+/// that have at most eight different comparisons; of others as many as in `TEXT_STEPS` steps for all.
 pub fn spare_comparisons(alloc: Global, rules: &Rules) -> Result<Vec<SpareComparison>, AllocError>
-    ensures { IfOk result (λ spare. AllByRecursion (IsSpare rules.now) spare.items) }
+    ensures sound { IfOk result (λ spare. AllByRecursion (IsSpare rules.now) spare.items) }
+    ensures told { IfOk result (λ spare. AreToldOrNeeded rules.now spare.items) }
 {
     let rules = rules.as_slice();
     let mut steps = TEXT_STEPS;

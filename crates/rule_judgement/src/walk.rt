@@ -1,6 +1,6 @@
 //! A walk over the fields of a condition, with some numbers for each.
 
-ghost use Rattle.std.specs.Prelude.{◌≡◌, ◌≤◌, ◌<◌, length, IfOk, None, Some, false, true};
+ghost use Rattle.std.specs.Prelude.{◌≡◌, ◌≤◌, ◌<◌, ◌+◌, length, IfOk, IsFalse, IsTrue, None, Some, false, true};
 ghost use Rattle.std.specs.List.{AllByRecursion};
 ghost use Rattle.lc_model.specs.declared.truth.Truth.TheVariants.{False, True};
 ghost use Rattle.lc_model.specs.Condition.{condition_of};
@@ -9,6 +9,7 @@ ghost use Rattle.lc_model.specs.Tables.Equation.{mentions};
 ghost use Rattle.rule_judgement.specs.declared.walk.Outcome.TheVariants.{Excluded, Spent};
 ghost use Rattle.rule_judgement.specs.Fields.{HasField, field_number};
 ghost use Rattle.rule_judgement.specs.Search.{AreRepresented, IsWalked, found_so_far};
+ghost use Rattle.rule_judgement.specs.Steps.{AreNotMany, IsWithin};
 
 use crate::fields::{Field, number};
 use crate::outcomes::outcome;
@@ -67,8 +68,24 @@ fn settled(cond: &Cond, fields: &[Field], chosen: &[u32]) -> Option<bool>
     }
 }
 
+/// Takes a step, if one is left, where there is a choice: two numbers or more.
+fn may_choose(numbers: usize, steps: &mut u32) -> bool
+    ensures some { IsTrue result → 1 ≤ numbers → steps.old < steps.new + numbers }
+    ensures none { IsTrue result → numbers ≡ 0 → steps.new ≡ steps.old }
+    ensures spent { IsFalse result → (steps.new ≡ 0) × (steps.old ≡ 0) }
+{
+    if numbers <= 1 {
+        return true;
+    }
+    if *steps == 0 {
+        return false;
+    }
+    *steps -= 1;
+    true
+}
+
 /// Goes on from the bits so far: finds bits for the next fields that make the condition true, or shows that none do, in so many
-/// steps at most.
+/// choices at most.
 pub(crate) fn walk(
     cond: &Cond,
     fields: &[Field],
@@ -81,10 +98,15 @@ pub(crate) fn walk(
     requires each { length candidates.now ≡ length fields.now }
     requires represented { AreRepresented (field_number fields.now)
         (mentions (condition_of cond.now)) candidates.now }
+    requires few { AreNotMany (field_number fields.now)
+        (mentions (condition_of cond.now)) candidates.now }
     requires so_far { length chosen.old.items ≤ length candidates.now }
     ensures walked { IfOk result (λ outcome.
         IsWalked (field_number fields.now) (condition_of cond.now)
         chosen.old.items chosen.new.items outcome) }
+    ensures taken { IfOk result (λ outcome.
+        IsWithin (field_number fields.now) (condition_of cond.now)
+        (length chosen.old.items) steps.old steps.new) }
     ensures back { IfOk result (λ outcome. outcome ≡ Excluded → chosen.new.items ≡
         chosen.old.items) }
     ensures spent { IfOk result (λ outcome. outcome ≡ Spent → steps.new ≡ 0) }
@@ -94,11 +116,10 @@ pub(crate) fn walk(
         Some(false) => return Ok(Outcome::Excluded),
         None => {}
     }
-    if *steps == 0 {
+    let row = &candidates[chosen.len()];
+    if !may_choose(row.len(), steps) {
         return Ok(Outcome::Spent);
     }
-    *steps -= 1;
-    let row = &candidates[chosen.len()];
     for candidate in row {
         chosen.push(*candidate)?;
         match walk(cond, fields, candidates, chosen, steps)? {

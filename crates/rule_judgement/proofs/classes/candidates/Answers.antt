@@ -3,7 +3,15 @@ use Rattle.std.specs.List.{AllByRecursion}
 use Rattle.rule_judgement.specs.Classes.{Covers, Separates}
 use Rattle.rule_judgement.proofs.Each.{each, one_more, whole}
 use Rattle.rule_judgement.proofs.ClassLaws.{all_covered}
+use Rattle.rule_judgement.proofs.StepLaws.{none_is_apart}
 use Rattle.rule_judgement.proofs.classes.candidates.Goals as goal
+
+pub loop-threshold-init : goal.loop-threshold-init
+loop-threshold-init c = record {
+  zero = c.in_ok-keep.ensures.covers;
+  so_far = tt;
+  apart = c.in_ok-keep.ensures.apart (none_is_apart c.args.terms.now c.new-kept.result.items c.new-kept.ensures.items);
+}
 
 pub loop-threshold-preserved : goal.loop-threshold-preserved
 loop-threshold-preserved c = record {
@@ -12,10 +20,11 @@ loop-threshold-preserved c = record {
       c.deref-threshold-items.result.now c.loop-threshold.threshold-index _ c.loop-threshold-test.true
       (each (take c.loop-threshold.threshold-index c.deref-threshold-items.result.now) c.in_ok-keep-2.ensures.others c.loop-threshold.invariant.so_far)
       c.in_ok-keep-2.ensures.covers;
+  apart = c.in_ok-keep-2.ensures.apart c.loop-threshold.invariant.apart;
 }
 
-pub returns : goal.returns
-returns c =
+pub returns-clause-represent : goal.returns-clause-represent
+returns-clause-represent c =
     all_covered c.args.terms.now c.args.mask c.deref-threshold-items.result.now c.loop-threshold.kept.items c.ranges.mask.fits c.requires
     (subst (λ thresholds. AllByRecursion (λ t. Separates thresholds t) c.args.terms.now) (sym c.deref-threshold-items.ensures.value) c.in_ok-thresholds_of.ensures)
     c.loop-threshold.invariant.zero

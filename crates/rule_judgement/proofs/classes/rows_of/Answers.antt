@@ -2,6 +2,8 @@ use Rattle.std.proofs.Common.{rules, ◌∙◌, sym, subst}
 use Rattle.std.specs.List.{AllByRecursion}
 use Rattle.rule_judgement.specs.Classes.{RepresentAll}
 use Rattle.rule_judgement.specs.Search.{AreRepresented}
+use Rattle.rule_judgement.specs.Steps.{AreApart, AreNotMany}
+use Rattle.rule_judgement.proofs.StepLaws.{not_many_more}
 use Rattle.rule_judgement.specs.Fields.{field_number}
 use Rattle.rule_judgement.proofs.FieldLaws.{mask_by_number}
 use Rattle.rule_judgement.proofs.ClassLaws.{filtered, represent_readers, row_more}
@@ -19,6 +21,10 @@ loop-field-preserved c = record {
       (row_more (field_number c.args.fields.now) c.args.terms.now c.loop-field.rows.items c.in_ok-candidates.field-0 c.loop-field.field
       c.loop-field.invariant.each c.loop-field.invariant.represent
       (represent_readers (field_number c.args.fields.now) c.loop-field.field c.args.terms.now c.in_ok-candidates.field-0.items
-      (subst (λ own. RepresentAll own c.in_ok-candidates.field-0.items) (c.deref.ensures.value ∙ c.in_ok-own.ensures) c.in_ok-candidates.ensures)));
+      (subst (λ own. RepresentAll own c.in_ok-candidates.field-0.items) (c.deref.ensures.value ∙ c.in_ok-own.ensures) c.in_ok-candidates.ensures.represent)));
+  few = subst (AreNotMany (field_number c.args.fields.now) c.args.terms.now) (sym c.in_ok-push.ensures.items)
+      (not_many_more (field_number c.args.fields.now) c.args.terms.now c.loop-field.rows.items c.in_ok-candidates.field-0 c.loop-field.field
+      c.loop-field.invariant.each c.loop-field.invariant.few
+      (subst (λ own. AreApart own c.in_ok-candidates.field-0.items) (c.deref.ensures.value ∙ c.in_ok-own.ensures) c.in_ok-candidates.ensures.apart));
   each = search rules;
 }

@@ -3,6 +3,7 @@ use Rattle.lc_model.specs.Condition.{condition_of}
 use Rattle.rule_judgement.specs.Fields.{field_number}
 use Rattle.rule_judgement.specs.Search.{IsWalked}
 use Rattle.rule_judgement.proofs.Judged.{never_of, handed_on, all_have, some_of}
+use Rattle.rule_judgement.proofs.StepLaws.{few_for}
 use Rattle.rule_judgement.proofs.deciding.decide.Goals as goal
 
 pub walk-requires-clause-represented : goal.walk-requires-clause-represented
@@ -23,3 +24,8 @@ returns-in-Found c =
     some_of c.deref-4.result.now (condition_of c.args.cond.now) c.walk.new.chosen.items
     (subst (λ outcome. IsWalked (field_number c.deref-4.result.now) (condition_of c.args.cond.now) c.new-bits.result.items c.walk.new.chosen.items outcome)
     c.in-Found.is c.in_ok-walk.ensures.walked)
+
+pub returns : goal.returns
+returns c =
+    few_for (field_number c.deref-4.result.now) (condition_of c.args.cond.now) c.new-bits.result.items c.args.steps.now c.walk.new.steps
+    c.new-bits.ensures.items (c.in_ok-walk.ensures.spent c.in-Spent.is) c.in_ok-walk.ensures.taken

@@ -6,7 +6,7 @@ use Rattle.rule_judgement.proofs.fields.add.Goals as goal
 pub returns-in_ok-push-clause-there : goal.returns-in_ok-push-clause-there
 returns-in_ok-push-clause-there c =
     subst (λ items. HasField items c.args.term.now) (sym c.in_ok-push.ensures.items)
-    (has_new c.args.fields.now.items c.field_of.result c.args.term.now c.field_of.ensures)
+    (has_new c.args.fields.now.items c.field_of.result c.args.term.now c.field_of.ensures.reads)
 
 pub returns-in_ok-push-clause-others : goal.returns-in_ok-push-clause-others
 returns-in_ok-push-clause-others c = λ t has.

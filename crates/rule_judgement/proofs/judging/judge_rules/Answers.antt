@@ -12,8 +12,8 @@ IsJudged rule j = IsRuleJudged (condition_of rule.cond) j
 
 pub loop-rule-preserved : goal.loop-rule-preserved
 loop-rule-preserved c =
-    one_pair_more IsJudged c.args.rules.now c.loop-rule.rule-index c.rule-item.result c.loop-rule.judged.items c.push.new.self.items c.in_ok-judge_rule.field-0
-    c.loop-rule-test.true c.loop-rule.invariant (subst (λ rule. IsJudged rule c.in_ok-judge_rule.field-0) c.rule-item.is c.in_ok-judge_rule.ensures)
+    one_pair_more IsJudged c.args.rules.now c.loop-rule.rule-index c.rule-item.result c.loop-rule.judged.items c.push.new.self.items c.in_ok-judge_condition.field-0
+    c.loop-rule-test.true c.loop-rule.invariant (subst (λ rule. IsJudged rule c.in_ok-judge_condition.field-0) c.rule-item.is c.in_ok-judge_condition.ensures)
     c.in_ok-push.ensures.items
 
 pub returns : goal.returns

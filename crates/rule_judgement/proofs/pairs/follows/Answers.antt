@@ -1,7 +1,18 @@
-use Rattle.std.proofs.Common.{rules}
+use Rattle.std.proofs.Common.{◌∙◌}
 use Rattle.lc_model.specs.Condition.{condition_of}
 use Rattle.rule_judgement.proofs.Known.{never_but_is_wherever}
+use Rattle.rule_judgement.proofs.PairLaws.{differ_by, differ_by_few, never_by}
 use Rattle.rule_judgement.proofs.pairs.follows.Goals as goal
 
-pub returns-in-Some-false : goal.returns-in-Some-false
-returns-in-Some-false c = λ is. never_but_is_wherever (condition_of c.args.first.now) (condition_of c.args.second.now) (c.in_ok-are_apart.ensures (search rules))
+pub returns-in-Some-clause-follows : goal.returns-in-Some-clause-follows
+returns-in-Some-clause-follows c = λ is.
+    never_but_is_wherever (condition_of c.args.first.now) (condition_of c.args.second.now)
+    (c.in_ok-apart.ensures.never (c.in-Some.is ∙ never_by c.in-Some.apart is))
+
+pub returns-in-Some-clause-differ : goal.returns-in-Some-clause-differ
+returns-in-Some-clause-differ c = λ is.
+    differ_by (condition_of c.args.first.now) (condition_of c.args.second.now) c.in-Some.apart (λ e. c.in_ok-apart.ensures.some (c.in-Some.is ∙ e)) is
+
+pub returns-in-None-clause-differ : goal.returns-in-None-clause-differ
+returns-in-None-clause-differ c = λ is.
+    differ_by_few (condition_of c.args.first.now) (condition_of c.args.second.now) (c.in_ok-apart.ensures.none c.in-None.is)

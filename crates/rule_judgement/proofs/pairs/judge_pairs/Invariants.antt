@@ -1,7 +1,11 @@
+use Rattle.std.proofs.Common.{ℕ, ◌<◌}
 use Rattle.std.specs.List.{AllByRecursion}
 use Rattle.lc_model.specs.Rule.{rules_of}
-use Rattle.rule_judgement.specs.Findings.{IsPair}
+use Rattle.rule_judgement.specs.Findings.{IsPair, IsSettledAt}
 use Rattle.rule_judgement.proofs.pairs.judge_pairs.Given as goal
 
 abbrev pub invariant-loop-second : goal.invariant-loop-second
-invariant-loop-second l = AllByRecursion (IsPair (rules_of l.rules)) l.pairs.items
+invariant-loop-second l = record {
+  sound : AllByRecursion (IsPair (rules_of l.rules)) l.pairs.items;
+  settled : (j : ℕ) → j < l.second → (i : ℕ) → i < j → IsSettledAt (rules_of l.rules) l.pairs.items i j;
+}

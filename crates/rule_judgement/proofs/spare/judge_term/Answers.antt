@@ -1,4 +1,5 @@
-use Rattle.std.proofs.Common.{subst, sym}
+use Rattle.std.proofs.Common.{subst, sym, refl}
+use Rattle.rule_judgement.proofs.SpareLaws.{own_of, pushed_is_told, needed_at}
 use Rattle.std.specs.List.{AllByRecursion}
 use Rattle.lc_model.specs.Condition.{condition_of}
 use Rattle.lc_model.specs.declared.rule.Rule.{Rule}
@@ -7,15 +8,29 @@ use Rattle.rule_judgement.specs.Spare.{CanDoWithout, IsSpare}
 use Rattle.rule_judgement.proofs.Each.{both, there_mapped}
 use Rattle.rule_judgement.proofs.spare.judge_term.Goals as goal
 
-pub returns-in_ok-push : goal.returns-in_ok-push
-returns-in_ok-push c = λ before.
-    subst (AllByRecursion (IsSpare (rules_of c.args.rules.now))) (sym c.in_ok-push.ensures.items)
+pub returns-in_ok-push-in-Some-clause-sound : goal.returns-in_ok-push-in-Some-clause-sound
+returns-in_ok-push-in-Some-clause-sound c = λ before.
+    subst (AllByRecursion (IsSpare (rules_of c.args.rules.now))) (sym c.in_ok-push-in-Some.ensures.items)
     (both (IsSpare (rules_of c.args.rules.now)) c.args.spare.now.items _ before (
       record {
         rule = rule_of c.index-rules-rule.result;
-        rule_is = there_mapped rule_of c.args.rules.now c.args.rule c.index-rules-rule.result c.requires c.index-rules-rule.is;
+        rule_is = there_mapped rule_of c.args.rules.now c.args.rule c.index-rules-rule.result c.requires.inside c.index-rules-rule.is;
         without = subst (λ (rule : Rule). CanDoWithout (condition_of rule.cond) c.args.term.now c.in-Some.taken_as) (sym c.index-rules-rule.is)
-            (rw c.in-Some.is at c.in_ok-taken_as.ensures);
+            (rw c.in-Some.is at c.in_ok-taken_as.ensures).without;
       },
       tt,
     ))
+
+pub taken_as-requires : goal.taken_as-requires
+taken_as-requires c =
+    own_of c.args.rules.now c.args.rule c.index-rules-rule.result c.args.term.now c.requires.inside c.index-rules-rule.is c.requires.own
+
+pub returns-in_ok-push-in-Some-clause-told : goal.returns-in_ok-push-in-Some-clause-told
+returns-in_ok-push-in-Some-clause-told c =
+    pushed_is_told (rules_of c.args.rules.now) c.args.rule c.args.term.now c.args.spare.now.items c.push.new.self.items _ refl refl
+    c.in_ok-push-in-Some.ensures.items
+
+pub returns-in-None-clause-told : goal.returns-in-None-clause-told
+returns-in-None-clause-told c =
+    needed_at c.args.rules.now c.args.rule c.index-rules-rule.result c.args.term.now c.args.spare.now.items c.requires.inside c.index-rules-rule.is
+    (c.in_ok-taken_as.ensures.needed c.in-None.is)

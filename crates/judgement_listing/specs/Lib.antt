@@ -1,0 +1,2 @@
+-- What is listed of rules before any packet comes. This project's own.
+pub mod Requests
