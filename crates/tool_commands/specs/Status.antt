@@ -3,7 +3,7 @@ use Rattle.std.specs.Prelude.{ℕ, Result, Ok, Err}
 use Rattle.flight_core.specs.declared.error.RunError.{RunError}
 use Rattle.flight_core.specs.declared.error.RunError.TheVariants as run
 use Rattle.tool_commands.specs.declared.fault.Fault.{Fault}
-use Rattle.tool_commands.specs.declared.fault.Fault.TheVariants.{Words, NoText, Table, Early, Script, Schedule, Report, Run, File, Gone, Memory}
+use Rattle.tool_commands.specs.declared.fault.Fault.TheVariants.{Words, NoText, Table, Early, Script, Schedule, Report, Text, Judgement, Warned, Run, File, Gone, Memory}
 
 -- of a run that was stopped: a rule text that is refused, a device that failed, the stream, memory
 abbrev pub stopped : RunError → ℕ
@@ -15,7 +15,7 @@ stopped (run.Write sent) = 3
 stopped run.ReadBound = 4
 stopped run.Memory = 5
 
--- what has a fault or is refused: 1; words that are no command: 2; files: 3; what ends early: 4; memory: 5; where nobody reads any more nothing is wrong
+-- what has a fault, is refused, or is warned of where nothing may be: 1; words that are no command: 2; files: 3; what ends early: 4; memory: 5; where nobody reads any more nothing is wrong
 abbrev pub status_of : Fault → ℕ
 status_of (Words error) = 2
 status_of NoText = 2
@@ -24,6 +24,9 @@ status_of Early = 4
 status_of (Script name error) = 1
 status_of (Schedule name error) = 1
 status_of (Report error) = 1
+status_of (Text name error) = 1
+status_of (Judgement name error) = 1
+status_of Warned = 1
 status_of (Run error) = stopped error
 status_of (File name why) = 3
 status_of Gone = 0

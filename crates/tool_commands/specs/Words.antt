@@ -1,5 +1,5 @@
 -- What the words of a command line give. The commands are this project's own; how words are read is `clap`'s.
-use Rattle.std.specs.Prelude.{◌≡◌, List, map, codes, Some, Result, Ok, Err}
+use Rattle.std.specs.Prelude.{◌≡◌, List, map, codes, option_map, Some, Result, Ok, Err}
 use Rattle.clap.specs.Words.{Row, Text, all_of, first_of}
 use Rattle.clap.specs.declared.error.Error.{Error}
 use Rattle.clap.specs.declared.error.kind.ErrorKind.{ErrorKind}
@@ -7,7 +7,7 @@ use Rattle.clap.specs.declared.error.kind.ErrorKind.TheVariants as kind
 use Rattle.tool_commands.specs.declared.fault.Fault.{Fault}
 use Rattle.tool_commands.specs.declared.fault.Fault.TheVariants as fault
 use Rattle.tool_commands.specs.declared.words.Plan.{Plan}
-use Rattle.tool_commands.specs.declared.words.Plan.TheVariants.{Said, Table, Stream, Packets, Scenario, Report, Live}
+use Rattle.tool_commands.specs.declared.words.Plan.TheVariants.{Said, Table, Stream, Packets, Scenario, Report, Check, Live}
 
 -- where no command is found, by the kind of what `clap` says: help and the version are asked for, and other words are at fault
 abbrev pub answer_by : ErrorKind → Error → Result Plan Fault
@@ -19,7 +19,8 @@ answer_by rest error = Err (fault.Words error)
 -- a plan is of the command with this word, and holds the files that it is given
 abbrev pub HoldsRows : Text × List Row → Plan → Type 0
 HoldsRows command (Said error) = ⊥
-HoldsRows command (Table file) = (command.0 ≡ codes "table") × (first_of (codes "FILE") command.1 ≡ Some file.now)
+HoldsRows command (Table file watchpoints) = (command.0 ≡ codes "table")
+    × (first_of (codes "FILE") command.1 ≡ Some file.now) × (first_of (codes "watchpoints") command.1 ≡ option_map (λ word. word.now) watchpoints)
 HoldsRows command (Stream file whole) = (command.0 ≡ codes "stream") × (first_of (codes "FILE") command.1 ≡ Some file.now)
 HoldsRows command (Packets file) = (command.0 ≡ codes "packets") × (first_of (codes "FILE") command.1 ≡ Some file.now)
 HoldsRows command (Scenario script stream) = (command.0 ≡ codes "scenario")
@@ -27,5 +28,7 @@ HoldsRows command (Scenario script stream) = (command.0 ≡ codes "scenario")
 HoldsRows command (Report schedule stream page rules) = (command.0 ≡ codes "report")
     × (first_of (codes "SCHEDULE") command.1 ≡ Some schedule.now) × (first_of (codes "STREAM") command.1 ≡ Some stream.now)
     × (first_of (codes "PAGE") command.1 ≡ Some page.now) × (all_of (codes "RULES") command.1 ≡ Some (map (λ rule. rule.now) rules.items))
+HoldsRows command (Check schedule rules all strict) = (command.0 ≡ codes "check")
+    × (first_of (codes "schedule") command.1 ≡ option_map (λ word. word.now) schedule) × (all_of (codes "RULES") command.1 ≡ Some (map (λ rule. rule.now) rules.items))
 HoldsRows command (Live schedule rules) = (command.0 ≡ codes "live")
     × (first_of (codes "SCHEDULE") command.1 ≡ Some schedule.now) × (all_of (codes "RULES") command.1 ≡ Some (map (λ rule. rule.now) rules.items))

@@ -7,6 +7,7 @@ ghost use Rattle.tool_commands.specs.declared.fault.Fault.TheVariants.{Memory};
 use clap::Error;
 use flight_core::RunError;
 use program_files::Why;
+use rpn_compiler::CompileError;
 use run_report::ReportError;
 use std::alloc::{AllocError, AllocFailed};
 use std::fmt::{self, Display, Formatter, Write};
@@ -28,8 +29,14 @@ pub enum Fault<'a> {
     Script(&'a str, ScriptError),
     /// A schedule that is refused, by its file's name.
     Schedule(&'a str, ScheduleError),
-    /// A rule text that is refused.
+    /// A rule text of a run that is refused.
     Report(ReportError),
+    /// A rule text that is refused, by its file's name.
+    Text(&'a str, CompileError),
+    /// Rules or tables that can't be judged, by their file's name.
+    Judgement(&'a str, judgement_listing::ListingError),
+    /// Warnings, which the listing says, where there may be none.
+    Warned,
     /// A run that was stopped.
     Run(RunError),
     /// A file can't be opened, read or written, or standard output can't, and why.
@@ -69,7 +76,7 @@ fn status_of_run(error: RunError) -> u8
 }
 
 impl Fault<'_> {
-    /// The exit status: 0 nobody reads any more; 1 a table file has a fault, or a script, a schedule or a rule text is refused; 2
+    /// The exit status: 0 nobody reads any more; 1 a table file has a fault, a script, a schedule or a rule text is refused, or there are warnings; 2
     /// the words are no command; 3 a file or a device; 4 a stream or packets end early; 5 no memory.
     pub fn status(&self) -> u8
         ensures { result ≡ status_of self.now }
@@ -77,6 +84,7 @@ impl Fault<'_> {
         match self {
             Fault::Gone => 0,
             Fault::Table | Fault::Script(..) | Fault::Schedule(..) | Fault::Report(_) => 1,
+            Fault::Text(..) | Fault::Judgement(..) | Fault::Warned => 1,
             Fault::Words(_) | Fault::NoText => 2,
             Fault::File(..) => 3,
             Fault::Early => 4,
@@ -91,10 +99,12 @@ impl Display for Fault<'_> {
         match self {
             Fault::Words(error) => write!(f, "{error}"),
             Fault::NoText => writeln!(f, "a word of the command line is no text (UTF-8)"),
-            Fault::Table | Fault::Early | Fault::Gone => Ok(()),
+            Fault::Table | Fault::Early | Fault::Gone | Fault::Warned => Ok(()),
             Fault::Script(name, error) => writeln!(f, "{name}: {error}"),
             Fault::Schedule(name, error) => writeln!(f, "{name}: {error}"),
             Fault::Report(error) => writeln!(f, "{error}"),
+            Fault::Text(name, error) => writeln!(f, "{name}: {error}"),
+            Fault::Judgement(name, error) => writeln!(f, "{name}: {error}"),
             Fault::Run(error) => writeln!(f, "{error}"),
             Fault::File(name, why) => writeln!(f, "cannot use {name}: {why}"),
             Fault::Memory => writeln!(f, "no memory"),

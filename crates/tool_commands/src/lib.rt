@@ -5,6 +5,7 @@
 ghost use Rattle.std.specs.Prelude.{◌≡◌};
 ghost use Rattle.tool_commands.specs.Status.{status_by};
 
+mod checking;
 mod fault;
 mod feed;
 mod files;
@@ -16,6 +17,7 @@ mod report;
 mod scenario;
 mod words;
 
+use crate::checking::Asked;
 pub use crate::fault::Fault;
 use crate::words::{Plan, read_words};
 use std::fs::Files;
@@ -49,7 +51,7 @@ pub fn obey<'a, R: Files + Eprint + AllocGlobal, I: Read + Drop, W: Write>(
 ) -> Result<(), Fault<'a>> {
     match read_words(rt.alloc(), words)? {
         Plan::Said(text) => listing::said(&text, out),
-        Plan::Table { file } => listing::table(rt, file, out),
+        Plan::Table { file, watchpoints } => listing::table(rt, file, watchpoints, out),
         Plan::Stream { file, whole } => listing::stream(rt, file, whole, out),
         Plan::Packets { file } => listing::packets(rt, file, out),
         Plan::Scenario { script, stream } => scenario::make_stream(rt, script, stream),
@@ -59,6 +61,18 @@ pub fn obey<'a, R: Files + Eprint + AllocGlobal, I: Read + Drop, W: Write>(
             page,
             rules,
         } => report::make_page(rt, schedule, stream, page, rules.as_slice(), is_watched),
+        Plan::Check {
+            schedule,
+            rules,
+            all,
+            strict,
+        } => {
+            let asked = Asked {
+                is_all: all,
+                is_strict: strict,
+            };
+            checking::check(rt, schedule, rules.as_slice(), asked, out)
+        }
         Plan::Live { schedule, rules } => live::run(rt, schedule, rules.as_slice(), input, out),
     }
 }

@@ -1,5 +1,6 @@
 //! What is listed.
 
+use crate::checking::mark;
 use crate::fault::Fault;
 use crate::feed::{Feed, feed_of};
 use crate::files::{LONGEST_TABLE, read};
@@ -24,10 +25,12 @@ pub fn said<'a, W: Write>(text: &Error, out: &mut W) -> Result<(), Fault<'a>> {
     listed(out.flush())
 }
 
-/// Lists what a table file holds. One with a fault ends the program with another status.
+/// Lists what a table file holds, and behind actionpoints, where the file with their watchpoints is named, what can be said of them
+/// before any packet comes. One with a fault ends the program with another status.
 pub fn table<'a, R: Files + AllocGlobal, W: Write>(
     rt: &R,
     file: &'a str,
+    watchpoints: Option<&'a str>,
     out: &mut W,
 ) -> Result<(), Fault<'a>> {
     let bytes = read(rt, file, LONGEST_TABLE)?;
@@ -36,7 +39,13 @@ pub fn table<'a, R: Files + AllocGlobal, W: Write>(
     match list_table(rt.alloc(), bytes.as_slice(), &mut noted) {
         Ok(is_sound) => {
             listed(noted.flush())?;
-            if is_sound { Ok(()) } else { Err(Fault::Table) }
+            if !is_sound {
+                return Err(Fault::Table);
+            }
+            match watchpoints {
+                Some(name) => mark(rt, name, bytes.as_slice(), &mut noted),
+                None => Ok(()),
+            }
         }
         Err(ListingError::Memory) => Err(Fault::Memory),
         Err(ListingError::Write) => Err(match kind.get() {

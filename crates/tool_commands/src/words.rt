@@ -1,6 +1,6 @@
 //! The words of a command line (this project's own), read by `clap`.
 
-ghost use Rattle.std.specs.Prelude.{◌≡◌, codes, map, IfOk, IfSome, IsSomeAnd, Some};
+ghost use Rattle.std.specs.Prelude.{◌≡◌, codes, map, option_map, IfOk, IfSome, IsSomeAnd, Some};
 ghost use Rattle.clap.specs.Words.{all_of, first_of, found_of, kind_of, rows_of, subcommand_rows_of};
 ghost use Rattle.tool_commands.specs.Words.{HoldsRows, answer_by};
 
@@ -15,9 +15,10 @@ use std::alloc::{AllocError, Global};
 pub enum Plan<'a> {
     /// `--help`, `help COMMAND` or `--version`: what `clap` says.
     Said(Error),
-    /// `table FILE`: a table file as text.
+    /// `table [--watchpoints WDT] FILE`: a table file as text, and what can be said of its actionpoints before any packet comes.
     Table {
         file: &'a str,
+        watchpoints: Option<&'a str>,
     },
     /// `stream [--whole] FILE`: the records of a stream as text, or as a script that says all of them.
     Stream {
@@ -40,6 +41,13 @@ pub enum Plan<'a> {
         page: &'a str,
         rules: Vec<&'a str>,
     },
+    /// `check [--schedule S] [--all] [--strict] RULES..`: what can be said of rules before any packet comes.
+    Check {
+        schedule: Option<&'a str>,
+        rules: Vec<&'a str>,
+        all: bool,
+        strict: bool,
+    },
     /// `live SCHEDULE RULES..`: a run over a stream as it comes, from standard input to standard output.
     Live {
         schedule: &'a str,
@@ -51,10 +59,14 @@ pub enum Plan<'a> {
 #[derive(Clone, Copy)]
 enum More {
     Nothing,
+    /// The file with the watchpoints of a table of actionpoints.
+    Watchpoints,
     /// Whether a script is wanted.
     Whole,
     /// Rule texts, one at least.
     Rules,
+    /// Rule texts, and how they are checked.
+    Checked,
 }
 
 /// A command: its word, what it does, the files that have to be named, with what each is, and what more it takes.
@@ -66,12 +78,12 @@ struct Row {
 }
 
 /// All commands, as the help lists them.
-const ROWS: [Row; 6] = [
+const ROWS: [Row; 7] = [
     Row {
         word: "table",
         about: "Says what a table file holds",
         files: &[("FILE", "A file of watchpoints or of actionpoints")],
-        more: More::Nothing,
+        more: More::Watchpoints,
     },
     Row {
         word: "stream",
@@ -105,6 +117,12 @@ const ROWS: [Row; 6] = [
         more: More::Rules,
     },
     Row {
+        word: "check",
+        about: "Says of rules whether they compile, and what is so for every stream",
+        files: &[],
+        more: More::Checked,
+    },
+    Row {
         word: "live",
         about: "Runs a stream from standard input as it comes, to standard output",
         files: &[("SCHEDULE", "The schedule")],
@@ -117,6 +135,26 @@ fn file_word<'a>(alloc: Global, name: &'a str, help: &'a str) -> Arg<'a> {
     Arg::new(alloc, name).required(true).help(help)
 }
 
+/// Rule texts, one at least.
+fn rule_words<'a>(alloc: Global) -> Arg<'a> {
+    file_word(alloc, "RULES", "The rule texts, numbered from 0")
+        .action(ArgAction::Append)
+        .num_args(1..)
+}
+
+/// A file that may be named behind an option.
+fn option_word<'a>(alloc: Global, name: &'a str, help: &'a str) -> Arg<'a> {
+    Arg::new(alloc, name).long(name).help(help)
+}
+
+/// An option without a value.
+fn flag_word<'a>(alloc: Global, name: &'a str, help: &'a str) -> Arg<'a> {
+    Arg::new(alloc, name)
+        .long(name)
+        .action(ArgAction::SetTrue)
+        .help(help)
+}
+
 /// A command with what more it takes.
 fn with_more<'a>(
     alloc: Global,
@@ -125,17 +163,34 @@ fn with_more<'a>(
 ) -> Result<Command<'a>, AllocError> {
     match more {
         More::Nothing => Ok(command),
-        More::Whole => command.arg(
-            Arg::new(alloc, "whole")
-                .long("whole")
-                .action(ArgAction::SetTrue)
-                .help("Writes a script from which scenario makes the same stream"),
-        ),
-        More::Rules => command.arg(
-            file_word(alloc, "RULES", "The rule texts, numbered from 0")
-                .action(ArgAction::Append)
-                .num_args(1..),
-        ),
+        More::Watchpoints => command.arg(option_word(
+            alloc,
+            "watchpoints",
+            "The watchpoints of these actionpoints, so that these are judged",
+        )),
+        More::Whole => command.arg(flag_word(
+            alloc,
+            "whole",
+            "Writes a script from which scenario makes the same stream",
+        )),
+        More::Rules => command.arg(rule_words(alloc)),
+        More::Checked => command
+            .arg(option_word(
+                alloc,
+                "schedule",
+                "A schedule, which samples each rule or doesn't",
+            ))?
+            .arg(flag_word(
+                alloc,
+                "all",
+                "Says of each rule for which values it fails and passes",
+            ))?
+            .arg(flag_word(
+                alloc,
+                "strict",
+                "Ends with status 1 where there is a warning",
+            ))?
+            .arg(rule_words(alloc)),
     }
 }
 
@@ -203,6 +258,7 @@ fn given_plan<'a>(alloc: Global, matches: &ArgMatches<'a>) -> Result<Option<Plan
         Some(("packets", found)) => Ok(packets_plan(found)),
         Some(("scenario", found)) => Ok(scenario_plan(found)),
         Some(("report", found)) => report_plan(alloc, found),
+        Some(("check", found)) => check_plan(alloc, found),
         Some(("live", found)) => live_plan(alloc, found),
         _ => Ok(None),
     }
@@ -212,6 +268,14 @@ fn given_plan<'a>(alloc: Global, matches: &ArgMatches<'a>) -> Result<Option<Plan
 fn file_of<'a>(found: &ArgMatches<'a>, name: &str) -> Option<&'a str>
     ensures { IfSome result
         (λ word. first_of name.now (rows_of (found_of found.now)) ≡ Some word.now) }
+{
+    found.get_str(name)
+}
+
+/// The file of an option, where it is given.
+fn named<'a>(found: &ArgMatches<'a>, name: &str) -> Option<&'a str>
+    ensures { first_of name.now (rows_of (found_of found.now)) ≡
+        option_map (λ word. word.now) result }
 {
     found.get_str(name)
 }
@@ -233,6 +297,7 @@ fn table_plan<'a>(found: &ArgMatches<'a>) -> Option<Plan<'a>>
 {
     Some(Plan::Table {
         file: file_of(found, "FILE")?,
+        watchpoints: named(found, "watchpoints"),
     })
 }
 
@@ -282,6 +347,30 @@ fn report_plan<'a>(alloc: Global, found: &ArgMatches<'a>) -> Result<Option<Plan<
 {
     match rules_of(alloc, found)? {
         Some(rules) => Ok(report_of(found, rules)),
+        None => Ok(None),
+    }
+}
+
+/// The plan of a check of these rule texts.
+fn check_of<'a>(found: &ArgMatches<'a>, rules: Vec<&'a str>) -> Plan<'a>
+    requires { all_of (codes "RULES") (rows_of (found_of found.now)) ≡
+        Some (map (λ word. word.now) rules.items) }
+    ensures { HoldsRows (codes "check", rows_of (found_of found.now)) result }
+{
+    Plan::Check {
+        schedule: named(found, "schedule"),
+        rules,
+        all: found.get_flag("all"),
+        strict: found.get_flag("strict"),
+    }
+}
+
+fn check_plan<'a>(alloc: Global, found: &ArgMatches<'a>) -> Result<Option<Plan<'a>>, AllocError>
+    ensures { IfOk result (λ plan. IfSome plan
+        (HoldsRows (codes "check", rows_of (found_of found.now)))) }
+{
+    match rules_of(alloc, found)? {
+        Some(rules) => Ok(Some(check_of(found, rules))),
         None => Ok(None),
     }
 }
