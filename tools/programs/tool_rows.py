@@ -165,6 +165,7 @@ Commands:
   packets   Says what the packets are that a run wrote
   scenario  Makes a stream from a script
   report    Makes a page of a run, for a browser
+  check     Says of rules whether they compile, and what is so for every stream
   live      Runs a stream from standard input as it comes, to standard output
   help      Print this message or the help of the given subcommand(s)
 
@@ -184,7 +185,7 @@ WORDS = [
     Row("help is no fault", ["flight_tools", "--help"], output=HELP),
     Row("no command", ["flight_tools"], status=2, error=b"""\
 error: 'flight_tools' requires a subcommand but one was not provided
-  [subcommands: table, stream, packets, scenario, report, live, help]
+  [subcommands: table, stream, packets, scenario, report, check, live, help]
 
 Usage: flight_tools <COMMAND>
 
@@ -203,7 +204,7 @@ For more information, try '--help'.
 error: the following required arguments were not provided:
   <FILE>
 
-Usage: flight_tools table <FILE>
+Usage: flight_tools table [OPTIONS] <FILE>
 
 For more information, try '--help'.
 """),
