@@ -1,5 +1,5 @@
 -- Over whole runs nobody requests a sequence that only rules request that never fail.
-use Rattle.std.proofs.Common.{◌≡◌, ℕ, zero, suc, ◌+◌, ◌%◌, ◌^◌, ◌<◌, ◌≤◌, Bool, true, false, List, [], ◌∷◌, length, refl, ap, sym, ◌∙◌, subst, arith, Option, Some, None, option_map, Result, Ok, Err, inl, inr, if◌then◌else◌, nat_lt}
+use Rattle.std.proofs.Common.{◌≡◌, ℕ, zero, suc, ◌+◌, ◌%◌, ◌^◌, ◌<◌, ◌≤◌, Bool, true, false, List, [], ◌∷◌, length, refl, ap, sym, ◌∙◌, subst, arith, Option, Some, None, option_map, Result, Ok, Err, inl, inr, if◌then◌else◌, nat_lt, cond}
 use Rattle.std.specs.Prelude.{◌≢◌, ◌⊎◌, ⊤, Contains, find, slice_get}
 use Rattle.std.specs.Option.{option_map_or}
 use Rattle.std.specs.List.{AllByRecursion, AllZip, filter}
@@ -14,6 +14,7 @@ use Rattle.lc_model.specs.Tables.Image.{Layout, ImageFault, fault_of}
 use Rattle.lc_model.specs.Tables.File.{TableFile, opened}
 use Rattle.lc_model.specs.Tables.Interpretation.{kind_of_size}
 use Rattle.lc_model.specs.Tables.HalvesAndBytes.{Text, TextImage, HalfOf, Faulty, Foreign, as_halves, rules_of_half, text_meanings, text_image, image_of_kind, half_of_one, meaning_by}
+use Rattle.lc_model.specs.Packet.{message_id, sequence_mid}
 use Rattle.lc_model.specs.Events.Request.{Request, Event, Sequence, Housekeeping}
 use Rattle.lc_model.specs.Events.Outgoing.{sequence_request}
 use Rattle.lc_model.specs.Host.Schedule.{Schedule}
@@ -31,7 +32,7 @@ use Rattle.lc_model.proofs.Tables.HalfFiles.{numbered_among}
 use Rattle.lc_model.proofs.Tables.RulesFit.{within_ranges}
 use Rattle.rule_judgement.specs.Judgement.{NeverFails}
 use Rattle.rule_judgement.specs.Quiet.{IsQuiet, IsOfQuietRules, AreWithout}
-use Rattle.rule_judgement.specs.Called.{sequence_number, NeverFailIn, IsNeverCalledFor}
+use Rattle.rule_judgement.specs.Called.{sequence_number, NeverFailIn, IsNeverCalledFor, IsNeverWritten}
 use Rattle.rule_judgement.proofs.Each.{both}
 use Rattle.rule_judgement.proofs.CalledSteps.{Own, alike, agree, Owns, IsQuietIn, react_quiet}
 
@@ -195,3 +196,28 @@ never_called_for m texts stream sequence compiled never =
     all_of_others m.edition.layouts texts sequence never (compiled_texts m.edition.limits m.sources texts compiled) m.schedule
     (records_of (length texts) stream).0 (first_world m.stock)
     (record { files = tt; host = refl; lc = tt; lc_spares = refl; sch = refl; counter = refl; sent = refl }) tt
+
+-- ---- what is written
+
+unfiltered : (sequence : ℕ) (packets : List (List ℕ)) → AllByRecursion (λ packet. sequence_number packet ≢ sequence) (filter is_sequence packets) →
+    AllByRecursion (λ packet. message_id packet ≡ sequence_mid → sequence_number packet ≢ sequence) packets
+unfiltered sequence [] all = tt
+unfiltered sequence (packet ∷ packets) all = by_test (unfiltered sequence packets) (is_sequence packet) refl all
+  where
+    other : is_sequence packet ≡ false → message_id packet ≡ sequence_mid → ⊥
+    other e same = grind (arith, nat_tests)
+
+    by_test : (AllByRecursion (λ p. sequence_number p ≢ sequence) (filter is_sequence packets) →
+        AllByRecursion (λ p. message_id p ≡ sequence_mid → sequence_number p ≢ sequence) packets) → (test : Bool) → is_sequence packet ≡ test →
+        AllByRecursion (λ p. sequence_number p ≢ sequence) (cond test (packet ∷ filter is_sequence packets) (filter is_sequence packets)) →
+        AllByRecursion (λ p. message_id p ≡ sequence_mid → sequence_number p ≢ sequence) (packet ∷ packets)
+    by_test later true e all = ((λ same. all.0), later all.1)
+    by_test later false e all = ((λ same. absurd (other e same)), later all)
+
+pub never_written : IsNeverWritten
+never_written m d ending writes texts stream before sequence compiled hashes carried source sink undisturbed never = record {
+  packets = sent_from (as_halves m.edition.layouts) m.schedule (first_world m.stock) (text_meanings m.edition.layouts texts) (records_of (length texts) stream).0;
+  gains = (writes texts stream before compiled hashes carried source sink undisturbed).gains;
+  none = unfiltered sequence (sent_from (as_halves m.edition.layouts) m.schedule (first_world m.stock) (text_meanings m.edition.layouts texts) (records_of (length texts) stream).0)
+      (never_called_for m texts stream sequence compiled never);
+}

@@ -1,10 +1,12 @@
 -- A sequence that only rules request that never fail is called for by nobody. This project's own.
-use Rattle.std.specs.Prelude.{◌≡◌, ◌≢◌, ℕ, List, Contains}
-use Rattle.std.specs.List.{AllByRecursion}
+use Rattle.std.specs.Prelude.{◌≡◌, ◌≢◌, ℕ, List, ◌++◌, Some, Contains}
+use Rattle.std.specs.List.{AllByRecursion, concat}
 use Rattle.lc_model.specs.Bytes.{u16_at}
 use Rattle.lc_model.specs.Rule.{NamedRule}
 use Rattle.lc_model.specs.Tables.HalvesAndBytes.{Text}
-use Rattle.lc_model.specs.Host.Promise.{Mission, IsOfTexts, sequences_called_for}
+use Rattle.lc_model.specs.Packet.{message_id, sequence_mid}
+use Rattle.lc_model.specs.Host.Outcome.{Devices, Ending}
+use Rattle.lc_model.specs.Host.Promise.{Mission, IsOfTexts, HaveOwnHashes, CarryHalves, IsUndisturbed, WritesWhatIsCalledFor, records_in, sequences_called_for}
 use Rattle.rule_judgement.specs.Judgement.{NeverFails}
 
 -- the number of the sequence that a request asks for
@@ -21,3 +23,18 @@ abbrev pub IsNeverCalledFor : Mission → Type 0
 IsNeverCalledFor m = (texts : List Text) (stream : List ℕ) (sequence : ℕ) → IsOfTexts m texts → NeverFailIn texts sequence →
     AllByRecursion (λ request. sequence_number request ≢ sequence)
     (sequences_called_for m.edition.layouts texts m.schedule m.stock stream)
+
+-- ---- what is written
+
+-- what the writer gained behind these bytes are packets, and none of them requests this sequence
+pub record GainsNoRequest (d : Devices) (before : List ℕ) (sequence : ℕ) : Type 0 where
+  pub packets : List (List ℕ)
+  pub gains : d.sink_after.gained ≡ Some (before ++ concat packets)
+  pub none : AllByRecursion (λ packet. message_id packet ≡ sequence_mid → sequence_number packet ≢ sequence) packets
+
+-- so it is of a run that writes what is called for, under the premises of that promise
+abbrev pub IsNeverWritten : Type 0
+IsNeverWritten = (m : Mission) (d : Devices) (ending : Ending) → WritesWhatIsCalledFor m d ending →
+    (texts : List Text) (stream before : List ℕ) (sequence : ℕ) → IsOfTexts m texts → HaveOwnHashes texts →
+    CarryHalves m.edition.layouts texts (records_in m stream).0 → d.source.rest ≡ Some stream → d.sink.gained ≡ Some before → IsUndisturbed m d ending →
+    NeverFailIn texts sequence → GainsNoRequest d before sequence

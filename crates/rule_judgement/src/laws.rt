@@ -5,7 +5,7 @@ ghost use Rattle.std.specs.Prelude.{List};
 ghost use Rattle.lc_model.specs.Tables.HalvesAndBytes.{as_bytes, as_halves};
 ghost use Rattle.lc_model.specs.Tables.Image.{Layout};
 ghost use Rattle.lc_model.specs.Host.Promise.{Mission};
-ghost use Rattle.rule_judgement.specs.Called.{IsNeverCalledFor};
+ghost use Rattle.rule_judgement.specs.Called.{IsNeverCalledFor, IsNeverWritten};
 ghost use Rattle.rule_judgement.specs.Quiet.{NobodyRequests, QuietRulesStayQuiet, StartsQuiet};
 
 /// What is known of a condition stays when more is known, and what no numbers make true no history does.
@@ -33,4 +33,9 @@ pub fn nobody_requests_quiet_sequences()
 /// of a mission call for, whatever the stream.
 pub fn quiet_sequences_are_not_called_for()
     ensures { (mission : Mission) → IsNeverCalledFor mission }
+{}
+
+/// And so, where a run writes what is called for (`run`'s promise `by_texts`), no packet that it writes requests this sequence.
+pub fn quiet_sequences_are_not_written()
+    ensures { IsNeverWritten }
 {}
