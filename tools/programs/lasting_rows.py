@@ -177,7 +177,7 @@ BOUNDED = [
         "a listing of 16 MB of records, in pieces",
         ["flight_tools", "stream", "file"],
         {"file": LONG_RECORDS},
-        output=b"".join(b"%d 100 0 packet 0000 65536 bytes\n" % (number + 1) for number in range(250)),
+        output=b"".join(b"%d 100 0 packet 0000 code 0 65536 bytes\n" % (number + 1) for number in range(250)),
         most_memory=12 * MIB,
     ),
     Row(

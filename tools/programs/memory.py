@@ -3,7 +3,7 @@
 
     python3 tools/programs/memory.py [FOLDER]
 
-FOLDER has both programs (`bin` where nothing is said, which `tools/build` makes). A run is one of `flight_run run` from a file to a
+FOLDER has both programs (`bin` where nothing is said, which `tools/build` makes); Debian's package `time` has to be there. A run is one of `flight_run run` from a file to a
 file, and one of `flight_tools live` from the same file to another.
 """
 
@@ -37,14 +37,10 @@ def written(place, name, pieces):
 
 
 def peak(place, words, **files):
-    """The most memory in MB that the call took, as the system counts it for a process that has ended."""
-    ran = subprocess.Popen(words, cwd=place, stderr=subprocess.PIPE, **files)
-    error = ran.stderr.read()
-    _, status, used = os.wait4(ran.pid, 0)
-    ran.returncode = os.waitstatus_to_exitcode(status)
-    if ran.returncode:
-        sys.exit(f"{words} ended with {ran.returncode}: {error[:200]}")
-    return used.ru_maxrss / 1024
+    """The most memory in MB that the call took, as `time` tells it, whose own process is smaller than any of these."""
+    subprocess.run(["/usr/bin/time", "-f", "%M", "-o", "peak", *words], cwd=place, stderr=subprocess.DEVNULL, check=True, **files)
+    with open(os.path.join(place, "peak"), encoding="ascii") as file:
+        return int(file.read()) / 1024
 
 
 def told(folder, title, texts, stream):
