@@ -41,7 +41,8 @@ impl Faults {
     fn check_mask(&mut self, kind: FieldType, mask: Option<Number>)
         ensures faults { first_of self.new ≡
             after (first_of self.old)
-            (option_map_or (fault_outside 1 (full_mask kind) mask_range) (option_map number_of mask) []) }
+            (option_map_or (fault_outside 1 (full_mask kind) mask_range)
+            (option_map number_of mask) []) }
         ensures names { (items : List model.Item) → NamesItsFault items self.old.first →
             NamesItsFault items self.new.first }
     {

@@ -104,7 +104,8 @@ impl Application {
         ensures told { Tells self.now.seat lc_name
             (renewal_requests renewal.now ++ Housekeeping self.now.engine.mode
             (map (standing by_counts) self.now.engine.points) ∷ []) services.old services.new }
-        ensures size { length services.new.outgoing ≤ length services.old.outgoing + largest_report }
+        ensures size { length services.new.outgoing ≤
+            length services.old.outgoing + largest_report }
     {
         // For the proof: what is told adds up from call to call.
         telling_goes_on();
