@@ -58,7 +58,7 @@ module _ (schedule : Schedule) (d : Devices) where
         ending ≢ ReachedTheBound → ending ≢ NoMemory → FollowsItsText schedule d stream before ending
     follows ending kept no_read no_write no_bound memory =
         let writes = wrote (text ∷ []) sources compile own_hashes all_fit schedule d stream before (no_file_no_half (records_of 1 stream).0 none) known gained
-            ending kept no_read no_write no_bound memory in
+        ending kept no_read no_write no_bound memory in
         record { rules = low_volts_rules; reads = low_volts_reads; gains = writes.gains; answers = writes.answers }
 
     ends_by_its_text : (ending : Ending) → KeepsItsPromises sources schedule d ending → EndsByItsText schedule d stream before ending

@@ -118,7 +118,7 @@ that_file name bytes is = (bytes_eq-Decides bytes lower_wdt_file).0 is
 carry : CarryHalves layouts texts (records_of 2 swaps_and_reload).0
 carry entry name bytes (k, less, there) is =
     let brought : is_that_file (File name bytes) ≡ true =
-        ap is_that_file (sym is) ∙ sym (ap (λ (e : StreamEntry). is_that_file e.contents) there) ∙ holds_at (records_of 2 swaps_and_reload).0 k less one_file entry in
+    ap is_that_file (sym is) ∙ sym (ap (λ (e : StreamEntry). is_that_file e.contents) there) ∙ holds_at (records_of 2 swaps_and_reload).0 k less one_file entry in
     subst (CarriesHalf layouts texts) (sym (that_file name bytes brought)) carries
 
 -- ---- what is called for
