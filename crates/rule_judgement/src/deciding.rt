@@ -47,8 +47,8 @@ pub(crate) fn holds_for_some(
 ) -> Result<Option<bool>, AllocError>
     ensures some { IfOk result (λ some. some ≡ Some true → HoldsForSome (condition_of cond.now)) }
     ensures never { IfOk result (λ some. some ≡ Some false → NeverFails (condition_of cond.now)) }
-    ensures none { IfOk result
-        (λ some. some ≡ None → AreFewByNames (condition_of cond.now) steps.old) }
+    ensures none { IfOk result (λ some. some ≡ None →
+        AreFewByNames (condition_of cond.now) steps.old) }
 {
     match decide(alloc, cond, steps)? {
         Decision::Holds { .. } => Ok(Some(true)),
