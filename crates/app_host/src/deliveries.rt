@@ -46,8 +46,23 @@ impl Host {
     }
 
     /// What waits to be written is written, behind so many bytes of this step; answers how many these are then. Where the write
-    /// fails the host is closed.
+    /// fails the host is closed. Most records leave nothing to be written, and are told so without a call.
     pub(crate) fn flush<W: ByteSink>(&mut self, out: &mut W, sent: u64) -> Result<u64, WriteFault>
+        requires seated { AreSeated (shown meaning self.old).seats
+            (shown meaning self.old).services }
+        requires room { sent + length self.old.services.outgoing ≤ most_sent }
+        ensures flushed { IsFlushed (shown meaning self.old) (shown meaning self.new) }
+        ensures sent { IsSent sent (shown meaning self.old) (shown meaning self.new)
+            (W.sink out.old) (W.sink out.new) result }
+    {
+        if self.services.outgoing.is_empty() {
+            return Ok(sent);
+        }
+        self.write_waiting(out, sent)
+    }
+
+    /// The same, whether anything waits or not.
+    fn write_waiting<W: ByteSink>(&mut self, out: &mut W, sent: u64) -> Result<u64, WriteFault>
         requires seated { AreSeated (shown meaning self.old).seats
             (shown meaning self.old).services }
         requires room { sent + length self.old.services.outgoing ≤ most_sent }

@@ -1,6 +1,6 @@
 //! The bytes that wait to be written.
 
-ghost use Rattle.std.specs.Prelude.{◌≡◌, ◌+◌, ◌≤◌, ◌++◌, [], length, IfOk};
+ghost use Rattle.std.specs.Prelude.{◌≡◌, ◌+◌, ◌≤◌, ◌++◌, true, [], length, IfOk};
 ghost use Rattle.lc_model.specs.Services.Interface.{outgoing_room};
 
 use std::alloc::{AllocError, Global};
@@ -40,6 +40,13 @@ impl Outgoing {
         ensures { result.now ≡ self.now }
     {
         self.bytes.as_slice()
+    }
+
+    /// Whether nothing waits.
+    pub fn is_empty(&self) -> bool
+        ensures { result ≡ true → self.now ≡ [] }
+    {
+        self.bytes.is_empty()
     }
 
     /// Adds bytes behind those that wait. There is room for them.

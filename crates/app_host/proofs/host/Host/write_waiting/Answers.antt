@@ -1,7 +1,7 @@
 use Rattle.std.proofs.Common.{rules, refl}
 use Rattle.app_host.proofs.Deliver.{flushed_so}
 use Rattle.lc_model.proofs.Services.TableNames.{tables_are_found}
-use Rattle.app_host.proofs.host.Host.flush.Goals as goal
+use Rattle.app_host.proofs.host.Host.write_waiting.Goals as goal
 
 pub returns-in-Ok-clause-flushed : goal.returns-in-Ok-clause-flushed
 returns-in-Ok-clause-flushed g c =
