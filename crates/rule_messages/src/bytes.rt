@@ -1,11 +1,15 @@
 //! Parts of texts, and how they are written into sentences.
 
+ghost use Rattle.std.specs.Prelude.{◌≡◌, drop};
+
 use std::alloc::{AllocError, Global};
 use std::fmt;
 use text_places::{front_character, shown};
 
 /// The bytes behind so many, if there are as many.
-pub fn behind(bytes: &[u8], count: usize) -> &[u8] {
+pub fn behind(bytes: &[u8], count: usize) -> &[u8]
+    ensures { result.now ≡ drop count bytes.now }
+{
     if count < bytes.len() {
         &bytes[count..]
     } else {

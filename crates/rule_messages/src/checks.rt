@@ -1,5 +1,10 @@
 //! What is said of items whose names, places or numbers aren't right.
 
+ghost use Rattle.std.specs.Prelude.{◌≡◌, IfOk};
+ghost use Rattle.rpn_compiler.specs.declared.error.CompileError.TheVariants.{Check};
+ghost use Rattle.rpn_compiler.specs.Fault.{refusal_of};
+ghost use Rattle.rule_messages.specs.Telling.{IsAt, TellsOf, place_of_check};
+
 use crate::bytes::{Grouped, Many, Signed, quoted, written};
 use crate::message::{Mark, Message};
 use crate::nearest::nearest_name;
@@ -15,7 +20,9 @@ const FIRST_COMMAND: i64 = 0x1800;
 const LAST_COMMAND: i64 = 0x1FFF;
 
 /// A mark under a token.
-fn mark(token: Token<'_>, label: String) -> Mark {
+fn mark(token: Token<'_>, label: String) -> Mark
+    ensures { result.at ≡ token.entry.at }
+{
     Mark {
         at: token.at,
         size: token.text.len(),
@@ -90,7 +97,9 @@ fn duplicate(
     source: &Source<'_>,
     number: usize,
     token: Token<'_>,
-) -> Result<Message, AllocError> {
+) -> Result<Message, AllocError>
+    ensures { IfOk result (IsAt 21 token.entry.at) }
+{
     let name = quoted(alloc, token.text)?;
     let head = format!(in alloc; "the name {name} is declared twice")?;
     let kind = source.kind_of(source.part_of(number));
@@ -191,7 +200,9 @@ fn unknown(
     source: &Source<'_>,
     number: usize,
     token: Token<'_>,
-) -> Result<Message, AllocError> {
+) -> Result<Message, AllocError>
+    ensures { IfOk result (IsAt 22 token.entry.at) }
+{
     let kind = match source.kind_of(source.part_of(number)) {
         Some(Kind::Field) => Kind::Packet,
         _ => Kind::Field,
@@ -221,7 +232,9 @@ fn unknown(
 }
 
 /// A message id that isn't one of telemetry.
-fn no_telemetry(alloc: Global, token: Token<'_>) -> Result<Message, AllocError> {
+fn no_telemetry(alloc: Global, token: Token<'_>) -> Result<Message, AllocError>
+    ensures { IfOk result (IsAt 23 token.entry.at) }
+{
     let mid = quoted(alloc, token.text)?;
     let head = format!(in alloc; "the message id {mid} is not one of telemetry")?;
     let value = value_of(token);
@@ -237,7 +250,9 @@ fn no_telemetry(alloc: Global, token: Token<'_>) -> Result<Message, AllocError> 
 }
 
 /// A message id of the host's own.
-fn reserved(alloc: Global, token: Token<'_>) -> Result<Message, AllocError> {
+fn reserved(alloc: Global, token: Token<'_>) -> Result<Message, AllocError>
+    ensures { IfOk result (IsAt 24 token.entry.at) }
+{
     let mid = quoted(alloc, token.text)?;
     let head = format!(in alloc; "the message id {mid} is the host's own")?;
     let label = String::from_str(
@@ -281,7 +296,9 @@ fn outside(
     source: &Source<'_>,
     number: usize,
     token: Token<'_>,
-) -> Result<Message, AllocError> {
+) -> Result<Message, AllocError>
+    ensures { IfOk result (IsAt 25 token.entry.at) }
+{
     let field = declared_in(source, number);
     let name = quoted(alloc, field.map_or(b"", |field| field.text))?;
     let kind = match field {
@@ -326,7 +343,9 @@ fn bad_mask(
     source: &Source<'_>,
     number: usize,
     token: Token<'_>,
-) -> Result<Message, AllocError> {
+) -> Result<Message, AllocError>
+    ensures { IfOk result (IsAt 26 token.entry.at) }
+{
     let written = quoted(alloc, token.text)?;
     let value = value_of(token);
     let head = if value == 0 {
@@ -361,7 +380,9 @@ fn bad_compared(
     source: &Source<'_>,
     number: usize,
     token: Token<'_>,
-) -> Result<Message, AllocError> {
+) -> Result<Message, AllocError>
+    ensures { IfOk result (IsAt 27 token.entry.at) }
+{
     let written = quoted(alloc, token.text)?;
     let name = source.token(number.saturating_sub(2));
     let text: &[u8] = name.map_or(b"", |name| name.text);
@@ -404,7 +425,9 @@ fn bad_number(
     alloc: Global,
     token: Token<'_>,
     number: RuleNumber,
-) -> Result<Message, AllocError> {
+) -> Result<Message, AllocError>
+    ensures { IfOk result (IsAt 28 token.entry.at) }
+{
     let name = number_name(number);
     let head = format!(in alloc; "{name} is out of range")?;
     let least = Grouped(u64::from(number.least()));
@@ -417,14 +440,18 @@ fn bad_number(
 }
 
 /// A length that is out of its range.
-fn bad_length(alloc: Global, token: Token<'_>) -> Result<Message, AllocError> {
+fn bad_length(alloc: Global, token: Token<'_>) -> Result<Message, AllocError>
+    ensures { IfOk result (IsAt 29 token.entry.at) }
+{
     let head = String::from_str(alloc, "the packet length is out of range")?;
     let label = String::from_str(alloc, "write 12 to 2,048")?;
     Ok(Message::at(alloc, 29, head, mark(token, label)))
 }
 
 /// The place that an error of items names.
-pub fn check_place(error: CheckError) -> usize {
+pub fn check_place(error: CheckError) -> usize
+    ensures { result ≡ place_of_check error }
+{
     match error {
         CheckError::DuplicateName { at }
         | CheckError::UnknownName { at }
@@ -439,19 +466,35 @@ pub fn check_place(error: CheckError) -> usize {
     }
 }
 
+/// The token with this number, as the one at this place.
+fn token_at<'a>(source: &Source<'a>, number: usize, at: usize) -> Token<'a>
+    ensures { result.at ≡ at }
+{
+    match source.token(number) {
+        Some(token) => Token {
+            at,
+            text: token.text,
+            kind: token.kind,
+        },
+        None => Token {
+            at,
+            text: b"",
+            kind: TokenKind::Name,
+        },
+    }
+}
+
 /// What is said of an error of items.
 pub fn check_message(
     alloc: Global,
     source: &Source<'_>,
     error: CheckError,
-) -> Result<Message, AllocError> {
+) -> Result<Message, AllocError>
+    ensures { IfOk result (TellsOf source.now.text.now (refusal_of (Check error))) }
+{
     let at = check_place(error);
     let number = source.number_at(at);
-    let token = source.token(number).unwrap_or(Token {
-        at,
-        text: b"",
-        kind: TokenKind::Name,
-    });
+    let token = token_at(source, number, at);
     match error {
         CheckError::DuplicateName { .. } => duplicate(alloc, source, number, token),
         CheckError::UnknownName { .. } => unknown(alloc, source, number, token),

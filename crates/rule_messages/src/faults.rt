@@ -1,13 +1,24 @@
 //! All faults of a text: the compiler's first, and others that don't follow from it.
 
+ghost use Rattle.std.specs.Prelude.{◌≡◌, ◌++◌, List, [], ◌∷◌, IfOk};
+ghost use Rattle.lc_model.specs.Rule.{NamedRule};
+ghost use Rattle.lc_model.specs.Text.Reading.{TextRefusal};
+ghost use Rattle.lc_model.specs.Tables.Compiling.{Compiles, IsRefused};
+ghost use Rattle.lc_model.specs.Tables.InForce.{limits};
+ghost use Rattle.rpn_compiler.specs.Fault.{refusal_of};
+ghost use Rattle.rule_messages.specs.Telling.{BeginsWith, TellsOf};
+ghost use Rattle.rule_messages.specs.declared.message.Message.{Message};
+
 use crate::bytes::part;
 use crate::explaining::explain;
 use crate::item_faults::Checked;
 use crate::message::Message;
-use crate::source::{Part, Source};
+use crate::nearest::nearest;
+use crate::source::{Part, Source, begins_item};
 use crate::tables::{is_too_long, rule_count, rule_part, words_of};
 use crate::token_faults::place;
 use crate::tokens::{Mended, mend};
+use crate::wanted::ITEM_WORDS;
 use field_checker::CheckError;
 use rpn_compiler::{CompileError, compile};
 use rule_lexer::{LexError, TokenKind, lex};
@@ -97,20 +108,45 @@ fn read_items(
 ) -> Result<Grammar, AllocError> {
     let mut errors = Vec::new(alloc);
     let mut whole = Vec::new(alloc);
+    let mut before = true;
     for item in &source.parts {
         if has_bad_token(source, *item, bad) {
             whole.push(false)?;
+            before = true;
             continue;
         }
-        match grammar_error(alloc, source, clean, *item)? {
-            Some(error) => {
+        let error = grammar_error(alloc, source, clean, *item)?;
+        let is_whole = error.is_none();
+        if let Some(error) = error {
+            if !follows(alloc, source, *item, before)? {
                 errors.push(error)?;
-                whole.push(false)?;
             }
-            None => whole.push(true)?,
         }
+        whole.push(is_whole)?;
+        before = is_whole;
     }
     Ok(Grammar { errors, whole })
+}
+
+/// Whether the error of an item's grammar may follow from that of the item before it, which isn't whole: the one before has no `;`, or
+/// nothing that was meant to begin an item begins this one.
+fn follows(
+    alloc: Global,
+    source: &Source<'_>,
+    item: Part,
+    is_whole_before: bool,
+) -> Result<bool, AllocError> {
+    if is_whole_before {
+        return Ok(false);
+    }
+    let Some(first) = source.token(item.from) else {
+        return Ok(true);
+    };
+    let last = source.token(item.from.saturating_sub(1));
+    if begins_item(first.kind) {
+        return Ok(!matches!(last, Some(last) if last.kind == TokenKind::Semicolon));
+    }
+    Ok(nearest(alloc, first.text, ITEM_WORDS)?.is_none())
 }
 
 /// The errors of rules that are too long, where nothing else is wrong.
@@ -168,29 +204,84 @@ fn errors(
     Ok(all)
 }
 
-/// What is said of a text that doesn't compile; nothing of one that does.
-pub fn messages(alloc: Global, text: &[u8]) -> Result<Vec<Message>, AllocError> {
-    let mut told = Vec::new(alloc);
-    let first = match compile(alloc, text) {
-        Ok(_) => return Ok(told),
-        Err(CompileError::Memory) => return Err(AllocError),
-        Err(error) => error,
-    };
-    if first == CompileError::Lex(LexError::TextTooLong) {
-        let source = Source::new(alloc, text, Vec::new(alloc))?;
-        told.push(explain(alloc, &source, first)?)?;
-        return Ok(told);
+/// Adds what is said of each other error.
+fn add_others(
+    alloc: Global,
+    source: &Source<'_>,
+    first: CompileError,
+    errors: &[CompileError],
+    told: &mut Vec<Message>,
+) -> Result<(), AllocError>
+    ensures { IfOk result (λ _. (more : List Message) × (told.new.items ≡ told.old.items ++ more)) }
+{
+    for error in errors {
+        if *error != first {
+            told.push(explain(alloc, source, *error)?)?;
+        }
     }
+    Ok(())
+}
+
+/// What is said of a text that is too long, which has no tokens.
+fn told_of_all(alloc: Global, text: &[u8], first: CompileError) -> Result<Vec<Message>, AllocError>
+    ensures { IfOk result (λ told. (message : Message) × (more : List Message)
+        × (told.items ≡ message ∷ more) × TellsOf text.now (refusal_of first) message) }
+{
+    let source = Source::new(alloc, text, Vec::new(alloc))?;
+    let mut told = Vec::new(alloc);
+    told.push(explain(alloc, &source, first)?)?;
+    Ok(told)
+}
+
+/// What is said of a text with tokens and its first error, and of the errors that don't follow from it.
+fn told_of_parts(
+    alloc: Global,
+    text: &[u8],
+    first: CompileError,
+) -> Result<Vec<Message>, AllocError>
+    ensures { IfOk result (λ told. (message : Message) × (more : List Message)
+        × (told.items ≡ message ∷ more) × TellsOf text.now (refusal_of first) message) }
+{
     let mended = mend(alloc, text)?;
     let Ok(tokens) = lex(alloc, mended.text.as_slice()) else {
         return Err(AllocError);
     };
     let source = Source::new(alloc, text, tokens)?;
+    let mut told = Vec::new(alloc);
     told.push(explain(alloc, &source, first)?)?;
-    for error in &errors(alloc, &source, &mended, first)? {
-        if *error != first {
-            told.push(explain(alloc, &source, *error)?)?;
-        }
-    }
+    let errors = errors(alloc, &source, &mended, first)?;
+    add_others(alloc, &source, first, errors.as_slice(), &mut told)?;
     Ok(told)
+}
+
+/// What is said of a text that has this first error.
+fn told_of(alloc: Global, text: &[u8], first: CompileError) -> Result<Vec<Message>, AllocError>
+    ensures { IfOk result (λ told. (message : Message) × (more : List Message)
+        × (told.items ≡ message ∷ more) × TellsOf text.now (refusal_of first) message) }
+{
+    if first == CompileError::Lex(LexError::TextTooLong) {
+        told_of_all(alloc, text, first)
+    } else {
+        told_of_parts(alloc, text, first)
+    }
+}
+
+/// What is said of a text that doesn't compile: first of the compiler's refusal, by its number and its place, and then of faults that
+/// don't follow from it or from one another, in the order of the compiler's parts. Nothing is said of a text that compiles.
+///
+/// A fault of a quoted text is told at the character that may not stand there, and else at the quote; a refusal without a place is told
+/// at the comparison or the rule that is too much.
+///
+/// Errors: there is no memory for what is said, or for compiling.
+pub fn messages(alloc: Global, text: &[u8]) -> Result<Vec<Message>, AllocError>
+    ensures quiet { (rules : List NamedRule) → Compiles limits text.now rules →
+        IfOk result (λ told. told.items ≡ []) }
+    ensures first { (refusal : TextRefusal) → IsRefused limits text.now refusal →
+        IfOk result (λ told. BeginsWith text.now refusal told.items) }
+{
+    match compile(alloc, text) {
+        Ok(_) => Ok(Vec::new(alloc)),
+        Err(CompileError::Memory) => Err(AllocError),
+        Err(error) => told_of(alloc, text, error),
+    }
 }

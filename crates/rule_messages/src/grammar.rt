@@ -1,5 +1,8 @@
 //! What is said of a token that continues no item.
 
+ghost use Rattle.std.specs.Prelude.{◌≡◌, IfOk};
+ghost use Rattle.rule_messages.specs.Telling.{IsAt};
+
 use crate::bytes::quoted;
 use crate::message::{Mark, Message};
 use crate::nearest::nearest;
@@ -180,33 +183,45 @@ impl<'a> Stop<'_, 'a> {
         self.class_label(alloc)
     }
 
-    /// The other places that matter.
-    fn others(&self, alloc: Global, message: Message) -> Result<Message, AllocError> {
-        let mut message = message;
-        if self.is_early() {
-            if let Some(before) = self.before() {
-                message = message.with(Some(behind_token(alloc, before, self.what)?))?;
-            }
+    /// Where something is to be written, if the next item begins too early, or the text ends.
+    fn missing(&self, alloc: Global) -> Result<Option<Mark>, AllocError> {
+        if !self.is_early() {
+            return Ok(None);
         }
-        if self.what == What::Sign(Sign::Close) {
-            if let Some(open) = self.open() {
-                message = message.with(Some(Mark {
-                    at: open.at,
-                    size: open.text.len(),
-                    label: String::from_str(alloc, "opened here")?,
-                }))?;
-            }
+        match self.before() {
+            Some(before) => Ok(Some(behind_token(alloc, before, self.what)?)),
+            None => Ok(None),
         }
-        if self.what == What::Number {
-            if let Some(field) = self.compared_field() {
-                message = message.with(Some(Mark {
-                    at: field.at,
-                    size: field.text.len(),
-                    label: String::from_str(alloc, "declared here")?,
-                }))?;
-            }
+    }
+
+    /// The parenthesis that is to be closed.
+    fn opened(&self, alloc: Global) -> Result<Option<Mark>, AllocError> {
+        if self.what != What::Sign(Sign::Close) {
+            return Ok(None);
         }
-        Ok(message)
+        match self.open() {
+            Some(open) => Ok(Some(Mark {
+                at: open.at,
+                size: open.text.len(),
+                label: String::from_str(alloc, "opened here")?,
+            })),
+            None => Ok(None),
+        }
+    }
+
+    /// The declaration of the field that stands where a number is wanted.
+    fn declaration(&self, alloc: Global) -> Result<Option<Mark>, AllocError> {
+        if self.what != What::Number {
+            return Ok(None);
+        }
+        match self.compared_field() {
+            Some(field) => Ok(Some(Mark {
+                at: field.at,
+                size: field.text.len(),
+                label: String::from_str(alloc, "declared here")?,
+            })),
+            None => Ok(None),
+        }
     }
 }
 
@@ -216,7 +231,9 @@ pub fn expected_message(
     source: &Source<'_>,
     at: usize,
     what: What,
-) -> Result<Message, AllocError> {
+) -> Result<Message, AllocError>
+    ensures { IfOk result (IsAt 11 at) }
+{
     let stop = Stop {
         source,
         number: source.number_at(at),
@@ -228,7 +245,10 @@ pub fn expected_message(
     let head = format!(in alloc; "expected {wanted}, found {found}")?;
     let label = stop.label(alloc)?;
     let size = token.map_or(0, |token| token.text.len());
-    stop.others(alloc, Message::at(alloc, 11, head, Mark { at, size, label }))
+    Message::at(alloc, 11, head, Mark { at, size, label })
+        .with(stop.missing(alloc)?)?
+        .with(stop.opened(alloc)?)?
+        .with(stop.declaration(alloc)?)
 }
 
 /// What is said of the 65th token that nests in a condition.
@@ -236,7 +256,9 @@ pub fn nested_message(
     alloc: Global,
     source: &Source<'_>,
     at: usize,
-) -> Result<Message, AllocError> {
+) -> Result<Message, AllocError>
+    ensures { IfOk result (IsAt 12 at) }
+{
     let number = source.number_at(at);
     let size = source.token(number).map_or(0, |token| token.text.len());
     let head = String::from_str(
@@ -244,13 +266,21 @@ pub fn nested_message(
         "a condition has over 64 of `(`, `not`, `and`, `xor` and `or`",
     )?;
     let label = String::from_str(alloc, "this is the 65th: split the rule in two")?;
-    let message = Message::at(alloc, 12, head, Mark { at, size, label });
+    Message::at(alloc, 12, head, Mark { at, size, label }).with(begin_mark(alloc, source, number)?)
+}
+
+/// The `when` of the condition that the token with this number stands in.
+fn begin_mark(
+    alloc: Global,
+    source: &Source<'_>,
+    number: usize,
+) -> Result<Option<Mark>, AllocError> {
     match source.first_of(source.part_of(number), TokenKind::When) {
-        Some(when) => message.with(Some(Mark {
+        Some(when) => Ok(Some(Mark {
             at: when.at,
             size: when.text.len(),
             label: String::from_str(alloc, "the condition begins here")?,
         })),
-        None => Ok(message),
+        None => Ok(None),
     }
 }

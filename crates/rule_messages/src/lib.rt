@@ -20,4 +20,4 @@ mod wanted;
 pub use explaining::explain;
 pub use faults::messages;
 pub use message::{Mark, Message};
-pub use page::page;
+pub use page::page_of;

@@ -1,5 +1,8 @@
 //! A message for the author of a text.
 
+ghost use Rattle.std.specs.Prelude.{◌≡◌, ℕ, IfOk};
+ghost use Rattle.rule_messages.specs.Telling.{IsAt};
+
 use std::alloc::{AllocError, Global};
 
 /// Bytes of a text, with what is said of them.
@@ -27,7 +30,9 @@ pub struct Message {
 
 impl Message {
     /// With this place, and no other yet.
-    pub fn at(alloc: Global, code: u8, head: String, first: Mark) -> Message {
+    pub fn at(alloc: Global, code: u8, head: String, first: Mark) -> Message
+        ensures { IsAt code first.at result }
+    {
         Message {
             code,
             head,
@@ -37,15 +42,18 @@ impl Message {
     }
 
     /// Adds another place, if there is one, in the order of the text.
-    pub fn with(mut self, other: Option<Mark>) -> Result<Message, AllocError> {
-        if let Some(other) = other {
-            let before = self
-                .others
-                .iter()
-                .take_while(|mark| mark.at <= other.at)
-                .count();
-            self.others.insert(before, other)?;
-        }
+    pub fn with(mut self, other: Option<Mark>) -> Result<Message, AllocError>
+        ensures { (code at : ℕ) → IsAt code at self → IfOk result (IsAt code at) }
+    {
+        let Some(other) = other else {
+            return Ok(self);
+        };
+        let before = self
+            .others
+            .iter()
+            .take_while(|mark| mark.at <= other.at)
+            .count();
+        self.others.insert(before, other)?;
         Ok(self)
     }
 }

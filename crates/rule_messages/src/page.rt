@@ -20,12 +20,14 @@ fn push_many(page: &mut String, character: char, count: usize) -> Result<(), All
     Ok(())
 }
 
-/// Ends a line, without blanks at its end.
-fn end_line(page: &mut String) -> Result<(), AllocError> {
-    let size = page.as_str().trim_end_matches(' ').len();
-    page.truncate(size);
-    page.push('\n')?;
-    Ok(())
+/// How many columns there are without the blanks at the end.
+fn used_columns(columns: &[char]) -> usize {
+    let blanks = columns
+        .iter()
+        .rev()
+        .take_while(|column| **column == ' ')
+        .count();
+    columns.len().saturating_sub(blanks)
 }
 
 /// How many digits a number has.
@@ -50,11 +52,16 @@ fn push_text(
     push_many(page, ' ', width.saturating_sub(digits(number)))?;
     let number = format!(in alloc; "{number}")?;
     page.push_str(number.as_str())?;
-    page.push_str(" | ")?;
-    for column in &excerpt.columns {
+    page.push_str(" |")?;
+    let used = used_columns(excerpt.columns.as_slice());
+    if used > 0 {
+        page.push(' ')?;
+    }
+    for column in excerpt.columns.iter().take(used) {
         page.push(*column)?;
     }
-    end_line(page)
+    page.push('\n')?;
+    Ok(())
 }
 
 /// A line of marks, with its label.
@@ -71,7 +78,8 @@ fn push_marks(
     push_many(page, sign, excerpt.marks)?;
     page.push(' ')?;
     page.push_str(label)?;
-    end_line(page)
+    page.push('\n')?;
+    Ok(())
 }
 
 /// The excerpt for a mark.
@@ -177,7 +185,7 @@ fn push_items(alloc: Global, page: &mut String, text: &[u8]) -> Result<(), Alloc
 
 /// The messages of a text in a file of this name, as they are printed: the first ten, and how many there are. Of a text without any,
 /// which compiles, how many items it has.
-pub fn page(
+pub fn page_of(
     alloc: Global,
     name: &str,
     text: &[u8],

@@ -1,5 +1,7 @@
 //! A text's tokens, in items, with the names that these declare.
 
+ghost use Rattle.std.specs.Prelude.{◌≡◌, IfOk};
+
 use rule_lexer::{Token, TokenKind};
 use std::alloc::{AllocError, Global};
 
@@ -113,7 +115,9 @@ impl<'a> Source<'a> {
         alloc: Global,
         text: &'a [u8],
         tokens: Vec<Token<'a>>,
-    ) -> Result<Source<'a>, AllocError> {
+    ) -> Result<Source<'a>, AllocError>
+        ensures { IfOk result (λ source. source.text.now ≡ text.now) }
+    {
         let parts = parts_of(alloc, tokens.as_slice())?;
         let names = names_of(alloc, tokens.as_slice(), parts.as_slice())?;
         Ok(Source {

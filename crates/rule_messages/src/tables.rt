@@ -1,5 +1,7 @@
 //! What is said of rules that are too much for the tables.
 
+ghost use Rattle.std.specs.Prelude.{◌≡◌, IfOk};
+
 use crate::bytes::{Many, quoted};
 use crate::checks::{type_of, value_of};
 use crate::message::{Mark, Message};
@@ -77,7 +79,9 @@ fn name_mark(source: &Source<'_>, part: Option<Part>, label: String) -> Mark {
 }
 
 /// Over 176 rules.
-pub fn rules_message(alloc: Global, source: &Source<'_>) -> Result<Message, AllocError> {
+pub fn rules_message(alloc: Global, source: &Source<'_>) -> Result<Message, AllocError>
+    ensures { IfOk result (λ message. message.code ≡ 41) }
+{
     let count = Many(rule_count(source), "rule");
     let head = format!(in alloc; "the file has {count}, at most 176 are allowed")?;
     let label = String::from_str(alloc, "this is the 177th")?;
@@ -90,7 +94,9 @@ pub fn length_message(
     alloc: Global,
     source: &Source<'_>,
     rule: usize,
-) -> Result<Message, AllocError> {
+) -> Result<Message, AllocError>
+    ensures { IfOk result (λ message. message.code ≡ 42) }
+{
     let part = rule_part(source, rule).unwrap_or(Part { from: 0, to: 0 });
     let words = words_of(source, part);
     let name = match source.token(part.from.saturating_add(1)) {
@@ -102,19 +108,27 @@ pub fn length_message(
         "the condition of {name} has {count} comparisons and operators, at most 31 are allowed"
     )?;
     let label = String::from_str(alloc, "split this rule in two")?;
-    let message = Message::at(alloc, 42, head, name_mark(source, Some(part), label));
-    match source.first_of(part, TokenKind::When) {
-        Some(when) => {
-            let comparisons = Many(words.comparisons, "comparison");
-            let operators = Many(words.operators, "operator");
-            message.with(Some(Mark {
-                at: when.at,
-                size: when.text.len(),
-                label: format!(in alloc; "{comparisons} and {operators}")?,
-            }))
-        }
-        None => Ok(message),
-    }
+    Message::at(alloc, 42, head, name_mark(source, Some(part), label))
+        .with(condition_mark(alloc, source, part, words)?)
+}
+
+/// The `when` of a rule, with what its condition has.
+fn condition_mark(
+    alloc: Global,
+    source: &Source<'_>,
+    part: Part,
+    words: Words,
+) -> Result<Option<Mark>, AllocError> {
+    let Some(when) = source.first_of(part, TokenKind::When) else {
+        return Ok(None);
+    };
+    let comparisons = Many(words.comparisons, "comparison");
+    let operators = Many(words.operators, "operator");
+    Ok(Some(Mark {
+        at: when.at,
+        size: when.text.len(),
+        label: format!(in alloc; "{comparisons} and {operators}")?,
+    }))
 }
 
 /// The number behind a word of a field's or packet's item, or this one where it isn't written.
@@ -159,7 +173,9 @@ fn term_at(source: &Source<'_>, number: usize) -> Option<Term> {
 }
 
 /// Over 176 different comparisons.
-pub fn comparisons_message(alloc: Global, source: &Source<'_>) -> Result<Message, AllocError> {
+pub fn comparisons_message(alloc: Global, source: &Source<'_>) -> Result<Message, AllocError>
+    ensures { IfOk result (λ message. message.code ≡ 31) }
+{
     let mut terms = Vec::new(alloc);
     let mut first = None;
     for number in 0..source.tokens.len() {

@@ -1,5 +1,11 @@
 //! What is said of tokens that are none, and of a text that is too long.
 
+ghost use Rattle.std.specs.Prelude.{◌≡◌, drop, if◌then◌else◌, IfOk};
+ghost use Rattle.rule_lexer.specs.declared.error.LexError.{LexError};
+ghost use Rattle.rpn_compiler.specs.declared.error.CompileError.TheVariants.{Lex};
+ghost use Rattle.rpn_compiler.specs.Fault.{refusal_of};
+ghost use Rattle.rule_messages.specs.Telling.{IsAt, TellsOf, TellsReason, ends_line, place_of};
+
 use crate::bytes::{
     Grouped, Many, Signed, behind, character, front, is_word_byte, last_word, part, quoted,
     word_size,
@@ -79,7 +85,9 @@ fn is_behind_number(text: &[u8], at: usize) -> bool {
     matches!(last_word(front(text, at)), [first, ..] if first.is_ascii_digit())
 }
 
-fn bad_byte(alloc: Global, text: &[u8], at: usize) -> Result<Message, AllocError> {
+fn bad_byte(alloc: Global, text: &[u8], at: usize) -> Result<Message, AllocError>
+    ensures { IfOk result (IsAt 1 at) }
+{
     let rest = behind(text, at);
     let size = run_size(rest);
     let found = quoted(alloc, front(rest, size))?;
@@ -188,7 +196,9 @@ fn bad_number(
     text: &[u8],
     at: usize,
     is_too_large: bool,
-) -> Result<Message, AllocError> {
+) -> Result<Message, AllocError>
+    ensures { IfOk result (IsAt 2 at) }
+{
     let rest = behind(text, at);
     let size = number_size(rest);
     let written = front(rest, size);
@@ -204,7 +214,9 @@ fn bad_number(
     Ok(Message::at(alloc, 2, head, Mark { at, size, label }))
 }
 
-fn long_name(alloc: Global, text: &[u8], at: usize) -> Result<Message, AllocError> {
+fn long_name(alloc: Global, text: &[u8], at: usize) -> Result<Message, AllocError>
+    ensures { IfOk result (IsAt 3 at) }
+{
     let size = word_size(behind(text, at));
     let count = Many(size, "character");
     let more = Many(size.saturating_sub(LONGEST_NAME), "character");
@@ -229,14 +241,18 @@ fn inside(rest: &[u8]) -> (usize, bool) {
     (size, size < line.len())
 }
 
-fn unclosed(alloc: Global, text: &[u8], at: usize) -> Result<Message, AllocError> {
+fn unclosed(alloc: Global, text: &[u8], at: usize) -> Result<Message, AllocError>
+    ensures { IfOk result (IsAt 4 at) }
+{
     let head = String::from_str(alloc, "the quoted text has no closing quote on its line")?;
     let size = line_rest(behind(text, at));
     let label = String::from_str(alloc, "write `\"` where the quoted text ends")?;
     Ok(Message::at(alloc, 4, head, Mark { at, size, label }))
 }
 
-fn long_string(alloc: Global, text: &[u8], at: usize) -> Result<Message, AllocError> {
+fn long_string(alloc: Global, text: &[u8], at: usize) -> Result<Message, AllocError>
+    ensures { IfOk result (IsAt 4 at) }
+{
     let (size, _) = inside(behind(text, at.saturating_add(1)));
     let count = Many(size, "character");
     let more = Many(size.saturating_sub(LONGEST_STRING), "character");
@@ -246,7 +262,9 @@ fn long_string(alloc: Global, text: &[u8], at: usize) -> Result<Message, AllocEr
     Ok(Message::at(alloc, 4, head, Mark { at, size, label }))
 }
 
-fn forbidden(alloc: Global, text: &[u8], at: usize) -> Result<Message, AllocError> {
+fn forbidden(alloc: Global, text: &[u8], at: usize) -> Result<Message, AllocError>
+    ensures { IfOk result (IsAt 4 at) }
+{
     let rest = behind(text, at);
     let (first, size) = character(rest);
     let head = if first == '\t' {
@@ -260,11 +278,19 @@ fn forbidden(alloc: Global, text: &[u8], at: usize) -> Result<Message, AllocErro
 }
 
 /// Whether a carriage return stands here right before its line's end.
-fn is_line_end(text: &[u8], at: usize) -> bool {
-    matches!(behind(text, at), [b'\r'] | [b'\r', b'\n', ..])
+fn is_line_end(text: &[u8], at: usize) -> bool
+    ensures { result ≡ ends_line (drop at text.now) }
+{
+    match behind(text, at) {
+        [byte] => *byte == b'\r',
+        [byte, next, ..] => *byte == b'\r' && *next == b'\n',
+        [] => false,
+    }
 }
 
-fn long_text(alloc: Global, text: &[u8]) -> Result<Message, AllocError> {
+fn long_text(alloc: Global, text: &[u8]) -> Result<Message, AllocError>
+    ensures { IfOk result (λ message. message.code ≡ 5) }
+{
     let count = Many(text.len(), "byte");
     let head = format!(in alloc; "the file has {count}, at most 65,536 are allowed")?;
     Ok(Message {
@@ -275,13 +301,32 @@ fn long_text(alloc: Global, text: &[u8]) -> Result<Message, AllocError> {
     })
 }
 
+/// What is said of a quoted text that begins at a place and has a character at another that may not stand there. A carriage return at
+/// the line's end is none: that text isn't closed.
+fn forbidden_or_unclosed(
+    alloc: Global,
+    text: &[u8],
+    at: usize,
+    begin: usize,
+) -> Result<Message, AllocError>
+    ensures { IfOk result (IsAt 4 (if ends_line (drop at text.now) then begin else at)) }
+{
+    if is_line_end(text, at) {
+        unclosed(alloc, text, begin)
+    } else {
+        forbidden(alloc, text, at)
+    }
+}
+
 /// What is said of the fault of a token that begins at this place.
 fn told(
     alloc: Global,
     text: &[u8],
     reason: LexReason,
     begin: usize,
-) -> Result<Message, AllocError> {
+) -> Result<Message, AllocError>
+    ensures { IfOk result (TellsReason text.now reason begin) }
+{
     match reason {
         LexReason::NoToken { at } => bad_byte(alloc, text, at),
         LexReason::NotANumber { at } => bad_number(alloc, text, at, false),
@@ -289,15 +334,16 @@ fn told(
         LexReason::NameTooLong { at } => long_name(alloc, text, at),
         LexReason::Unclosed { at } => unclosed(alloc, text, at),
         LexReason::StringTooLong { at } => long_string(alloc, text, at),
-        LexReason::ForbiddenByte { at } if is_line_end(text, at) => unclosed(alloc, text, begin),
-        LexReason::ForbiddenByte { at } => forbidden(alloc, text, at),
+        LexReason::ForbiddenByte { at } => forbidden_or_unclosed(alloc, text, at, begin),
         LexReason::TextTooLong => long_text(alloc, text),
         LexReason::Memory => Err(AllocError),
     }
 }
 
 /// Where the token with this error begins.
-pub fn place(error: LexError) -> usize {
+pub fn place(error: LexError) -> usize
+    ensures { result ≡ place_of error }
+{
     match error {
         LexError::BadByte { at }
         | LexError::BadNumber { at }
@@ -312,7 +358,9 @@ pub fn token_message(
     alloc: Global,
     text: &[u8],
     error: LexError,
-) -> Result<Message, AllocError> {
+) -> Result<Message, AllocError>
+    ensures { IfOk result (TellsOf text.now (refusal_of (Lex error))) }
+{
     told(alloc, text, error.reason(text), place(error))
 }
 

@@ -15,7 +15,7 @@ const TYPE_WORDS: &[&[u8]] = &[
     b"u8", b"i8", b"u16be", b"u16le", b"i16be", b"i16le", b"u32be", b"u32le", b"i32be", b"i32le",
 ];
 
-const ITEM_WORDS: &[&[u8]] = &[b"packet", b"field", b"rule"];
+pub const ITEM_WORDS: &[&[u8]] = &[b"packet", b"field", b"rule"];
 
 const STATE_WORDS: &[&[u8]] = &[b"active", b"passive", b"disabled"];
 

@@ -26,13 +26,13 @@ within_by n b c d e =
     by_test n (nat_lt 0xF4 b) _ _ (λ _. nothing n 1) (λ _.
     by_test n (nat_lt n 2) _ _ (λ _. nothing n 1) (λ two.
     by_test n (second b c) _ _ (λ _.
-      by_test n (nat_lt b 0xE0) _ _ (λ _. something n (code_of_2 b c) 2 (omega arith) (grind arith)) (λ _.
-      by_test n (nat_lt n 3) _ _ (λ _. nothing n 2) (λ three.
-      by_test n (continues d) _ _ (λ _.
-        by_test n (nat_lt b 0xF0) _ _ (λ _. something n (code_of_3 b c d) 3 (omega arith) (grind arith)) (λ _.
-        by_test n (nat_lt n 4) _ _ (λ _. nothing n 3) (λ four.
-        by_test n (continues e) _ _ (λ _. something n (code_of_4 b c d e) 4 (omega arith) (grind arith)) (λ _. nothing n 3))))
-      (λ _. nothing n 2))))
+    by_test n (nat_lt b 0xE0) _ _ (λ _. something n (code_of_2 b c) 2 (omega arith) (grind arith)) (λ _.
+    by_test n (nat_lt n 3) _ _ (λ _. nothing n 2) (λ three.
+    by_test n (continues d) _ _ (λ _.
+    by_test n (nat_lt b 0xF0) _ _ (λ _. something n (code_of_3 b c d) 3 (omega arith) (grind arith)) (λ _.
+    by_test n (nat_lt n 4) _ _ (λ _. nothing n 3) (λ four.
+    by_test n (continues e) _ _ (λ _. something n (code_of_4 b c d e) 4 (omega arith) (grind arith)) (λ _. nothing n 3))))
+    (λ _. nothing n 2))))
     (λ _. nothing n 1))))))
 
 pub within_decoded : (bytes : List ℕ) → IsWithin (length bytes) (decoded bytes)

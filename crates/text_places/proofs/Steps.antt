@@ -33,7 +33,7 @@ pub counted : (count whole size : ℕ) (bytes : List ℕ) → 0 < length bytes �
     → count + length (characters bytes) ≡ whole → count + 1 + length (characters (drop size bytes)) ≡ whole
 counted count whole size bytes some positive is so_far =
     let first : characters bytes ≡ char_in_front bytes ∷ characters (drop size bytes) =
-      rw is (in_front bytes some (rw (sym is) positive)) in
+    rw is (in_front bytes some (rw (sym is) positive)) in
     let more : length (characters bytes) ≡ suc (length (characters (drop size bytes))) = ap length first in
     omega (arith, more, so_far)
 
@@ -43,7 +43,7 @@ pub shown_next : (done whole : List ℕ) (char size : ℕ) (bytes : List ℕ) �
     → done ++ shown bytes ≡ whole → (done ++ shown_of char) ++ shown (drop size bytes) ≡ whole
 shown_next done whole char size bytes some positive char_is size_is so_far =
     let first : shown bytes ≡ shown_of (char_in_front bytes) ++ shown (drop (size_in_front bytes) bytes) =
-      ap (λ cs. flat_map shown_of cs) (in_front bytes some (subst (λ n. 0 < n) size_is positive)) in
+    ap (λ cs. flat_map shown_of cs) (in_front bytes some (subst (λ n. 0 < n) size_is positive)) in
     rw (char_is, size_is)
     (append_assoc done (shown_of (char_in_front bytes)) (shown (drop (size_in_front bytes) bytes))
     ∙ ap (λ rest. done ++ rest) (sym first) ∙ so_far)

@@ -26,11 +26,7 @@ pub fn window_start(columns: usize, mark: usize) -> usize
 }
 
 /// Columns that begin at this one of a line, with dots in the place of the first three where some stand before them.
-fn dotted_before(
-    alloc: Global,
-    start: usize,
-    part: &[char],
-) -> Result<Vec<char>, AllocError>
+fn dotted_before(alloc: Global, start: usize, part: &[char]) -> Result<Vec<char>, AllocError>
     ensures { IfOk result (λ dotted. dotted.items ≡ dotted_before start part.now) }
 {
     if start == 0 {

@@ -3,9 +3,9 @@
 ghost use Rattle.std.specs.Prelude.{◌≡◌, ◌≤◌, length, IfOk};
 ghost use Rattle.text_places.specs.Excerpt.{IsExcerpt};
 
-use crate::line::{line_number, line_start, written_line};
 use crate::columns::shown;
 use crate::cutting::{WIDTH, mark_width, window, window_start};
+use crate::line::{line_number, line_start, written_line};
 use crate::parts::{behind, front};
 use std::alloc::{AllocError, Global};
 
@@ -25,12 +25,7 @@ pub struct Excerpt {
 }
 
 /// The excerpt for so many bytes at this place.
-pub fn excerpt_of(
-    alloc: Global,
-    text: &[u8],
-    at: usize,
-    size: usize,
-) -> Result<Excerpt, AllocError>
+pub fn excerpt_of(alloc: Global, text: &[u8], at: usize, size: usize) -> Result<Excerpt, AllocError>
     requires { at ≤ length text.now }
     ensures { IfOk result (IsExcerpt text.now at size) }
 {

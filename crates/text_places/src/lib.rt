@@ -2,15 +2,15 @@
 #![tactic(auto)]
 
 mod character;
+mod columns;
+mod cutting;
 mod excerpt;
 mod line;
 mod parts;
 mod place;
-mod columns;
-mod cutting;
 
 pub use character::{character_count, front_character};
+pub use columns::shown;
 pub use excerpt::{Excerpt, excerpt_of};
 pub use line::{line_of, line_start, written_line};
 pub use place::{Place, place_of};
-pub use columns::shown;

@@ -4,10 +4,11 @@ use Rattle.text_places.proofs.Starts.{at_feed, at_first, before_feed}
 use Rattle.text_places.proofs.line.line_start.Goals as goal
 
 pub loop-start-preserved : goal.loop-start-preserved
-loop-start-preserved c =
-    (omega (arith, c.loop-start.invariant.0),
-    sym (before_feed c.args.text.now c.loop-start.start c.loop-start-test.true c.if-text-start-eq-LINE_FEED.false)
-    ∙ c.loop-start.invariant.1)
+loop-start-preserved c = (
+  omega (arith, c.loop-start.invariant.0),
+  sym (before_feed c.args.text.now c.loop-start.start c.loop-start-test.true c.if-text-start-eq-LINE_FEED.false)
+      ∙ c.loop-start.invariant.1,
+)
 
 pub returns-after-loop-start-clause-start : goal.returns-after-loop-start-clause-start
 returns-after-loop-start-clause-start c =
