@@ -30,15 +30,15 @@ fn used_columns(columns: &[char]) -> usize {
     columns.len().saturating_sub(blanks)
 }
 
-/// How many digits a number has.
+/// How many digits a line's number has. A text that has marks has at most 65,537 lines.
 fn digits(number: usize) -> usize {
-    let mut digits = 1usize;
-    let mut rest = number / 10;
-    while rest > 0 {
-        digits = digits.saturating_add(1);
-        rest /= 10;
+    match number {
+        0..=9 => 1,
+        10..=99 => 2,
+        100..=999 => 3,
+        1_000..=9_999 => 4,
+        _ => 5,
     }
-    digits
 }
 
 /// A line of the text, with its number.
