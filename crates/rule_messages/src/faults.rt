@@ -204,6 +204,15 @@ fn errors(
     Ok(all)
 }
 
+/// This message alone.
+fn alone(alloc: Global, message: Message) -> Result<Vec<Message>, AllocError>
+    ensures { IfOk result (λ told. told.items ≡ message ∷ []) }
+{
+    let mut told = Vec::new(alloc);
+    told.push(message)?;
+    Ok(told)
+}
+
 /// Adds what is said of each other error.
 fn add_others(
     alloc: Global,
@@ -228,9 +237,8 @@ fn told_of_all(alloc: Global, text: &[u8], first: CompileError) -> Result<Vec<Me
         × (told.items ≡ message ∷ more) × TellsOf text.now (refusal_of first) message) }
 {
     let source = Source::new(alloc, text, Vec::new(alloc))?;
-    let mut told = Vec::new(alloc);
-    told.push(explain(alloc, &source, first)?)?;
-    Ok(told)
+    let message = explain(alloc, &source, first)?;
+    alone(alloc, message)
 }
 
 /// What is said of a text with tokens and its first error, and of the errors that don't follow from it.
@@ -247,8 +255,8 @@ fn told_of_parts(
         return Err(AllocError);
     };
     let source = Source::new(alloc, text, tokens)?;
-    let mut told = Vec::new(alloc);
-    told.push(explain(alloc, &source, first)?)?;
+    let message = explain(alloc, &source, first)?;
+    let mut told = alone(alloc, message)?;
     let errors = errors(alloc, &source, &mended, first)?;
     add_others(alloc, &source, first, errors.as_slice(), &mut told)?;
     Ok(told)
