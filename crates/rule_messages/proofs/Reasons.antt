@@ -64,3 +64,9 @@ pub begins : {E : Type 0} (text : List ℕ) (refusal : TextRefusal) (e : Compile
 begins text refusal e (Ok told) is (message, more, items, tells_it) =
     begins_one text refusal (refusal_of e) told.items more message is items tells_it
 begins text refusal e (Err failed) is found = found
+
+-- a message at a place has its number
+pub numbered : {E : Type 0} (code at : ℕ) (result : Result Message E) → IfOk result (IsAt code at)
+    → IfOk result (λ message. message.code ≡ code)
+numbered code at (Ok message) is = is.0
+numbered code at (Err failed) is = is
