@@ -1,2 +1,0 @@
--- Lemmas on what messages tell.
-mod Reasons

@@ -1,2 +1,0 @@
--- What the contracts of messages cite.
-pub mod Telling
