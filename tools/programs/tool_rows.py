@@ -204,7 +204,7 @@ For more information, try '--help'.
 error: the following required arguments were not provided:
   <FILE>
 
-Usage: flight_tools table [OPTIONS] <FILE>
+Usage: flight_tools table <FILE>
 
 For more information, try '--help'.
 """),

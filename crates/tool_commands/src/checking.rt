@@ -87,6 +87,7 @@ fn check_text<'a, R: Files + AllocGlobal, W: Write>(
     let warnings = write_lines(name, lines.as_slice(), out)?;
     let rules = tables.rules;
     listed(writeln!(out, "{name}: {rules} rules, {warnings} warnings"))?;
+    listed(out.flush())?;
     Ok(warnings)
 }
 
@@ -113,7 +114,6 @@ pub fn check<'a, R: Files + AllocGlobal, W: Write>(
     for name in rules {
         warnings = warnings.saturating_add(check_text(rt, name, &plan, which, out)?);
     }
-    listed(out.flush())?;
     if asked.is_strict && warnings > 0 {
         return Err(Fault::Warned);
     }
