@@ -4,7 +4,7 @@ What is said of each text is in `crates/judgement_rows/stdout`, where the texts 
 
 from records import LOW_VOLTS
 from row import Row
-from tool_rows import ADT_LISTING, COMPILED, read
+from tool_rows import ADT_LISTING, COMPILED, NOT_THERE, read, unusable
 
 SAID = read("judgement_rows/stdout").splitlines(keepends=True)
 DEAD = read("judgement_rows/data/dead_rules.rules")
@@ -60,12 +60,7 @@ ROWS = [
         output=b"good: " + ONE_RULE,
         error=b"rules: expected `=` at 10\n",
     ),
-    Row(
-        "a text that isn't there",
-        ["flight_tools", "check", "none"],
-        status=3,
-        error=b"cannot use none: there is none of that name\n",
-    ),
+    unusable("a text that isn't there", b"none", NOT_THERE, "check none", {}),
     Row(
         "actionpoints of which nothing is to be warned",
         ["flight_tools", "table", "--watchpoints", "wdt", "adt"],
