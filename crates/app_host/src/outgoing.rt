@@ -43,7 +43,7 @@ impl Outgoing {
     }
 
     /// Whether nothing waits.
-    pub(crate) fn is_empty(&self) -> bool
+    pub fn is_empty(&self) -> bool
         ensures { result ≡ true → self.now ≡ [] }
     {
         self.bytes.is_empty()
