@@ -3,3 +3,4 @@ pub mod Files
 pub mod Memory
 pub mod NotRun
 pub mod Sentences
+pub mod Parted

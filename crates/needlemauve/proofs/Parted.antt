@@ -1,7 +1,8 @@
 -- One text more of those that lie one behind the other.
-use Rattle.std.proofs.Common.{◌≡◌, ◌∙◌, ap, sym, subst, refl, ℕ, ◌+◌, ◌-◌, ◌≤◌, List, [], ◌∷◌, ◌++◌, length, take, drop, slice_index_or, arith}
+use Rattle.std.proofs.Common.{◌≡◌, ◌∙◌, ap, sym, subst, refl, ℕ, ◌+◌, ◌-◌, ◌≤◌, List, [], ◌∷◌, ◌++◌, length, take, drop, slice_index_or, arith, append-nil}
 use Rattle.std.specs.List.{sum}
-use Rattle.std.proofs.lemmas.List.{append_assoc, take-length, length-drop}
+use Rattle.std.proofs.lemmas.List.{append_assoc}
+use Rattle.std.proofs.Math.Seq.{take-length}
 use Rattle.needlemauve.specs.Texts.{texts_in}
 
 -- what is left behind the first of at least one
@@ -16,6 +17,22 @@ texts_by_parts : (left : List ℕ) (first : ℕ) (rest : List ℕ) → texts_in 
 unfolding texts_in
 texts_by_parts left first rest = refl
 
+-- of so many bytes the others are what the first leaves
+pub counts_left : (first left : ℕ) (rest others : List ℕ) → others ≡ first ∷ rest → sum others ≡ left → sum rest + first ≡ left
+counts_left first left rest others is whole = omega (arith, ap (λ (o : List ℕ). sum o) is, whole)
+
+pub one_more : (sources more : List (List ℕ)) (left behind text others : List ℕ) (first : ℕ) (all : List (List ℕ)) → 1 ≤ length others → first ≡ slice_index_or others 0 0
+    → text ≡ take first left → behind ≡ drop first left → more ≡ sources ++ text ∷ [] → sources ++ texts_in left others ≡ all
+    → more ++ texts_in behind (behind_first others) ≡ all
+one_more sources more left behind text others first all some is front back grows same =
+    let whole : others ≡ first ∷ behind_first others = first_and_rest others some ∙ ap (λ (x : ℕ). x ∷ behind_first others) (sym is) in
+    (λ i. grows i ++ texts_in (back i) (behind_first others))
+    ∙ append_assoc sources (text ∷ []) (texts_in (drop first left) (behind_first others))
+    ∙ ap (λ (t : List ℕ). sources ++ (t ∷ texts_in (drop first left) (behind_first others))) front
+    ∙ ap (λ (texts : List (List ℕ)). sources ++ texts) (sym (texts_by_parts left first (behind_first others)))
+    ∙ ap (λ (o : List ℕ). sources ++ texts_in left o) (sym whole)
+    ∙ same
+
 pub none_left : (left : List ℕ) (others : List ℕ) (sources all : List (List ℕ)) → others ≡ [] → sources ++ texts_in left others ≡ all → sources ≡ all
 unfolding texts_in
-none_left left others sources all none same = sym (Rattle.std.proofs.Common.append-nil sources) ∙ ap (λ (o : List ℕ). sources ++ texts_in left o) (sym none) ∙ same
+none_left left others sources all none same = sym (append-nil sources) ∙ ap (λ (o : List ℕ). sources ++ texts_in left o) (sym none) ∙ same
