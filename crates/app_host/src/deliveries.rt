@@ -62,7 +62,7 @@ impl Host {
         self.write_waiting(out, sent)
     }
 
-    /// The same, whether anything waits or not.
+    /// Writes what waits, be it nothing, behind so many bytes of this step, as `flush` says of it.
     #[inline(never)]
     fn write_waiting<W: ByteSink>(&mut self, out: &mut W, sent: u64) -> Result<u64, WriteFault>
         requires seated { AreSeated (shown meaning self.old).seats
