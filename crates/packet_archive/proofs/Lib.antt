@@ -1,0 +1,3 @@
+mod Importing
+mod Kept
+mod Ticks
