@@ -29,6 +29,7 @@ pub enum Fate {
 }
 
 /// Which packets become records.
+#[derive(Drop)]
 pub struct Choice<'a> {
     /// Idle packets, too.
     pub idle: bool,

@@ -62,6 +62,7 @@ fn push_ticks(
 }
 
 /// What is asked of an import.
+#[derive(Drop)]
 pub struct Asked<'a> {
     /// Whether a marker stands before each packet.
     pub marked: bool,

@@ -7,6 +7,7 @@ mod clock;
 mod front;
 mod import;
 mod record;
+mod said;
 mod tally;
 
 pub use choice::{Choice, Fate};
@@ -14,4 +15,5 @@ pub use clock::{Clock, Times};
 
 pub use front::{Front, MARKER, front_of};
 pub use import::{Asked, Met, import_held, import_next};
+pub use said::Report;
 pub use tally::{Faulty, NAMED, Tally};

@@ -21,6 +21,8 @@ pub enum Fault<'a> {
     Words(Error),
     /// A word that is no text.
     NoText,
+    /// The word of an option that is none of its values.
+    Value(&'static str, &'a str),
     /// A table file with a fault, which its listing says.
     Table,
     /// A stream or packets that end early, which the listing or the page says.
@@ -85,7 +87,7 @@ impl Fault<'_> {
             Fault::Gone => 0,
             Fault::Table | Fault::Script(..) | Fault::Schedule(..) | Fault::Report(_) => 1,
             Fault::Text(..) | Fault::Judgement(..) | Fault::Warned => 1,
-            Fault::Words(_) | Fault::NoText => 2,
+            Fault::Words(_) | Fault::NoText | Fault::Value(..) => 2,
             Fault::File(..) => 3,
             Fault::Early => 4,
             Fault::Run(error) => status_of_run(*error),
@@ -99,6 +101,7 @@ impl Display for Fault<'_> {
         match self {
             Fault::Words(error) => write!(f, "{error}"),
             Fault::NoText => writeln!(f, "a word of the command line is no text (UTF-8)"),
+            Fault::Value(option, word) => writeln!(f, "{option} {word}: no such value"),
             Fault::Table | Fault::Early | Fault::Gone | Fault::Warned => Ok(()),
             Fault::Script(name, error) => writeln!(f, "{name}: {error}"),
             Fault::Schedule(name, error) => writeln!(f, "{name}: {error}"),
