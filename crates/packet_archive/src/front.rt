@@ -63,7 +63,11 @@ fn marked_of(bytes: &[u8]) -> Front
 {
     if bytes.len() < MARKER.len() {
         let (begun, _) = MARKER.split_at(bytes.len());
-        return if bytes == begun { Front::Cut } else { Front::Unmarked };
+        return if bytes == begun {
+            Front::Cut
+        } else {
+            Front::Unmarked
+        };
     }
     let (front, behind) = bytes.split_at(MARKER.len());
     if front == MARKER.as_slice() {

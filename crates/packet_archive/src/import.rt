@@ -39,12 +39,7 @@ impl Met {
 
 /// The ticks that are due up to this second, the first of them at `next`, behind other records. Answers when the next one is due.
 /// Out of memory is the only error.
-fn push_ticks(
-    out: &mut Vec<u8>,
-    period: u32,
-    first: u64,
-    second: u32,
-) -> Result<(), AllocError>
+fn push_ticks(out: &mut Vec<u8>, period: u32, first: u64, second: u32) -> Result<(), AllocError>
     requires { IsNextTick period (Some first) }
     ensures ticks { IfOk result (λ _. out.new.items ≡
         out.old.items ++ ticks (ticks_due period (Some first) second) period first) }

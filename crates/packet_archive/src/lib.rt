@@ -12,7 +12,6 @@ mod tally;
 
 pub use choice::{Choice, Fate};
 pub use clock::{Clock, Times};
-
 pub use front::{Front, MARKER, front_of};
 pub use import::{Asked, Met, import_held, import_next};
 pub use said::Report;

@@ -211,11 +211,7 @@ fn with_choices<'a>(alloc: Global, command: Command<'a>) -> Result<Command<'a>, 
             "marked",
             "A marker (1ACFFC1D) stands before each packet",
         ))?
-        .arg(flag_word(
-            alloc,
-            "keep-idle",
-            "Idle packets become records, too",
-        ))?
+        .arg(flag_word(alloc, "keep-idle", "Idle packets become records, too"))?
         .arg(flag_word(
             alloc,
             "keep-faulty",
@@ -282,7 +278,9 @@ fn with_more<'a>(
             "whole",
             "Writes a script from which scenario makes the same stream",
         )),
-        More::Imported => with_times(alloc, with_choices(alloc, command)?)?.arg(archive_words(alloc)),
+        More::Imported => with_times(alloc, with_choices(alloc, command)?)?.arg(archive_words(
+            alloc,
+        )),
         More::Rules => command.arg(rule_words(alloc)),
         More::Checked => command
             .arg(option_word(
