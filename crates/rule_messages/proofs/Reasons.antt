@@ -1,5 +1,5 @@
 -- What is told by the reason of a bad token is told of the refusal, and what begins with it.
-use Rattle.std.proofs.Common.{◌≡◌, ◌+◌, ◌==◌, ℕ, Bool, true, false, cond, List, [], ◌∷◌, Option, Some, None, is_some, Result, Ok, Err, IfOk, Vec, refl, sym, subst}
+use Rattle.std.proofs.Common.{◌≡◌, ◌+◌, ◌==◌, ℕ, Bool, true, false, cond, List, [], ◌∷◌, ◌++◌, Option, Some, None, is_some, Result, Ok, Err, IfOk, Vec, Global, refl, sym, ◌∙◌, ap, subst}
 use Rattle.lc_model.specs.Text.Reading.{TextRefusal}
 use Rattle.lc_model.specs.Text.Token.{line_feed, magnitude, quote, is_text_byte}
 use Rattle.std.specs.Prelude.{drop, slice_get}
@@ -56,8 +56,21 @@ begins_one : (text : List ℕ) (refusal : TextRefusal) (e : Option TextRefusal) 
 begins_one text refusal e messages more message is items told =
     subst (λ ms. BeginsWith text refusal ms) (sym items) (subst (λ x. TellsOf text x message) is told)
 
+-- a message that is told alone is told first
+pub told_alone : {E : Type 0} (text : List ℕ) (refusal : Option TextRefusal) (message : Message) (result : Result (Vec Message Global) E)
+    → TellsOf text refusal message → IfOk result (λ told. told.items ≡ message ∷ [])
+    → IfOk result (λ told. (first : Message) × (more : List Message) × (told.items ≡ first ∷ more) × TellsOf text refusal first)
+told_alone text refusal message (Ok told) tells items = (message, [], items, tells)
+told_alone text refusal message (Err failed) tells items = items
+
+-- and stays the first where others are told behind it
+pub told_first : (text : List ℕ) (refusal : Option TextRefusal) (message : Message) (alone told : List Message)
+    → TellsOf text refusal message → alone ≡ message ∷ [] → (more : List Message) × (told ≡ alone ++ more)
+    → (first : Message) × (more : List Message) × (told ≡ first ∷ more) × TellsOf text refusal first
+told_first text refusal message alone told tells one (more, items) = (message, more, items ∙ ap (λ list. list ++ more) one, tells)
+
 -- messages whose first tells of an error begin with its refusal
-pub begins : {E : Type 0} (text : List ℕ) (refusal : TextRefusal) (e : CompileError) (result : Result (Vec Message) E)
+pub begins : {E : Type 0} (text : List ℕ) (refusal : TextRefusal) (e : CompileError) (result : Result (Vec Message Global) E)
     → refusal_of e ≡ Some refusal
     → IfOk result (λ told. (message : Message) × (more : List Message) × (told.items ≡ message ∷ more) × TellsOf text (refusal_of e) message)
     → IfOk result (λ told. BeginsWith text refusal told.items)

@@ -9,145 +9,18 @@ ghost use Rattle.rpn_compiler.specs.Fault.{refusal_of};
 ghost use Rattle.rule_messages.specs.Telling.{BeginsWith, TellsOf};
 ghost use Rattle.rule_messages.specs.declared.message.Message.{Message};
 
-use crate::bytes::part;
+use crate::checks::check_place;
 use crate::explaining::explain;
 use crate::item_faults::Checked;
 use crate::message::Message;
-use crate::nearest::nearest;
-use crate::source::{Part, Source, begins_item};
+use crate::reading::read_items;
+use crate::source::Source;
 use crate::tables::{is_too_long, rule_count, rule_part, words_of};
-use crate::token_faults::place;
-use crate::tokens::{Mended, mend};
-use crate::wanted::ITEM_WORDS;
+use crate::tokens::{Mended, follows, hides_items, mend};
 use field_checker::CheckError;
 use rpn_compiler::{CompileError, compile};
-use rule_lexer::{LexError, TokenKind, lex};
-use rule_parser::{ParseError, parse};
+use rule_lexer::{LexError, lex};
 use std::alloc::{AllocError, Global};
-
-/// The place behind an item's last token.
-fn end_of(source: &Source<'_>, item: Part) -> usize {
-    match source.token(item.to.saturating_sub(1)) {
-        Some(token) => token.at.saturating_add(token.text.len()),
-        None => source.text.len(),
-    }
-}
-
-/// The place of an item's first token.
-fn begin_of(source: &Source<'_>, item: Part) -> usize {
-    source
-        .token(item.from)
-        .map_or(source.text.len(), |token| token.at)
-}
-
-/// Whether a bad token stands in an item.
-fn has_bad_token(source: &Source<'_>, item: Part, errors: &[LexError]) -> bool {
-    let begin = begin_of(source, item);
-    let next = match source.token(item.to) {
-        Some(token) => token.at,
-        None => source.text.len(),
-    };
-    let end = match source.token(item.to.saturating_sub(1)) {
-        Some(token) if token.kind == TokenKind::Semicolon => token.at,
-        _ => next,
-    };
-    errors
-        .iter()
-        .any(|error| begin <= place(*error) && place(*error) < end)
-}
-
-/// The place in the whole text of an error at this place of an item: behind its last token it is the next one's, or the text's end.
-fn place_in_text(source: &Source<'_>, item: Part, size: usize, at: usize) -> usize {
-    if at < size {
-        return begin_of(source, item).saturating_add(at);
-    }
-    match source.token(item.to) {
-        Some(token) => token.at,
-        None => source.text.len(),
-    }
-}
-
-/// The error of an item's grammar.
-fn grammar_error(
-    alloc: Global,
-    source: &Source<'_>,
-    clean: &[u8],
-    item: Part,
-) -> Result<Option<ParseError>, AllocError> {
-    let begin = begin_of(source, item);
-    let text = part(clean, begin, end_of(source, item).saturating_sub(begin));
-    let Ok(tokens) = lex(alloc, text) else {
-        return Ok(None);
-    };
-    match parse(alloc, text, tokens.as_slice()) {
-        Ok(_) => Ok(None),
-        Err(ParseError::Memory) => Err(AllocError),
-        Err(ParseError::Expected { at, what }) => Ok(Some(ParseError::Expected {
-            at: place_in_text(source, item, text.len(), at),
-            what,
-        })),
-        Err(ParseError::TooNested { at }) => Ok(Some(ParseError::TooNested {
-            at: place_in_text(source, item, text.len(), at),
-        })),
-    }
-}
-
-/// The errors of grammar, and of each item whether it is whole.
-#[derive(Drop)]
-struct Grammar {
-    errors: Vec<ParseError>,
-    whole: Vec<bool>,
-}
-
-/// What the grammar says of each item.
-fn read_items(
-    alloc: Global,
-    source: &Source<'_>,
-    clean: &[u8],
-    bad: &[LexError],
-) -> Result<Grammar, AllocError> {
-    let mut errors = Vec::new(alloc);
-    let mut whole = Vec::new(alloc);
-    let mut before = true;
-    for item in &source.parts {
-        if has_bad_token(source, *item, bad) {
-            whole.push(false)?;
-            before = true;
-            continue;
-        }
-        let error = grammar_error(alloc, source, clean, *item)?;
-        let is_whole = error.is_none();
-        if let Some(error) = error {
-            if !follows(alloc, source, *item, before)? {
-                errors.push(error)?;
-            }
-        }
-        whole.push(is_whole)?;
-        before = is_whole;
-    }
-    Ok(Grammar { errors, whole })
-}
-
-/// Whether the error of an item's grammar may follow from that of the item before it, which isn't whole: the one before has no `;`, or
-/// nothing that was meant to begin an item begins this one.
-fn follows(
-    alloc: Global,
-    source: &Source<'_>,
-    item: Part,
-    is_whole_before: bool,
-) -> Result<bool, AllocError> {
-    if is_whole_before {
-        return Ok(false);
-    }
-    let Some(first) = source.token(item.from) else {
-        return Ok(true);
-    };
-    let last = source.token(item.from.saturating_sub(1));
-    if begins_item(first.kind) {
-        return Ok(!matches!(last, Some(last) if last.kind == TokenKind::Semicolon));
-    }
-    Ok(nearest(alloc, first.text, ITEM_WORDS)?.is_none())
-}
 
 /// The errors of rules that are too long, where nothing else is wrong.
 fn long_rules(
@@ -169,7 +42,21 @@ fn long_rules(
     Ok(errors)
 }
 
-/// All errors, in the order of the compiler's parts.
+/// The errors of items, by place.
+fn item_errors(
+    alloc: Global,
+    source: &Source<'_>,
+    whole: &[bool],
+    hides_items: bool,
+) -> Result<Vec<CheckError>, AllocError> {
+    let checked = Checked::new(&*source, &*whole, hides_items);
+    let mut faults = checked.faults(alloc)?;
+    faults.sort_by_key(|fault| (check_place(*fault), fault.code()))?;
+    Ok(faults)
+}
+
+/// All errors, in the order of the compiler's parts. Where the compiler's first may follow from another of them, nobody knows which of the
+/// two is the mistake, and there are none beside it.
 fn errors(
     alloc: Global,
     source: &Source<'_>,
@@ -177,29 +64,33 @@ fn errors(
     first: CompileError,
 ) -> Result<Vec<CompileError>, AllocError> {
     let mut all = Vec::new(alloc);
-    for error in &mended.errors {
-        all.push(CompileError::Lex(*error))?;
+    let bad = mended.errors.as_slice();
+    for error in bad {
+        if !follows(source.text, bad, *error) {
+            all.push(CompileError::Lex(*error))?;
+        }
     }
     let grammar = read_items(
         alloc,
         source,
         mended.text.as_slice(),
-        mended.errors.as_slice(),
+        bad,
     )?;
     for error in &grammar.errors {
         all.push(CompileError::Parse(*error))?;
     }
-    let checked = Checked {
-        source,
-        whole: grammar.whole.as_slice(),
-    };
-    let mut faults = checked.faults(alloc)?;
-    faults.sort_by_key(|fault| (crate::checks::check_place(*fault), fault.code()))?;
+    let hides_items = bad
+        .iter()
+        .any(|error| hides_items(source.text, *error));
+    let faults = item_errors(alloc, source, grammar.whole.as_slice(), hides_items)?;
     for fault in &faults {
         all.push(CompileError::Check(*fault))?;
     }
     if all.is_empty() {
         return long_rules(alloc, source, first);
+    }
+    if !all.contains(&first) {
+        all.clear();
     }
     Ok(all)
 }

@@ -52,7 +52,7 @@ impl<'a> Stop<'_, 'a> {
 
     /// The one before.
     fn before(&self) -> Option<Token<'a>> {
-        self.source.token(self.number.checked_sub(1)?)
+        self.source.token_before(self.number)
     }
 
     /// The item that is read there: that of the token before, unless it is at an end.

@@ -1,7 +1,6 @@
 //! All faults of items that are whole.
 
 use crate::checks::{declared_in, names, packet_of, type_of, value_of};
-use crate::nearest::nearest_name;
 use crate::source::{Declared, Kind, Part, Source};
 use field_checker::{CheckError, RuleNumber};
 use lc_model::{FieldType, mids};
@@ -16,9 +15,12 @@ const LONGEST_PACKET: i64 = 2_048;
 /// The items of a text that are whole, by their numbers, and what is found of them.
 #[derive(Drop)]
 pub struct Checked<'s, 'a> {
-    pub source: &'s Source<'a>,
+    source: &'s Source<'a>,
     /// For each item whether it is whole.
-    pub whole: &'s [bool],
+    whole: &'s [bool],
+    /// Whether all packets, and all fields, that were meant to be declared are: no name was lost, and none has another's name.
+    knows_packets: bool,
+    knows_fields: bool,
 }
 
 /// Whether the number isn't the least, the most or between them.
@@ -39,7 +41,21 @@ fn check_mid(mid: Token<'_>, found: &mut Vec<CheckError>) -> Result<(), AllocErr
     Ok(())
 }
 
-impl<'a> Checked<'_, 'a> {
+impl<'s, 'a> Checked<'s, 'a> {
+    /// Of a text, which of whose items are whole, and whether some stand in quoted texts that aren't right.
+    pub fn new(source: &'s Source<'a>, whole: &'s [bool], hides_items: bool) -> Checked<'s, 'a> {
+        let mut checked = Checked {
+            source,
+            whole,
+            knows_packets: true,
+            knows_fields: true,
+        };
+        let is_lost = hides_items || checked.is_name_lost();
+        checked.knows_packets = !is_lost && !checked.is_name_taken(Kind::Packet);
+        checked.knows_fields = !is_lost && !checked.is_name_taken(Kind::Field);
+        checked
+    }
+
     /// Whether the item with this number is whole.
     fn is_whole_part(&self, number: usize) -> bool {
         self.whole.get(number).copied().unwrap_or(false)
@@ -50,13 +66,13 @@ impl<'a> Checked<'_, 'a> {
         self.is_whole_part(name.part)
     }
 
-    /// Whether an item that isn't whole may declare the name: its first or its second token is that name.
+    /// Whether an item that isn't whole may declare the name: one of its first three tokens is that name.
     fn is_half_declared(&self, text: &[u8]) -> bool {
         for (number, part) in self.source.parts.iter().enumerate() {
             if self.is_whole_part(number) {
                 continue;
             }
-            let mut front = self.source.tokens_of(*part).iter().take(2);
+            let mut front = self.source.tokens_of(*part).iter().take(3);
             if front.any(|token| token.kind == TokenKind::Name && token.text == text) {
                 return true;
             }
@@ -64,18 +80,51 @@ impl<'a> Checked<'_, 'a> {
         false
     }
 
-    /// Whether an item that isn't whole has no name as its second token: what it declares isn't known then.
+    /// Whether an item that isn't whole, and that may declare a packet or a field, has no name before its `=`: what it declares isn't
+    /// known then.
     fn is_name_lost(&self) -> bool {
         for (number, part) in self.source.parts.iter().enumerate() {
             if self.is_whole_part(number) {
                 continue;
             }
             match self.source.tokens_of(*part) {
-                [_, second, ..] if second.kind == TokenKind::Name => {}
+                [first, ..] if first.kind == TokenKind::Rule => {}
+                [_, name, sign, ..]
+                    if name.kind == TokenKind::Name && sign.kind == TokenKind::Equals => {}
                 _ => return true,
             }
         }
         false
+    }
+
+    /// Whether the name of a declaration is one that can be gone by: its item is whole, and it has no other.
+    fn is_right(&self, name: Declared<'a>) -> bool {
+        self.is_whole(name)
+            && !self
+                .source
+                .names
+                .iter()
+                .any(|other| other.text == name.text && other.at != name.at)
+    }
+
+    /// Whether one of two declarations of a name is of this kind, so that it may have been meant to have another.
+    fn is_name_taken(&self, kind: Kind) -> bool {
+        for name in &self.source.names {
+            if let Some(first) = self.source.first_declared(name.text) {
+                if first.at != name.at && (name.kind == Some(kind) || first.kind == Some(kind)) {
+                    return true;
+                }
+            }
+        }
+        false
+    }
+
+    /// Whether the names that are declared as this are known.
+    fn knows(&self, kind: Kind) -> bool {
+        match kind {
+            Kind::Packet => self.knows_packets,
+            _ => self.knows_fields,
+        }
     }
 
     /// The length of the packet that a field lies in, where that is right.
@@ -130,7 +179,7 @@ impl<'a> Checked<'_, 'a> {
         let Some(packet) = packet_of(self.source, number) else {
             return Ok(());
         };
-        if !self.is_whole(packet) {
+        if !self.is_right(packet) {
             return Ok(());
         }
         let Some(length) = self.right_length(packet) else {
@@ -162,7 +211,6 @@ impl<'a> Checked<'_, 'a> {
     /// The faults of a field.
     fn check_field(
         &self,
-        alloc: Global,
         number: usize,
         found: &mut Vec<CheckError>,
     ) -> Result<(), AllocError> {
@@ -176,17 +224,17 @@ impl<'a> Checked<'_, 'a> {
         let Some(packet) = self.source.token(part.from.saturating_add(3)) else {
             return Ok(());
         };
-        self.check_use(alloc, packet, Kind::Packet, found)?;
+        self.check_use(packet, Kind::Packet, found)?;
         self.check_place(number, kind.width() as i64, found)?;
         self.check_mask(self.source.first_number(part, TokenKind::Mask), kind, found)?;
         let stale = self.source.first_number(part, TokenKind::Stale);
         self.check_behind(stale, RuleNumber::Stale, found)
     }
 
-    /// The fault of a name that nothing has, at its first use. It is not told where the declaration may be in an item that isn't whole.
+    /// The fault of a name that nothing has, at its first use. It is not told where the declaration may be in an item that isn't whole, or
+    /// may have got another's name.
     fn check_use(
         &self,
-        alloc: Global,
         token: Token<'a>,
         kind: Kind,
         found: &mut Vec<CheckError>,
@@ -194,10 +242,7 @@ impl<'a> Checked<'_, 'a> {
         if self.source.declared(kind, token.text).is_some() || self.is_half_declared(token.text) {
             return Ok(());
         }
-        if !self.is_first_use(token, kind) {
-            return Ok(());
-        }
-        if self.is_name_lost() && nearest_name(alloc, self.source, kind, token.text)?.is_none() {
+        if !self.knows(kind) || !self.is_first_use(token, kind) {
             return Ok(());
         }
         found.push(CheckError::UnknownName { at: token.at })?;
@@ -249,15 +294,14 @@ impl<'a> Checked<'_, 'a> {
     /// The faults of a comparison.
     fn check_comparison(
         &self,
-        alloc: Global,
         name: Token<'a>,
         value: Token<'a>,
         found: &mut Vec<CheckError>,
     ) -> Result<(), AllocError> {
         let Some(field) = self.source.declared(Kind::Field, name.text) else {
-            return self.check_use(alloc, name, Kind::Field, found);
+            return self.check_use(name, Kind::Field, found);
         };
-        if !self.is_whole(field) {
+        if !self.is_right(field) {
             return Ok(());
         }
         if let Some((_, kind)) = type_of(self.source, field) {
@@ -305,7 +349,6 @@ impl<'a> Checked<'_, 'a> {
     /// The faults of a rule.
     fn check_rule(
         &self,
-        alloc: Global,
         part: Part,
         found: &mut Vec<CheckError>,
     ) -> Result<(), AllocError> {
@@ -320,7 +363,7 @@ impl<'a> Checked<'_, 'a> {
                 self.source.token(number.saturating_sub(1)),
                 self.source.token(number.saturating_add(1)),
             ) {
-                self.check_comparison(alloc, name, value, found)?;
+                self.check_comparison(name, value, found)?;
             }
         }
         Ok(())
@@ -336,8 +379,8 @@ impl<'a> Checked<'_, 'a> {
             self.check_name(part.from, &mut found)?;
             match self.source.kind_of(*part) {
                 Some(Kind::Packet) => self.check_packet(self.source.tokens_of(*part), &mut found)?,
-                Some(Kind::Field) => self.check_field(alloc, part.from, &mut found)?,
-                Some(Kind::Rule) => self.check_rule(alloc, *part, &mut found)?,
+                Some(Kind::Field) => self.check_field(part.from, &mut found)?,
+                Some(Kind::Rule) => self.check_rule(*part, &mut found)?,
                 None => {}
             }
         }

@@ -11,6 +11,7 @@ mod item_faults;
 mod message;
 mod nearest;
 mod page;
+mod reading;
 mod source;
 mod tables;
 mod token_faults;

@@ -6,7 +6,7 @@ ghost use Rattle.rule_messages.specs.Telling.{IsAt};
 use std::alloc::{AllocError, Global};
 
 /// Bytes of a text, with what is said of them.
-#[derive(Debug, Drop)]
+#[derive(Drop)]
 pub struct Mark {
     /// Bytes of the text before them.
     pub at: usize,
@@ -16,7 +16,7 @@ pub struct Mark {
 }
 
 /// What is wrong with a text.
-#[derive(Debug, Drop)]
+#[derive(Drop)]
 pub struct Message {
     /// The refusal's number.
     pub code: u8,

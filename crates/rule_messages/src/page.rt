@@ -2,7 +2,6 @@
 
 use crate::bytes::Many;
 use crate::message::{Mark, Message};
-use rule_lexer::{Token, TokenKind, lex};
 use std::alloc::{AllocError, Global};
 use text_places::{Excerpt, excerpt_of, place_of};
 
@@ -166,25 +165,7 @@ fn push_count(alloc: Global, page: &mut String, count: usize) -> Result<(), Allo
     page.push_str(line.as_str())
 }
 
-/// How many tokens are of this kind.
-fn count_of(tokens: &[Token<'_>], kind: TokenKind) -> usize {
-    tokens.iter().filter(|token| token.kind == kind).count()
-}
-
-/// The line of a text that compiles, which counts its items.
-fn push_items(alloc: Global, page: &mut String, text: &[u8]) -> Result<(), AllocError> {
-    let Ok(tokens) = lex(alloc, text) else {
-        return Err(AllocError);
-    };
-    let packets = Many(count_of(tokens.as_slice(), TokenKind::Packet), "packet");
-    let fields = Many(count_of(tokens.as_slice(), TokenKind::Field), "field");
-    let rules = Many(count_of(tokens.as_slice(), TokenKind::Rule), "rule");
-    let line = format!(in alloc; "0 errors: {packets}, {fields}, {rules}\n")?;
-    page.push_str(line.as_str())
-}
-
-/// The messages of a text in a file of this name, as they are printed: the first ten, and how many there are. Of a text without any,
-/// which compiles, how many items it has.
+/// The messages of a text in a file of this name, as they are printed: the first ten, and how many there are.
 pub fn page_of(
     alloc: Global,
     name: &str,
@@ -192,10 +173,6 @@ pub fn page_of(
     messages: &[Message],
 ) -> Result<String, AllocError> {
     let mut page = String::new(alloc);
-    if messages.is_empty() {
-        push_items(alloc, &mut page, text)?;
-        return Ok(page);
-    }
     for message in messages.iter().take(MOST_SHOWN) {
         push_head(alloc, &mut page, name, text, message)?;
         push_excerpts(alloc, &mut page, text, message)?;

@@ -6,7 +6,7 @@ use rule_lexer::{Token, TokenKind};
 use std::alloc::{AllocError, Global};
 
 /// What declares a name.
-#[derive(Clone, Copy, Debug, PartialEq, Eq)]
+#[derive(Clone, Copy, PartialEq, Eq)]
 pub enum Kind {
     Packet,
     Field,
@@ -14,7 +14,7 @@ pub enum Kind {
 }
 
 /// Tokens of one item, by their numbers: from the first to the one behind the last.
-#[derive(Clone, Copy, Debug)]
+#[derive(Clone, Copy)]
 pub struct Part {
     pub from: usize,
     pub to: usize,
@@ -131,6 +131,11 @@ impl<'a> Source<'a> {
     /// The token with this number.
     pub fn token(&self, number: usize) -> Option<Token<'a>> {
         self.tokens.get(number).copied()
+    }
+
+    /// The token before the one with this number.
+    pub fn token_before(&self, number: usize) -> Option<Token<'a>> {
+        self.token(number.checked_sub(1)?)
     }
 
     /// The number of the token at this place of the text, or how many there are.

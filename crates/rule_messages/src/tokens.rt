@@ -1,8 +1,10 @@
 //! All tokens of a text that has bad ones.
 
+use crate::bytes::part;
 use crate::token_faults::{bad_size, place};
 use rule_lexer::{LexError, lex};
 use std::alloc::{AllocError, Global};
+use text_places::line_start;
 
 /// A text in which blanks stand for each token that is none.
 #[derive(Drop)]
@@ -38,6 +40,34 @@ pub fn blank(text: &mut [u8], at: usize, size: usize) {
             *byte = b' ';
         }
     }
+}
+
+/// Whether the error is one of a quoted text.
+fn is_of_text(error: LexError) -> bool {
+    matches!(error, LexError::BadString { .. })
+}
+
+/// Whether an error may follow from one before it on its line: it touches that one, or one of the two is of a quoted text, so that a
+/// quote that closes may have been read for one that opens.
+pub fn follows(text: &[u8], errors: &[LexError], error: LexError) -> bool {
+    let at = place(error);
+    let line = line_start(text, at.min(text.len()));
+    errors.iter().any(|other| {
+        let before = place(*other);
+        line <= before
+            && before < at
+            && (is_of_text(*other)
+                || is_of_text(error)
+                || before.saturating_add(bad_size(text, *other)) == at)
+    })
+}
+
+/// Whether an item that declares a name for others may begin in a bad quoted text.
+pub fn hides_items(text: &[u8], error: LexError) -> bool {
+    let hidden = part(text, place(error), bad_size(text, error));
+    is_of_text(error)
+        && (hidden.windows(6).any(|word| matches!(word, b"packet"))
+            || hidden.windows(5).any(|word| matches!(word, b"field")))
 }
 
 /// The first error behind so many bytes of a text, none where all that follows are tokens.

@@ -10,7 +10,7 @@ use crate::parts::{behind, front};
 use std::alloc::{AllocError, Global};
 
 /// What is shown of a line, and which columns of that are marked.
-#[derive(Debug, Drop)]
+#[derive(Drop)]
 pub struct Excerpt {
     /// The line's number, from 1.
     pub line: usize,

@@ -8,7 +8,7 @@ use crate::character::character_count;
 use crate::line::{line_number, line_start};
 
 /// A line and a column, both counted from 1. A column is a character.
-#[derive(Clone, Copy, Debug, PartialEq, Eq)]
+#[derive(Clone, Copy)]
 pub struct Place {
     pub line: usize,
     pub column: usize,
