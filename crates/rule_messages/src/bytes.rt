@@ -38,10 +38,7 @@ pub fn is_word_byte(byte: u8) -> bool {
 
 /// The letters, digits and `_` in front.
 pub fn word_size(bytes: &[u8]) -> usize {
-    bytes
-        .iter()
-        .take_while(|byte| is_word_byte(**byte))
-        .count()
+    bytes.iter().take_while(|byte| is_word_byte(**byte)).count()
 }
 
 /// The letters, digits and `_` at the end.

@@ -133,7 +133,9 @@ fn duplicate(
 fn declaration(alloc: Global, kind: Kind, text: &[u8]) -> Result<String, AllocError> {
     let name = written(alloc, text)?;
     match kind {
-        Kind::Packet => format!(in alloc; "declare it: `packet {name} = mid NUMBER length NUMBER;`"),
+        Kind::Packet => format!(in alloc;
+            "declare it: `packet {name} = mid NUMBER length NUMBER;`"
+        ),
         _ => format!(in alloc; "declare it: `field {name} = PACKET TYPE at NUMBER;`"),
     }
 }
@@ -421,11 +423,7 @@ fn number_name(number: RuleNumber) -> &'static str {
 }
 
 /// A number that is out of its range.
-fn bad_number(
-    alloc: Global,
-    token: Token<'_>,
-    number: RuleNumber,
-) -> Result<Message, AllocError>
+fn bad_number(alloc: Global, token: Token<'_>, number: RuleNumber) -> Result<Message, AllocError>
     ensures { IfOk result (IsAt 28 token.entry.at) }
 {
     let name = number_name(number);

@@ -70,18 +70,11 @@ fn errors(
             all.push(CompileError::Lex(*error))?;
         }
     }
-    let grammar = read_items(
-        alloc,
-        source,
-        mended.text.as_slice(),
-        bad,
-    )?;
+    let grammar = read_items(alloc, source, mended.text.as_slice(), bad)?;
     for error in &grammar.errors {
         all.push(CompileError::Parse(*error))?;
     }
-    let hides_items = bad
-        .iter()
-        .any(|error| hides_items(source.text, *error));
+    let hides_items = bad.iter().any(|error| hides_items(source.text, *error));
     let faults = item_errors(alloc, source, grammar.whole.as_slice(), hides_items)?;
     for fault in &faults {
         all.push(CompileError::Check(*fault))?;

@@ -100,9 +100,7 @@ impl<'a> Stop<'_, 'a> {
         let value = crate::bytes::written(alloc, number.text)?;
         let name = crate::bytes::written(alloc, field.text)?;
         let op = turned(sign);
-        Ok(Some(format!(in alloc;
-            "the field comes first: did you mean `{name} {op} {value}`?"
-        )?))
+        Ok(Some(format!(in alloc; "the field comes first: did you mean `{name} {op} {value}`?")?))
     }
 
     /// The field that stands where its comparison wants a number.
@@ -156,8 +154,10 @@ impl<'a> Stop<'_, 'a> {
             (What::FieldKind, _) => format!(in alloc; "a type is {TYPES}"),
             (What::State, _) => String::from_str(alloc, "write one of these three"),
             (What::Level, _) => String::from_str(alloc, "write one of these four"),
-            (_, Some(token)) if begins_item(token.kind) =>
-                String::from_str(alloc, "the next item begins here"),
+            (_, Some(token)) if begins_item(token.kind) => String::from_str(
+                alloc,
+                "the next item begins here",
+            ),
             (_, None) => String::from_str(alloc, "the file ends here"),
             _ => self.plain_label(alloc),
         }
@@ -252,11 +252,7 @@ pub fn expected_message(
 }
 
 /// What is said of the 65th token that nests in a condition.
-pub fn nested_message(
-    alloc: Global,
-    source: &Source<'_>,
-    at: usize,
-) -> Result<Message, AllocError>
+pub fn nested_message(alloc: Global, source: &Source<'_>, at: usize) -> Result<Message, AllocError>
     ensures { IfOk result (IsAt 12 at) }
 {
     let number = source.number_at(at);

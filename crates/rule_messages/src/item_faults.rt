@@ -172,7 +172,9 @@ impl<'s, 'a> Checked<'s, 'a> {
         width: i64,
         found: &mut Vec<CheckError>,
     ) -> Result<(), AllocError> {
-        let Some(place) = self.source.first_number(self.source.part_of(number), TokenKind::At)
+        let Some(place) = self
+            .source
+            .first_number(self.source.part_of(number), TokenKind::At)
         else {
             return Ok(());
         };
@@ -209,11 +211,7 @@ impl<'s, 'a> Checked<'s, 'a> {
     }
 
     /// The faults of a field.
-    fn check_field(
-        &self,
-        number: usize,
-        found: &mut Vec<CheckError>,
-    ) -> Result<(), AllocError> {
+    fn check_field(&self, number: usize, found: &mut Vec<CheckError>) -> Result<(), AllocError> {
         let part = self.source.part_of(number);
         let Some(field) = declared_in(self.source, number) else {
             return Ok(());
@@ -347,11 +345,7 @@ impl<'s, 'a> Checked<'s, 'a> {
     }
 
     /// The faults of a rule.
-    fn check_rule(
-        &self,
-        part: Part,
-        found: &mut Vec<CheckError>,
-    ) -> Result<(), AllocError> {
+    fn check_rule(&self, part: Part, found: &mut Vec<CheckError>) -> Result<(), AllocError> {
         self.check_numbers(part, found)?;
         self.check_report(part, found)?;
         for (number, token) in self.source.tokens_of(part).iter().enumerate() {

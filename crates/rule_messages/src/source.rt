@@ -41,10 +41,7 @@ pub struct Source<'a> {
 
 /// Whether tokens of this kind begin an item.
 pub fn begins_item(kind: TokenKind) -> bool {
-    matches!(
-        kind,
-        TokenKind::Packet | TokenKind::Field | TokenKind::Rule
-    )
+    matches!(kind, TokenKind::Packet | TokenKind::Field | TokenKind::Rule)
 }
 
 /// What an item that begins so declares.

@@ -26,8 +26,8 @@ pub fn words_of(source: &Source<'_>, part: Part) -> Words {
     for token in source.tokens_of(part) {
         match token.kind {
             TokenKind::Compare(_) => words.comparisons = words.comparisons.saturating_add(1),
-            TokenKind::Not | TokenKind::And | TokenKind::Or | TokenKind::Xor =>
-                words.operators = words.operators.saturating_add(1),
+            TokenKind::Not | TokenKind::And | TokenKind::Or | TokenKind::Xor => words.operators =
+                words.operators.saturating_add(1),
             _ => {}
         }
     }
@@ -108,8 +108,9 @@ pub fn length_message(
         "the condition of {name} has {count} comparisons and operators, at most 31 are allowed"
     )?;
     let label = String::from_str(alloc, "split this rule in two")?;
-    Message::at(alloc, 42, head, name_mark(source, Some(part), label))
-        .with(condition_mark(alloc, source, part, words)?)
+    Message::at(alloc, 42, head, name_mark(source, Some(part), label)).with(condition_mark(
+        alloc, source, part, words,
+    )?)
 }
 
 /// The `when` of a rule, with what its condition has.

@@ -166,7 +166,8 @@ fn without_lines(alloc: Global, digits: &[u8]) -> Result<Vec<u8>, AllocError> {
 /// Whether the bytes are one number, and nothing else.
 fn is_number(alloc: Global, text: &[u8]) -> bool {
     match lex(alloc, text) {
-        Ok(tokens) => matches!(tokens.as_slice(), [token] if matches!(token.kind, TokenKind::Number(_))),
+        Ok(tokens) =>
+            matches!(tokens.as_slice(), [token] if matches!(token.kind, TokenKind::Number(_))),
         Err(_) => false,
     }
 }
@@ -273,7 +274,10 @@ fn forbidden(alloc: Global, text: &[u8], at: usize) -> Result<Message, AllocErro
         let found = quoted(alloc, front(rest, size))?;
         format!(in alloc; "{found} may not stand in a quoted text")?
     };
-    let label = String::from_str(alloc, "write A to Z, a to z, digits and signs of ASCII only")?;
+    let label = String::from_str(
+        alloc,
+        "write A to Z, a to z, digits and signs of ASCII only",
+    )?;
     Ok(Message::at(alloc, 4, head, Mark { at, size, label }))
 }
 
@@ -319,12 +323,7 @@ fn forbidden_or_unclosed(
 }
 
 /// What is said of the fault of a token that begins at this place.
-fn told(
-    alloc: Global,
-    text: &[u8],
-    reason: LexReason,
-    begin: usize,
-) -> Result<Message, AllocError>
+fn told(alloc: Global, text: &[u8], reason: LexReason, begin: usize) -> Result<Message, AllocError>
     ensures { IfOk result (TellsReason text.now reason begin) }
 {
     match reason {
@@ -354,11 +353,7 @@ pub fn place(error: LexError) -> usize
 }
 
 /// What is said of an error of tokens.
-pub fn token_message(
-    alloc: Global,
-    text: &[u8],
-    error: LexError,
-) -> Result<Message, AllocError>
+pub fn token_message(alloc: Global, text: &[u8], error: LexError) -> Result<Message, AllocError>
     ensures { IfOk result (TellsOf text.now (refusal_of (Lex error))) }
 {
     told(alloc, text, error.reason(text), place(error))
@@ -373,7 +368,8 @@ pub fn bad_size(text: &[u8], error: LexError) -> usize {
         LexError::NameTooLong { .. } => word_size(rest),
         LexError::BadString { .. } => {
             let (size, is_closed) = inside(behind(rest, 1));
-            size.saturating_add(1).saturating_add(usize::from(is_closed))
+            size.saturating_add(1)
+                .saturating_add(usize::from(is_closed))
         }
         LexError::TextTooLong | LexError::Memory => rest.len(),
     };

@@ -72,7 +72,11 @@ fn is_sign(kind: TokenKind) -> bool {
 
 /// Whether the token is a word of the language.
 pub fn is_reserved(kind: TokenKind) -> bool {
-    !is_sign(kind) && !matches!(kind, TokenKind::Name | TokenKind::Number(_) | TokenKind::Text)
+    !is_sign(kind)
+        && !matches!(
+            kind,
+            TokenKind::Name | TokenKind::Number(_) | TokenKind::Text
+        )
 }
 
 /// What stands there, in words.

@@ -131,7 +131,9 @@ fn judge<'a, W: Write>(
     let mut lines = Vec::new(alloc);
     list_judgement(alloc, text, which, &mut lines).map_err(|error| judgement_fault(name, error))?;
     if let Some(plan) = plan {
-        list_unsampled(alloc, text, plan, &mut lines).map_err(|error| judgement_fault(name, error))?;
+        list_unsampled(alloc, text, plan, &mut lines).map_err(|error| judgement_fault(
+            name, error,
+        ))?;
     }
     let warnings = write_lines(name, lines.as_slice(), out)?;
     listed(writeln!(out, "{name}: {rules} rules, {warnings} warnings"))?;
