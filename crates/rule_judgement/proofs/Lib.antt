@@ -14,5 +14,6 @@ pub mod StepLaws
 pub mod PairLaws
 pub mod SpareLaws
 pub mod SeenLaws
+pub mod LaidLaws
 pub mod CalledSteps
 pub mod CalledLaws

@@ -57,7 +57,7 @@ fn value(term: &Term, packet: &[u8]) -> Option<i64>
 }
 
 /// The last packet of a message id, where the first of these came last.
-fn last_of(packets: &[Vec<u8>], mid: u16) -> Option<&[u8]>
+pub(crate) fn last_of(packets: &[Vec<u8>], mid: u16) -> Option<&[u8]>
     ensures { last_packet mid (history_of packets.now) ≡ option_map (λ packet.
         (packet.now, 0)) result }
 {
