@@ -1,8 +1,8 @@
 -- Packets are laid one after the other.
-use Rattle.std.proofs.Common.{◌≡◌, ℕ, ◌+◌, ◌*◌, ◌/◌, ◌%◌, ◌<◌, ◌^◌, Bool, true, false, if◌then◌else◌, ◌==◌, ◌≤◌, List, [], ◌∷◌, ◌++◌, length, refl, ap, sym, ◌∙◌, subst, arith, Option, Some, None, slice_get, slice_index, get_or, Vec}
+use Rattle.std.proofs.Common.{◌≡◌, ℕ, ◌+◌, ◌*◌, ◌/◌, ◌%◌, ◌<◌, ◌^◌, Bool, true, false, ◌||◌, if◌then◌else◌, ◌==◌, ◌≤◌, List, [], ◌∷◌, ◌++◌, length, refl, ap, sym, ◌∙◌, subst, arith, Option, Some, None, slice_get, slice_index, get_or, Vec}
 use Rattle.std.specs.Prelude.{IsTrue, is_some}
 use Rattle.std.specs.Global.{Global}
-use Rattle.std.specs.List.{AllByRecursion}
+use Rattle.std.specs.List.{AllByRecursion, list_any}
 use Rattle.std.proofs.lemmas.Bool.Decides.{nat_tests}
 use Rattle.lc_model.specs.Packet.{message_id}
 use Rattle.lc_model.specs.LimitChecker.Watch.{last_packet}
@@ -65,10 +65,35 @@ now_there mid (p ∷ packets) packet own = by_test (message_id p.items == mid) (
     by_test true later = refl
     by_test false later = later
 
+any_more : {A : Type 0} (P : A → Bool) (xs : List A) (x : A) → IsTrue (list_any P xs) → IsTrue (list_any P (xs ++ x ∷ []))
+any_more P [] x any = absurd (cc any)
+any_more P (y ∷ xs) x any = by_test (P y) (any_more P xs x) any
+  where
+    by_test : (test : Bool) → (IsTrue (list_any P xs) → IsTrue (list_any P (xs ++ x ∷ []))) → IsTrue (test || list_any P xs) → IsTrue (test || list_any P (xs ++ x ∷ []))
+    by_test true later h = refl
+    by_test false later h = later h
+
+any_last : {A : Type 0} (P : A → Bool) (xs : List A) (x : A) → IsTrue (P x) → IsTrue (list_any P (xs ++ x ∷ []))
+any_last P [] x here = by_test (P x) here
+  where
+    by_test : (test : Bool) → IsTrue test → IsTrue (test || false)
+    by_test true h = refl
+    by_test false h = cc
+any_last P (y ∷ xs) x here = by_test (P y) (any_last P xs x here)
+  where
+    by_test : (test : Bool) → IsTrue (list_any P (xs ++ x ∷ [])) → IsTrue (test || list_any P (xs ++ x ∷ []))
+    by_test true h = refl
+    by_test false h = h
+
+-- some chosen field has this message id
+abbrev has_mid : List Chosen → Vec ℕ Global → Bool
+has_mid before packet = list_any (λ (one : Chosen). one.field.mid == message_id packet.items) before
+
 pub laid_already : (chosen before : List Chosen) (one : Chosen) (packets : List (Vec ℕ Global)) → IsTrue (is_some (last_packet one.field.mid (history_of packets))) →
     AreLaidFor chosen before packets → AreLaidFor chosen (before ++ one ∷ []) packets
 laid_already chosen before one packets there so_far = record {
   each = so_far.each;
+  own = each packets (λ p any. any_more (λ (o : Chosen). o.field.mid == message_id p.items) before one any) so_far.own;
   all = both (λ (o : Chosen). IsTrue (is_some (last_packet o.field.mid (history_of packets)))) before (one ∷ []) so_far.all (there, tt);
 }
 
@@ -78,7 +103,13 @@ laid_newly chosen before one packets pushed packet is pushes so_far =
     subst (AreLaidFor chosen (before ++ one ∷ [])) (sym pushes) (record {
       each = both (λ (p : Vec ℕ Global). IsLaid chosen (message_id p.items) p.items) packets (packet ∷ []) so_far.each
           (subst (λ mid. IsLaid chosen mid packet.items) (sym (own_id chosen one.field.mid packet.items is)) is, tt);
+      own = both (λ p. IsTrue (has_mid (before ++ one ∷ []) p)) packets (packet ∷ [])
+          (each packets (λ p any. any_more (λ (o : Chosen). o.field.mid == message_id p.items) before one any) so_far.own)
+          (any_last (λ (o : Chosen). o.field.mid == message_id packet.items) before one (same_id (own_id chosen one.field.mid packet.items is)), tt);
       all = both (λ (o : Chosen). IsTrue (is_some (last_packet o.field.mid (history_of (packets ++ packet ∷ []))))) before (one ∷ [])
           (each before (λ o there. still_there o.field.mid packets packet there) so_far.all)
           (now_there one.field.mid packets packet (own_id chosen one.field.mid packet.items is), tt);
     })
+  where
+    same_id : message_id packet.items ≡ one.field.mid → IsTrue (one.field.mid == message_id packet.items)
+    same_id e = grind (arith, nat_tests)

@@ -5,12 +5,11 @@ use Rattle.std.specs.List.{list_any}
 use Rattle.lc_model.specs.declared.field.FieldType.{FieldType}
 use Rattle.lc_model.specs.declared.field.FieldType.TheVariants.{U16Le, I16Le, U32Le, I32Le}
 use Rattle.lc_model.specs.declared.field.Term.{Term}
-use Rattle.lc_model.specs.Codes.{type_code}
 use Rattle.lc_model.specs.Field.{full_mask, width}
 use Rattle.lc_model.specs.Packet.{is_telemetry_mid, longest_packet, reserved_mids}
 use Rattle.lc_model.specs.Tables.Image.{numbers_below}
 use Rattle.rule_judgement.specs.declared.fields.Field.{Field}
-use Rattle.rule_judgement.specs.Fields.{field_read}
+use Rattle.rule_judgement.specs.Fields.{field_read, is_one}
 
 -- ---- where the bits of a field stand
 
@@ -36,10 +35,6 @@ abbrev pub bits_read : Field → ℕ → ℕ
 bits_read f place = byte_there f f.mask place
 
 -- ---- which fields share bits
-
--- the two are one field
-abbrev pub is_one : Field → Field → Bool
-is_one f g = (type_code f.kind == type_code g.kind) && (f.mid == g.mid) && (f.offset == g.offset) && (f.mask == g.mask)
 
 -- the field reads some of these bits, which are told place by place
 abbrev pub reads_some : (ℕ → ℕ) → Field → Bool

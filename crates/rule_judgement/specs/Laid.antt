@@ -1,6 +1,6 @@
 -- Packets in which fields have given bits. This project's own.
 use Rattle.std.specs.Prelude.{◌≡◌, ℕ, ◌+◌, ◌-◌, ◌/◌, ◌%◌, ◌≤◌, ◌<◌, ◌==◌, if◌then◌else◌, fold, map, length, List, slice_index, bit_and, bit_or, IsTrue, is_some}
-use Rattle.std.specs.List.{AllByRecursion, zip}
+use Rattle.std.specs.List.{AllByRecursion, list_any, zip}
 use Rattle.std.specs.declared.vec.Vec.{Vec}
 use Rattle.std.specs.Global.{Global}
 use Rattle.lc_model.specs.Field.{width}
@@ -53,6 +53,7 @@ pub record IsLaid (chosen : List Chosen) (mid : ℕ) (packet : List ℕ) : Type 
 -- packets with the bits of all chosen fields, one for each message id; the first so many have theirs
 pub record AreLaidFor (chosen before : List Chosen) (packets : List (Vec ℕ Global)) : Type 0 where
   pub each : AllByRecursion (λ (packet : Vec ℕ Global). IsLaid chosen (message_id packet.items) packet.items) packets
+  pub own : AllByRecursion (λ (packet : Vec ℕ Global). IsTrue (list_any (λ (one : Chosen). one.field.mid == message_id packet.items) before)) packets
   pub all : AllByRecursion (λ (one : Chosen). IsTrue (is_some (last_packet one.field.mid (history_of packets)))) before
 
 -- each field has its packet
