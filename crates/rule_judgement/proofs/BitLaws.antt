@@ -1,5 +1,5 @@
 -- Bytes in which several fields have their bits, and what is read of them.
-use Rattle.std.proofs.Common.{◌≡◌, ℕ, zero, suc, ◌+◌, ◌-◌, ◌*◌, ◌/◌, ◌%◌, ◌≤◌, ◌<◌, ◌^◌, nat_le, nat_lt, Bool, true, false, ◌&&◌, ◌||◌, ◌==◌, not, if◌then◌else◌, List, [], ◌∷◌, ◌++◌, length, fold, drop, refl, ap, sym, ◌∙◌, subst, arith, get_or, slice_get, slice_index, Option, Some, None, bit_and, bit_or}
+use Rattle.std.proofs.Common.{◌≡◌, ℕ, zero, suc, ◌+◌, ◌-◌, ◌*◌, ◌%◌, ◌≤◌, ◌<◌, ◌^◌, nat_le, nat_lt, Bool, true, false, ◌&&◌, ◌==◌, if◌then◌else◌, List, [], ◌∷◌, fold, refl, ap, sym, ◌∙◌, subst, arith, get_or, slice_get, Some, bit_and, bit_or}
 use Rattle.std.specs.List.{AllByRecursion}
 use Rattle.std.specs.Int.{w16, w32, byte_at, from_be_bytes, from_le_bytes}
 use Rattle.std.specs.Int.Bits.{and_self, and_zero_r}
@@ -175,9 +175,9 @@ four_bytes p q r s b mask small_p small_q small_r small_s few e_p e_q e_r e_s =
     let nested : p * 16777216 + q * 65536 + r * 256 + s ≡ ((p * 256 + q) * 256 + r) * 256 + s = omega arith in
     (λ i. bit_and (nested i) (sym whole i))
     ∙ block ((p * 256 + q) * 256 + r) ((byte_at 3 b * 256 + byte_at 2 b) * 256 + byte_at 1 b) ((byte_at 3 mask * 256 + byte_at 2 mask) * 256 + byte_at 1 mask)
-        s (byte_at 0 b) (byte_at 0 mask) small_s (omega arith) (omega arith)
-        (block (p * 256 + q) (byte_at 3 b * 256 + byte_at 2 b) (byte_at 3 mask * 256 + byte_at 2 mask) r (byte_at 1 b) (byte_at 1 mask) small_r (omega arith) (omega arith)
-            (block p (byte_at 3 b) (byte_at 3 mask) q (byte_at 2 b) (byte_at 2 mask) small_q (omega arith) (omega arith) e_p e_q) e_r) e_s
+    s (byte_at 0 b) (byte_at 0 mask) small_s (omega arith) (omega arith)
+    (block (p * 256 + q) (byte_at 3 b * 256 + byte_at 2 b) (byte_at 3 mask * 256 + byte_at 2 mask) r (byte_at 1 b) (byte_at 1 mask) small_r (omega arith) (omega arith)
+    (block p (byte_at 3 b) (byte_at 3 mask) q (byte_at 2 b) (byte_at 2 mask) small_q (omega arith) (omega arith) e_p e_q) e_r) e_s
     ∙ (λ i. bit_and (low i) (whole i)) ∙ sym (low_bits b mask 32 (λ n le. omega (arith, le, few)))
 
 pub be_two : (bytes : List ℕ) → from_be_bytes w16 bytes ≡ get_or bytes 0 0 * 256 + get_or bytes 1 0

@@ -1,13 +1,13 @@
 -- Fields that are read by terms, each once.
-use Rattle.std.proofs.Common.{◌≡◌, ℕ, zero, suc, ◌+◌, ◌<◌, Bool, true, false, ◌||◌, ◌&&◌, ◌==◌, if◌then◌else◌, List, [], ◌∷◌, ◌++◌, length, get_or, take, refl, ap, sym, ◌∙◌, subst, arith}
+use Rattle.std.proofs.Common.{◌≡◌, ℕ, zero, suc, ◌+◌, ◌<◌, Bool, true, false, ◌||◌, ◌&&◌, ◌==◌, if◌then◌else◌, List, [], ◌∷◌, ◌++◌, length, get_or, refl, ap, sym, ◌∙◌, subst, arith}
 use Rattle.std.specs.Prelude.{IsTrue, IsFalse, Contains}
 use Rattle.std.specs.List.{AllByRecursion, list_any}
 use Rattle.std.proofs.lemmas.Bool.Decides.{nat_tests}
 use Rattle.lc_model.specs.Codes.{type_code}
 use Rattle.lc_model.specs.declared.field.Term.{Term}
 use Rattle.rule_judgement.specs.declared.fields.Field.{Field}
-use Rattle.rule_judgement.specs.Fields.{AreDifferent, AreFieldsOf, HasField, field_number, field_read, is_field_of, is_one}
-use Rattle.rule_judgement.proofs.Each.{both, each, one_more}
+use Rattle.rule_judgement.specs.Fields.{AreDifferent, AreFieldsOf, field_number, field_read, is_field_of, is_one}
+use Rattle.rule_judgement.proofs.Each.{both}
 
 pub any_at : {A : Type 0} (P : A → Bool) (xs : List A) (k : ℕ) (x : A) → k < length xs → get_or xs k x ≡ x → IsTrue (P x) → IsTrue (list_any P xs)
 any_at P [] k x below is holds = absurd (omega (arith, below))

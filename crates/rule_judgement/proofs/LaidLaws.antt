@@ -1,15 +1,15 @@
 -- Packets are laid one after the other.
-use Rattle.std.proofs.Common.{◌≡◌, ℕ, ◌+◌, ◌*◌, ◌/◌, ◌%◌, ◌<◌, ◌^◌, Bool, true, false, ◌||◌, if◌then◌else◌, ◌==◌, ◌≤◌, List, [], ◌∷◌, ◌++◌, length, refl, ap, sym, ◌∙◌, subst, arith, Option, Some, None, slice_get, slice_index, get_or, Vec}
+use Rattle.std.proofs.Common.{◌≡◌, ℕ, ◌/◌, ◌%◌, ◌<◌, Bool, true, false, ◌||◌, if◌then◌else◌, ◌==◌, ◌≤◌, List, [], ◌∷◌, ◌++◌, length, refl, ap, sym, subst, arith, Some, None, slice_index, get_or, Vec}
 use Rattle.std.specs.Prelude.{IsTrue, is_some}
 use Rattle.std.specs.Global.{Global}
-use Rattle.std.specs.List.{AllByRecursion, list_any}
+use Rattle.std.specs.List.{list_any}
 use Rattle.std.proofs.lemmas.Bool.Decides.{nat_tests}
 use Rattle.lc_model.specs.Packet.{message_id}
 use Rattle.lc_model.specs.LimitChecker.Watch.{last_packet}
 use Rattle.rule_judgement.specs.declared.fields.Field.{Field}
 use Rattle.rule_judgement.specs.declared.packets.Chosen.{Chosen}
 use Rattle.rule_judgement.specs.Findings.{history_of}
-use Rattle.rule_judgement.specs.Laid.{IsLaid, AreLaidFor, chosen_of, packet_byte}
+use Rattle.rule_judgement.specs.Laid.{IsLaid, AreLaidFor, chosen_of}
 use Rattle.rule_judgement.proofs.Each.{both, each}
 
 -- ---- fields with bits

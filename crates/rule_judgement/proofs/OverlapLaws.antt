@@ -1,18 +1,18 @@
 -- Where no two fields share a bit, the packets that are laid make the condition true.
-use Rattle.std.proofs.Common.{◌≡◌, ℕ, zero, suc, ◌≤◌, ◌<◌, nat_le, nat_lt, Bool, true, false, ◌&&◌, ◌==◌, if◌then◌else◌, List, [], ◌∷◌, length, refl, ap, sym, ◌∙◌, subst, arith, slice_get, Option, Some, None, Vec}
+use Rattle.std.proofs.Common.{◌≡◌, ℕ, zero, suc, ◌<◌, nat_le, nat_lt, Bool, true, false, ◌&&◌, ◌==◌, if◌then◌else◌, List, [], ◌∷◌, length, refl, ap, sym, ◌∙◌, subst, arith, slice_get, Option, Some, None, Vec}
 use Rattle.std.specs.Global.{Global}
 use Rattle.std.specs.Prelude.{IsTrue, IsFalse, is_some}
 use Rattle.std.specs.List.{AllByRecursion, list_any}
 use Rattle.std.proofs.lemmas.Bool.Decides.{nat_tests}
 use Rattle.std.proofs.lemmas.Option.{get_or_from_slice_get}
 use Rattle.lc_model.specs.declared.truth.Truth.{Truth}
-use Rattle.lc_model.specs.declared.truth.Truth.TheVariants.{True, Stale}
+use Rattle.lc_model.specs.declared.truth.Truth.TheVariants.{Stale}
 use Rattle.lc_model.specs.declared.field.Term.{Term}
 use Rattle.lc_model.specs.Field.{value_of}
 use Rattle.lc_model.specs.Packet.{message_id, is_telemetry_mid, reserved_mids}
 use Rattle.lc_model.specs.Condition.{Condition}
 use Rattle.lc_model.specs.Tables.Equation.{mentions}
-use Rattle.lc_model.specs.LimitChecker.Watch.{last_packet, judgement, is_stale, truth_of_term, truth_by, truth_of}
+use Rattle.lc_model.specs.LimitChecker.Watch.{last_packet, judgement, is_stale, truth_of_term, truth_of}
 use Rattle.rule_judgement.specs.declared.fields.Field.{Field}
 use Rattle.rule_judgement.specs.declared.packets.Chosen.{Chosen}
 use Rattle.rule_judgement.specs.Judgement.{place_of, value_by, found_in, Refines}

@@ -1,33 +1,23 @@
 -- Packets in which fields have the bits that were found make the condition true, where no two fields share a bit.
-use Rattle.std.proofs.Common.{◌≡◌, ℕ, zero, suc, ◌+◌, ◌-◌, ◌/◌, ◌%◌, ◌≤◌, ◌<◌, nat_le, nat_lt, Bool, true, false, ◌&&◌, ◌||◌, ◌==◌, not, if◌then◌else◌, List, [], ◌∷◌, ◌++◌, length, fold, drop, refl, ap, sym, ◌∙◌, subst, arith, get_or, take, slice_get, slice_range, slice_index, Option, Some, None, bit_and, Vec}
-use Rattle.std.specs.Global.{Global}
-use Rattle.std.specs.Prelude.{IsTrue, IsFalse, is_some}
+use Rattle.std.proofs.Common.{◌≡◌, ℕ, zero, suc, ◌+◌, ◌-◌, ◌≤◌, ◌<◌, nat_le, nat_lt, Bool, true, false, ◌&&◌, ◌||◌, ◌==◌, not, if◌then◌else◌, List, [], ◌∷◌, ◌++◌, length, drop, refl, ap, sym, ◌∙◌, subst, arith, get_or, slice_get, slice_range, Some, None, bit_and}
+use Rattle.std.specs.Prelude.{IsTrue, IsFalse}
 use Rattle.std.specs.Int.{byte_at}
 use Rattle.std.specs.Int.Bits.{and_zero_r}
 use Rattle.std.specs.List.{AllByRecursion, list_any}
 use Rattle.std.proofs.lemmas.Bool.Decides.{nat_tests}
 use Rattle.std.proofs.lemmas.List.{get_or-take, get_or-drop}
-use Rattle.std.proofs.lemmas.Option.{get_or_from_slice_get}
-use Rattle.lc_model.specs.declared.truth.Truth.{Truth}
-use Rattle.lc_model.specs.declared.truth.Truth.TheVariants.{True, Stale}
 use Rattle.lc_model.specs.declared.field.Term.{Term}
 use Rattle.lc_model.specs.Field.{full_mask, width, raw, value_of, twos_complement}
-use Rattle.lc_model.specs.Packet.{message_id, is_telemetry_mid, reserved_mids, stream_fault}
-use Rattle.lc_model.specs.Condition.{Condition}
-use Rattle.lc_model.specs.Tables.Equation.{mentions}
+use Rattle.lc_model.specs.Packet.{is_telemetry_mid, reserved_mids}
 use Rattle.lc_model.specs.Tables.Image.{numbers_below}
-use Rattle.lc_model.specs.LimitChecker.Watch.{last_packet, judgement, is_stale, truth_of_term, truth_by, truth_of}
 use Rattle.rule_judgement.specs.declared.fields.Field.{Field}
 use Rattle.rule_judgement.specs.declared.packets.Chosen.{Chosen}
-use Rattle.rule_judgement.specs.Judgement.{place_of, value_by, Refines}
-use Rattle.rule_judgement.specs.Fields.{AreDifferent, AreFieldsOf, field_number, field_read, is_field_of, is_one}
-use Rattle.rule_judgement.specs.Search.{found_so_far}
+use Rattle.rule_judgement.specs.Judgement.{place_of, value_by}
+use Rattle.rule_judgement.specs.Fields.{AreDifferent, field_read, is_field_of, is_one}
 use Rattle.rule_judgement.specs.Bits.{byte_number, byte_there, bits_read, header_bits, reads_some, share_a_bit, share_bits, ReadsTelemetry}
-use Rattle.rule_judgement.specs.Laid.{AreLaidFor, IsLaid, HasRoom, byte_over, chosen_of, laid_over, packet_byte}
-use Rattle.rule_judgement.specs.Findings.{IsTelemetry, Shows, history_of}
-use Rattle.rule_judgement.proofs.Each.{both, each}
-use Rattle.rule_judgement.proofs.FieldLaws.{reads_its_own, same_place}
-use Rattle.rule_judgement.proofs.Known.{refines-same, tables_keep}
+use Rattle.rule_judgement.specs.Laid.{IsLaid, HasRoom, chosen_of, packet_byte}
+use Rattle.rule_judgement.proofs.Each.{each}
+use Rattle.rule_judgement.proofs.FieldLaws.{same_place}
 use Rattle.rule_judgement.proofs.LaidLaws.{pair_of}
 use Rattle.rule_judgement.proofs.TelemetryLaws.{at_most, no_less}
 use Rattle.rule_judgement.proofs.BitLaws.{few_bits, LeavesAt, LeaveOthers, has_bits, header_leaves, small_packet_byte, reads_alike}

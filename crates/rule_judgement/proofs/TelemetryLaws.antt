@@ -1,5 +1,5 @@
 -- A packet that is laid for a telemetry message id is one that a stream may bring.
-use Rattle.std.proofs.Common.{◌≡◌, ℕ, ◌+◌, ◌*◌, ◌/◌, ◌%◌, ◌≤◌, ◌<◌, nat_le, nat_lt, Bool, true, false, ◌&&◌, ◌||◌, ◌==◌, not, if◌then◌else◌, List, [], ◌∷◌, length, drop, refl, ap, sym, ◌∙◌, subst, arith, get_or, slice_index, Option, Some, None, bit_or}
+use Rattle.std.proofs.Common.{◌≡◌, ℕ, ◌+◌, ◌*◌, ◌/◌, ◌%◌, ◌≤◌, ◌<◌, nat_le, nat_lt, Bool, true, false, ◌&&◌, ◌||◌, ◌==◌, not, if◌then◌else◌, List, length, drop, refl, ap, ◌∙◌, arith, get_or, Some, None, bit_or}
 use Rattle.std.specs.Prelude.{IsTrue}
 use Rattle.std.specs.Option.{option_or}
 use Rattle.std.specs.List.{list_any}
@@ -9,7 +9,7 @@ use Rattle.std.proofs.lemmas.Nat.{le_or_r, or_of_8}
 use Rattle.lc_model.specs.Bytes.{u16_at}
 use Rattle.lc_model.specs.Packet.{message_id, is_command, version, has_secondary_header, sequence_flags, is_telemetry_mid, reserved_mids, is_own_mid, stream_fault, short_packet, other_version, no_secondary_header, part_of_packet, other_length, long_packet, own_message_id}
 use Rattle.rule_judgement.specs.declared.packets.Chosen.{Chosen}
-use Rattle.rule_judgement.specs.Laid.{IsLaid, byte_over, packet_byte}
+use Rattle.rule_judgement.specs.Laid.{IsLaid, byte_over}
 use Rattle.rule_judgement.proofs.LaidLaws.{own_id}
 use Rattle.rule_judgement.proofs.BitLaws.{all_small, be_two}
 
@@ -65,8 +65,8 @@ pub fault_free : (chosen : List Chosen) (mid : ℕ) (packet : List ℕ) → IsLa
     stream_fault packet ≡ None
 fault_free chosen mid packet is telemetry free =
     λ i. option_or (if short i then Some short_packet else if other_one i then Some other_version else if secondary i then Some no_secondary_header
-        else if part i then Some part_of_packet else if size i then Some other_length else if long i then Some long_packet else None)
-        (if own i then Some own_message_id else None)
+    else if part i then Some part_of_packet else if size i then Some other_length else if long i then Some long_packet else None)
+    (if own i then Some own_message_id else None)
   where
     id : message_id packet ≡ mid
     id = own_id chosen mid packet is

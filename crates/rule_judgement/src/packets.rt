@@ -31,7 +31,10 @@ fn pair(chosen: &mut Vec<Chosen>, field: &Field, bits: &[u32]) -> Result<(), All
     if bits.len() <= next {
         return Ok(());
     }
-    Ok(chosen.push(Chosen { field: *field, bits: bits[next] })?)
+    Ok(chosen.push(Chosen {
+        field: *field,
+        bits: bits[next],
+    })?)
 }
 
 /// Fields with their bits, as far as there are both.

@@ -1,4 +1,4 @@
-use Rattle.std.proofs.Common.{arith, rules}
+use Rattle.std.proofs.Common.{rules}
 use Rattle.rule_judgement.specs.Fields.{HasField}
 use Rattle.rule_judgement.proofs.Each.{each, one_more}
 use Rattle.rule_judgement.proofs.FieldLists.{add_more}

@@ -1,4 +1,4 @@
-use Rattle.std.proofs.Common.{rules, subst}
+use Rattle.std.proofs.Common.{subst}
 use Rattle.lc_model.specs.Condition.{condition_of}
 use Rattle.rule_judgement.specs.Findings.{IsDecided}
 use Rattle.rule_judgement.proofs.OverlapLaws.{overlaps}

@@ -1,5 +1,4 @@
-use Rattle.std.proofs.Common.{rules, ◌≡◌, ◌∙◌, ap, sym, refl, subst, length, ◌≤◌, ◌<◌, ◌++◌, ◌∷◌, [], get_or}
-use Rattle.rule_judgement.specs.Laid.{chosen_of}
+use Rattle.std.proofs.Common.{rules, ◌≡◌, ◌∙◌, ap, sym, subst, length, ◌≤◌, ◌<◌, ◌++◌, ◌∷◌, [], get_or}
 use Rattle.rule_judgement.proofs.LaidLaws.{one_pair_more, no_pair_more, pair_of}
 use Rattle.rule_judgement.proofs.packets.pair.Goals as goal
 
