@@ -20,5 +20,7 @@ pub mod BitLaws
 pub mod ShownLaws
 pub mod TelemetryLaws
 pub mod OverlapLaws
+mod ShareExamples
+pub mod TextFields
 pub mod CalledSteps
 pub mod CalledLaws

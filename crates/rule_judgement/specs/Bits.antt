@@ -1,12 +1,15 @@
 -- The bits that a field has in the packets of its message id, and which fields share some. This project's own.
 use Rattle.std.specs.Prelude.{◌≡◌, ℕ, ◌+◌, ◌-◌, ◌≤◌, ◌==◌, Bool, true, false, ◌&&◌, ◌||◌, not, nat_le, nat_lt, if◌then◌else◌, List, IsTrue, bit_and}
 use Rattle.std.specs.Int.{byte_at}
-use Rattle.std.specs.List.{list_any}
+use Rattle.std.specs.List.{AllByRecursion, list_any}
 use Rattle.lc_model.specs.declared.field.FieldType.{FieldType}
 use Rattle.lc_model.specs.declared.field.FieldType.TheVariants.{U16Le, I16Le, U32Le, I32Le}
 use Rattle.lc_model.specs.declared.field.Term.{Term}
 use Rattle.lc_model.specs.Field.{full_mask, width}
 use Rattle.lc_model.specs.Packet.{is_telemetry_mid, longest_packet, reserved_mids}
+use Rattle.lc_model.specs.Rule.{NamedRule}
+use Rattle.lc_model.specs.Text.Reading.{Reads}
+use Rattle.lc_model.specs.Tables.Equation.{mentions}
 use Rattle.lc_model.specs.Tables.Image.{numbers_below}
 use Rattle.rule_judgement.specs.declared.fields.Field.{Field}
 use Rattle.rule_judgement.specs.Fields.{field_read, is_one}
@@ -61,3 +64,8 @@ pub record ReadsTelemetry (t : Term) : Type 0 where
   pub free : list_any (◌==◌ t.mid) reserved_mids ≡ false
   pub end : t.offset + width t.kind ≤ longest_packet
   pub mask : t.mask ≤ full_mask t.kind
+
+-- so does each comparison of a text that is read
+abbrev pub TextsReadTelemetry : Type 0
+TextsReadTelemetry = (text : List ℕ) (rules : List NamedRule) → Reads text rules →
+    AllByRecursion (λ (rule : NamedRule). AllByRecursion ReadsTelemetry (mentions rule.action.condition)) rules
