@@ -7,6 +7,8 @@ pub mod Classes
 pub mod Search
 pub mod Steps
 pub mod Findings
+pub mod Bits
+pub mod Laid
 pub mod Called
 pub mod Reach
 pub mod Spare
