@@ -1,5 +1,5 @@
 -- An import, step by step.
-use Rattle.std.proofs.Common.{◌≡◌, refl, sym, ◌∙◌, ap, subst, ℕ, zero, suc, ◌+◌, ◌<◌, ◌≤◌, List, [], ◌++◌, drop, append_assoc, append-nil, Option, Some, None, arith}
+use Rattle.std.proofs.Common.{◌≡◌, refl, sym, ◌∙◌, ap, ℕ, zero, suc, ◌+◌, ◌<◌, ◌≤◌, List, ◌++◌, drop, append_assoc, append-nil, Some, None, arith}
 use Rattle.packet_archive.specs.declared.import.Met.{Met}
 use Rattle.packet_archive.specs.declared.import.Met.TheVariants.{Stands}
 use Rattle.packet_archive.specs.declared.front.Front.TheVariants.{Over}

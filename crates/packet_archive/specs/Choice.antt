@@ -1,5 +1,5 @@
 -- Which packets of an archive become records. This project's own.
-use Rattle.std.specs.Prelude.{◌≡◌, ℕ, ◌%◌, Bool, not, ◌&&◌, ◌||◌, ◌==◌, List, [], ◌∷◌, length, nat_lt, Option, Some, None, if◌then◌else◌}
+use Rattle.std.specs.Prelude.{ℕ, ◌%◌, Bool, not, ◌&&◌, ◌||◌, ◌==◌, List, length, nat_lt, Option, Some, None, if◌then◌else◌}
 use Rattle.std.specs.List.{list_any}
 use Rattle.lc_model.specs.Packet.{message_id, stream_fault, long_packet}
 use Rattle.lc_model.specs.Host.Stream.{max_body}

@@ -1,5 +1,5 @@
 -- When a packet of an archive came, and which ticks come before it. This project's own.
-use Rattle.std.specs.Prelude.{◌≡◌, ℕ, zero, suc, ◌+◌, ◌-◌, ◌*◌, ◌/◌, ◌%◌, Bool, not, ◌&&◌, ◌||◌, ◌==◌, List, [], ◌∷◌, ◌++◌, length, nat_lt, nat_le, ◌<◌, IfSome, Option, Some, None, if◌then◌else◌}
+use Rattle.std.specs.Prelude.{ℕ, ◌+◌, ◌-◌, ◌*◌, ◌/◌, ◌%◌, Bool, not, ◌&&◌, ◌||◌, ◌==◌, List, length, nat_lt, nat_le, ◌<◌, IfSome, Option, Some, None, if◌then◌else◌}
 use Rattle.lc_model.specs.Bytes.{u16_at, u32_at}
 use Rattle.lc_model.specs.Packet.{is_command}
 use Rattle.lc_model.specs.declared.record.Moment.{Moment}

@@ -1,6 +1,6 @@
 -- What stands at the front of what is left of an archive: space packets one behind the other (CCSDS 133.0-B), each behind a
 -- synchronization marker where the archive has them (CCSDS 131.0-B). This project's own where it says what a fault is.
-use Rattle.std.specs.Prelude.{◌≡◌, ℕ, zero, suc, ◌+◌, ◌≤◌, ◌<◌, Bool, not, ◌&&◌, ◌==◌, List, [], ◌∷◌, length, take, drop, nat_lt, nat_le, bytes_eq, if◌then◌else◌, ⊤}
+use Rattle.std.specs.Prelude.{ℕ, ◌+◌, ◌≤◌, ◌<◌, Bool, not, ◌==◌, List, [], ◌∷◌, length, take, drop, nat_lt, bytes_eq, if◌then◌else◌, ⊤}
 use Rattle.std.specs.Prelude.{take_while}
 use Rattle.lc_model.specs.Bytes.{u16_at}
 use Rattle.lc_model.specs.Packet.{version, primary_header_size, length_offset}

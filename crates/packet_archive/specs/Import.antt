@@ -1,5 +1,5 @@
 -- The records that the packets of an archive become. This project's own.
-use Rattle.std.specs.Prelude.{◌≡◌, ℕ, zero, suc, ◌+◌, Bool, not, ◌==◌, List, [], ◌∷◌, ◌++◌, length, take, drop, nat_lt, Option, Some, None, if◌then◌else◌}
+use Rattle.std.specs.Prelude.{◌≡◌, ℕ, zero, suc, ◌+◌, Bool, true, false, List, [], ◌∷◌, ◌++◌, length, take, drop, nat_lt, Option, Some, None, if◌then◌else◌}
 use Rattle.lc_model.specs.Bytes.{u16, u32}
 use Rattle.lc_model.specs.declared.record.Moment.{Moment}
 use Rattle.packet_archive.specs.declared.choice.Fate.{Fate}
@@ -8,7 +8,7 @@ use Rattle.packet_archive.specs.declared.clock.Times.{Times}
 use Rattle.packet_archive.specs.declared.import.Met.{Met}
 use Rattle.packet_archive.specs.declared.import.Met.TheVariants.{Taken, LeftOut, Leap, Stands}
 use Rattle.packet_archive.specs.declared.front.Front.{Front}
-use Rattle.packet_archive.specs.declared.front.Front.TheVariants.{Over, Gap, Packet}
+use Rattle.packet_archive.specs.declared.front.Front.TheVariants.{Over, Gap, Cut, Packet}
 use Rattle.packet_archive.specs.Choice.{Chosen, fate_of}
 use Rattle.packet_archive.specs.Clock.{Clocked, moment_by, most_ticks, next_tick, ticks_due}
 use Rattle.packet_archive.specs.Front.{front_in}
@@ -117,3 +117,19 @@ imported_within (suc most) asking clock bytes =
 -- what an archive becomes: each step passes a byte at least
 abbrev pub imported : Asking → Clocked → List ℕ → Imported
 imported asking clock bytes = imported_within (length bytes + 1) asking clock bytes
+
+-- an import behind what was written before
+abbrev pub behind : List ℕ → Imported → Imported
+behind gained rest = record { written = gained ++ rest.written; clock = rest.clock; left = rest.left; met = rest.met }
+
+-- whether more bytes may make more of what stands in front
+abbrev pub may_go_on : Met → Bool
+may_go_on (Stands Over) = true
+may_go_on (Stands Cut) = true
+may_go_on met = false
+
+-- an archive that comes in pieces becomes what it becomes as a whole: what is left of the first goes in front of the next
+abbrev pub ImportsInPieces : Type 0
+ImportsInPieces = (asking : Asking) (clock : Clocked) (first next : List ℕ) → may_go_on (imported asking clock first).met ≡ true →
+    imported asking clock (first ++ next)
+    ≡ behind (imported asking clock first).written (imported asking (imported asking clock first).clock ((imported asking clock first).left ++ next))

@@ -6,6 +6,7 @@ mod choice;
 mod clock;
 mod front;
 mod import;
+pub mod laws;
 mod record;
 mod said;
 mod tally;

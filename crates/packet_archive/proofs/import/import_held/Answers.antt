@@ -1,4 +1,4 @@
-use Rattle.std.proofs.Common.{◌≡◌, sym, ◌∙◌, ap, subst, ℕ, ◌+◌, length, List, drop, rules, arith}
+use Rattle.std.proofs.Common.{sym, subst, ℕ, ◌+◌, length, List, rules}
 use Rattle.packet_archive.specs.Import.{imported}
 use Rattle.packet_archive.proofs.Importing.{Importing, one_more, ended, over}
 use Rattle.packet_archive.proofs.import.import_held.Goals as goal

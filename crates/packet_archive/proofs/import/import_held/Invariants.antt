@@ -1,4 +1,3 @@
-use Rattle.std.proofs.Common.{length, ◌+◌}
 use Rattle.packet_archive.specs.Import.{imported}
 use Rattle.packet_archive.proofs.Importing.{Importing}
 use Rattle.packet_archive.proofs.import.import_held.Given as goal

@@ -1,4 +1,4 @@
-use Rattle.std.proofs.Common.{◌≡◌, ◌+◌, rules}
+use Rattle.std.proofs.Common.{rules}
 use Rattle.packet_archive.proofs.Kept.{in_front, written_so, clock_so}
 use Rattle.packet_archive.proofs.import.import_next.Goals as goal
 

@@ -1,4 +1,4 @@
-use Rattle.std.proofs.Common.{◌≡◌, refl, sym, ◌∙◌, ap, subst, ℕ, ◌+◌, ◌++◌, Some, arith}
+use Rattle.std.proofs.Common.{◌≡◌, refl, sym, subst, ◌+◌, ◌++◌, Some, arith}
 use Rattle.packet_archive.specs.Clock.{ticks_due}
 use Rattle.packet_archive.specs.Import.{ticks}
 use Rattle.packet_archive.proofs.Ticks.{one_written, all_written}
