@@ -1,5 +1,5 @@
 -- What is found of a condition, and what shows it. This project's own.
-use Rattle.std.specs.Prelude.{◌≡◌, ℕ, ◌^◌, ◌<◌, ◌≤◌, ◌==◌, ◌||◌, ℤ, Bool, true, false, List, length, map, slice_get, Contains, Option, Some, None, IsTrue, ◌⊎◌}
+use Rattle.std.specs.Prelude.{◌≡◌, ℕ, ◌^◌, ◌<◌, ◌≤◌, ◌==◌, ◌||◌, ℤ, Bool, true, false, List, length, slice_get, Contains, Option, Some, None, IsTrue, ◌⊎◌}
 use Rattle.std.specs.List.{AllByRecursion, AllZip}
 use Rattle.std.specs.Option.{option_map_or}
 use Rattle.std.specs.declared.vec.Vec.{Vec}
@@ -11,7 +11,7 @@ use Rattle.lc_model.specs.declared.field.Term.{Term}
 use Rattle.lc_model.specs.Condition.{And, Condition, Watch, Not, Join}
 use Rattle.lc_model.specs.Rule.{NamedRule}
 use Rattle.lc_model.specs.Tables.Equation.{mentions}
-use Rattle.lc_model.specs.LimitChecker.Watch.{History, Packet, truth_by, truth_of}
+use Rattle.lc_model.specs.LimitChecker.Watch.{truth_by, truth_of}
 use Rattle.rule_judgement.specs.declared.deciding.Decision.{Decision}
 use Rattle.rule_judgement.specs.declared.deciding.Decision.TheVariants as decision
 use Rattle.rule_judgement.specs.declared.finding.Finding.{Finding}
