@@ -8,7 +8,7 @@ use Rattle.lc_model.specs.Packet.{message_id}
 use Rattle.lc_model.specs.LimitChecker.Watch.{last_packet}
 use Rattle.rule_judgement.specs.declared.fields.Field.{Field}
 use Rattle.rule_judgement.specs.declared.packets.Chosen.{Chosen}
-use Rattle.rule_judgement.specs.Findings.{history_of}
+use Rattle.rule_judgement.specs.Came.{history_of}
 use Rattle.rule_judgement.specs.Laid.{IsLaid, AreLaidFor, chosen_of}
 use Rattle.rule_judgement.proofs.Each.{both, each}
 

@@ -21,7 +21,8 @@ use Rattle.rule_judgement.specs.Fields.{field_number, field_read, is_field_of}
 use Rattle.rule_judgement.specs.Search.{found_so_far}
 use Rattle.rule_judgement.specs.Bits.{share_bits, ReadsTelemetry}
 use Rattle.rule_judgement.specs.Laid.{AreLaid, IsLaid, chosen_of}
-use Rattle.rule_judgement.specs.Findings.{HoldsWith, IsOverlap, IsTelemetry, Shows, history_of}
+use Rattle.rule_judgement.specs.Findings.{HoldsWith, IsOverlap, IsTelemetry, Shows}
+use Rattle.rule_judgement.specs.Came.{history_of}
 use Rattle.rule_judgement.proofs.FieldLaws.{reads_its_own}
 use Rattle.rule_judgement.proofs.Known.{refines-same, tables_keep}
 use Rattle.rule_judgement.proofs.LaidLaws.{pair_of}
@@ -148,11 +149,22 @@ clash false is not = cc
 -- so what is not shown shares some
 pub overlaps : (c : Condition) (fields handed : List Field) (bits given : List ℕ) (packets seen : List (Vec ℕ Global)) (shown : Bool) → HoldsWith c fields bits →
     handed ≡ fields → given ≡ bits → seen ≡ packets → AreLaid (chosen_of handed given) packets → (Shows c seen → IsTrue shown) → IsFalse shown → IsOverlap c
-overlaps c fields handed bits given packets seen shown holds same are so laid all_shown hidden = record { some = holds.some; shared = λ all. by_test all (share_bits (mentions c)) refl }
+overlaps c fields handed bits given packets seen shown holds same are so laid all_shown hidden = record {
+  fields = fields;
+  bits = bits;
+  holds = holds;
+  packets = packets;
+  laid = is_laid;
+  hidden = none_shown;
+  shared = λ all. by_test all (share_bits (mentions c)) refl;
+}
   where
     is_laid : AreLaid (chosen_of fields bits) packets
     is_laid = subst (λ bs. AreLaid (chosen_of fields bs) packets) are (subst (λ fs. AreLaid (chosen_of fs given) packets) same laid)
 
+    none_shown : Shows c packets → ⊥
+    none_shown shows = clash shown (all_shown (subst (Shows c) (sym so) shows)) hidden
+
     by_test : AllByRecursion ReadsTelemetry (mentions c) → (test : Bool) → share_bits (mentions c) ≡ test → IsTrue (share_bits (mentions c))
     by_test all true e = e
-    by_test all false e = absurd (clash shown (all_shown (subst (Shows c) (sym so) (laid_shows c fields bits packets all e holds is_laid))) hidden)
+    by_test all false e = absurd (none_shown (laid_shows c fields bits packets all e holds is_laid))

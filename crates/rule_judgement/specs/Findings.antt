@@ -1,5 +1,5 @@
 -- What is found of a condition, and what shows it. This project's own.
-use Rattle.std.specs.Prelude.{◌≡◌, ℕ, ◌^◌, ◌<◌, ◌≤◌, ◌==◌, ◌||◌, ℤ, Bool, true, false, List, length, map, slice_get, Contains, Option, Some, None, IsTrue, ◌⊎◌}
+use Rattle.std.specs.Prelude.{◌≡◌, ℕ, ◌^◌, ◌<◌, ◌≤◌, ◌==◌, ◌||◌, ℤ, Bool, true, false, List, length, slice_get, Contains, Option, Some, None, IsTrue, ◌⊎◌}
 use Rattle.std.specs.List.{AllByRecursion, AllZip}
 use Rattle.std.specs.Option.{option_map_or}
 use Rattle.std.specs.declared.vec.Vec.{Vec}
@@ -11,7 +11,7 @@ use Rattle.lc_model.specs.declared.field.Term.{Term}
 use Rattle.lc_model.specs.Condition.{And, Condition, Watch, Not, Join}
 use Rattle.lc_model.specs.Rule.{NamedRule}
 use Rattle.lc_model.specs.Tables.Equation.{mentions}
-use Rattle.lc_model.specs.LimitChecker.Watch.{History, Packet, truth_by, truth_of}
+use Rattle.lc_model.specs.LimitChecker.Watch.{truth_by, truth_of}
 use Rattle.rule_judgement.specs.declared.deciding.Decision.{Decision}
 use Rattle.rule_judgement.specs.declared.deciding.Decision.TheVariants as decision
 use Rattle.rule_judgement.specs.declared.finding.Finding.{Finding}
@@ -29,6 +29,8 @@ use Rattle.rule_judgement.specs.Steps.{AreFewFor, AreFewByNames}
 use Rattle.rule_judgement.specs.declared.fields.Field.{Field}
 use Rattle.rule_judgement.specs.Fields.{AreFieldsOf, field_number, read_one_field}
 use Rattle.rule_judgement.specs.Search.{found_so_far}
+use Rattle.rule_judgement.specs.Came.{history_of}
+use Rattle.rule_judgement.specs.Laid.{AreLaid, chosen_of}
 use Rattle.rule_judgement.specs.Bits.{ReadsTelemetry, share_bits}
 
 -- ---- numbers
@@ -48,10 +50,6 @@ IsDecided c steps decision.Spent = AreFewByNames c steps
 
 -- ---- packets
 
--- these packets came, the first of them last, and nothing has aged since
-abbrev pub history_of : List (Vec ℕ Global) → History
-history_of packets = map (λ (packet : Vec ℕ Global). Packet packet.items) packets
-
 -- what a term's field is in a packet that was seen
 abbrev pub value_seen : Term → Option (List ℕ × ℕ) → Option ℤ
 value_seen t None = None
@@ -69,10 +67,15 @@ pub record Shows (c : Condition) (packets : List (Vec ℕ Global)) : Type 0 wher
 
 -- ---- findings
 
--- numbers of its fields make the condition true, each field being free; but of fields as rule texts have them two share a bit, or
--- one shares a bit with the header of its packets
+-- bits of its fields make the condition true, each field being free, but laid into packets they don't; and of fields as rule
+-- texts have them two share a bit, or one shares a bit with the header of its packets
 pub record IsOverlap (c : Condition) : Type 0 where
-  pub some : HoldsForSome c
+  pub fields : List Field
+  pub bits : List ℕ
+  pub holds : HoldsWith c fields bits
+  pub packets : List (Vec ℕ Global)
+  pub laid : AreLaid (chosen_of fields bits) packets
+  pub hidden : Shows c packets → ⊥
   pub shared : AllByRecursion ReadsTelemetry (mentions c) → IsTrue (share_bits (mentions c))
 
 -- nothing that may be seen makes the condition true; these packets do; fields share bits; or so many steps may be too few

@@ -9,7 +9,7 @@ use Rattle.lc_model.specs.LimitChecker.Watch.{last_packet}
 use Rattle.rule_judgement.specs.declared.fields.Field.{Field}
 use Rattle.rule_judgement.specs.declared.packets.Chosen.{Chosen}
 use Rattle.rule_judgement.specs.Bits.{byte_there, bits_read}
-use Rattle.rule_judgement.specs.Findings.{history_of}
+use Rattle.rule_judgement.specs.Came.{history_of}
 
 -- fields and their bits, as far as there are both
 abbrev pub chosen_of : List Field → List ℕ → List Chosen

@@ -6,6 +6,7 @@ pub mod Fields
 pub mod Classes
 pub mod Search
 pub mod Steps
+pub mod Came
 pub mod Findings
 pub mod Bits
 pub mod Laid

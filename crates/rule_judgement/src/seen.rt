@@ -6,7 +6,8 @@ ghost use Rattle.lc_model.specs.Condition.{condition_of};
 ghost use Rattle.lc_model.specs.Field.{raw, value_of, width};
 ghost use Rattle.lc_model.specs.LimitChecker.Watch.{judgement, last_packet, truth_of, truth_of_term};
 ghost use Rattle.lc_model.specs.Packet.{message_id as id_of};
-ghost use Rattle.rule_judgement.specs.Findings.{IsTelemetry, Shows, history_of, value_seen};
+ghost use Rattle.rule_judgement.specs.Findings.{IsTelemetry, Shows, value_seen};
+ghost use Rattle.rule_judgement.specs.Came.{history_of};
 
 use crate::outcomes::{compares, signed};
 use lc_model::packet::stream_fault;
