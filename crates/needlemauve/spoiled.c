@@ -19,7 +19,7 @@
 
 static const char rules[] =
     "packet P = mid 0x0883 length 16; field V = P u16be at 12 stale 2; "
-    "rule LOW active fails 2 sequence 7 event error 1001 \"low volts\" when V < 2400 or V > 3000 and not V = 5;";
+    "rule LOW active fails 2 sequence 7 event error 1001 \"low volts\" when V < 2400 or V > 3000 and not V == 5;";
 static unsigned long input, answered[256];
 static uint8_t *wdt, *adt;
 static uint64_t seed = 88172645463325252u;
