@@ -1,0 +1,3 @@
+-- Lemmas of the library for C.
+pub mod Files
+pub mod Sentences

@@ -1,0 +1,3 @@
+-- What the contracts of the library for C cite.
+pub mod Refusing
+pub mod Compiling

@@ -1,0 +1,2 @@
+-- What the contract of the library for C on board cites.
+pub mod Verdict
