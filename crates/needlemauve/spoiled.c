@@ -19,7 +19,7 @@
 
 static const char rules[] =
     "packet P = mid 0x0883 length 16; field V = P u16be at 12 stale 2; "
-    "rule LOW active fails 2 sequence 7 event error 1001 \"low volts\" when V < 2400 or V > 3000 and not V = 5;";
+    "rule LOW active fails 2 sequence 7 event error 1001 \"low volts\" when V < 2400 or V > 3000 and not V == 5;";
 static const char schedule[] = "slots 2\n0 sample 0 0 age\n1 housekeeping\n";
 static const uint8_t start[28] = {0x18, 0x06, 0xC0, 0, 0, 21, 1, 0, 'L', 'C'};
 static const uint8_t low[16] = {0x08, 0x83, 0xC0, 0, 0, 9, 0, 0, 0, 0, 0, 0, 0x09, 0x5F, 0, 0};

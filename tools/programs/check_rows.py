@@ -29,6 +29,13 @@ WARNINGS = [line for line in OF_DEAD if line.startswith(b"warning: ")]
 OF_DEAD_RULES = b"7 rules, %d warnings\n" % len(WARNINGS)
 SAMPLES_THE_FIRST = b"slots 1\n0 sample 0 0 age\n"
 ONE_RULE = b"1 rules, 0 warnings\n"
+ENDS_EARLY = b"""rules:1:11: error[11]: expected `=`, found the end of the file
+  1 | packet BUS
+    |           ^ the file ends here
+    |           - write `=` here
+
+1 error
+"""
 
 ROWS = [
     Row("a rule that fails and passes", ["flight_tools", "check", "rules"], {"rules": LOW_VOLTS}, output=named([], ONE_RULE)),
@@ -57,8 +64,7 @@ ROWS = [
         ["flight_tools", "check", "good", "rules"],
         {"good": LOW_VOLTS, "rules": b"packet BUS"},
         status=1,
-        output=b"good: " + ONE_RULE,
-        error=b"rules: expected `=` at 10\n",
+        output=b"good: " + ONE_RULE + ENDS_EARLY,
     ),
     unusable("a text that isn't there", b"none", NOT_THERE, "check none", {}),
     Row(

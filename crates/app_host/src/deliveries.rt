@@ -47,6 +47,7 @@ impl Host {
 
     /// What waits to be written is written, behind so many bytes of this step; answers how many these are then. Where the write
     /// fails the host is closed. Most records leave nothing to be written, and are told so without a call.
+    #[inline(always)]
     pub(crate) fn flush<W: ByteSink>(&mut self, out: &mut W, sent: u64) -> Result<u64, WriteFault>
         requires seated { AreSeated (shown meaning self.old).seats
             (shown meaning self.old).services }
@@ -61,7 +62,8 @@ impl Host {
         self.write_waiting(out, sent)
     }
 
-    /// The same, whether anything waits or not.
+    /// Writes what waits, be it nothing, behind so many bytes of this step, as `flush` says of it.
+    #[inline(never)]
     fn write_waiting<W: ByteSink>(&mut self, out: &mut W, sent: u64) -> Result<u64, WriteFault>
         requires seated { AreSeated (shown meaning self.old).seats
             (shown meaning self.old).services }

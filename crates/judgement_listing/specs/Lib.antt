@@ -1,2 +1,3 @@
 -- What is listed of rules before any packet comes. This project's own.
 pub mod Requests
+pub mod Said

@@ -7,6 +7,7 @@ mod fields;
 mod lines;
 mod listing;
 mod marking;
+mod said;
 mod schedule;
 mod tables;
 mod text;

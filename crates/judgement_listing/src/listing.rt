@@ -1,8 +1,12 @@
 //! What is written of a rule text.
 
+ghost use Rattle.std.specs.Prelude.{◌≡◌, ◌&&◌, not};
+ghost use Rattle.judgement_listing.specs.Said.{is_never};
+
 use crate::error::ListingError;
 use crate::fields::FieldNames;
 use crate::lines::{Names, Shown, ShownTerm, Title, Values};
+use crate::said::{Said, said_of};
 use crate::text::RuleText;
 use lc_model::{Rule, Term};
 use rule_judgement::{
@@ -65,29 +69,29 @@ fn write_rule<W: Write>(
     out: &mut W,
 ) -> Result<(), ListingError> {
     let name = subject.name;
-    match (&judged.fails, &judged.passes) {
-        (Finding::Possible(fails), Finding::Possible(passes)) => {
+    match said_of(judged) {
+        Said::FailsAndPasses { fails, passes } => {
             if which == Which::All {
                 let (fails, passes) = (subject.values(fails), subject.values(passes));
                 writeln!(out, "{name}: fails for {fails}; passes for {passes}")?;
             }
         }
-        (Finding::Never, Finding::Possible(passes)) => {
+        Said::NeverFails(Some(passes)) => {
             let passes = subject.values(passes);
             writeln!(out, "warning: {name}: never fails; passes for {passes}")?;
         }
-        (Finding::Possible(fails), Finding::Never) => {
+        Said::NeverFails(None) => writeln!(out, "warning: {name}: never fails")?,
+        Said::AlwaysFails(fails) => {
             let fails = subject.values(fails);
             writeln!(out, "warning: {name}: always fails, for {fails}")?;
         }
-        (Finding::Never, _) => writeln!(out, "warning: {name}: never fails")?,
-        (_, Finding::Never) => writeln!(out, "warning: {name}: never passes")?,
-        (Finding::Unknown(reason), _) => {
-            let why = why(*reason);
+        Said::NeverPasses => writeln!(out, "warning: {name}: never passes")?,
+        Said::FailsUnknown(reason) => {
+            let why = why(reason);
             writeln!(out, "warning: {name}: not known whether it fails: {why}")?;
         }
-        (_, Finding::Unknown(reason)) => {
-            let why = why(*reason);
+        Said::PassesUnknown(reason) => {
+            let why = why(reason);
             writeln!(out, "warning: {name}: not known whether it passes: {why}")?;
         }
     }
@@ -149,8 +153,10 @@ fn write_judged<W: Write>(
     write_subject(alloc, Names::Text(names), name, judged, which, out)
 }
 
-/// Whether a rule both can fail and can pass.
-fn goes_both_ways(judged: &RuleJudgement) -> bool {
+/// Whether a rule both can fail and can pass, or may.
+fn goes_both_ways(judged: &RuleJudgement) -> bool
+    ensures { result ≡ (not (is_never judged.now.fails) && not (is_never judged.now.passes)) }
+{
     !matches!(&judged.fails, Finding::Never) && !matches!(&judged.passes, Finding::Never)
 }
 

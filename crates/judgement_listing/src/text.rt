@@ -1,5 +1,8 @@
 //! A rule text that compiles.
 
+ghost use Rattle.std.specs.Prelude.{IfOk};
+ghost use Rattle.lc_model.specs.Text.Reading.{Reads};
+
 use crate::error::ListingError;
 use crate::fields::{FieldNames, NamedPacket, packets_of};
 use field_checker::check;
@@ -18,7 +21,9 @@ pub struct RuleText<'a> {
 
 impl<'a> RuleText<'a> {
     /// Reads a text.
-    pub fn read(alloc: Global, source: &'a [u8]) -> Result<RuleText<'a>, ListingError> {
+    pub fn read(alloc: Global, source: &'a [u8]) -> Result<RuleText<'a>, ListingError>
+        ensures { IfOk result (λ text. Reads source.now text.rules.rules) }
+    {
         let tokens = lex(alloc, source)?;
         let file = parse(alloc, source, tokens.as_slice())?;
         let rules = check(alloc, &file)?;

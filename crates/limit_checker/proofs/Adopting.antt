@@ -1,6 +1,6 @@
 -- The pair of images that is adopted, and what is there once it is.
-use Rattle.std.proofs.Common.{◌≡◌, refl, ap, sym, ◌∙◌, subst, ℕ, ◌+◌, ◌≤◌, Bool, true, false, ◌||◌, ◌==◌, List, [], ◌∷◌, length, map, arith, if◌then◌else◌, Option, Some, None, Result, Ok, Err}
-use Rattle.std.specs.Prelude.{IfSome, IsOk, IsSomeAnd, IsTrue, is_some, bytes_eq}
+use Rattle.std.proofs.Common.{◌≡◌, refl, ap, sym, ◌∙◌, subst, ℕ, ◌+◌, ◌≤◌, Bool, true, false, ◌||◌, ◌==◌, List, [], ◌∷◌, length, map, arith, if◌then◌else◌, Option, Some, None}
+use Rattle.std.specs.Prelude.{IfSome, IsSomeAnd, IsTrue, is_some, bytes_eq}
 use Rattle.std.specs.Option.{option_map_or}
 use Rattle.std.proofs.lemmas.Slice.Eq.{bytes_eq-Decides}
 use Rattle.lc_model.specs.declared.field.Term.{Term}
@@ -19,8 +19,6 @@ use Rattle.lc_model.specs.Services.Settled.{form_of, wdt_form, adt_form}
 use Rattle.lc_model.specs.Services.Tables.{TableService, Handle, tables_at, table_at, slot_at, slot_changed}
 use Rattle.lc_model.specs.Services.Bus.{Bus, Queue, pipe_at, with_pipe}
 use Rattle.lc_model.proofs.Facts.{and_both, tested_equal}
-use Rattle.table_validator.specs.declared.fault.TableFault.{TableFault}
-use Rattle.table_validator.specs.Fault.{refusal}
 use Rattle.table_validator.specs.Sound.{TableImage}
 use Rattle.app_host.specs.Shared.{on_board}
 use Rattle.lc_model.proofs.Services.Subscriptions.{both_changes, is_there, still_there}
@@ -46,10 +44,6 @@ sound_one kind slot image sound is = by_waiting slot.waiting sound.waiting is
         Some image ≡ candidate (record { active = slot.active; waiting = o }) → fault_of layouts kind image ≡ None
     by_waiting None found e = subst (λ o. IfSome o (λ other. fault_of layouts kind other ≡ None)) (sym e) sound.active
     by_waiting (Some waiting) found e = by_stage waiting.stage waiting.image found e
-
-pub accepted : {A : Type 0} (r : Result A TableFault) → refusal r ≡ None → IsOk r
-accepted (Ok image) e = refl
-accepted (Err fault) e = cc
 
 -- ---- the pair
 

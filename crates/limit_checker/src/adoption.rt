@@ -17,7 +17,7 @@ use app_host::{Services, subscribe_to, unsubscribe_from};
 use lc_model::{Kind, Seat, mids};
 use limit_engine::Engine;
 use table_file::preamble;
-use table_validator::{ValidImage, validate};
+use table_validator::{ValidImage, judged_before};
 use tbl_service::{Slot, Stage, Tables};
 
 /// The message ids of commands, housekeeping requests and sample requests.
@@ -60,7 +60,7 @@ fn is_one_activated(tables: &Tables, wdt: Slot, adt: Slot) -> bool
     is_activated(tables, wdt) || is_activated(tables, adt)
 }
 
-/// The image that a table would have, which is sound.
+/// The image that a table would have, which was judged when it came.
 fn sound_candidate<'a>(tables: &'a Tables, slot: Slot, kind: Kind) -> Option<ValidImage<'a>>
     requires registered { IsTrue (is_some (table_at slot tables.now.places)) }
     requires sound { HasSoundSlot kind (slot_at slot tables.now) }
@@ -70,7 +70,7 @@ fn sound_candidate<'a>(tables: &'a Tables, slot: Slot, kind: Kind) -> Option<Val
 {
     match candidate(tables, slot) {
         None => None,
-        Some(image) => Some(validate(kind, image).unwrap()),
+        Some(image) => Some(judged_before(kind, image)),
     }
 }
 

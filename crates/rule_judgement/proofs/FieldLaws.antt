@@ -104,7 +104,7 @@ and_left : (a b : Bool) → IsTrue (a && b) → IsTrue a
 and_left true b h = refl
 and_left false b h = cc
 
-same_place : (t : Term) (f : Field) → IsTrue (is_field_of t f) → place_in f ≡ place_of t
+pub same_place : (t : Term) (f : Field) → IsTrue (is_field_of t f) → place_in f ≡ place_of t
 same_place t f is = λ i. record { kind = sym kinds i; mid = sym mids i; offset = sym offsets i; mask = sym (same_mask t f is) i }
   where
     equal : (m n : ℕ) → IsTrue (m == n) → m ≡ n

@@ -1,5 +1,5 @@
 -- What a walk from the start says of a condition.
-use Rattle.std.proofs.Common.{◌≡◌, ℕ, List, [], ◌∷◌, slice_get, refl, ap, ◌∙◌, subst, Option, Some, None, Vec}
+use Rattle.std.proofs.Common.{◌≡◌, ℕ, List, [], ◌∷◌, ◌≤◌, length, slice_get, refl, ap, sym, ◌∙◌, subst, arith, Option, Some, None, Vec}
 use Rattle.std.specs.Global.{Global}
 use Rattle.std.specs.List.{AllByRecursion}
 use Rattle.lc_model.specs.declared.field.FieldType.TheVariants.{U8}
@@ -7,11 +7,12 @@ use Rattle.lc_model.specs.declared.field.Term.{Term}
 use Rattle.lc_model.specs.Condition.{Condition}
 use Rattle.lc_model.specs.Tables.Equation.{mentions}
 use Rattle.rule_judgement.specs.declared.fields.Field.{Field}
-use Rattle.rule_judgement.specs.Fields.{HasField, field_number}
+use Rattle.rule_judgement.specs.Fields.{AreFieldsOf, HasField, field_number}
 use Rattle.lc_model.specs.declared.truth.Truth.TheVariants.{True}
 use Rattle.lc_model.specs.LimitChecker.Watch.{judgement, truth_by}
 use Rattle.rule_judgement.specs.Judgement.{Place, place_of, value_by, found_by, NeverFails, HoldsForSome}
 use Rattle.rule_judgement.specs.Search.{found_so_far, found_everywhere, GoesOnFrom, IsExcluded, AreRepresented}
+use Rattle.rule_judgement.specs.Findings.{HoldsWith}
 use Rattle.rule_judgement.proofs.Each.{each}
 use Rattle.rule_judgement.proofs.FieldLaws.{place_numbered, named, at_place, number_of_place}
 use Rattle.rule_judgement.proofs.Known.{never_holds_never_fails}
@@ -61,3 +62,14 @@ some_of fields c chosen holds = (
     each_term : (ts : List Term) → AllByRecursion (λ t. found_by (λ p. bits_at chosen (field_number fields (at_place p))) t ≡ found_everywhere (field_number fields) (bits_at chosen) t) ts
     each_term [] = tt
     each_term (t ∷ ts) = (ap (λ n. judgement t (Some (value_by (place_of t) (bits_at chosen n)))) (number_of_place fields t), each_term ts)
+
+-- what a walk found, of the fields and the rows that were handed on
+pub held : (c : Condition) (fields sized again : List Field) (terms : List Term) (rows seen : List (Vec ℕ Global)) (bits : List ℕ) → fields ≡ again → sized ≡ fields →
+    terms ≡ mentions c → rows ≡ seen → AreFieldsOf terms fields → length rows ≡ length sized → length bits ≤ length seen →
+    truth_by (found_so_far (field_number again) bits) c ≡ True → HoldsWith c fields bits
+held c fields sized again terms rows seen bits same whole are so exact each few holds = record {
+  some = some_of again c bits holds;
+  read = subst (λ ts. AreFieldsOf ts fields) are exact;
+  few = omega (arith, few, each, ap length so, ap length whole);
+  holds = subst (λ fs. truth_by (found_so_far (field_number fs) bits) c ≡ True) (sym same) holds;
+}

@@ -9,10 +9,18 @@ pub mod Judged
 pub mod SameSide
 pub mod Each
 pub mod FieldLaws
+pub mod FieldLists
 pub mod ClassLaws
 pub mod StepLaws
 pub mod PairLaws
 pub mod SpareLaws
 pub mod SeenLaws
+pub mod LaidLaws
+pub mod BitLaws
+pub mod ShownLaws
+pub mod TelemetryLaws
+pub mod OverlapLaws
+mod ShareExamples
+pub mod TextFields
 pub mod CalledSteps
 pub mod CalledLaws

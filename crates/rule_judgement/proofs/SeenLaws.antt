@@ -4,7 +4,7 @@ use Rattle.std.specs.Global.{Global}
 use Rattle.std.proofs.lemmas.Bool.Decides.{nat_tests}
 use Rattle.lc_model.specs.Packet.{message_id}
 use Rattle.lc_model.specs.LimitChecker.Watch.{last_packet}
-use Rattle.rule_judgement.specs.Findings.{history_of}
+use Rattle.rule_judgement.specs.Came.{history_of}
 
 pub last_here : (packets : List (Vec ℕ Global)) (mid i : ℕ) (packet d : Vec ℕ Global) (bytes : List ℕ) → i < length packets → packet ≡ get_or packets i d →
     bytes ≡ packet.items → message_id packet.items ≡ mid → last_packet mid (history_of packets) ≡ last_packet mid (history_of (drop i packets)) →

@@ -1,6 +1,6 @@
 -- The fields that terms read, told apart by their four parts. This project's own.
-use Rattle.std.specs.Prelude.{ℕ, ◌+◌, ◌<◌, List, [], ◌∷◌, length, Bool, ◌&&◌, ◌==◌, if◌then◌else◌}
-use Rattle.std.specs.List.{list_any}
+use Rattle.std.specs.Prelude.{IsTrue, IsFalse, ℕ, ◌+◌, ◌<◌, List, [], ◌∷◌, length, Bool, ◌&&◌, ◌==◌, if◌then◌else◌}
+use Rattle.std.specs.List.{AllByRecursion, list_any}
 use Rattle.lc_model.specs.declared.field.Term.{Term}
 use Rattle.lc_model.specs.Codes.{type_code}
 use Rattle.rule_judgement.specs.declared.fields.Field.{Field}
@@ -30,3 +30,19 @@ HasField fields t = field_number fields t < length fields
 -- the field's place
 abbrev pub place_in : Field → Place
 place_in f = record { kind = f.kind; mid = f.mid; offset = f.offset; mask = f.mask }
+
+-- ---- the fields of terms
+
+-- the two are one field
+abbrev pub is_one : Field → Field → Bool
+is_one f g = (type_code f.kind == type_code g.kind) && (f.mid == g.mid) && (f.offset == g.offset) && (f.mask == g.mask)
+
+-- each two of them are different
+unfoldable pub AreDifferent : List Field → Type 0
+AreDifferent [] = Unit {0}
+AreDifferent (f ∷ fields) = AllByRecursion (λ g. IsFalse (is_one g f)) fields × AreDifferent fields
+
+-- each of them is read by a term, and stands there once
+pub record AreFieldsOf (terms : List Term) (fields : List Field) : Type 0 where
+  pub read : AllByRecursion (λ f. IsTrue (list_any (λ t. is_field_of t f) terms)) fields
+  pub once : AreDifferent fields

@@ -1,5 +1,5 @@
 -- What is found of a condition, and what shows it. This project's own.
-use Rattle.std.specs.Prelude.{◌≡◌, ℕ, ◌^◌, ◌<◌, ◌==◌, ◌||◌, ℤ, Bool, true, false, List, map, slice_get, Contains, Option, Some, None, IsTrue, ◌⊎◌}
+use Rattle.std.specs.Prelude.{◌≡◌, ℕ, ◌^◌, ◌<◌, ◌≤◌, ◌==◌, ◌||◌, ℤ, Bool, true, false, List, length, slice_get, Contains, Option, Some, None, IsTrue, ◌⊎◌}
 use Rattle.std.specs.List.{AllByRecursion, AllZip}
 use Rattle.std.specs.Option.{option_map_or}
 use Rattle.std.specs.declared.vec.Vec.{Vec}
@@ -11,7 +11,7 @@ use Rattle.lc_model.specs.declared.field.Term.{Term}
 use Rattle.lc_model.specs.Condition.{And, Condition, Watch, Not, Join}
 use Rattle.lc_model.specs.Rule.{NamedRule}
 use Rattle.lc_model.specs.Tables.Equation.{mentions}
-use Rattle.lc_model.specs.LimitChecker.Watch.{History, Packet, truth_of}
+use Rattle.lc_model.specs.LimitChecker.Watch.{truth_by, truth_of}
 use Rattle.rule_judgement.specs.declared.deciding.Decision.{Decision}
 use Rattle.rule_judgement.specs.declared.deciding.Decision.TheVariants as decision
 use Rattle.rule_judgement.specs.declared.finding.Finding.{Finding}
@@ -26,21 +26,29 @@ use Rattle.rule_judgement.specs.declared.finding.Relation.TheVariants as relatio
 use Rattle.rule_judgement.specs.declared.finding.PairJudgement.{PairJudgement}
 use Rattle.rule_judgement.specs.Judgement.{NeverFails, HoldsForSome, FailsWherever}
 use Rattle.rule_judgement.specs.Steps.{AreFewFor, AreFewByNames}
-use Rattle.rule_judgement.specs.Fields.{read_one_field}
+use Rattle.rule_judgement.specs.declared.fields.Field.{Field}
+use Rattle.rule_judgement.specs.Fields.{AreFieldsOf, field_number, read_one_field}
+use Rattle.rule_judgement.specs.Search.{found_so_far}
+use Rattle.rule_judgement.specs.Came.{history_of}
+use Rattle.rule_judgement.specs.Laid.{AreLaid, chosen_of}
+use Rattle.rule_judgement.specs.Bits.{ReadsTelemetry, share_bits}
 
 -- ---- numbers
+
+-- these bits of the first of its fields make the condition true, whatever the others have
+pub record HoldsWith (c : Condition) (fields : List Field) (bits : List ℕ) : Type 0 where
+  pub some : HoldsForSome c
+  pub read : AreFieldsOf (mentions c) fields
+  pub few : length bits ≤ length fields
+  pub holds : truth_by (found_so_far (field_number fields) bits) c ≡ True
 
 -- no numbers of its fields make the condition true, or some do, or so many steps may be too few
 abbrev pub IsDecided : Condition → ℕ → Decision → Type 0
 IsDecided c steps decision.Never = NeverFails c
-IsDecided c steps (decision.Holds fields bits) = HoldsForSome c
+IsDecided c steps (decision.Holds fields bits) = HoldsWith c fields.items bits.items
 IsDecided c steps decision.Spent = AreFewByNames c steps
 
 -- ---- packets
-
--- these packets came, the first of them last, and nothing has aged since
-abbrev pub history_of : List (Vec ℕ Global) → History
-history_of packets = map (λ (packet : Vec ℕ Global). Packet packet.items) packets
 
 -- what a term's field is in a packet that was seen
 abbrev pub value_seen : Term → Option (List ℕ × ℕ) → Option ℤ
@@ -59,12 +67,22 @@ pub record Shows (c : Condition) (packets : List (Vec ℕ Global)) : Type 0 wher
 
 -- ---- findings
 
--- nothing that may be seen makes the condition true; these packets do; or numbers of its fields do, each field being free
--- or so many steps may be too few
+-- bits of its fields make the condition true, each field being free, but laid into packets they don't; and of fields as rule
+-- texts have them two share a bit, or one shares a bit with the header of its packets
+pub record IsOverlap (c : Condition) : Type 0 where
+  pub fields : List Field
+  pub bits : List ℕ
+  pub holds : HoldsWith c fields bits
+  pub packets : List (Vec ℕ Global)
+  pub laid : AreLaid (chosen_of fields bits) packets
+  pub hidden : Shows c packets → ⊥
+  pub shared : AllByRecursion ReadsTelemetry (mentions c) → IsTrue (share_bits (mentions c))
+
+-- nothing that may be seen makes the condition true; these packets do; fields share bits; or so many steps may be too few
 abbrev pub IsFound : Condition → ℕ → Finding → Type 0
 IsFound c steps finding.Never = NeverFails c
 IsFound c steps (finding.Possible packets) = Shows c packets.items
-IsFound c steps (finding.Unknown reason.Overlap) = HoldsForSome c
+IsFound c steps (finding.Unknown reason.Overlap) = IsOverlap c
 IsFound c steps (finding.Unknown reason.Steps) = AreFewFor c steps
 
 -- the comparison holds of all numbers that its field may have, or of none; or of some, and not of others

@@ -6,7 +6,10 @@ pub mod Fields
 pub mod Classes
 pub mod Search
 pub mod Steps
+pub mod Came
 pub mod Findings
+pub mod Bits
+pub mod Laid
 pub mod Called
 pub mod Reach
 pub mod Spare

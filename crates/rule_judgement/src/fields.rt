@@ -1,12 +1,13 @@
 //! The fields that a condition reads.
 
-ghost use Rattle.std.specs.Prelude.{◌≡◌, ◌++◌, IsTrue};
+ghost use Rattle.std.specs.Prelude.{◌≡◌, ◌++◌, Contains, IsTrue, List, length};
 ghost use Rattle.std.specs.Prelude.{IfOk, OnOk};
 ghost use Rattle.std.specs.List.{AllByRecursion, list_any};
 ghost use Rattle.lc_model.specs.Codes.{type_code};
 ghost use Rattle.lc_model.specs.Condition.{condition_of};
 ghost use Rattle.lc_model.specs.Tables.Equation.{mentions};
-ghost use Rattle.rule_judgement.specs.Fields.{HasField, field_number, field_read, is_field_of};
+ghost use Rattle.lc_model.specs.declared.field.Term.{Term as Comparison};
+ghost use Rattle.rule_judgement.specs.Fields.{AreFieldsOf, HasField, field_number, field_read, is_field_of};
 
 use lc_model::{Cond, FieldType, Term};
 use std::alloc::{AllocError, Global};
@@ -107,6 +108,8 @@ fn add(fields: &mut Vec<Field>, term: &Term) -> Result<(), AllocError>
     ensures there { OnOk result (HasField fields.new.items term.now) }
     ensures others { OnOk result ((t : Term) → HasField fields.old.items t →
         HasField fields.new.items t) }
+    ensures exact { OnOk result ((terms : List Comparison) → Contains terms term.now →
+        AreFieldsOf terms fields.old.items → AreFieldsOf terms fields.new.items) }
 {
     if number(fields, term) == fields.len() {
         fields.push(field_of(term))?;
@@ -115,7 +118,9 @@ fn add(fields: &mut Vec<Field>, term: &Term) -> Result<(), AllocError>
 }
 
 /// How many of the terms read the same field as each of them.
-fn readers(alloc: Global, terms: &[Term]) -> Result<Vec<usize>, AllocError> {
+fn readers(alloc: Global, terms: &[Term]) -> Result<Vec<usize>, AllocError>
+    ensures { IfOk result (λ counts. length counts.items ≡ length terms.now) }
+{
     let mut counts = Vec::new(alloc);
     for term in terms {
         let field = field_of(term);
@@ -124,32 +129,61 @@ fn readers(alloc: Global, terms: &[Term]) -> Result<Vec<usize>, AllocError> {
     Ok(counts)
 }
 
+/// The term's field joins the others, where it is one of this many terms.
+fn add_where(
+    fields: &mut Vec<Field>,
+    term: &Term,
+    readers: usize,
+    count: usize,
+) -> Result<(), AllocError>
+    ensures { OnOk result ((terms : List Comparison) → Contains terms term.now →
+        AreFieldsOf terms fields.old.items → AreFieldsOf terms fields.new.items) }
+{
+    if readers == count {
+        add(fields, term)?;
+    }
+    Ok(())
+}
+
 /// The fields that so many of the terms read join the others.
 fn add_read_by(
     fields: &mut Vec<Field>,
     terms: &[Term],
     readers: &[usize],
     count: usize,
-) -> Result<(), AllocError> {
-    for (term, readers) in terms.iter().zip(readers) {
-        if *readers == count {
-            add(fields, term)?;
-        }
+) -> Result<(), AllocError>
+    requires each { length readers.now ≡ length terms.now }
+    ensures { OnOk result (AreFieldsOf terms.now fields.old.items →
+        AreFieldsOf terms.now fields.new.items) }
+{
+    for i in 0..terms.len() {
+        add_where(fields, &terms[i], readers[i], count)?;
+    }
+    Ok(())
+}
+
+/// The term's fields join the others.
+fn add_all(fields: &mut Vec<Field>, terms: &[Term]) -> Result<(), AllocError>
+    ensures all { OnOk result (AllByRecursion (λ t. HasField fields.new.items t) terms.now) }
+    ensures exact { OnOk result (AreFieldsOf terms.now fields.old.items →
+        AreFieldsOf terms.now fields.new.items) }
+{
+    for term in terms {
+        add(fields, term)?;
     }
     Ok(())
 }
 
 /// The fields that the terms read, each once, those first that the most of them read.
 pub(crate) fn fields_of(alloc: Global, terms: &[Term]) -> Result<Vec<Field>, AllocError>
-    ensures { IfOk result (λ fields. AllByRecursion (λ t. HasField fields.items t) terms.now) }
+    ensures all { IfOk result (λ fields. AllByRecursion (λ t. HasField fields.items t) terms.now) }
+    ensures exact { IfOk result (λ fields. AreFieldsOf terms.now fields.items) }
 {
     let readers = readers(alloc, terms)?;
     let mut fields = Vec::new(alloc);
     for less in 0..terms.len() {
         add_read_by(&mut fields, terms, &readers, terms.len() - less)?;
     }
-    for term in terms {
-        add(&mut fields, term)?;
-    }
+    add_all(&mut fields, terms)?;
     Ok(fields)
 }

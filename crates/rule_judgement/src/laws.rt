@@ -5,6 +5,7 @@ ghost use Rattle.std.specs.Prelude.{List};
 ghost use Rattle.lc_model.specs.Tables.HalvesAndBytes.{as_bytes, as_halves};
 ghost use Rattle.lc_model.specs.Tables.Image.{Layout};
 ghost use Rattle.lc_model.specs.Host.Promise.{Mission};
+ghost use Rattle.rule_judgement.specs.Bits.{TextsReadTelemetry};
 ghost use Rattle.rule_judgement.specs.Called.{IsNeverCalledFor, IsNeverWritten};
 ghost use Rattle.rule_judgement.specs.Quiet.{NobodyRequests, QuietRulesStayQuiet, StartsQuiet};
 
@@ -14,6 +15,11 @@ pub fn numbers_judge_histories()
     ensures never { NeverHoldsNeverFails }
     ensures always { NeverNotIsAlways }
     ensures wherever { NeverButIsWherever }
+{}
+
+/// The comparisons of a text that is read are of fields of telemetry, as the answer that fields share bits takes them to be.
+pub fn texts_read_telemetry()
+    ensures { TextsReadTelemetry }
 {}
 
 /// A rule that never fails asks for nothing.

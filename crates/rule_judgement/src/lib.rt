@@ -1,6 +1,7 @@
 //! What can be said of a rule before any packet comes.
 #![tactic(auto)]
 
+mod bits;
 mod classes;
 mod conditions;
 mod deciding;

@@ -6,7 +6,8 @@ ghost use Rattle.lc_model.specs.Condition.{condition_of};
 ghost use Rattle.lc_model.specs.Field.{raw, value_of, width};
 ghost use Rattle.lc_model.specs.LimitChecker.Watch.{judgement, last_packet, truth_of, truth_of_term};
 ghost use Rattle.lc_model.specs.Packet.{message_id as id_of};
-ghost use Rattle.rule_judgement.specs.Findings.{IsTelemetry, Shows, history_of, value_seen};
+ghost use Rattle.rule_judgement.specs.Findings.{IsTelemetry, Shows, value_seen};
+ghost use Rattle.rule_judgement.specs.Came.{history_of};
 
 use crate::outcomes::{compares, signed};
 use lc_model::packet::stream_fault;
@@ -57,7 +58,7 @@ fn value(term: &Term, packet: &[u8]) -> Option<i64>
 }
 
 /// The last packet of a message id, where the first of these came last.
-fn last_of(packets: &[Vec<u8>], mid: u16) -> Option<&[u8]>
+pub(crate) fn last_of(packets: &[Vec<u8>], mid: u16) -> Option<&[u8]>
     ensures { last_packet mid (history_of packets.now) ≡ option_map (λ packet.
         (packet.now, 0)) result }
 {
@@ -118,7 +119,8 @@ fn truth_with(cond: &Cond, packets: &[Vec<u8>]) -> Truth
 
 /// Whether a stream may bring the packet, as telemetry.
 fn is_telemetry(packet: &[u8]) -> bool
-    ensures { IsTrue result → IsTelemetry packet.now }
+    ensures only { IsTrue result → IsTelemetry packet.now }
+    ensures all { IsTelemetry packet.now → IsTrue result }
 {
     let mid = message_id(packet);
     stream_fault(packet).is_none() && 0x0800 <= mid && mid <= 0x0FFF
@@ -126,7 +128,8 @@ fn is_telemetry(packet: &[u8]) -> bool
 
 /// Whether it may bring all these.
 fn are_telemetry(packets: &[Vec<u8>]) -> bool
-    ensures { IsTrue result → AllByRecursion (λ packet. IsTelemetry packet.items) packets.now }
+    ensures only { IsTrue result → AllByRecursion (λ packet. IsTelemetry packet.items) packets.now }
+    ensures all { AllByRecursion (λ packet. IsTelemetry packet.items) packets.now → IsTrue result }
 {
     for packet in packets {
         if !is_telemetry(packet) {
@@ -138,7 +141,8 @@ fn are_telemetry(packets: &[Vec<u8>]) -> bool
 
 /// Whether these are packets that make the condition true.
 pub(crate) fn shows(cond: &Cond, packets: &[Vec<u8>]) -> bool
-    ensures { IsTrue result → Shows (condition_of cond.now) packets.now }
+    ensures only { IsTrue result → Shows (condition_of cond.now) packets.now }
+    ensures all { Shows (condition_of cond.now) packets.now → IsTrue result }
 {
     are_telemetry(packets) && truth_with(cond, packets) == Truth::True
 }

@@ -107,6 +107,7 @@ pub(crate) fn walk(
     ensures taken { IfOk result (λ outcome.
         IsWithin (field_number fields.now) (condition_of cond.now)
         (length chosen.old.items) steps.old steps.new) }
+    ensures few { IfOk result (λ outcome. length chosen.new.items ≤ length candidates.now) }
     ensures back { IfOk result (λ outcome. outcome ≡ Excluded → chosen.new.items ≡
         chosen.old.items) }
     ensures spent { IfOk result (λ outcome. outcome ≡ Spent → steps.new ≡ 0) }

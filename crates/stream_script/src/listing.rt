@@ -122,7 +122,8 @@ pub fn write_listing(alloc: Global, stream: &[u8]) -> Result<Vec<u8>, AllocError
     write_listing_from(alloc, 1, stream)
 }
 
-/// The same of what is left of a stream, whose first record has this number.
+/// The listing of what is left of a stream, as `write_listing` makes it, whose first record has this number. Out of memory is the
+/// only error.
 pub fn write_listing_from(alloc: Global, first: usize, stream: &[u8]) -> Result<Vec<u8>, AllocError>
     requires { first + length stream.now + 1 < 2 ^ 64 }
     ensures { IfOk result (λ listing. listing.items ≡ lines_from first stream.now) }

@@ -81,6 +81,17 @@ impl<'a> ValidImage<'a> {
     }
 }
 
+/// Takes an image that is known to be sound, as one that was judged before: its length alone is looked at. Condition: it is sound.
+pub fn judged_before(kind: Kind, image: &[u8]) -> ValidImage<'_>
+    requires sound { IsSound layouts kind image.now }
+    ensures lends { result ≡ record { kind = kind; bytes = image.now } }
+{
+    ValidImage {
+        layout: Layout::of_image(kind, image).unwrap(),
+        bytes: image,
+    }
+}
+
 /// Takes the image of a table where it is sound: 4,264 bytes of watchpoints, or of actionpoints 15,176 of version 1, with 20
 /// words an equation, or 19,400 of version 2, with 32. Each entry is read once, and no memory is taken.
 ///

@@ -12,4 +12,4 @@ mod watchpoint;
 mod words;
 
 pub use fault::{FaultCode, TableFault, WHOLE_IMAGE};
-pub use image::{ValidImage, validate};
+pub use image::{ValidImage, judged_before, validate};

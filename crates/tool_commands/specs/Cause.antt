@@ -19,8 +19,6 @@ use Rattle.stream_script.specs.declared.error.ScriptError.{ScriptError}
 use Rattle.stream_script.specs.declared.error.ScriptError.TheVariants as script
 use Rattle.judgement_listing.specs.declared.error.ListingError.{ListingError}
 use Rattle.judgement_listing.specs.declared.error.ListingError.TheVariants as judgement
-use Rattle.rpn_compiler.specs.declared.error.CompileError.{CompileError}
-use Rattle.rpn_compiler.specs.declared.error.CompileError.TheVariants as compile
 use Rattle.tick_scheduler.specs.declared.error.ScheduleError.{ScheduleError}
 use Rattle.tick_scheduler.specs.declared.error.ScheduleError.TheVariants as schedule
 use Rattle.tool_commands.specs.declared.fault.Fault.{Fault}
@@ -38,10 +36,6 @@ fault_of_script name error = fault.Script name error
 abbrev pub fault_of_schedule : Bor (List ℕ) → ScheduleError → Fault
 fault_of_schedule name schedule.Memory = fault.Memory
 fault_of_schedule name error = fault.Schedule name error
-
-abbrev pub fault_of_text : Bor (List ℕ) → CompileError → Fault
-fault_of_text name compile.Memory = fault.Memory
-fault_of_text name error = fault.Text name error
 
 -- of what was judged into memory
 abbrev pub fault_of_judgement : Bor (List ℕ) → ListingError → Fault

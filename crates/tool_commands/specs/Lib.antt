@@ -1,3 +1,4 @@
 pub mod Cause
+pub mod Checked
 pub mod Status
 pub mod Words

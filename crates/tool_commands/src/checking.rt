@@ -1,7 +1,8 @@
 //! What can be said of rules before any packet comes.
 
 ghost use Rattle.std.specs.Prelude.{◌≡◌};
-ghost use Rattle.tool_commands.specs.Cause.{fault_of_judgement, fault_of_text};
+ghost use Rattle.tool_commands.specs.Cause.{fault_of_judgement};
+ghost use Rattle.tool_commands.specs.Checked.{answer_of, counted};
 
 use crate::fault::Fault;
 use crate::files::{LONGEST_TABLE, read, read_text};
@@ -9,6 +10,8 @@ use crate::given::schedule_in;
 use crate::output::listed;
 use judgement_listing::{ListingError, Which, list_actionpoints, list_judgement, list_unsampled};
 use rpn_compiler::{CompileError, compile};
+use rule_messages::{messages, page_of};
+use std::alloc::Global;
 use std::fs::Files;
 use std::io::Write;
 use tick_scheduler::Schedule;
@@ -22,13 +25,50 @@ pub struct Asked {
     pub is_strict: bool,
 }
 
-/// The fault of a rule text in a file of this name.
-fn text_fault(name: &str, error: CompileError) -> Fault<'_>
-    ensures { result ≡ fault_of_text name.entry error }
-{
-    match error {
-        CompileError::Memory => Fault::Memory,
-        error => Fault::Text(name, error),
+/// What is found of a rule text.
+#[derive(Clone, Copy)]
+enum Found {
+    /// It doesn't compile.
+    Refused,
+    /// It compiles, with so many warnings.
+    Warnings(usize),
+}
+
+/// Of several texts, whether one doesn't compile, and whether there is a warning.
+#[derive(Clone, Copy)]
+struct Totals {
+    is_refused: bool,
+    is_warned: bool,
+}
+
+impl Totals {
+    /// With one text more.
+    fn with(self, found: Found) -> Totals
+        ensures { result ≡ counted self found }
+    {
+        match found {
+            Found::Refused => Totals {
+                is_refused: true,
+                is_warned: self.is_warned,
+            },
+            Found::Warnings(count) => Totals {
+                is_refused: self.is_refused,
+                is_warned: self.is_warned || count > 0,
+            },
+        }
+    }
+
+    /// What the call comes to: a text that doesn't compile is a fault, and so is a warning, where that is asked for.
+    fn answer(self, is_strict: bool) -> Result<(), Fault<'static>>
+        ensures { result ≡ answer_of self is_strict }
+    {
+        if self.is_refused {
+            Err(Fault::Refused)
+        } else if is_strict && self.is_warned {
+            Err(Fault::Warned)
+        } else {
+            Ok(())
+        }
     }
 }
 
@@ -65,35 +105,69 @@ fn write_lines<'a, W: Write>(name: &'a str, lines: &[u8], out: &mut W) -> Result
     Ok(warnings)
 }
 
-/// Writes what there is to say of the rule text in a file, and answers how many warnings these are.
+/// Writes what is wrong with a rule text in a file of this name, which doesn't compile.
+fn refuse<'a, W: Write>(
+    alloc: Global,
+    name: &'a str,
+    text: &[u8],
+    out: &mut W,
+) -> Result<(), Fault<'a>> {
+    let told = messages(alloc, text)?;
+    let page = page_of(alloc, name, text, told.as_slice())?;
+    listed(out.write_all(page.as_bytes()))?;
+    listed(out.flush())
+}
+
+/// Writes what can be said of a rule text that compiles, with so many rules, and answers how many warnings these are.
+fn judge<'a, W: Write>(
+    alloc: Global,
+    name: &'a str,
+    text: &[u8],
+    rules: u16,
+    plan: &Option<Schedule>,
+    which: Which,
+    out: &mut W,
+) -> Result<usize, Fault<'a>> {
+    let mut lines = Vec::new(alloc);
+    list_judgement(alloc, text, which, &mut lines).map_err(|error| judgement_fault(name, error))?;
+    if let Some(plan) = plan {
+        list_unsampled(alloc, text, plan, &mut lines).map_err(|error| judgement_fault(
+            name, error,
+        ))?;
+    }
+    let warnings = write_lines(name, lines.as_slice(), out)?;
+    listed(writeln!(out, "{name}: {rules} rules, {warnings} warnings"))?;
+    listed(out.flush())?;
+    Ok(warnings)
+}
+
+/// Writes what there is to say of the rule text in a file, and answers what was found.
 fn check_text<'a, R: Files + AllocGlobal, W: Write>(
     rt: &R,
     name: &'a str,
     plan: &Option<Schedule>,
     which: Which,
     out: &mut W,
-) -> Result<usize, Fault<'a>> {
+) -> Result<Found, Fault<'a>> {
     let text = read_text(rt, name)?;
-    let tables = compile(rt.alloc(), text.as_slice()).map_err(|error| text_fault(name, error))?;
-    let mut lines = Vec::new(rt.alloc());
-    list_judgement(rt.alloc(), text.as_slice(), which, &mut lines).map_err(|error| judgement_fault(
-        name, error,
-    ))?;
-    if let Some(plan) = plan {
-        list_unsampled(rt.alloc(), text.as_slice(), plan, &mut lines).map_err(
-            |error| judgement_fault(name, error),
-        )?;
+    let text = text.as_slice();
+    match compile(rt.alloc(), text) {
+        Ok(tables) => {
+            let warnings = judge(rt.alloc(), name, text, tables.rules, plan, which, out)?;
+            Ok(Found::Warnings(warnings))
+        }
+        Err(CompileError::Memory) => Err(Fault::Memory),
+        Err(_) => {
+            refuse(rt.alloc(), name, text, out)?;
+            Ok(Found::Refused)
+        }
     }
-    let warnings = write_lines(name, lines.as_slice(), out)?;
-    let rules = tables.rules;
-    listed(writeln!(out, "{name}: {rules} rules, {warnings} warnings"))?;
-    listed(out.flush())?;
-    Ok(warnings)
 }
 
-/// Says of each rule text in these files whether it compiles, and what can be said of its rules before any packet comes: a
-/// warning where a rule never fails or always does, where two say the same, where a comparison says nothing, or where the schedule
-/// never samples one; and of each rule, where all is asked for, for which values of its fields it fails and passes.
+/// Says of each rule text in these files whether it compiles; where it doesn't, what is wrong with it, and where it does, what can
+/// be said of its rules before any packet comes: a warning where a rule never fails or always does, where two say the same, where
+/// a comparison says nothing, or where the schedule never samples one; and of each rule, where all is asked for, for which values
+/// of its fields it fails and passes.
 pub fn check<'a, R: Files + AllocGlobal, W: Write>(
     rt: &R,
     schedule: Option<&'a str>,
@@ -110,14 +184,14 @@ pub fn check<'a, R: Files + AllocGlobal, W: Write>(
     } else {
         Which::Warnings
     };
-    let mut warnings = 0usize;
+    let mut totals = Totals {
+        is_refused: false,
+        is_warned: false,
+    };
     for name in rules {
-        warnings = warnings.saturating_add(check_text(rt, name, &plan, which, out)?);
+        totals = totals.with(check_text(rt, name, &plan, which, out)?);
     }
-    if asked.is_strict && warnings > 0 {
-        return Err(Fault::Warned);
-    }
-    Ok(())
+    totals.answer(asked.is_strict)
 }
 
 /// Writes the warnings of the actionpoints of a table whose watchpoints are in a file of this name.

@@ -7,7 +7,6 @@ ghost use Rattle.tool_commands.specs.declared.fault.Fault.TheVariants.{Memory};
 use clap::Error;
 use flight_core::RunError;
 use program_files::Why;
-use rpn_compiler::CompileError;
 use run_report::ReportError;
 use std::alloc::{AllocError, AllocFailed};
 use std::fmt::{self, Display, Formatter, Write};
@@ -21,6 +20,8 @@ pub enum Fault<'a> {
     Words(Error),
     /// A word that is no text.
     NoText,
+    /// The word of an option that is none of its values.
+    Value(&'static str, &'a str),
     /// A table file with a fault, which its listing says.
     Table,
     /// A stream or packets that end early, which the listing or the page says.
@@ -31,8 +32,8 @@ pub enum Fault<'a> {
     Schedule(&'a str, ScheduleError),
     /// A rule text of a run that is refused.
     Report(ReportError),
-    /// A rule text that is refused, by its file's name.
-    Text(&'a str, CompileError),
+    /// A rule text that is refused, which the listing says.
+    Refused,
     /// Rules or tables that can't be judged, by their file's name.
     Judgement(&'a str, judgement_listing::ListingError),
     /// Warnings, which the listing says, where there may be none.
@@ -84,8 +85,8 @@ impl Fault<'_> {
         match self {
             Fault::Gone => 0,
             Fault::Table | Fault::Script(..) | Fault::Schedule(..) | Fault::Report(_) => 1,
-            Fault::Text(..) | Fault::Judgement(..) | Fault::Warned => 1,
-            Fault::Words(_) | Fault::NoText => 2,
+            Fault::Refused | Fault::Judgement(..) | Fault::Warned => 1,
+            Fault::Words(_) | Fault::NoText | Fault::Value(..) => 2,
             Fault::File(..) => 3,
             Fault::Early => 4,
             Fault::Run(error) => status_of_run(*error),
@@ -99,11 +100,11 @@ impl Display for Fault<'_> {
         match self {
             Fault::Words(error) => write!(f, "{error}"),
             Fault::NoText => writeln!(f, "a word of the command line is no text (UTF-8)"),
-            Fault::Table | Fault::Early | Fault::Gone | Fault::Warned => Ok(()),
+            Fault::Value(option, word) => writeln!(f, "{option} {word}: no such value"),
+            Fault::Table | Fault::Early | Fault::Gone | Fault::Refused | Fault::Warned => Ok(()),
             Fault::Script(name, error) => writeln!(f, "{name}: {error}"),
             Fault::Schedule(name, error) => writeln!(f, "{name}: {error}"),
             Fault::Report(error) => writeln!(f, "{error}"),
-            Fault::Text(name, error) => writeln!(f, "{name}: {error}"),
             Fault::Judgement(name, error) => writeln!(f, "{name}: {error}"),
             Fault::Run(error) => writeln!(f, "{error}"),
             Fault::File(name, why) => writeln!(f, "cannot use {name}: {why}"),

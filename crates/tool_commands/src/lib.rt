@@ -6,10 +6,12 @@ ghost use Rattle.std.specs.Prelude.{◌≡◌};
 ghost use Rattle.tool_commands.specs.Status.{status_by};
 
 mod checking;
+mod exporting;
 mod fault;
 mod feed;
 mod files;
 mod given;
+mod importing;
 mod listing;
 mod live;
 mod output;
@@ -73,6 +75,8 @@ pub fn obey<'a, R: Files + Eprint + AllocGlobal, I: Read + Drop, W: Write>(
             };
             checking::check(rt, schedule, rules.as_slice(), asked, out)
         }
+        Plan::Import { files, how } => importing::import(rt, files.as_slice(), &how, out),
+        Plan::Export { stream, raw } => exporting::export(rt, stream, raw),
         Plan::Live { schedule, rules } => live::run(rt, schedule, rules.as_slice(), input, out),
     }
 }

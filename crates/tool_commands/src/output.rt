@@ -33,7 +33,7 @@ pub fn output_fault(kind: ErrorKind) -> Fault<'static>
     }
 }
 
-/// The same of what was listed.
+/// What a listing that was written to standard output leaves: nothing, or why it wasn't taken, as `output_fault` says it.
 pub fn listed(written: io::Result<()>) -> Result<(), Fault<'static>>
     ensures { IsListed written result }
 {

@@ -2,7 +2,7 @@
 
 ghost use Rattle.std.specs.Prelude.{◌≡◌, codes, map, option_map, IfOk, IfSome, IsSomeAnd, Some};
 ghost use Rattle.clap.specs.Words.{all_of, first_of, found_of, kind_of, rows_of, subcommand_rows_of};
-ghost use Rattle.tool_commands.specs.Words.{HoldsRows, answer_by};
+ghost use Rattle.tool_commands.specs.Words.{HoldsImport, HoldsRows, answer_by};
 
 use crate::fault::Fault;
 use clap::error::ErrorKind;
@@ -34,6 +34,16 @@ pub enum Plan<'a> {
         script: &'a str,
         stream: &'a str,
     },
+    /// `import [OPTIONS] RAW.. STREAM`: archives of space packets are made into a stream.
+    Import {
+        files: Vec<&'a str>,
+        how: ImportWords<'a>,
+    },
+    /// `export STREAM RAW`: the packets of a stream, one behind the other.
+    Export {
+        stream: &'a str,
+        raw: &'a str,
+    },
     /// `report SCHEDULE STREAM PAGE RULES..`: a run as a page.
     Report {
         schedule: &'a str,
@@ -55,6 +65,27 @@ pub enum Plan<'a> {
     },
 }
 
+/// How archives are imported, as the words say it.
+#[derive(Drop)]
+pub struct ImportWords<'a> {
+    /// A marker stands before each packet.
+    pub marked: bool,
+    /// Idle packets become records, too.
+    pub keep_idle: bool,
+    /// Packets with a fault become records, too.
+    pub keep_faulty: bool,
+    /// Message ids, parted by commas: these alone.
+    pub only: Option<&'a str>,
+    /// The byte at which a packet's time stands.
+    pub time_at: Option<&'a str>,
+    /// The seconds that are taken from each time.
+    pub epoch: Option<&'a str>,
+    /// The seconds from packet to packet, where they have no time.
+    pub step: Option<&'a str>,
+    /// The seconds from tick to tick.
+    pub tick: Option<&'a str>,
+}
+
 /// What a command takes beside its files.
 #[derive(Clone, Copy)]
 enum More {
@@ -63,6 +94,8 @@ enum More {
     Watchpoints,
     /// Whether a script is wanted.
     Whole,
+    /// Archives and a stream, and how they are imported.
+    Imported,
     /// Rule texts, one at least.
     Rules,
     /// Rule texts, and how they are checked.
@@ -78,7 +111,7 @@ struct Row {
 }
 
 /// All commands, as the help lists them.
-const ROWS: [Row; 7] = [
+const ROWS: [Row; 9] = [
     Row {
         word: "table",
         about: "Says what a table file holds",
@@ -103,6 +136,21 @@ const ROWS: [Row; 7] = [
         files: &[
             ("SCRIPT", "The script, line by line"),
             ("STREAM", "The stream, which is written"),
+        ],
+        more: More::Nothing,
+    },
+    Row {
+        word: "import",
+        about: "Makes a stream from archives of space packets",
+        files: &[],
+        more: More::Imported,
+    },
+    Row {
+        word: "export",
+        about: "Writes the packets of a stream, one behind the other",
+        files: &[
+            ("STREAM", "A stream of records"),
+            ("RAW", "The packets, which are written"),
         ],
         more: More::Nothing,
     },
@@ -155,6 +203,63 @@ fn flag_word<'a>(alloc: Global, name: &'a str, help: &'a str) -> Arg<'a> {
         .help(help)
 }
 
+/// An import with its choices.
+fn with_choices<'a>(alloc: Global, command: Command<'a>) -> Result<Command<'a>, AllocError> {
+    command
+        .arg(flag_word(
+            alloc,
+            "marked",
+            "A marker (1ACFFC1D) stands before each packet",
+        ))?
+        .arg(flag_word(alloc, "keep-idle", "Idle packets become records, too"))?
+        .arg(flag_word(
+            alloc,
+            "keep-faulty",
+            "Packets with a fault become records, too",
+        ))?
+        .arg(option_word(
+            alloc,
+            "only",
+            "Packets of these message ids alone, parted by commas",
+        ))
+}
+
+/// An import with what it knows of time.
+fn with_times<'a>(alloc: Global, command: Command<'a>) -> Result<Command<'a>, AllocError> {
+    command
+        .arg(option_word(
+            alloc,
+            "time-at",
+            "The byte of each packet at which its time stands [6]",
+        ))?
+        .arg(option_word(
+            alloc,
+            "epoch",
+            "The seconds that are taken from each time [0]",
+        ))?
+        .arg(option_word(
+            alloc,
+            "step",
+            "The seconds from packet to packet, where they have no time",
+        ))?
+        .arg(option_word(
+            alloc,
+            "tick",
+            "The seconds from tick to tick; no ticks where it isn't given",
+        ))
+}
+
+/// Archives and a stream.
+fn archive_words<'a>(alloc: Global) -> Arg<'a> {
+    file_word(
+        alloc,
+        "FILES",
+        "The archives, one behind the other, and the stream, which is written",
+    )
+    .action(ArgAction::Append)
+    .num_args(2..)
+}
+
 /// A command with what more it takes.
 fn with_more<'a>(
     alloc: Global,
@@ -172,6 +277,9 @@ fn with_more<'a>(
             alloc,
             "whole",
             "Writes a script from which scenario makes the same stream",
+        )),
+        More::Imported => with_times(alloc, with_choices(alloc, command)?)?.arg(archive_words(
+            alloc,
         )),
         More::Rules => command.arg(rule_words(alloc)),
         More::Checked => command
@@ -257,6 +365,8 @@ fn given_plan<'a>(alloc: Global, matches: &ArgMatches<'a>) -> Result<Option<Plan
         Some(("stream", found)) => Ok(stream_plan(found)),
         Some(("packets", found)) => Ok(packets_plan(found)),
         Some(("scenario", found)) => Ok(scenario_plan(found)),
+        Some(("import", found)) => import_plan(alloc, found),
+        Some(("export", found)) => Ok(export_plan(found)),
         Some(("report", found)) => report_plan(alloc, found),
         Some(("check", found)) => check_plan(alloc, found),
         Some(("live", found)) => live_plan(alloc, found),
@@ -324,6 +434,56 @@ fn scenario_plan<'a>(found: &ArgMatches<'a>) -> Option<Plan<'a>>
     Some(Plan::Scenario {
         script: file_of(found, "SCRIPT")?,
         stream: file_of(found, "STREAM")?,
+    })
+}
+
+/// How archives are imported.
+fn import_words<'a>(found: &ArgMatches<'a>) -> ImportWords<'a>
+    ensures { HoldsImport (rows_of (found_of found.now)) result }
+{
+    ImportWords {
+        marked: found.get_flag("marked"),
+        keep_idle: found.get_flag("keep-idle"),
+        keep_faulty: found.get_flag("keep-faulty"),
+        only: named(found, "only"),
+        time_at: named(found, "time-at"),
+        epoch: named(found, "epoch"),
+        step: named(found, "step"),
+        tick: named(found, "tick"),
+    }
+}
+
+/// The archives and the stream.
+fn files_of<'a>(alloc: Global, found: &ArgMatches<'a>) -> Result<Option<Vec<&'a str>>, AllocError>
+    ensures { IfOk result (λ files. IfSome files
+        (λ words. all_of (codes "FILES") (rows_of (found_of found.now)) ≡
+        Some (map (λ word. word.now) words.items))) }
+{
+    match found.get_strs("FILES") {
+        Some(files) => Ok(Some(Vec::from_slice(alloc, files)?)),
+        None => Ok(None),
+    }
+}
+
+fn import_plan<'a>(alloc: Global, found: &ArgMatches<'a>) -> Result<Option<Plan<'a>>, AllocError>
+    ensures { IfOk result (λ plan. IfSome plan
+        (HoldsRows (codes "import", rows_of (found_of found.now)))) }
+{
+    match files_of(alloc, found)? {
+        Some(files) => Ok(Some(Plan::Import {
+            files,
+            how: import_words(found),
+        })),
+        None => Ok(None),
+    }
+}
+
+fn export_plan<'a>(found: &ArgMatches<'a>) -> Option<Plan<'a>>
+    ensures { IfSome result (HoldsRows (codes "export", rows_of (found_of found.now))) }
+{
+    Some(Plan::Export {
+        stream: file_of(found, "STREAM")?,
+        raw: file_of(found, "RAW")?,
     })
 }
 

@@ -1,6 +1,6 @@
 //! The effort that the Limit Checker tells of.
 
-ghost use Rattle.lc_model.specs.Laws.Effort.{ProbesAreFew, SamplesAreBounded, SearchesAreBounded};
+ghost use Rattle.lc_model.specs.Laws.Effort.{ProbesAreComparisons, ProbesAreFew, SamplesAreBounded, SearchesAreBounded};
 
 /// A sample evaluates at most as many words as its rules have, and the message ids of a table's watchpoints are searched with
 /// at most eight comparisons.
@@ -8,6 +8,9 @@ pub fn effort_is_bounded()
     // Of 176 rules of 32 words each that is 5,632 words.
     ensures words { SamplesAreBounded }
     ensures searches { SearchesAreBounded }
+
+    // What is counted: each comparison is with the middle of those ids that it could still be.
+    ensures comparisons { ProbesAreComparisons }
 
     // At least one comparison, where there is a watchpoint.
     ensures probes { ProbesAreFew }

@@ -1,4 +1,4 @@
-use Rattle.std.proofs.Common.{rules, ap, ◌∙◌, arith, map}
+use Rattle.std.proofs.Common.{ap, ◌∙◌, arith}
 use Rattle.lc_model.specs.Tables.Image.{own_count}
 use Rattle.lc_model.specs.Tables.Spelled.{spelled_term}
 use Rattle.judgement_listing.proofs.OverLaws.{one_more_below, spelled_up_to}

@@ -2,7 +2,7 @@ use Rattle.std.proofs.Common.{rules, subst}
 use Rattle.lc_model.specs.Condition.{condition_of}
 use Rattle.rule_judgement.specs.Fields.{field_number}
 use Rattle.rule_judgement.specs.Search.{IsWalked}
-use Rattle.rule_judgement.proofs.Judged.{never_of, handed_on, all_have, some_of}
+use Rattle.rule_judgement.proofs.Judged.{never_of, handed_on, all_have, held}
 use Rattle.rule_judgement.proofs.StepLaws.{few_for}
 use Rattle.rule_judgement.proofs.deciding.decide.Goals as goal
 
@@ -14,14 +14,16 @@ walk-requires-clause-represented c =
 pub returns-in-Excluded : goal.returns-in-Excluded
 returns-in-Excluded c =
     never_of c.deref-4.result.now (condition_of c.args.cond.now) c.new-bits.result.items
-    (all_have (condition_of c.args.cond.now) c.deref.result.now c.in_ok-fields.fields.items c.deref-4.result.now (search rules) (search rules) c.in_ok-fields.ensures)
+    (all_have (condition_of c.args.cond.now) c.deref.result.now c.in_ok-fields.fields.items c.deref-4.result.now (search rules) (search rules) c.in_ok-fields.ensures.all)
     c.new-bits.ensures.items
     (subst (λ outcome. IsWalked (field_number c.deref-4.result.now) (condition_of c.args.cond.now) c.new-bits.result.items c.walk.new.chosen.items outcome)
     c.in-Excluded.is c.in_ok-walk.ensures.walked)
 
 pub returns-in-Found : goal.returns-in-Found
 returns-in-Found c =
-    some_of c.deref-4.result.now (condition_of c.args.cond.now) c.walk.new.chosen.items
+    held (condition_of c.args.cond.now) c.in_ok-fields.fields.items c.deref-3.result.now c.deref-4.result.now c.deref.result.now c.in_ok-rows.rows.items
+    c.deref-5.result.now c.walk.new.chosen.items (search rules) (search rules) (search rules) (search rules) c.in_ok-fields.ensures.exact c.in_ok-rows.ensures.each
+    c.in_ok-walk.ensures.few
     (subst (λ outcome. IsWalked (field_number c.deref-4.result.now) (condition_of c.args.cond.now) c.new-bits.result.items c.walk.new.chosen.items outcome)
     c.in-Found.is c.in_ok-walk.ensures.walked)
 

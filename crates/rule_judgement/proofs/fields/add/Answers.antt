@@ -1,6 +1,7 @@
 use Rattle.std.proofs.Common.{rules, subst, sym}
 use Rattle.rule_judgement.specs.Fields.{HasField}
 use Rattle.rule_judgement.proofs.FieldLaws.{has_more, has_new, has_by_number}
+use Rattle.rule_judgement.proofs.FieldLists.{field_more}
 use Rattle.rule_judgement.proofs.fields.add.Goals as goal
 
 pub returns-in_ok-push-clause-there : goal.returns-in_ok-push-clause-there
@@ -16,3 +17,8 @@ pub returns-else-number-len-clause-there : goal.returns-else-number-len-clause-t
 returns-else-number-len-clause-there c =
     has_by_number c.deref.result.now c.args.fields.now.items c.args.term.now c.number.result c.len.result c.deref.ensures.value c.number.ensures
     (search rules) c.if-number-len.false
+
+pub returns-in_ok-push-clause-exact : goal.returns-in_ok-push-clause-exact
+returns-in_ok-push-clause-exact c = λ terms there so_far.
+    field_more terms c.args.term.now c.deref.result.now c.args.fields.now.items c.push.new.self.items c.field_of.result c.number.result c.len.result
+    c.deref.ensures.value c.number.ensures (search rules) c.if-number-len.true c.field_of.ensures.exact c.in_ok-push.ensures.items there so_far

@@ -1,7 +1,5 @@
-use Rattle.std.proofs.Common.{take}
-use Rattle.std.specs.List.{AllByRecursion}
-use Rattle.rule_judgement.specs.Fields.{HasField}
+use Rattle.rule_judgement.specs.Fields.{AreFieldsOf}
 use Rattle.rule_judgement.proofs.fields.fields_of.Given as goal
 
-abbrev pub invariant-loop-term : goal.invariant-loop-term
-invariant-loop-term l = AllByRecursion (λ t. HasField l.fields.items t) (take l.term-index l.terms)
+abbrev pub invariant-loop-less : goal.invariant-loop-less
+invariant-loop-less l = AreFieldsOf l.terms l.fields.items

@@ -1,6 +1,6 @@
 use Rattle.std.proofs.Common.{◌≡◌, drop}
 use Rattle.lc_model.specs.LimitChecker.Watch.{last_packet}
-use Rattle.rule_judgement.specs.Findings.{history_of}
+use Rattle.rule_judgement.specs.Came.{history_of}
 use Rattle.rule_judgement.proofs.seen.last_of.Given as goal
 
 abbrev pub invariant-loop-packet : goal.invariant-loop-packet

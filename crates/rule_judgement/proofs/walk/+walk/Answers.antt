@@ -21,6 +21,7 @@ returns-in_default t c = record {
       c.walk.new.steps (c.requires.few named names) (search rules) (search rules) c.index-candidates-len.is c.deref-candidate-items.ensures.value
       c.loop-candidate-test.true c.loop-candidate.invariant.tried.same c.in_ok-push.ensures.items (c.loop-candidate.invariant.taken named names)
       (c.in_ok-other.ensures.taken named names);
+  few = c.in_ok-other.ensures.few;
   back = λ e. absurd (c.in_default.not-Excluded e);
   spent = c.in_ok-other.ensures.spent;
 }

@@ -1,0 +1,5 @@
+mod Importing
+mod Kept
+mod Pieces
+mod Stays
+mod Ticks

@@ -1,0 +1,254 @@
+-- An import in pieces.
+use Rattle.std.proofs.Common.{◌≡◌, refl, sym, ◌∙◌, ap, subst, ℕ, zero, suc, ◌+◌, ◌<◌, ◌≤◌, Bool, true, false, true≢false, nat_lt, List, [], ◌∷◌, ◌++◌, length, take, drop, length-drop, append_assoc, Option, Some, None, arith}
+use Rattle.std.proofs.lemmas.List.{take-append-le, drop-append-le, drop_all}
+use Rattle.packet_archive.specs.declared.choice.Fate.{Fate}
+use Rattle.packet_archive.specs.declared.choice.Fate.TheVariants.{Kept, Idle, Other, Faulty}
+use Rattle.packet_archive.specs.declared.import.Met.{Met}
+use Rattle.packet_archive.specs.declared.import.Met.TheVariants.{Stands}
+use Rattle.packet_archive.specs.declared.front.Front.{Front}
+use Rattle.packet_archive.specs.declared.front.Front.TheVariants.{Over, Gap, Cut, Foreign, Unmarked, Packet}
+use Rattle.packet_archive.specs.Choice.{fate_of}
+use Rattle.packet_archive.specs.Clock.{Clocked, moment_by}
+use Rattle.packet_archive.specs.Front.{front_in, zeros}
+use Rattle.packet_archive.specs.Import.{Asking, Imported, ImportsInPieces, Step, behind, by_fate, by_front, going_on, imported, imported_within, is_leap, kept_at, may_go_on, next_step, passed}
+use Rattle.packet_archive.proofs.Stays.{bounds, front_stays, gap_in_front, gap_is, gap_stays, zeros_go_on, zeros_within}
+
+-- ---- a step passes a byte at least, and no more than there are
+
+abbrev number : Option ℕ → ℕ
+number None = 0
+number (Some n) = n
+
+no_number : (o : Option ℕ) (n m : ℕ) → o ≡ None → o ≡ Some n → n ≡ m
+no_number None n m none some = cc
+no_number (Some k) n m none some = cc
+
+fate_passes : (fate : Fate) (asking : Asking) (size n : ℕ) (clock : Clocked) (packet : List ℕ) → passed (by_fate fate asking size clock packet).met ≡ Some n → n ≡ size
+fate_passes Kept asking size n clock packet some = by_test (is_leap clock (moment_by asking.times clock.last packet)) refl some
+  where
+    by_test : (b : Bool) → is_leap clock (moment_by asking.times clock.last packet) ≡ b →
+        passed (kept_at size clock (moment_by asking.times clock.last packet) packet).met ≡ Some n → n ≡ size
+    by_test true is some =
+        let met : passed (kept_at size clock (moment_by asking.times clock.last packet) packet).met ≡ None = rw is refl in
+        no_number (passed (kept_at size clock (moment_by asking.times clock.last packet) packet).met) n size met some
+    by_test false is some =
+        let met : passed (kept_at size clock (moment_by asking.times clock.last packet) packet).met ≡ Some size = rw is refl in
+        ap number (sym some ∙ met)
+fate_passes Idle asking size n clock packet some = sym (ap number some)
+fate_passes Other asking size n clock packet some = sym (ap number some)
+fate_passes (Faulty fault) asking size n clock packet some = sym (ap number some)
+
+record IsInside (n : ℕ) (bytes : List ℕ) : Type 0 where
+  pub some : 1 ≤ n
+  pub inside : n ≤ length bytes
+
+step_passes : (front : Front) (asking : Asking) (clock : Clocked) (bytes : List ℕ) (n : ℕ) → front_in asking.marked bytes ≡ front →
+    passed (by_front front asking clock bytes).met ≡ Some n → IsInside n bytes
+step_passes Over asking clock bytes n is some = cc
+step_passes Cut asking clock bytes n is some = cc
+step_passes Foreign asking clock bytes n is some = cc
+step_passes Unmarked asking clock bytes n is some = cc
+step_passes (Gap size) asking clock bytes n is some =
+    let found = gap_is asking.marked bytes size is in
+    let same : n ≡ size = sym (ap number some) in
+    record { some = omega (arith, found.0, found.1, same); inside = omega (arith, found.1, same, zeros_within bytes) }
+step_passes (Packet b s) asking clock bytes n is some =
+    let found = bounds asking.marked bytes b s is in
+    let packet : List ℕ = take s (drop b bytes) in
+    let same : n ≡ b + s = fate_passes (fate_of asking.chosen packet) asking (b + s) n clock packet some in
+    record { some = omega (arith, found.0, same); inside = omega (arith, found.1, same) }
+
+passes : (asking : Asking) (clock : Clocked) (bytes : List ℕ) (n : ℕ) → passed (next_step asking clock bytes).met ≡ Some n → IsInside n bytes
+passes asking clock bytes n some = step_passes (front_in asking.marked bytes) asking clock bytes n refl some
+
+-- ---- as many steps as are needed
+
+enough : (m n : ℕ) (asking : Asking) (clock : Clocked) (bytes : List ℕ) → length bytes < m → length bytes < n →
+    imported_within m asking clock bytes ≡ imported_within n asking clock bytes
+unfolding imported_within
+enough zero n asking clock bytes p q = absurd (omega (arith, p))
+enough (suc m) zero asking clock bytes p q = absurd (omega (arith, q))
+enough (suc m) (suc n) asking clock bytes p q =
+    by_passed (passed (next_step asking clock bytes).met) refl (λ size clock p q. enough m n asking clock (drop size bytes) p q)
+  where
+    by_passed : (o : Option ℕ) → passed (next_step asking clock bytes).met ≡ o →
+        ((size : ℕ) (after : Clocked) → length (drop size bytes) < m → length (drop size bytes) < n → imported_within m asking after (drop size bytes) ≡ imported_within n asking after (drop size bytes)) →
+        going_on (imported_within m asking) (next_step asking clock bytes) bytes o ≡ going_on (imported_within n asking) (next_step asking clock bytes) bytes o
+    by_passed None is others = refl
+    by_passed (Some size) is others =
+        let inside = passes asking clock bytes size is in
+        ap (λ (rest : Imported). behind (next_step asking clock bytes).written rest)
+        (others size (next_step asking clock bytes).clock (omega (arith, length-drop size bytes, inside.some, inside.inside, p)) (omega (arith, length-drop size bytes, inside.some, inside.inside, q)))
+
+-- ---- an import by its first step
+
+first_step : (asking : Asking) (clock : Clocked) (bytes : List ℕ) →
+    imported asking clock bytes ≡ going_on (imported_within (length bytes) asking) (next_step asking clock bytes) bytes (passed (next_step asking clock bytes).met)
+unfolding imported_within
+first_step asking clock bytes = let most : length bytes + 1 ≡ suc (length bytes) = omega arith in ap (λ n. imported_within n asking clock bytes) most
+
+pub one_step : (asking : Asking) (clock : Clocked) (bytes : List ℕ) (size : ℕ) → passed (next_step asking clock bytes).met ≡ Some size →
+    imported asking clock bytes ≡ behind (next_step asking clock bytes).written (imported asking (next_step asking clock bytes).clock (drop size bytes))
+one_step asking clock bytes size some =
+    let inside = passes asking clock bytes size some in
+    first_step asking clock bytes
+    ∙ ap (going_on (imported_within (length bytes) asking) (next_step asking clock bytes) bytes) some
+    ∙ ap (λ (rest : Imported). behind (next_step asking clock bytes).written rest)
+    (enough (length bytes) (length (drop size bytes) + 1) asking (next_step asking clock bytes).clock (drop size bytes)
+    (omega (arith, length-drop size bytes, inside.some, inside.inside)) (omega arith))
+
+pub no_step : (asking : Asking) (clock : Clocked) (bytes : List ℕ) → passed (next_step asking clock bytes).met ≡ None →
+    imported asking clock bytes
+    ≡ record { written = (next_step asking clock bytes).written; clock = (next_step asking clock bytes).clock; left = bytes; met = (next_step asking clock bytes).met }
+no_step asking clock bytes none =
+    first_step asking clock bytes ∙ ap (going_on (imported_within (length bytes) asking) (next_step asking clock bytes) bytes) none
+
+-- ---- pieces
+
+-- zeros in front become nothing
+after_gap : (asking : Asking) (clock : Clocked) (bytes : List ℕ) (n : ℕ) → front_in asking.marked bytes ≡ Gap n → imported asking clock bytes ≡ imported asking clock (drop n bytes)
+after_gap asking clock bytes n gap =
+    let step : next_step asking clock bytes ≡ record { met = Stands (Gap n); written = []; clock = clock } = ap (λ front. by_front front asking clock bytes) gap in
+    one_step asking clock bytes n (ap (λ (s : Step). passed s.met) step)
+    ∙ ap (λ (s : Step). behind s.written (imported asking s.clock (drop n bytes))) step
+
+skip_zeros : (asking : Asking) (clock : Clocked) (bytes : List ℕ) → imported asking clock bytes ≡ imported asking clock (drop (zeros bytes) bytes)
+skip_zeros asking clock bytes = by_count (zeros bytes) refl
+  where
+    by_count : (n : ℕ) → zeros bytes ≡ n → imported asking clock bytes ≡ imported asking clock (drop n bytes)
+    by_count zero is = refl
+    by_count (suc n) is =
+        let gap : front_in asking.marked bytes ≡ Gap (suc n) = gap_in_front asking.marked bytes (omega (arith, is)) ∙ ap Gap is in
+        after_gap asking clock bytes (suc n) gap
+
+-- the same steps, with more bytes behind
+combine : (w : List ℕ) (rest whole one : Imported) (others : Clocked → List ℕ → Imported) (ys : List ℕ) → one ≡ behind w rest →
+    whole ≡ behind w (behind rest.written (others rest.clock (rest.left ++ ys))) → whole ≡ behind one.written (others one.clock (one.left ++ ys))
+combine w rest whole one others ys is same =
+    subst (λ (o : Imported). whole ≡ behind o.written (others o.clock (o.left ++ ys))) (sym is)
+    (same ∙ joined w rest.written (others rest.clock (rest.left ++ ys)))
+  where
+    joined : (a b : List ℕ) (i : Imported) → behind a (behind b i) ≡ behind (a ++ b) i
+    joined a b i = ap (λ (front : List ℕ). record { written = front; clock = i.clock; left = i.left; met = i.met }) (sym (append_assoc a b i.written))
+
+-- what an import of a piece leaves to be shown
+abbrev Goes : Asking → Clocked → List ℕ → List ℕ → Type 0
+Goes asking clock xs ys = may_go_on (imported asking clock xs).met ≡ true →
+    imported asking clock (xs ++ ys)
+    ≡ behind (imported asking clock xs).written (imported asking (imported asking clock xs).clock ((imported asking clock xs).left ++ ys))
+
+-- where nothing is passed, all is left
+stays : (asking : Asking) (clock : Clocked) (xs ys : List ℕ) (met : Met) → next_step asking clock xs ≡ record { met = met; written = []; clock = clock } → passed met ≡ None →
+    Goes asking clock xs ys
+stays asking clock xs ys met step none may =
+    let one : imported asking clock xs ≡ record { written = []; clock = clock; left = xs; met = met } =
+    no_step asking clock xs (ap (λ (s : Step). passed s.met) step ∙ none)
+    ∙ ap (λ (s : Step). record { written = s.written; clock = s.clock; left = xs; met = s.met }) step in
+    subst (λ (o : Imported). imported asking clock (xs ++ ys) ≡ behind o.written (imported asking o.clock (o.left ++ ys))) (sym one) refl
+
+-- where so many bytes are passed, with more behind or not
+goes : (asking : Asking) (clock : Clocked) (xs ys : List ℕ) (n : ℕ) (step : Step) → next_step asking clock xs ≡ step → next_step asking clock (xs ++ ys) ≡ step →
+    passed step.met ≡ Some n → n ≤ length xs → Goes asking step.clock (drop n xs) ys → Goes asking clock xs ys
+goes asking clock xs ys n step alone together some inside rest may =
+    let one : imported asking clock xs ≡ behind step.written (imported asking step.clock (drop n xs)) =
+    one_step asking clock xs n (ap (λ (s : Step). passed s.met) alone ∙ some)
+    ∙ ap (λ (s : Step). behind s.written (imported asking s.clock (drop n xs))) alone in
+    let whole : imported asking clock (xs ++ ys) ≡ behind step.written (imported asking step.clock (drop n xs ++ ys)) =
+    one_step asking clock (xs ++ ys) n (ap (λ (s : Step). passed s.met) together ∙ some)
+    ∙ ap (λ (s : Step). behind s.written (imported asking s.clock (drop n (xs ++ ys)))) together
+    ∙ ap (λ (bytes : List ℕ). behind step.written (imported asking step.clock bytes)) (drop-append-le n xs ys inside) in
+    let later : may_go_on (imported asking step.clock (drop n xs)).met ≡ true = ap (λ (o : Imported). may_go_on o.met) (sym one) ∙ may in
+    combine step.written (imported asking step.clock (drop n xs)) (imported asking clock (xs ++ ys)) (imported asking clock xs) (imported asking) ys one
+    (whole ∙ ap (behind step.written) (rest later))
+
+drop_past : (xs ys : List ℕ) (m n : ℕ) → n ≡ length xs + m → drop n (xs ++ ys) ≡ drop m ys
+drop_past [] ys m n is = ap (λ k. drop k ys) (omega (arith, is))
+drop_past (x ∷ xs) ys m zero is = absurd (omega (arith, is))
+drop_past (x ∷ xs) ys m (suc n) is = drop_past xs ys m n (omega (arith, is))
+
+-- all that is left is zeros
+ends_in_zeros : (asking : Asking) (clock : Clocked) (xs ys : List ℕ) (n : ℕ) → (0 < zeros xs) × (zeros xs ≡ n) → front_in asking.marked xs ≡ Gap n → length xs ≤ n → Goes asking clock xs ys
+ends_in_zeros asking clock xs ys n f is past may =
+    let same : zeros xs ≡ length xs = omega (arith, f.1, past, zeros_within xs) in
+    let nothing : drop n xs ≡ [] = drop_all n xs past in
+    let one : imported asking clock xs ≡ imported asking clock [] = skip_zeros asking clock xs ∙ ap (λ m. imported asking clock (drop m xs)) f.1 ∙ ap (imported asking clock) nothing in
+    let empty : imported asking clock [] ≡ record { written = []; clock = clock; left = []; met = Stands Over } = no_step asking clock [] refl in
+    let many : zeros (xs ++ ys) ≡ length xs + zeros ys = zeros_go_on xs ys same in
+    let left : drop (zeros (xs ++ ys)) (xs ++ ys) ≡ drop (zeros ys) ys = drop_past xs ys (zeros ys) (zeros (xs ++ ys)) many in
+    let whole : imported asking clock (xs ++ ys) ≡ imported asking clock ys =
+    skip_zeros asking clock (xs ++ ys) ∙ ap (imported asking clock) left ∙ sym (skip_zeros asking clock ys) in
+    subst (λ (o : Imported). imported asking clock (xs ++ ys) ≡ behind o.written (imported asking o.clock (o.left ++ ys))) (sym (one ∙ empty)) whole
+
+-- a packet that is not passed is too late, and nothing goes on behind it
+ends_there : (fate : Fate) (asking : Asking) (size : ℕ) (clock : Clocked) (packet : List ℕ) → passed (by_fate fate asking size clock packet).met ≡ None →
+    may_go_on (by_fate fate asking size clock packet).met ≡ false
+ends_there Kept asking size clock packet none = by_test (is_leap clock (moment_by asking.times clock.last packet)) refl none
+  where
+    by_test : (b : Bool) → is_leap clock (moment_by asking.times clock.last packet) ≡ b →
+        passed (kept_at size clock (moment_by asking.times clock.last packet) packet).met ≡ None →
+        may_go_on (kept_at size clock (moment_by asking.times clock.last packet) packet).met ≡ false
+    by_test true is none = rw is refl
+    by_test false is none = rw is refl
+ends_there Idle asking size clock packet none = refl
+ends_there Other asking size clock packet none = refl
+ends_there (Faulty fault) asking size clock packet none = refl
+
+ends : (asking : Asking) (clock : Clocked) (xs ys : List ℕ) (b s : ℕ) → front_in asking.marked xs ≡ Packet b s →
+    passed (by_front (Packet b s) asking clock xs).met ≡ None → Goes asking clock xs ys
+ends asking clock xs ys b s is none may =
+    let step : next_step asking clock xs ≡ by_front (Packet b s) asking clock xs = ap (λ front. by_front front asking clock xs) is in
+    let one = no_step asking clock xs (ap (λ (t : Step). passed t.met) step ∙ none) in
+    let packet : List ℕ = take s (drop b xs) in
+    let no : may_go_on (by_front (Packet b s) asking clock xs).met ≡ false = ends_there (fate_of asking.chosen packet) asking (b + s) clock packet none in
+    absurd (true≢false (sym may ∙ ap (λ (o : Imported). may_go_on o.met) one ∙ ap (λ (t : Step). may_go_on t.met) step ∙ no))
+
+-- a packet is the same, whatever comes behind
+same_step : (asking : Asking) (clock : Clocked) (xs ys : List ℕ) (b s : ℕ) → front_in asking.marked xs ≡ Packet b s →
+    next_step asking clock (xs ++ ys) ≡ by_front (Packet b s) asking clock xs
+same_step asking clock xs ys b s is =
+    let inside = bounds asking.marked xs b s is in
+    let packet : take s (drop b (xs ++ ys)) ≡ take s (drop b xs) =
+    ap (take s) (drop-append-le b xs ys (omega (arith, inside.1))) ∙ take-append-le s (drop b xs) ys (omega (arith, length-drop b xs, inside.1)) in
+    ap (λ front. by_front front asking clock (xs ++ ys)) (front_stays asking.marked xs ys b s is)
+    ∙ ap (λ (packet : List ℕ). by_fate (fate_of asking.chosen packet) asking (b + s) clock packet) packet
+
+-- by what is in front
+by_parts : (front : Front) (asking : Asking) (clock : Clocked) (xs ys : List ℕ) → front_in asking.marked xs ≡ front →
+    ((n : ℕ) (after : Clocked) → 1 ≤ n → n ≤ length xs → Goes asking after (drop n xs) ys) → Goes asking clock xs ys
+by_parts Over asking clock xs ys is others = stays asking clock xs ys (Stands Over) (ap (λ front. by_front front asking clock xs) is) refl
+by_parts Cut asking clock xs ys is others = stays asking clock xs ys (Stands Cut) (ap (λ front. by_front front asking clock xs) is) refl
+by_parts Foreign asking clock xs ys is others = stays asking clock xs ys (Stands Foreign) (ap (λ front. by_front front asking clock xs) is) refl
+by_parts Unmarked asking clock xs ys is others = stays asking clock xs ys (Stands Unmarked) (ap (λ front. by_front front asking clock xs) is) refl
+by_parts (Gap n) asking clock xs ys is others = by_end (nat_lt n (length xs)) refl
+  where
+    found : (0 < zeros xs) × (zeros xs ≡ n)
+    found = gap_is asking.marked xs n is
+
+    by_end : (b : Bool) → nat_lt n (length xs) ≡ b → Goes asking clock xs ys
+    by_end true less =
+        let f = found in
+        let short : zeros xs < length xs = grind (arith, f.1, less) in
+        let together : front_in asking.marked (xs ++ ys) ≡ Gap n = gap_stays asking.marked xs ys f.0 short ∙ ap Gap f.1 in
+        goes asking clock xs ys n (record { met = Stands (Gap n); written = []; clock = clock }) (ap (λ front. by_front front asking clock xs) is)
+        (ap (λ front. by_front front asking clock (xs ++ ys)) together) refl (omega (arith, f.1, short)) (others n clock (omega (arith, f.0, f.1)) (omega (arith, f.1, short)))
+    by_end false all = ends_in_zeros asking clock xs ys n found is (grind (arith, all))
+by_parts (Packet b s) asking clock xs ys is others =
+    by_passed (passed (by_front (Packet b s) asking clock xs).met) refl
+  where
+    alone : next_step asking clock xs ≡ by_front (Packet b s) asking clock xs
+    alone = ap (λ front. by_front front asking clock xs) is
+
+    by_passed : (o : Option ℕ) → passed (by_front (Packet b s) asking clock xs).met ≡ o → Goes asking clock xs ys
+    by_passed None none = ends asking clock xs ys b s is none
+    by_passed (Some n) some =
+        let inside = step_passes (Packet b s) asking clock xs n is some in
+        goes asking clock xs ys n (by_front (Packet b s) asking clock xs) alone (same_step asking clock xs ys b s is) some inside.inside
+        (others n (by_front (Packet b s) asking clock xs).clock inside.some inside.inside)
+
+pieces : (most : ℕ) (asking : Asking) (clock : Clocked) (xs ys : List ℕ) → length xs < most → Goes asking clock xs ys
+pieces zero asking clock xs ys less = absurd (omega (arith, less))
+pieces (suc most) asking clock xs ys less =
+    by_parts (front_in asking.marked xs) asking clock xs ys refl (λ n after some inside. pieces most asking after (drop n xs) ys (omega (arith, length-drop n xs, some, inside, less)))
+
+pub in_pieces : ImportsInPieces
+in_pieces asking clock first next = pieces (length first + 1) asking clock first next (omega arith)

@@ -1,0 +1,63 @@
+-- When a packet of an archive came, and which ticks come before it. This project's own.
+use Rattle.std.specs.Prelude.{ℕ, ◌+◌, ◌-◌, ◌*◌, ◌/◌, ◌%◌, Bool, not, ◌&&◌, ◌||◌, ◌==◌, List, length, nat_lt, nat_le, ◌<◌, IfSome, Option, Some, None, if◌then◌else◌}
+use Rattle.lc_model.specs.Bytes.{u16_at, u32_at}
+use Rattle.lc_model.specs.Packet.{is_command}
+use Rattle.lc_model.specs.declared.record.Moment.{Moment}
+use Rattle.packet_archive.specs.declared.clock.Times.{Times}
+use Rattle.packet_archive.specs.declared.clock.Times.TheVariants.{Header, Steps}
+
+-- where the clock stands: how many seconds lie between ticks (0: there are none), the last packet's moment, and the second of
+-- the next tick, once a packet came
+pub record Clocked : Type 0 where
+  pub period : ℕ
+  pub last : Moment
+  pub next : Option ℕ
+
+-- before the first packet
+abbrev pub stopped : ℕ → Clocked
+stopped period = record { period = period; last = record { seconds = 0; subseconds = 0 }; next = None }
+
+-- the parts of a second
+abbrev pub parts : ℕ
+parts = 65536
+
+-- seconds begin again at this number
+abbrev pub seconds_end : ℕ
+seconds_end = 4294967296
+
+-- whether a packet has a time of its own at this byte, which isn't before the epoch
+abbrev pub has_time : ℕ → ℕ → List ℕ → Bool
+has_time at epoch packet = not (is_command packet) && nat_le (at + 6) (length packet) && nat_le epoch (u32_at packet at)
+
+-- the moment so long after this one
+abbrev pub later_by : Moment → Moment → Moment
+later_by step moment = record {
+  seconds = (moment.seconds + step.seconds + (moment.subseconds + step.subseconds) / parts) % seconds_end;
+  subseconds = (moment.subseconds + step.subseconds) % parts;
+}
+
+-- The moment of the next packet: that of its secondary header, seconds since the epoch and the upper 16 bits of the part of a
+-- second; where it has none, the moment of the packet before. Or, without times, a fixed step after it.
+abbrev pub moment_by : Times → Moment → List ℕ → Moment
+moment_by (Header at epoch) last packet =
+    if has_time at epoch packet then record { seconds = u32_at packet at - epoch; subseconds = u16_at packet (at + 4) } else last
+moment_by (Steps step) last packet = later_by step last
+
+-- how many ticks are due up to this second, where the next one is at that second and one comes every `period` seconds
+abbrev pub ticks_due : ℕ → Option ℕ → ℕ → ℕ
+ticks_due period None second = 0
+ticks_due period (Some next) second =
+    if period == 0 || nat_lt second next then 0 else (second - next) / period + 1
+
+-- when the next one is due then: a period after the first packet, and after the last tick
+abbrev pub next_tick : ℕ → Option ℕ → ℕ → Option ℕ
+next_tick period None second = if period == 0 then None else Some (second + period)
+next_tick period (Some next) second = Some (next + ticks_due period (Some next) second * period)
+
+-- the most ticks between two packets: a day of one each second
+abbrev pub most_ticks : ℕ
+most_ticks = 86400
+
+-- there is a next tick only where ticks come, and it lies at most a period behind the last second that there is
+abbrev pub IsNextTick : ℕ → Option ℕ → Type 0
+IsNextTick period next = IfSome next (λ second. (0 < period) × (second < seconds_end + period))

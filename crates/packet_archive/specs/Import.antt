@@ -1,0 +1,135 @@
+-- The records that the packets of an archive become. This project's own.
+use Rattle.std.specs.Prelude.{◌≡◌, ℕ, zero, suc, ◌+◌, Bool, true, false, List, [], ◌∷◌, ◌++◌, length, take, drop, nat_lt, Option, Some, None, if◌then◌else◌}
+use Rattle.lc_model.specs.Bytes.{u16, u32}
+use Rattle.lc_model.specs.declared.record.Moment.{Moment}
+use Rattle.packet_archive.specs.declared.choice.Fate.{Fate}
+use Rattle.packet_archive.specs.declared.choice.Fate.TheVariants.{Kept}
+use Rattle.packet_archive.specs.declared.clock.Times.{Times}
+use Rattle.packet_archive.specs.declared.import.Met.{Met}
+use Rattle.packet_archive.specs.declared.import.Met.TheVariants.{Taken, LeftOut, Leap, Stands}
+use Rattle.packet_archive.specs.declared.front.Front.{Front}
+use Rattle.packet_archive.specs.declared.front.Front.TheVariants.{Over, Gap, Cut, Packet}
+use Rattle.packet_archive.specs.Choice.{Chosen, fate_of}
+use Rattle.packet_archive.specs.Clock.{Clocked, moment_by, most_ticks, next_tick, ticks_due}
+use Rattle.packet_archive.specs.Front.{front_in}
+
+-- a record in bytes: its kind, its moment, the length of its body, and the body
+abbrev pub record_bytes : ℕ → Moment → List ℕ → List ℕ
+record_bytes kind moment body = kind ∷ u32 moment.seconds ++ u16 moment.subseconds ++ u32 (length body) ++ body
+
+-- the kinds of records that bring a packet and a tick
+abbrev pub packet_kind : ℕ
+packet_kind = 1
+
+abbrev pub tick_kind : ℕ
+tick_kind = 2
+
+-- so many ticks, one every `period` seconds from this second on
+unfoldable pub ticks : ℕ → ℕ → ℕ → List ℕ
+ticks zero period second = []
+ticks (suc count) period second =
+    record_bytes tick_kind (record { seconds = second; subseconds = 0 }) [] ++ ticks count period (second + period)
+
+-- the ticks that are due up to this second
+abbrev pub ticks_before : ℕ → Option ℕ → ℕ → List ℕ
+ticks_before period None second = []
+ticks_before period (Some next) second = ticks (ticks_due period (Some next) second) period next
+
+-- whether time goes on too far for the ticks between
+abbrev pub is_leap : Clocked → Moment → Bool
+is_leap clock moment = nat_lt most_ticks (ticks_due clock.period clock.next moment.seconds)
+
+-- what a packet of this moment becomes: the ticks before it, and its own record
+abbrev pub records_at : Clocked → Moment → List ℕ → List ℕ
+records_at clock moment packet =
+    ticks_before clock.period clock.next moment.seconds ++ record_bytes packet_kind moment packet
+
+-- the clock behind it
+abbrev pub clock_at : Clocked → Moment → Clocked
+clock_at clock moment = record { period = clock.period; last = moment; next = next_tick clock.period clock.next moment.seconds }
+
+-- what is asked of an import: whether the archive has markers, which packets become records, and where their times are from
+pub record Asking : Type 0 where
+  pub marked : Bool
+  pub chosen : Chosen
+  pub times : Times
+
+-- what is met at the front of what is left, what is written for it, and how the clock stands then
+pub record Step : Type 0 where
+  pub met : Met
+  pub written : List ℕ
+  pub clock : Clocked
+
+-- where nothing becomes a record
+abbrev pub nothing : Met → Clocked → Step
+nothing met clock = record { met = met; written = []; clock = clock }
+
+-- a packet that becomes a record, unless time goes on too far
+abbrev pub kept_at : ℕ → Clocked → Moment → List ℕ → Step
+kept_at size clock moment packet =
+    if is_leap clock moment then nothing Leap clock
+    else record { met = Taken size; written = records_at clock moment packet; clock = clock_at clock moment }
+
+-- a packet by what becomes of it
+abbrev pub by_fate : Fate → Asking → ℕ → Clocked → List ℕ → Step
+by_fate Kept asking size clock packet = kept_at size clock (moment_by asking.times clock.last packet) packet
+by_fate fate asking size clock packet = nothing (LeftOut size fate) clock
+
+-- what is in front, by what it is
+abbrev pub by_front : Front → Asking → Clocked → List ℕ → Step
+by_front (Packet before size) asking clock bytes =
+    let packet : List ℕ = take size (drop before bytes) in
+    by_fate (fate_of asking.chosen packet) asking (before + size) clock packet
+by_front front asking clock bytes = nothing (Stands front) clock
+
+-- what an import makes of what is in front
+abbrev pub next_step : Asking → Clocked → List ℕ → Step
+next_step asking clock bytes = by_front (front_in asking.marked bytes) asking clock bytes
+
+-- how many bytes are behind what was met, where the import goes on there
+abbrev pub passed : Met → Option ℕ
+passed (Taken size) = Some size
+passed (LeftOut size fate) = Some size
+passed (Stands (Gap size)) = Some size
+passed met = None
+
+-- what an import has made so far: what it wrote, where the clock stands, what is left of the archive, and what it met there
+pub record Imported : Type 0 where
+  pub written : List ℕ
+  pub clock : Clocked
+  pub left : List ℕ
+  pub met : Met
+
+-- an import that goes on where a step has passed so many bytes, or ends there
+abbrev pub going_on : (Clocked → List ℕ → Imported) → Step → List ℕ → Option ℕ → Imported
+going_on others step bytes None = record { written = step.written; clock = step.clock; left = bytes; met = step.met }
+going_on others step bytes (Some size) =
+    let rest : Imported = others step.clock (drop size bytes) in
+    record { written = step.written ++ rest.written; clock = rest.clock; left = rest.left; met = rest.met }
+
+-- at most so many steps
+unfoldable pub imported_within : ℕ → Asking → Clocked → List ℕ → Imported
+imported_within zero asking clock bytes = record { written = []; clock = clock; left = bytes; met = Stands Over }
+imported_within (suc most) asking clock bytes =
+    let step : Step = next_step asking clock bytes in
+    going_on (imported_within most asking) step bytes (passed step.met)
+
+-- what an archive becomes: each step passes a byte at least
+abbrev pub imported : Asking → Clocked → List ℕ → Imported
+imported asking clock bytes = imported_within (length bytes + 1) asking clock bytes
+
+-- an import behind what was written before
+abbrev pub behind : List ℕ → Imported → Imported
+behind gained rest = record { written = gained ++ rest.written; clock = rest.clock; left = rest.left; met = rest.met }
+
+-- whether more bytes may make more of what stands in front
+abbrev pub may_go_on : Met → Bool
+may_go_on (Stands Over) = true
+may_go_on (Stands Cut) = true
+may_go_on met = false
+
+-- an archive that comes in pieces becomes what it becomes as a whole: what is left of the first goes in front of the next
+abbrev pub ImportsInPieces : Type 0
+ImportsInPieces = (asking : Asking) (clock : Clocked) (first next : List ℕ) → may_go_on (imported asking clock first).met ≡ true →
+    imported asking clock (first ++ next)
+    ≡ behind (imported asking clock first).written (imported asking (imported asking clock first).clock ((imported asking clock first).left ++ next))

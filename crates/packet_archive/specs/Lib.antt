@@ -1,0 +1,4 @@
+pub mod Choice
+pub mod Clock
+pub mod Front
+pub mod Import

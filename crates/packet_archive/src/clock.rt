@@ -1,0 +1,134 @@
+//! When a packet of an archive came.
+
+ghost use Rattle.std.specs.Prelude.{◌≡◌, ◌≤◌, ◌<◌, length};
+ghost use Rattle.lc_model.specs.Packet.{primary_header_size};
+ghost use Rattle.packet_archive.specs.Clock.{has_time, later_by, moment_by, next_tick, stopped, ticks_due, IsNextTick};
+
+use lc_model::packet::message_id;
+use lc_model::{Moment, u16_at, u32_at};
+use std::marker::Model;
+
+/// The parts of a second that a moment counts.
+const PARTS: u32 = 65_536;
+
+/// Seconds begin again at this number.
+const SECONDS_END: u64 = 4_294_967_296;
+
+/// The bit of a message id that makes a packet a command.
+const COMMAND: u16 = 0x1000;
+
+/// Where the times of packets are from.
+#[derive(Clone, Copy, Debug, PartialEq, Eq)]
+pub enum Times {
+    /// From each packet of telemetry itself: seconds (4 bytes, big endian) at this byte, less those of an epoch, and behind them
+    /// the part of a second in 2 bytes or more, of which two count.
+    Header { at: u16, epoch: u32 },
+    /// From nowhere: each packet comes so long after the one before.
+    Steps { step: Moment },
+}
+
+/// Where an import stands: how many seconds lie between ticks (0: there are none), the moment of the last packet, and the second
+/// of the next tick, once a packet came.
+#[derive(Debug, Drop)]
+pub struct Clock {
+    pub(crate) period: u32,
+    pub(crate) last: Moment,
+    pub(crate) next: Option<u64>,
+}
+
+impl Model for Clock {
+    ghost use Rattle.packet_archive.specs.Clock.{Clocked, IsNextTick};
+
+    ghost Value = { Clocked };
+
+    ghost view = { λ c. record { period = c.period; last = c.last; next = c.next } };
+
+    ghost invariant = { λ c. IsNextTick c.period c.next };
+}
+
+impl Clock {
+    /// Second 0, and no packet; ticks come so many seconds apart, or not at all (0).
+    pub fn new(period: u32) -> Clock
+        ensures { result ≡ stopped period }
+    {
+        Clock {
+            period,
+            last: Moment {
+                seconds: 0,
+                subseconds: 0,
+            },
+            next: None,
+        }
+    }
+}
+
+/// Whether a packet has a time of its own at this byte, which isn't before the epoch.
+fn has_time(at: usize, epoch: u32, packet: &[u8]) -> bool
+    requires header { primary_header_size ≤ length packet.now }
+    requires at { at < 65536 }
+    ensures exact { result ≡ has_time at epoch packet.now }
+{
+    if message_id(packet) / COMMAND % 2 == 1 || packet.len() < at + 6 {
+        return false;
+    }
+    epoch <= u32_at(packet, at)
+}
+
+/// The moment so many parts of a second later; seconds begin again behind 2^32.
+fn later_by(step: Moment, moment: Moment) -> Moment
+    ensures { result ≡ later_by step moment }
+{
+    let parts = u32::from(moment.subseconds) + u32::from(step.subseconds);
+    let seconds = u64::from(moment.seconds) + u64::from(step.seconds) + u64::from(parts / PARTS);
+    Moment {
+        seconds: (seconds % SECONDS_END) as u32,
+        subseconds: (parts % PARTS) as u16,
+    }
+}
+
+impl Times {
+    /// The moment of a packet that comes behind one of this moment. One without a time of its own came when the one before did.
+    pub fn moment_of(self, last: Moment, packet: &[u8]) -> Moment
+        requires header { primary_header_size ≤ length packet.now }
+        ensures exact { result ≡ moment_by self last packet.now }
+    {
+        match self {
+            Times::Header { at, epoch } => {
+                let at = usize::from(at);
+                if !has_time(at, epoch, packet) {
+                    return last;
+                }
+                Moment {
+                    seconds: u32_at(packet, at) - epoch,
+                    subseconds: u16_at(packet, at + 4),
+                }
+            }
+            Times::Steps { step } => later_by(step, last),
+        }
+    }
+}
+
+/// How many ticks are due up to this second, where the next one is at that second and one comes every `period` seconds; none
+/// without a period.
+pub(crate) fn ticks_due(period: u32, next: Option<u64>, second: u32) -> u64
+    ensures { result ≡ ticks_due period next second }
+{
+    let second = u64::from(second);
+    match next {
+        Some(next) if period > 0 && next <= second => (second - next) / u64::from(period) + 1,
+        _ => 0,
+    }
+}
+
+/// When the next tick is due behind a packet of this second.
+pub(crate) fn next_tick(period: u32, next: Option<u64>, second: u32) -> Option<u64>
+    requires { IsNextTick period next }
+    ensures next { result ≡ next_tick period next second }
+    ensures stays { IsNextTick period result }
+{
+    match next {
+        None if period == 0 => None,
+        None => Some(u64::from(second) + u64::from(period)),
+        Some(next) => Some(next + ticks_due(period, Some(next), second) * u64::from(period)),
+    }
+}

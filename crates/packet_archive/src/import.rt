@@ -1,0 +1,195 @@
+//! The records that the packets of an archive become.
+
+ghost use Rattle.std.specs.Prelude.{◌≡◌, ◌≤◌, ◌++◌, Some, length, IfOk, IfSome};
+ghost use Rattle.lc_model.specs.Host.Stream.{max_body};
+ghost use Rattle.lc_model.specs.Packet.{primary_header_size};
+ghost use Rattle.packet_archive.specs.Clock.{moment_by, ticks_due, IsNextTick};
+ghost use Rattle.packet_archive.specs.Import.{kept_at, imported, next_step, passed, ticks, ticks_before};
+
+use crate::choice::{Choice, Fate};
+use crate::clock::{Clock, Times, next_tick, ticks_due};
+use crate::front::{Front, front_of};
+use crate::record::push_record;
+use crate::tally::Tally;
+use lc_model::Moment;
+use std::alloc::AllocError;
+use std::marker::Model;
+
+/// The kind of a record that brings a packet.
+const PACKET: u8 = 1;
+
+/// The kind of a tick.
+const TICK: u8 = 2;
+
+/// The most ticks between two packets: a day of one each second.
+const MOST_TICKS: u64 = 86_400;
+
+impl Met {
+    /// How many bytes were behind with it, where an import goes on there.
+    pub fn passed(self) -> Option<usize>
+        ensures { result ≡ passed self }
+    {
+        match self {
+            Met::Taken(size) | Met::LeftOut(size, _) => Some(size),
+            Met::Stands(Front::Gap { size }) => Some(size),
+            Met::Stands(_) | Met::Leap => None,
+        }
+    }
+}
+
+/// The ticks that are due up to this second, the first of them at `next`, behind other records. Answers when the next one is due.
+/// Out of memory is the only error.
+fn push_ticks(out: &mut Vec<u8>, period: u32, first: u64, second: u32) -> Result<(), AllocError>
+    requires { IsNextTick period (Some first) }
+    ensures ticks { IfOk result (λ _. out.new.items ≡
+        out.old.items ++ ticks (ticks_due period (Some first) second) period first) }
+{
+    let mut next = first;
+    while next <= u64::from(second) {
+        let moment = Moment {
+            seconds: next as u32,
+            subseconds: 0,
+        };
+        push_record(out, TICK, moment, &[])?;
+        next += u64::from(period);
+    }
+    Ok(())
+}
+
+/// What is asked of an import.
+#[derive(Drop)]
+pub struct Asked<'a> {
+    /// Whether a marker stands before each packet.
+    pub marked: bool,
+    /// Which packets become records.
+    pub choice: Choice<'a>,
+    /// Where their times are from.
+    pub times: Times,
+}
+
+impl<'a> Model for Asked<'a> {
+    ghost use Rattle.packet_archive.specs.Import.{Asking};
+
+    ghost Value = { Asking };
+
+    ghost view = { λ a. record { marked = a.marked; chosen = a.choice; times = a.times } };
+}
+
+/// What was met at the front of what is left of an archive.
+#[derive(Clone, Copy, Debug, PartialEq, Eq)]
+pub enum Met {
+    /// A packet that is a record now, and so many bytes of the archive with its marker.
+    Taken(usize),
+    /// So many bytes with a packet that is left out, and why.
+    LeftOut(usize, Fate),
+    /// A packet so late that more than 86,400 ticks would come before it. Nothing was written for it.
+    Leap,
+    /// No packet: what stands there.
+    Stands(Front),
+}
+
+/// The ticks that are due up to this second, behind other records. Out of memory is the only error.
+fn push_due(out: &mut Vec<u8>, clock: &Clock, second: u32) -> Result<(), AllocError>
+    ensures { IfOk result (λ _. out.new.items ≡
+        out.old.items ++ ticks_before clock.now.period clock.now.next second) }
+{
+    match clock.next {
+        Some(next) => push_ticks(out, clock.period, next, second),
+        None => Ok(()),
+    }
+}
+
+/// A packet that becomes a record, behind the ticks that are due by then, unless these are too many; so many bytes of the archive
+/// are taken with it. Out of memory is the only error.
+fn keep(
+    out: &mut Vec<u8>,
+    clock: &mut Clock,
+    times: Times,
+    size: usize,
+    packet: &[u8],
+) -> Result<Met, AllocError>
+    requires header { primary_header_size ≤ length packet.now }
+    requires fits { length packet.now ≤ max_body }
+    ensures met { let moment = moment_by times clock.old.last packet.now in
+        IfOk result (λ met. met ≡ (kept_at size clock.old moment packet.now).met) }
+    ensures written { let moment = moment_by times clock.old.last packet.now in
+        IfOk result (λ _. out.new.items ≡
+        out.old.items ++ (kept_at size clock.old moment packet.now).written) }
+    ensures clock { let moment = moment_by times clock.old.last packet.now in
+        IfOk result (λ _. clock.new ≡ (kept_at size clock.old moment packet.now).clock) }
+{
+    let moment = times.moment_of(clock.last, packet);
+    if ticks_due(clock.period, clock.next, moment.seconds) > MOST_TICKS {
+        return Ok(Met::Leap);
+    }
+    push_due(out, clock, moment.seconds)?;
+    push_record(out, PACKET, moment, packet)?;
+    clock.next = next_tick(clock.period, clock.next, moment.seconds);
+    clock.last = moment;
+    Ok(Met::Taken(size))
+}
+
+/// What an import makes of what stands at the front of what is left of an archive: records behind others, where the clock stands
+/// then, and what was met. Out of memory is the only error.
+pub fn import_next(
+    out: &mut Vec<u8>,
+    clock: &mut Clock,
+    asked: &Asked<'_>,
+    bytes: &[u8],
+) -> Result<Met, AllocError>
+    ensures met { IfOk result
+        (λ met. met ≡ (next_step asked.now clock.old bytes.now).met) }
+    ensures written { IfOk result (λ _. out.new.items ≡
+        out.old.items ++ (next_step asked.now clock.old bytes.now).written) }
+    ensures clock { IfOk result
+        (λ _. clock.new ≡ (next_step asked.now clock.old bytes.now).clock) }
+    ensures inside { IfOk result (λ met. IfSome (passed met) (λ size. size ≤ length bytes.now)) }
+{
+    match front_of(asked.marked, bytes) {
+        Front::Packet { before, size } => {
+            let (_, behind) = bytes.split_at(before);
+            let (packet, _) = behind.split_at(size);
+            match asked.choice.fate(packet) {
+                Fate::Kept => {
+                    let met = keep(out, clock, asked.times, before + size, packet)?;
+                    Ok(met)
+                }
+                fate => Ok(Met::LeftOut(before + size, fate)),
+            }
+        }
+        front => Ok(Met::Stands(front)),
+    }
+}
+
+/// Imports what stands at the front of these bytes, one after the other, until what is left is the beginning of a packet, or none.
+/// Answers what is left, and what it is. Out of memory is the only error.
+pub fn import_held<'a>(
+    out: &mut Vec<u8>,
+    clock: &mut Clock,
+    tally: &mut Tally,
+    asked: &Asked<'_>,
+    bytes: &'a [u8],
+) -> Result<(&'a [u8], Met), AllocError>
+    ensures written { IfOk result (λ _. out.new.items ≡
+        out.old.items ++ (imported asked.now clock.old bytes.now).written) }
+    ensures clock { IfOk result
+        (λ _. clock.new ≡ (imported asked.now clock.old bytes.now).clock) }
+    ensures left { IfOk result
+        (λ end. end.0.now ≡ (imported asked.now clock.old bytes.now).left) }
+    ensures met { IfOk result
+        (λ end. end.1 ≡ (imported asked.now clock.old bytes.now).met) }
+{
+    let mut left = bytes;
+    for _ in 0..bytes.len() + 1 {
+        let met = import_next(out, clock, asked, left)?;
+        tally.note(met);
+        match met.passed() {
+            Some(size) => {
+                let (_, behind) = left.split_at(size);
+                left = behind;
+            }
+            None => return Ok((left, met)),
+        }
+    }
+    Ok((left, Met::Stands(Front::Over)))
+}

@@ -1,0 +1,2 @@
+-- Lemmas on what messages tell.
+mod Reasons

@@ -1,0 +1,179 @@
+//! All faults of a text: the compiler's first, and others that don't follow from it.
+
+ghost use Rattle.std.specs.Prelude.{◌≡◌, ◌++◌, List, [], ◌∷◌, IfOk};
+ghost use Rattle.lc_model.specs.Rule.{NamedRule};
+ghost use Rattle.lc_model.specs.Text.Reading.{TextRefusal};
+ghost use Rattle.lc_model.specs.Tables.Compiling.{Compiles, IsRefused};
+ghost use Rattle.lc_model.specs.Tables.InForce.{limits};
+ghost use Rattle.rpn_compiler.specs.Fault.{refusal_of};
+ghost use Rattle.rule_messages.specs.Telling.{BeginsWith, TellsOf};
+ghost use Rattle.rule_messages.specs.declared.message.Message.{Message};
+
+use crate::checks::check_place;
+use crate::explaining::explain;
+use crate::item_faults::Checked;
+use crate::message::Message;
+use crate::reading::read_items;
+use crate::source::Source;
+use crate::tables::{is_too_long, rule_count, rule_part, words_of};
+use crate::tokens::{Mended, follows, hides_items, mend};
+use field_checker::CheckError;
+use rpn_compiler::{CompileError, compile};
+use rule_lexer::{LexError, lex};
+use std::alloc::{AllocError, Global};
+
+/// The errors of rules that are too long, where nothing else is wrong.
+fn long_rules(
+    alloc: Global,
+    source: &Source<'_>,
+    first: CompileError,
+) -> Result<Vec<CompileError>, AllocError> {
+    let mut errors = Vec::new(alloc);
+    if !matches!(first, CompileError::EquationTooLong { .. }) {
+        return Ok(errors);
+    }
+    for rule in 0..rule_count(source) {
+        if let Some(item) = rule_part(source, rule) {
+            if is_too_long(words_of(source, item)) {
+                errors.push(CompileError::EquationTooLong { rule })?;
+            }
+        }
+    }
+    Ok(errors)
+}
+
+/// The errors of items, by place.
+fn item_errors(
+    alloc: Global,
+    source: &Source<'_>,
+    whole: &[bool],
+    hides_items: bool,
+) -> Result<Vec<CheckError>, AllocError> {
+    let checked = Checked::new(&*source, &*whole, hides_items);
+    let mut faults = checked.faults(alloc)?;
+    faults.sort_by_key(|fault| (check_place(*fault), fault.code()))?;
+    Ok(faults)
+}
+
+/// All errors, in the order of the compiler's parts. Where the compiler's first may follow from another of them, nobody knows which of the
+/// two is the mistake, and there are none beside it.
+fn errors(
+    alloc: Global,
+    source: &Source<'_>,
+    mended: &Mended,
+    first: CompileError,
+) -> Result<Vec<CompileError>, AllocError> {
+    let mut all = Vec::new(alloc);
+    let bad = mended.errors.as_slice();
+    for error in bad {
+        if !follows(source.text, bad, *error) {
+            all.push(CompileError::Lex(*error))?;
+        }
+    }
+    let grammar = read_items(alloc, source, mended.text.as_slice(), bad)?;
+    for error in &grammar.errors {
+        all.push(CompileError::Parse(*error))?;
+    }
+    let hides_items = bad.iter().any(|error| hides_items(source.text, *error));
+    let faults = item_errors(alloc, source, grammar.whole.as_slice(), hides_items)?;
+    for fault in &faults {
+        all.push(CompileError::Check(*fault))?;
+    }
+    if all.is_empty() {
+        return long_rules(alloc, source, first);
+    }
+    if !all.contains(&first) {
+        all.clear();
+    }
+    Ok(all)
+}
+
+/// This message alone.
+fn alone(alloc: Global, message: Message) -> Result<Vec<Message>, AllocError>
+    ensures { IfOk result (λ told. told.items ≡ message ∷ []) }
+{
+    let mut told = Vec::new(alloc);
+    told.push(message)?;
+    Ok(told)
+}
+
+/// Adds what is said of each other error.
+fn add_others(
+    alloc: Global,
+    source: &Source<'_>,
+    first: CompileError,
+    errors: &[CompileError],
+    told: &mut Vec<Message>,
+) -> Result<(), AllocError>
+    ensures { IfOk result (λ _. (more : List Message) × (told.new.items ≡ told.old.items ++ more)) }
+{
+    for error in errors {
+        if *error != first {
+            told.push(explain(alloc, source, *error)?)?;
+        }
+    }
+    Ok(())
+}
+
+/// What is said of a text that is too long, which has no tokens.
+fn told_of_all(alloc: Global, text: &[u8], first: CompileError) -> Result<Vec<Message>, AllocError>
+    ensures { IfOk result (λ told. (message : Message) × (more : List Message)
+        × (told.items ≡ message ∷ more) × TellsOf text.now (refusal_of first) message) }
+{
+    let source = Source::new(alloc, text, Vec::new(alloc))?;
+    let message = explain(alloc, &source, first)?;
+    alone(alloc, message)
+}
+
+/// What is said of a text with tokens and its first error, and of the errors that don't follow from it.
+fn told_of_parts(
+    alloc: Global,
+    text: &[u8],
+    first: CompileError,
+) -> Result<Vec<Message>, AllocError>
+    ensures { IfOk result (λ told. (message : Message) × (more : List Message)
+        × (told.items ≡ message ∷ more) × TellsOf text.now (refusal_of first) message) }
+{
+    let mended = mend(alloc, text)?;
+    let Ok(tokens) = lex(alloc, mended.text.as_slice()) else {
+        return Err(AllocError);
+    };
+    let source = Source::new(alloc, text, tokens)?;
+    let message = explain(alloc, &source, first)?;
+    let mut told = alone(alloc, message)?;
+    let errors = errors(alloc, &source, &mended, first)?;
+    add_others(alloc, &source, first, errors.as_slice(), &mut told)?;
+    Ok(told)
+}
+
+/// What is said of a text that has this first error.
+fn told_of(alloc: Global, text: &[u8], first: CompileError) -> Result<Vec<Message>, AllocError>
+    ensures { IfOk result (λ told. (message : Message) × (more : List Message)
+        × (told.items ≡ message ∷ more) × TellsOf text.now (refusal_of first) message) }
+{
+    if first == CompileError::Lex(LexError::TextTooLong) {
+        told_of_all(alloc, text, first)
+    } else {
+        told_of_parts(alloc, text, first)
+    }
+}
+
+/// What is said of a text that doesn't compile: first of the compiler's refusal, by its number and its place, and then of faults that
+/// don't follow from it or from one another, in the order of the compiler's parts. Nothing is said of a text that compiles.
+///
+/// A fault of a quoted text is told at the character that may not stand there, and else at the quote; a refusal without a place is told
+/// at the comparison or the rule that is too much.
+///
+/// Errors: there is no memory for what is said, or for compiling.
+pub fn messages(alloc: Global, text: &[u8]) -> Result<Vec<Message>, AllocError>
+    ensures quiet { (rules : List NamedRule) → Compiles limits text.now rules →
+        IfOk result (λ told. told.items ≡ []) }
+    ensures first { (refusal : TextRefusal) → IsRefused limits text.now refusal →
+        IfOk result (λ told. BeginsWith text.now refusal told.items) }
+{
+    match compile(alloc, text) {
+        Ok(_) => Ok(Vec::new(alloc)),
+        Err(CompileError::Memory) => Err(AllocError),
+        Err(error) => told_of(alloc, text, error),
+    }
+}

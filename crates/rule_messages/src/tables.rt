@@ -1,0 +1,226 @@
+//! What is said of rules that are too much for the tables.
+
+ghost use Rattle.std.specs.Prelude.{◌≡◌, IfOk};
+
+use crate::bytes::{Many, quoted};
+use crate::checks::{type_of, value_of};
+use crate::message::{Mark, Message};
+use crate::source::{Declared, Kind, Part, Source};
+use lc_model::{EQUATION_WORDS, FieldType, TABLE_ENTRIES, Term};
+use rule_lexer::{Token, TokenKind};
+use std::alloc::{AllocError, Global};
+
+/// Comparisons and operators of a condition.
+#[derive(Clone, Copy)]
+pub struct Words {
+    pub comparisons: usize,
+    pub operators: usize,
+}
+
+/// The comparisons and operators of an item.
+pub fn words_of(source: &Source<'_>, part: Part) -> Words {
+    let mut words = Words {
+        comparisons: 0,
+        operators: 0,
+    };
+    for token in source.tokens_of(part) {
+        match token.kind {
+            TokenKind::Compare(_) => words.comparisons = words.comparisons.saturating_add(1),
+            TokenKind::Not | TokenKind::And | TokenKind::Or | TokenKind::Xor => words.operators =
+                words.operators.saturating_add(1),
+            _ => {}
+        }
+    }
+    words
+}
+
+/// Whether there are too many of them for one rule.
+pub fn is_too_long(words: Words) -> bool {
+    words.comparisons.saturating_add(words.operators) >= EQUATION_WORDS
+}
+
+/// The item of the rule with this number, counted from 0.
+pub fn rule_part(source: &Source<'_>, rule: usize) -> Option<Part> {
+    source
+        .parts
+        .iter()
+        .filter(|part| source.kind_of(**part) == Some(Kind::Rule))
+        .nth(rule)
+        .copied()
+}
+
+/// How many rules there are.
+pub fn rule_count(source: &Source<'_>) -> usize {
+    source
+        .parts
+        .iter()
+        .filter(|part| source.kind_of(**part) == Some(Kind::Rule))
+        .count()
+}
+
+/// A mark under an item's name.
+fn name_mark(source: &Source<'_>, part: Option<Part>, label: String) -> Mark {
+    let name = match part {
+        Some(part) => source.token(part.from.saturating_add(1)),
+        None => None,
+    };
+    match name {
+        Some(name) => Mark {
+            at: name.at,
+            size: name.text.len(),
+            label,
+        },
+        None => Mark {
+            at: 0,
+            size: 0,
+            label,
+        },
+    }
+}
+
+/// Over 176 rules.
+pub fn rules_message(alloc: Global, source: &Source<'_>) -> Result<Message, AllocError>
+    ensures { IfOk result (λ message. message.code ≡ 41) }
+{
+    let count = Many(rule_count(source), "rule");
+    let head = format!(in alloc; "the file has {count}, at most 176 are allowed")?;
+    let label = String::from_str(alloc, "this is the 177th")?;
+    let part = rule_part(source, TABLE_ENTRIES);
+    Ok(Message::at(alloc, 41, head, name_mark(source, part, label)))
+}
+
+/// A rule of over 31 comparisons and operators.
+pub fn length_message(
+    alloc: Global,
+    source: &Source<'_>,
+    rule: usize,
+) -> Result<Message, AllocError>
+    ensures { IfOk result (λ message. message.code ≡ 42) }
+{
+    let part = rule_part(source, rule).unwrap_or(Part { from: 0, to: 0 });
+    let words = words_of(source, part);
+    let name = match source.token(part.from.saturating_add(1)) {
+        Some(name) => quoted(alloc, name.text)?,
+        None => quoted(alloc, b"")?,
+    };
+    let count = words.comparisons.saturating_add(words.operators);
+    let head = format!(in alloc;
+        "the condition of {name} has {count} comparisons and operators, at most 31 are allowed"
+    )?;
+    let label = String::from_str(alloc, "split this rule in two")?;
+    Message::at(alloc, 42, head, name_mark(source, Some(part), label)).with(condition_mark(
+        alloc, source, part, words,
+    )?)
+}
+
+/// The `when` of a rule, with what its condition has.
+fn condition_mark(
+    alloc: Global,
+    source: &Source<'_>,
+    part: Part,
+    words: Words,
+) -> Result<Option<Mark>, AllocError> {
+    let Some(when) = source.first_of(part, TokenKind::When) else {
+        return Ok(None);
+    };
+    let comparisons = Many(words.comparisons, "comparison");
+    let operators = Many(words.operators, "operator");
+    Ok(Some(Mark {
+        at: when.at,
+        size: when.text.len(),
+        label: format!(in alloc; "{comparisons} and {operators}")?,
+    }))
+}
+
+/// The number behind a word of a field's or packet's item, or this one where it isn't written.
+fn number_in(source: &Source<'_>, name: Declared<'_>, kind: TokenKind, otherwise: u32) -> u32 {
+    match source.value_in(name, kind) {
+        Some(token) => u32::try_from(value_of(token)).unwrap_or(otherwise),
+        None => otherwise,
+    }
+}
+
+/// What a comparison of this field says, but for its operator and its number.
+fn field_term(source: &Source<'_>, field: Declared<'_>, kind: FieldType) -> Term {
+    let packet = match source.parts.get(field.part) {
+        Some(part) => crate::checks::packet_of(source, part.from),
+        None => None,
+    };
+    let mid = packet.map_or(0, |packet| number_in(source, packet, TokenKind::Mid, 0));
+    Term {
+        kind,
+        mid: u16::try_from(mid).unwrap_or(0),
+        offset: number_in(source, field, TokenKind::At, 0),
+        mask: number_in(source, field, TokenKind::Mask, kind.full_mask()),
+        stale: number_in(source, field, TokenKind::Stale, 0),
+        op: lc_model::CmpOp::Less,
+        value: 0,
+    }
+}
+
+/// The comparison whose operator is the token with this number.
+fn term_at(source: &Source<'_>, number: usize) -> Option<Term> {
+    let name = source.token(number.checked_sub(1)?)?;
+    let TokenKind::Compare(op) = source.token(number)?.kind else {
+        return None;
+    };
+    let field = source.declared(Kind::Field, name.text)?;
+    let (_, kind) = type_of(source, field)?;
+    let value = value_of(source.token(number.saturating_add(1))?);
+    let mut term = field_term(source, field, kind);
+    term.op = op;
+    term.value = value;
+    Some(term)
+}
+
+/// Over 176 different comparisons.
+pub fn comparisons_message(alloc: Global, source: &Source<'_>) -> Result<Message, AllocError>
+    ensures { IfOk result (λ message. message.code ≡ 31) }
+{
+    let mut terms = Vec::new(alloc);
+    let mut first = None;
+    for number in 0..source.tokens.len() {
+        let Some(term) = term_at(source, number) else {
+            continue;
+        };
+        if terms.contains(&term) {
+            continue;
+        }
+        if terms.len() == TABLE_ENTRIES {
+            first = Some(number);
+        }
+        terms.push(term)?;
+    }
+    let count = Many(terms.len(), "different comparison");
+    let head = format!(in alloc; "the file has {count}, at most 176 are allowed")?;
+    let label = String::from_str(alloc, "this is the 177th")?;
+    Ok(Message::at(alloc, 31, head, comparison_mark(source, first, label)))
+}
+
+/// A mark under the comparison whose operator is the token with this number.
+fn comparison_mark(source: &Source<'_>, number: Option<usize>, label: String) -> Mark {
+    let (field, value) = match number {
+        Some(number) => (
+            source.token(number.saturating_sub(1)),
+            source.token(number.saturating_add(1)),
+        ),
+        None => (None, None),
+    };
+    match (field, value) {
+        (Some(field), Some(value)) => Mark {
+            at: field.at,
+            size: end_of(value).saturating_sub(field.at),
+            label,
+        },
+        _ => Mark {
+            at: 0,
+            size: 0,
+            label,
+        },
+    }
+}
+
+/// The place behind a token.
+fn end_of(token: Token<'_>) -> usize {
+    token.at.saturating_add(token.text.len())
+}

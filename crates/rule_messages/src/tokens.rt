@@ -1,0 +1,100 @@
+//! All tokens of a text that has bad ones.
+
+use crate::bytes::part;
+use crate::token_faults::{bad_size, place};
+use rule_lexer::{LexError, lex};
+use std::alloc::{AllocError, Global};
+use text_places::line_start;
+
+/// A text in which blanks stand for each token that is none.
+#[derive(Drop)]
+pub struct Mended {
+    pub text: Vec<u8>,
+    /// The errors of the tokens that were none, each with its place in the whole text.
+    pub errors: Vec<LexError>,
+}
+
+/// The error with so many bytes more before it.
+fn moved(error: LexError, by: usize) -> LexError {
+    match error {
+        LexError::BadByte { at } => LexError::BadByte {
+            at: at.saturating_add(by),
+        },
+        LexError::BadNumber { at } => LexError::BadNumber {
+            at: at.saturating_add(by),
+        },
+        LexError::NameTooLong { at } => LexError::NameTooLong {
+            at: at.saturating_add(by),
+        },
+        LexError::BadString { at } => LexError::BadString {
+            at: at.saturating_add(by),
+        },
+        other => other,
+    }
+}
+
+/// Puts blanks in the place of so many bytes. Line feeds stay.
+pub fn blank(text: &mut [u8], at: usize, size: usize) {
+    for byte in text.iter_mut().skip(at).take(size) {
+        if *byte != b'\n' {
+            *byte = b' ';
+        }
+    }
+}
+
+/// Whether the error is one of a quoted text.
+fn is_of_text(error: LexError) -> bool {
+    matches!(error, LexError::BadString { .. })
+}
+
+/// Whether an error may follow from one before it on its line: it touches that one, or one of the two is of a quoted text, so that a
+/// quote that closes may have been read for one that opens.
+pub fn follows(text: &[u8], errors: &[LexError], error: LexError) -> bool {
+    let at = place(error);
+    let line = line_start(text, at.min(text.len()));
+    errors.iter().any(|other| {
+        let before = place(*other);
+        line <= before
+            && before < at
+            && (is_of_text(*other)
+                || is_of_text(error)
+                || before.saturating_add(bad_size(text, *other)) == at)
+    })
+}
+
+/// Whether an item that declares a name for others may begin in a bad quoted text.
+pub fn hides_items(text: &[u8], error: LexError) -> bool {
+    let hidden = part(text, place(error), bad_size(text, error));
+    is_of_text(error)
+        && (hidden.windows(6).any(|word| matches!(word, b"packet"))
+            || hidden.windows(5).any(|word| matches!(word, b"field")))
+}
+
+/// The first error behind so many bytes of a text, none where all that follows are tokens.
+fn next_error(alloc: Global, text: &[u8], from: usize) -> Result<Option<LexError>, AllocError> {
+    match lex(alloc, crate::bytes::behind(text, from)) {
+        Ok(_) => Ok(None),
+        Err(LexError::Memory) => Err(AllocError),
+        Err(error) => Ok(Some(moved(error, from))),
+    }
+}
+
+/// Puts blanks in the place of all bad tokens.
+pub fn mend(alloc: Global, text: &[u8]) -> Result<Mended, AllocError> {
+    let mut mended = Vec::from_slice(alloc, text)?;
+    let mut errors = Vec::new(alloc);
+    let mut from = 0usize;
+    for _ in 0..text.len() {
+        let Some(error) = next_error(alloc, text, from)? else {
+            break;
+        };
+        errors.push(error)?;
+        let size = bad_size(text, error);
+        blank(mended.as_mut_slice(), place(error), size);
+        from = place(error).saturating_add(size);
+    }
+    Ok(Mended {
+        text: mended,
+        errors,
+    })
+}

@@ -1,0 +1,146 @@
+//! What the grammar wants at a place, and what stands there, in an author's words.
+
+use crate::bytes::{quoted, written};
+use crate::source::{Kind, Part, Source};
+use rule_lexer::{Token, TokenKind};
+use rule_parser::{Sign, What, Word};
+use std::alloc::{AllocError, Global};
+
+/// The types, as a list.
+pub const TYPES: &str =
+    "`u8`, `i8`, `u16be`, `u16le`, `i16be`, `i16le`, `u32be`, `u32le`, `i32be` or `i32le`";
+
+/// The words of each class.
+const TYPE_WORDS: &[&[u8]] = &[
+    b"u8", b"i8", b"u16be", b"u16le", b"i16be", b"i16le", b"u32be", b"u32le", b"i32be", b"i32le",
+];
+
+pub const ITEM_WORDS: &[&[u8]] = &[b"packet", b"field", b"rule"];
+
+const STATE_WORDS: &[&[u8]] = &[b"active", b"passive", b"disabled"];
+
+const LEVEL_WORDS: &[&[u8]] = &[b"debug", b"info", b"error", b"critical"];
+
+const JOINING_WORDS: &[&[u8]] = &[b"or", b"xor", b"and"];
+
+const OPERAND_WORDS: &[&[u8]] = &[b"not"];
+
+/// The word, as it is written.
+pub fn word_text(word: Word) -> &'static [u8] {
+    match word {
+        Word::Mid => b"mid",
+        Word::Length => b"length",
+        Word::At => b"at",
+        Word::Mask => b"mask",
+        Word::Stale => b"stale",
+        Word::Fails => b"fails",
+        Word::Sequence => b"sequence",
+        Word::Event => b"event",
+        Word::Report => b"report",
+        Word::When => b"when",
+    }
+}
+
+/// What is wanted, in words.
+pub fn wanted(alloc: Global, what: What) -> Result<String, AllocError> {
+    match what {
+        What::Item => String::from_str(alloc, "`packet`, `field` or `rule`"),
+        What::Name => String::from_str(alloc, "a name"),
+        What::Number => String::from_str(alloc, "a number"),
+        What::Text => String::from_str(alloc, "a quoted text"),
+        What::FieldKind => String::from_str(alloc, "a type"),
+        What::State => String::from_str(alloc, "`active`, `passive` or `disabled`"),
+        What::Level => String::from_str(alloc, "`debug`, `info`, `error` or `critical`"),
+        What::Operand => String::from_str(alloc, "a field, `not` or `(`"),
+        What::Compare => String::from_str(alloc, "`<`, `<=`, `!=`, `==`, `>=` or `>`"),
+        What::Word(word) => format!(in alloc; "`{word}`"),
+        What::Sign(sign) => format!(in alloc; "`{sign}`"),
+    }
+}
+
+/// Whether the token is a sign.
+fn is_sign(kind: TokenKind) -> bool {
+    matches!(
+        kind,
+        TokenKind::Equals
+            | TokenKind::Semicolon
+            | TokenKind::Open
+            | TokenKind::Close
+            | TokenKind::Compare(_)
+    )
+}
+
+/// Whether the token is a word of the language.
+pub fn is_reserved(kind: TokenKind) -> bool {
+    !is_sign(kind)
+        && !matches!(
+            kind,
+            TokenKind::Name | TokenKind::Number(_) | TokenKind::Text
+        )
+}
+
+/// What stands there, in words.
+pub fn found(alloc: Global, token: Option<Token<'_>>) -> Result<String, AllocError> {
+    let Some(token) = token else {
+        return String::from_str(alloc, "the end of the file");
+    };
+    if token.kind == TokenKind::Text {
+        let text = written(alloc, token.text)?;
+        return format!(in alloc; "the quoted text {text}");
+    }
+    let text = quoted(alloc, token.text)?;
+    match token.kind {
+        TokenKind::Name => format!(in alloc; "the name {text}"),
+        TokenKind::Number(_) => format!(in alloc; "the number {text}"),
+        kind if is_sign(kind) => Ok(text),
+        _ => format!(in alloc; "the word {text}"),
+    }
+}
+
+/// The words that may stand before the `;` of a field, where it is wanted.
+fn before_end(source: &Source<'_>, part: Part) -> &'static [&'static [u8]] {
+    let has_stale = source.first_of(part, TokenKind::Stale).is_some();
+    let has_mask = source.first_of(part, TokenKind::Mask).is_some();
+    if has_stale {
+        &[]
+    } else if has_mask {
+        &[b"stale"]
+    } else {
+        &[b"mask", b"stale"]
+    }
+}
+
+/// The words that the grammar takes where this is wanted, those that may be left out among them.
+pub fn words_for(source: &Source<'_>, part: Part, what: What) -> &'static [&'static [u8]] {
+    match what {
+        What::Item => ITEM_WORDS,
+        What::FieldKind => TYPE_WORDS,
+        What::State => STATE_WORDS,
+        What::Level => LEVEL_WORDS,
+        What::Operand => OPERAND_WORDS,
+        What::Word(word) => words_of(word),
+        What::Sign(Sign::Semicolon) => match source.kind_of(part) {
+            Some(Kind::Field) => before_end(source, part),
+            Some(Kind::Rule) => JOINING_WORDS,
+            _ => &[],
+        },
+        What::Sign(Sign::Close) => JOINING_WORDS,
+        What::Sign(Sign::Equals) | What::Name | What::Number | What::Text | What::Compare => &[],
+    }
+}
+
+/// The word, and before `when` the one that may be left out.
+fn words_of(word: Word) -> &'static [&'static [u8]] {
+    match word {
+        Word::Mid => &[b"mid"],
+        Word::Length => &[b"length"],
+        Word::At => &[b"at"],
+        Word::Mask => &[b"mask"],
+        Word::Stale => &[b"stale"],
+        Word::Fails => &[b"fails"],
+        Word::Sequence => &[b"sequence"],
+        Word::Event => &[b"event"],
+        Word::Report => &[b"report"],
+        Word::When => &[b"report", b"when"],
+    }
+}

@@ -1,0 +1,4 @@
+-- Lemmas on places.
+mod Decoding
+mod Steps
+mod Starts
