@@ -69,6 +69,10 @@ class Edit:
                         raise Bad("it has two 'refused-by:' lines")
                     function, _, clause = line[len("refused-by: ") :].strip().partition(" ")
                     self.refused_by = (function, clause)
+                elif line.strip():
+                    raise Bad(f"a line is none of an edit's: {line.strip()}")
+        if any(old == new for _, old, new in self.pairs):
+            raise Bad("a 'new:' text is the old one")
         if not self.pairs:
             raise Bad("it has no 'old:' and 'new:' pair")
 

@@ -2,12 +2,12 @@
 //! memory by an allocator of the caller's program, and gives all of it back before it answers.
 #![tactic(auto)]
 
-mod refusal;
-mod sentence;
 mod compiling;
+mod refusal;
+mod running;
+mod sentence;
 mod stream;
 mod texts;
-mod running;
 
 pub use compiling::{Compiled, needlemauve_compile};
 pub use refusal::Refusal;

@@ -14,7 +14,9 @@ pub const NO_MEMORY: u32 = 255;
 
 /// What `at` counts: nothing; bytes of the text before the fault; rules before it.
 pub const NOTHING: u32 = 0;
+
 const BYTES: u32 = 1;
+
 const RULES: u32 = 2;
 
 /// Why something is refused: the number, 0 where nothing is; what `at` counts, and how many there are; and the number of the

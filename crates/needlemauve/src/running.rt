@@ -22,6 +22,7 @@ const UNFIT: u32 = 252;
 
 /// What `at` counts besides: records; lines of a schedule, where nothing was run.
 const RECORDS: u32 = 3;
+
 const NOT_RUN: u32 = 4;
 
 /// What is told of a run: how it ended, how many bytes of the output were written, and a sentence for people.

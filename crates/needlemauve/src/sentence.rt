@@ -7,6 +7,7 @@ use std::fmt::{Display, InlineText};
 
 /// The bytes of a sentence's room; the last one stays 0.
 pub const ROOM: usize = 252;
+
 const MOST: usize = ROOM - 1;
 
 /// A sentence: how many bytes it has, at most 251, and these, with zeros behind them.
