@@ -21,7 +21,7 @@ pub enum Fault<'a> {
     /// A word that is no text.
     NoText,
     /// The word of an option that is none of its values.
-    Value(&'static str, &'a str),
+    Value(&'a str, &'a str),
     /// A table file with a fault, which its listing says.
     Table,
     /// A stream or packets that end early, which the listing or the page says.

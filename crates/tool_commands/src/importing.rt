@@ -1,5 +1,7 @@
 //! `import RAW.. STREAM`
 
+ghost use Rattle.std.specs.Prelude.{◌≤◌, IfOk, IfSome};
+
 use crate::fault::Fault;
 use crate::feed::feed_of;
 use crate::files::{fault_at, is_apart};
@@ -22,7 +24,9 @@ const PARTS: u64 = 65_536;
 const MOST_DIGITS: usize = 6;
 
 /// A number that is no greater than this, decimal or behind `0x` hexadecimal.
-fn number_in(word: &str, most: u32) -> Option<u32> {
+fn number_in(word: &str, most: u32) -> Option<u32>
+    ensures { IfSome result (λ number. number ≤ most) }
+{
     let number = match word.strip_prefix("0x") {
         Some(digits) => u32::from_str_radix(digits, 16),
         None => u32::from_str_radix(word, 10),
@@ -35,14 +39,20 @@ fn number_in(word: &str, most: u32) -> Option<u32> {
 
 /// The number of an option, which is no greater than this; `default` where it isn't given.
 fn number_of<'a>(
-    option: &'static str,
+    option: &'a str,
     word: Option<&'a str>,
     most: u32,
     default: u32,
-) -> Result<u32, Fault<'a>> {
+) -> Result<u32, Fault<'a>>
+    requires { default ≤ most }
+    ensures { IfOk result (λ number. number ≤ most) }
+{
     match word {
         None => Ok(default),
-        Some(word) => number_in(word, most).ok_or(Fault::Value(option, word)),
+        Some(word) => match number_in(word, most) {
+            Some(number) => Ok(number),
+            None => Err(Fault::Value(option, word)),
+        },
     }
 }
 
@@ -72,7 +82,7 @@ fn seconds_in(word: &str) -> Option<Moment> {
 }
 
 /// Where the packets' times are from.
-fn times_of<'a>(wanted: &ImportWords<'a>) -> Result<Times, Fault<'a>> {
+fn times_of<'a>(wanted: ImportWords<'a>) -> Result<Times, Fault<'a>> {
     match wanted.step {
         Some(word) => match seconds_in(word) {
             Some(step) => Ok(Times::Steps { step }),
@@ -147,7 +157,7 @@ fn import_one<'a, R: Files + AllocGlobal, S: Write, W: Write>(
 pub fn import<'a, R: Files + AllocGlobal, W: Write>(
     rt: &R,
     files: &[&'a str],
-    wanted: &ImportWords<'a>,
+    wanted: ImportWords<'a>,
     out: &mut W,
 ) -> Result<(), Fault<'a>> {
     let Some((stream, archives)) = files.split_last() else {

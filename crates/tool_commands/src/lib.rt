@@ -75,7 +75,7 @@ pub fn obey<'a, R: Files + Eprint + AllocGlobal, I: Read + Drop, W: Write>(
             };
             checking::check(rt, schedule, rules.as_slice(), asked, out)
         }
-        Plan::Import { files, how } => importing::import(rt, files.as_slice(), &how, out),
+        Plan::Import { files, how } => importing::import(rt, files.as_slice(), how, out),
         Plan::Export { stream, raw } => exporting::export(rt, stream, raw),
         Plan::Live { schedule, rules } => live::run(rt, schedule, rules.as_slice(), input, out),
     }

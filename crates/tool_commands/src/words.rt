@@ -66,7 +66,7 @@ pub enum Plan<'a> {
 }
 
 /// How archives are imported, as the words say it.
-#[derive(Drop)]
+#[derive(Clone, Copy)]
 pub struct ImportWords<'a> {
     /// A marker stands before each packet.
     pub marked: bool,
