@@ -164,6 +164,8 @@ Commands:
   stream    Says what the records of a stream are
   packets   Says what the packets are that a run wrote
   scenario  Makes a stream from a script
+  import    Makes a stream from archives of space packets
+  export    Writes the packets of a stream, one behind the other
   report    Makes a page of a run, for a browser
   check     Says of rules whether they compile, and what is so for every stream
   live      Runs a stream from standard input as it comes, to standard output
@@ -185,7 +187,7 @@ WORDS = [
     Row("help is no fault", ["flight_tools", "--help"], output=HELP),
     Row("no command", ["flight_tools"], status=2, error=b"""\
 error: 'flight_tools' requires a subcommand but one was not provided
-  [subcommands: table, stream, packets, scenario, report, check, live, help]
+  [subcommands: table, stream, packets, scenario, import, export, report, check, live, help]
 
 Usage: flight_tools <COMMAND>
 
