@@ -7,7 +7,7 @@ ghost use Rattle.rule_messages.specs.Telling.{IsAt, TellsOf, place_of_check};
 
 use crate::bytes::{Grouped, Many, Signed, quoted, written};
 use crate::message::{Mark, Message};
-use crate::nearest::nearest_name;
+use crate::likeness::nearest_name;
 use crate::source::{Declared, Kind, Source};
 use field_checker::{CheckError, RuleNumber};
 use lc_model::{FieldType, mids};

@@ -5,7 +5,7 @@ ghost use Rattle.rule_messages.specs.Telling.{IsAt};
 
 use crate::bytes::quoted;
 use crate::message::{Mark, Message};
-use crate::nearest::nearest;
+use crate::likeness::nearest;
 use crate::source::{Declared, Kind, Source, begins_item};
 use crate::wanted::{TYPES, found, is_reserved, wanted, words_for};
 use lc_model::CmpOp;

@@ -1,7 +1,7 @@
 //! What the grammar says of each item of a text.
 
 use crate::bytes::part;
-use crate::nearest::nearest;
+use crate::likeness::nearest;
 use crate::source::{Part, Source, begins_item};
 use crate::token_faults::place;
 use crate::wanted::ITEM_WORDS;

@@ -1,7 +1,7 @@
 -- The excerpt of a text for some bytes of it. This project's own.
-use Rattle.std.specs.Prelude.{◌≡◌, ℕ, ◌-◌, nat_lt, List, length}
+use Rattle.std.specs.Prelude.{◌≡◌, ℕ, ◌+◌, ◌-◌, nat_lt, List, length}
 use Rattle.text_places.specs.Line.{line_number, written_line}
-use Rattle.text_places.specs.Character.{shown}
+use Rattle.text_places.specs.Character.{characters, column, shown}
 use Rattle.text_places.specs.Window.{before_in_line, mark_width, token_in_line, width, window, window_start}
 use Rattle.text_places.specs.declared.excerpt.Excerpt.{Excerpt}
 
@@ -11,6 +11,10 @@ mark_column text at = length (shown (before_in_line text at))
 
 abbrev pub first_column : List ℕ → ℕ → ℕ
 first_column text at = window_start (length (shown (written_line text at))) (mark_column text at)
+
+-- the column behind so many bytes at a place, as far as they stand on its line
+abbrev pub end_column : List ℕ → (at size : ℕ) → ℕ
+end_column text at size = column text at + length (characters (token_in_line text at size))
 
 -- the line's number and its window, with the marks under the columns of the token that are shown
 pub record IsExcerpt (text : List ℕ) (at size : ℕ) (found : Excerpt) : Type 0 where

@@ -1,8 +1,10 @@
 //! A line, as it is shown with marks under a part of it.
 
 ghost use Rattle.std.specs.Prelude.{◌≡◌, ◌≤◌, length, IfOk};
-ghost use Rattle.text_places.specs.Excerpt.{IsExcerpt};
+ghost use Rattle.text_places.specs.Excerpt.{IsExcerpt, end_column};
+ghost use Rattle.text_places.specs.Window.{token_in_line};
 
+use crate::character::character_count;
 use crate::columns::shown;
 use crate::cutting::{WIDTH, mark_width, window, window_start};
 use crate::line::{line_number, line_start, written_line};
@@ -22,6 +24,24 @@ pub struct Excerpt {
     pub marks: usize,
     /// Whether something of the line is left out.
     pub is_cut: bool,
+}
+
+/// So many bytes at this place, as far as they stand on its line.
+fn token_in_line(text: &[u8], at: usize, size: usize) -> &[u8]
+    requires { at ≤ length text.now }
+    ensures { result.now ≡ token_in_line text.now at size }
+{
+    let line = written_line(text, at);
+    front(behind(line, at - line_start(text, at)), size)
+}
+
+/// The column behind so many bytes at this place, from 1, as far as they stand on its line.
+pub fn end_column(text: &[u8], at: usize, size: usize) -> usize
+    requires { at ≤ length text.now }
+    ensures { result ≡ end_column text.now at size }
+{
+    let before = text.split_at(at).0.split_at(line_start(text, at)).1;
+    character_count(before) + 1 + character_count(token_in_line(text, at, size))
 }
 
 /// The excerpt for so many bytes at this place.

@@ -11,6 +11,6 @@ mod place;
 
 pub use character::{character_count, front_character};
 pub use columns::shown;
-pub use excerpt::{Excerpt, excerpt_of};
+pub use excerpt::{Excerpt, end_column, excerpt_of};
 pub use line::{line_of, line_start, written_line};
 pub use place::{Place, place_of};

@@ -10,10 +10,12 @@ use crate::given::schedule_in;
 use crate::output::listed;
 use judgement_listing::{ListingError, Which, list_actionpoints, list_judgement, list_unsampled};
 use rpn_compiler::{CompileError, compile};
-use rule_messages::{messages, page_of};
+use message_objects::{error_line, note_line};
+use rule_messages::{Message, messages, page_of};
 use std::alloc::Global;
 use std::fs::Files;
 use std::io::Write;
+use std::str;
 use tick_scheduler::Schedule;
 
 /// What `check` is asked for.
@@ -23,6 +25,19 @@ pub struct Asked {
     pub is_all: bool,
     /// A warning is a fault.
     pub is_strict: bool,
+    /// All is said as JSON, an object a line.
+    pub is_json: bool,
+}
+
+impl Asked {
+    /// Which lines of the judgement are said.
+    fn which(self) -> Which {
+        if self.is_all {
+            Which::All
+        } else {
+            Which::Warnings
+        }
+    }
 }
 
 /// What is found of a rule text.
@@ -83,37 +98,79 @@ fn judgement_fault(name: &str, error: ListingError) -> Fault<'_>
     }
 }
 
-/// Whether a line is a warning.
-fn is_warning(line: &[u8]) -> bool {
-    line.starts_with(b"warning: ")
+/// What a line says behind the word for a warning, where it is one.
+fn warning_in(line: &[u8]) -> Option<&[u8]> {
+    line.strip_prefix(b"warning: ")
 }
 
-/// Writes lines, each behind the name of its file, and answers how many of them are warnings.
-fn write_lines<'a, W: Write>(name: &'a str, lines: &[u8], out: &mut W) -> Result<usize, Fault<'a>> {
+/// Writes a line behind the name of its file, or as an object.
+fn write_line<'a, W: Write>(
+    alloc: Global,
+    name: &'a str,
+    line: &[u8],
+    is_json: bool,
+    out: &mut W,
+) -> Result<(), Fault<'a>> {
+    if is_json {
+        let warning = warning_in(line);
+        let text = str::from_utf8(warning.unwrap_or(line)).unwrap_or("");
+        let object = note_line(alloc, name, warning.is_some(), text)?;
+        return listed(out.write_all(object.as_bytes()));
+    }
+    listed(write!(out, "{name}: "))?;
+    listed(out.write_all(line))?;
+    listed(out.write_all(b"\n"))
+}
+
+/// Writes lines, and answers how many of them are warnings.
+fn write_lines<'a, W: Write>(
+    alloc: Global,
+    name: &'a str,
+    lines: &[u8],
+    is_json: bool,
+    out: &mut W,
+) -> Result<usize, Fault<'a>> {
     let mut warnings = 0usize;
     for line in lines.split(|byte| *byte == b'\n') {
         if line.is_empty() {
             continue;
         }
-        if is_warning(line) {
+        if warning_in(line).is_some() {
             warnings = warnings.saturating_add(1);
         }
-        listed(write!(out, "{name}: "))?;
-        listed(out.write_all(line))?;
-        listed(out.write_all(b"\n"))?;
+        write_line(alloc, name, line, is_json, out)?;
     }
     Ok(warnings)
 }
 
-/// Writes what is wrong with a rule text in a file of this name, which doesn't compile.
+/// Writes messages, each as an object.
+fn write_objects<'a, W: Write>(
+    alloc: Global,
+    name: &'a str,
+    text: &[u8],
+    told: &[Message],
+    out: &mut W,
+) -> Result<(), Fault<'a>> {
+    for message in told {
+        let object = error_line(alloc, name, text, message)?;
+        listed(out.write_all(object.as_bytes()))?;
+    }
+    listed(out.flush())
+}
+
+/// Writes what is wrong with a text in a file of this name.
 fn refuse<'a, W: Write>(
     alloc: Global,
     name: &'a str,
     text: &[u8],
+    told: &[Message],
+    is_json: bool,
     out: &mut W,
 ) -> Result<(), Fault<'a>> {
-    let told = messages(alloc, text)?;
-    let page = page_of(alloc, name, text, told.as_slice())?;
+    if is_json {
+        return write_objects(alloc, name, text, told, out);
+    }
+    let page = page_of(alloc, name, text, told)?;
     listed(out.write_all(page.as_bytes()))?;
     listed(out.flush())
 }
@@ -125,18 +182,21 @@ fn judge<'a, W: Write>(
     text: &[u8],
     rules: u16,
     plan: &Option<Schedule>,
-    which: Which,
+    asked: Asked,
     out: &mut W,
 ) -> Result<usize, Fault<'a>> {
     let mut lines = Vec::new(alloc);
-    list_judgement(alloc, text, which, &mut lines).map_err(|error| judgement_fault(name, error))?;
+    list_judgement(alloc, text, asked.which(), &mut lines)
+        .map_err(|error| judgement_fault(name, error))?;
     if let Some(plan) = plan {
         list_unsampled(alloc, text, plan, &mut lines).map_err(|error| judgement_fault(
             name, error,
         ))?;
     }
-    let warnings = write_lines(name, lines.as_slice(), out)?;
-    listed(writeln!(out, "{name}: {rules} rules, {warnings} warnings"))?;
+    let warnings = write_lines(alloc, name, lines.as_slice(), asked.is_json, out)?;
+    if !asked.is_json {
+        listed(writeln!(out, "{name}: {rules} rules, {warnings} warnings"))?;
+    }
     listed(out.flush())?;
     Ok(warnings)
 }
@@ -146,19 +206,20 @@ fn check_text<'a, R: Files + AllocGlobal, W: Write>(
     rt: &R,
     name: &'a str,
     plan: &Option<Schedule>,
-    which: Which,
+    asked: Asked,
     out: &mut W,
 ) -> Result<Found, Fault<'a>> {
     let text = read_text(rt, name)?;
     let text = text.as_slice();
     match compile(rt.alloc(), text) {
         Ok(tables) => {
-            let warnings = judge(rt.alloc(), name, text, tables.rules, plan, which, out)?;
+            let warnings = judge(rt.alloc(), name, text, tables.rules, plan, asked, out)?;
             Ok(Found::Warnings(warnings))
         }
         Err(CompileError::Memory) => Err(Fault::Memory),
         Err(_) => {
-            refuse(rt.alloc(), name, text, out)?;
+            let told = messages(rt.alloc(), text)?;
+            refuse(rt.alloc(), name, text, told.as_slice(), asked.is_json, out)?;
             Ok(Found::Refused)
         }
     }
@@ -179,17 +240,12 @@ pub fn check<'a, R: Files + AllocGlobal, W: Write>(
         Some(name) => Some(schedule_in(rt, name)?),
         None => None,
     };
-    let which = if asked.is_all {
-        Which::All
-    } else {
-        Which::Warnings
-    };
     let mut totals = Totals {
         is_refused: false,
         is_warned: false,
     };
     for name in rules {
-        totals = totals.with(check_text(rt, name, &plan, which, out)?);
+        totals = totals.with(check_text(rt, name, &plan, asked, out)?);
     }
     totals.answer(asked.is_strict)
 }

@@ -68,10 +68,12 @@ pub fn obey<'a, R: Files + Eprint + AllocGlobal, I: Read + Drop, W: Write>(
             rules,
             all,
             strict,
+            json,
         } => {
             let asked = Asked {
                 is_all: all,
                 is_strict: strict,
+                is_json: json,
             };
             checking::check(rt, schedule, rules.as_slice(), asked, out)
         }
