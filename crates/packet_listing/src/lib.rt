@@ -9,3 +9,4 @@ mod text;
 
 pub use line::Line;
 pub use listing::list_packets;
+pub use text::{Field, Time};

@@ -4,7 +4,7 @@ ghost use Rattle.std.specs.Prelude.{◌≡◌, ◌≤◌, length, Some};
 ghost use Rattle.lc_model.specs.Bytes.{u16_at, u32_at};
 ghost use Rattle.packet_listing.specs.Words.{time_text};
 
-use lc_model::{u16_at, u32_at};
+use lc_model::{Moment, u16_at, u32_at};
 use std::fmt::{self, Display, Formatter, Write};
 
 /// What stands for a byte that is no printable ASCII character.
@@ -24,6 +24,18 @@ const SAID: u32 = 100_000;
 pub struct Time {
     seconds: u32,
     subseconds: u16,
+}
+
+impl Time {
+    /// The time of a record.
+    pub fn at(moment: Moment) -> Time
+        ensures { (result.seconds ≡ moment.seconds) × (result.subseconds ≡ moment.subseconds) }
+    {
+        Time {
+            seconds: moment.seconds,
+            subseconds: moment.subseconds,
+        }
+    }
 }
 
 /// The time of telemetry that has its headers.

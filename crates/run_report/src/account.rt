@@ -1,11 +1,8 @@
 //! All that a page tells of.
 
 use crate::columns::Columns;
-use crate::course::{Ending, Entry};
-use crate::framing::{moment_of, record_in};
-use crate::moment::Seconds;
 use crate::rule_text::{RuleLine, RuleText};
-use crate::standing::Standing;
+use run_course::{Ending, Entry, Seconds, Standing, moment_of, record_in};
 
 /// A run: the rule texts, the stream with where its records end, what was written, and how the rules stood behind each column.
 #[derive(Clone, Copy)]

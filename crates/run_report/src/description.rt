@@ -1,12 +1,11 @@
 //! What records bring, and what was written, in words.
 
 use crate::account::Account;
-use crate::course::Entry;
 use crate::escape::{put, put_text};
-use crate::sent::Sent;
 use lc_model::packet::message_id;
 use lc_model::stream::{HALF, HEADER, NAME};
 use lc_model::{EventKind, mids, name_in, u16_at};
+use run_course::{Entry, Sent};
 use std::io::{self, Write};
 
 /// What a record brings.

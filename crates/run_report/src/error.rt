@@ -1,6 +1,7 @@
 //! Why there is no page.
 
 use rpn_compiler::CompileError;
+use run_course::CourseError;
 use std::alloc::{AllocError, AllocFailed};
 use std::io::{self, ErrorKind};
 use thiserror::Error;
@@ -17,6 +18,15 @@ pub enum ReportError {
     /// The page can't be written.
     #[error("a write failed")]
     Write,
+}
+
+impl From<CourseError> for ReportError {
+    fn from(error: CourseError) -> ReportError {
+        match error {
+            CourseError::Rules { text, error } => ReportError::Rules { text, error },
+            CourseError::Memory => ReportError::Memory,
+        }
+    }
 }
 
 impl From<AllocError> for ReportError {

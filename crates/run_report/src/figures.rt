@@ -1,11 +1,10 @@
 //! A run in figures.
 
 use crate::account::Account;
-use crate::course::Ending;
 use crate::description::{Brings, read_record};
 use crate::escape::put;
-use crate::sent::Sent;
 use lc_model::EventKind;
+use run_course::{Ending, Sent};
 use std::io::{self, Write};
 
 /// How many there are of what.

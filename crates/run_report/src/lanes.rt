@@ -1,12 +1,11 @@
 //! Lanes of marks: records that are no telemetry, requests for sequences, and events.
 
 use crate::account::Account;
-use crate::course::Entry;
 use crate::description::{Brings, kind_class, put_entry, put_record, read_record};
 use crate::escape::put;
 use crate::geometry::{ROOM, Tenths, edge, middle, slot};
-use crate::sent::Sent;
 use lc_model::EventKind;
+use run_course::{Entry, Sent};
 use std::alloc::{AllocError, Global};
 use std::io::{self, Write};
 

@@ -4,15 +4,12 @@
 
 mod account;
 mod columns;
-mod course;
 mod description;
 mod error;
 mod escape;
 mod figures;
-mod framing;
 mod geometry;
 mod lanes;
-mod moment;
 mod page;
 mod probes;
 mod progress;
@@ -20,10 +17,8 @@ mod report;
 mod result_lanes;
 mod rule_table;
 mod rule_text;
-mod sent;
 mod sent_table;
 mod standing;
-mod steps;
 mod style;
 mod time_line;
 

@@ -2,13 +2,12 @@
 
 use crate::account::Account;
 use crate::columns::Columns;
-use crate::course::{Course, Ending, run_over};
 use crate::error::ReportError;
-use crate::framing::ends_of;
 use crate::page::put_page;
 use crate::probes::{Asked, probe_columns};
 use crate::progress::Progress;
 use crate::rule_text::{RuleText, Source, read_text};
+use run_course::{Course, Ending, ends_of, run_over};
 use std::alloc::{AllocError, Global};
 use std::io::Write;
 use tick_scheduler::Schedule;

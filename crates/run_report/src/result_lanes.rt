@@ -4,10 +4,9 @@ use crate::account::Account;
 use crate::escape::{put, put_name, put_short, put_text};
 use crate::geometry::{Tenths, edge, width};
 use crate::rule_text::{RuleLine, RuleText};
-use crate::standing::{
-    Standing, mode_word, result_class, result_in, result_letter, result_word, state_in, state_word,
-};
+use crate::standing::{mode_word, result_class, result_letter};
 use lc_model::{ApMode, ApResult, LcMode};
+use run_course::{Standing, result_in, result_word, state_in, state_word};
 use std::io::{self, Write};
 
 /// What a lane shows.

@@ -1,11 +1,10 @@
 //! Requests and events, as a table.
 
 use crate::account::Account;
-use crate::course::Entry;
 use crate::description::{kind_class, kind_word};
 use crate::escape::{put, put_text};
 use crate::figures::put_number;
-use crate::sent::{Event, Sent};
+use run_course::{Entry, Event, Sent};
 use std::io::{self, Write};
 
 /// The most rows.

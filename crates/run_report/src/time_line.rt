@@ -1,15 +1,14 @@
 //! The drawing: lanes one below the other, over columns of records.
 
 use crate::account::Account;
-use crate::course::Entry;
 use crate::description::{kind_word, put_entry};
 use crate::error::ReportError;
 use crate::escape::put;
 use crate::geometry::{Tenths, WIDTH, edge, middle, slot};
 use crate::lanes::{Lane, Mark, has_marks, marks_of, put_marks, put_numbers};
 use crate::result_lanes::{put_mode_lane, put_rule_lane};
-use crate::sent::Sent;
 use lc_model::EventKind;
+use run_course::{Entry, Sent};
 use std::alloc::Global;
 use std::io::{self, Write};
 

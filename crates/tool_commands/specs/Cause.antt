@@ -15,6 +15,8 @@ use Rattle.flight_core.specs.declared.error.RunError.{RunError}
 use Rattle.flight_core.specs.declared.error.RunError.TheVariants as run
 use Rattle.run_report.specs.declared.error.ReportError.{ReportError}
 use Rattle.run_report.specs.declared.error.ReportError.TheVariants as page
+use Rattle.run_expectations.specs.declared.reading.ReadError.{ReadError}
+use Rattle.run_expectations.specs.declared.reading.ReadError.TheVariants as read
 use Rattle.stream_script.specs.declared.error.ScriptError.{ScriptError}
 use Rattle.stream_script.specs.declared.error.ScriptError.TheVariants as script
 use Rattle.judgement_listing.specs.declared.error.ListingError.{ListingError}
@@ -32,6 +34,10 @@ fault_of_file name (file.Unusable why) = fault.File name why
 abbrev pub fault_of_script : Bor (List ℕ) → ScriptError → Fault
 fault_of_script name script.Memory = fault.Memory
 fault_of_script name error = fault.Script name error
+
+abbrev pub fault_of_expectation : Bor (List ℕ) → ReadError → Fault
+fault_of_expectation name read.Memory = fault.Memory
+fault_of_expectation name error = fault.Expectation name error
 
 abbrev pub fault_of_schedule : Bor (List ℕ) → ScheduleError → Fault
 fault_of_schedule name schedule.Memory = fault.Memory
@@ -65,6 +71,11 @@ abbrev pub IsOfOutput : ErrorKind → Fault → Type 0
 IsOfOutput kind.OutOfMemory found = found ≡ fault.Memory
 IsOfOutput kind.BrokenPipe found = found ≡ fault.Gone
 IsOfOutput rest found = IsUnusable (codes "standard output") (why_of rest) found
+
+-- the same where it may not have been noted
+abbrev pub IsOfWrite : Option ErrorKind → Fault → Type 0
+IsOfWrite (Some kind) found = IsOfOutput kind found
+IsOfWrite None found = IsUnusable (codes "standard output") why.Failed found
 
 -- the same of what was listed
 abbrev pub IsListed : Result (Unit {0}) Error → Result (Unit {0}) Fault → Type 0

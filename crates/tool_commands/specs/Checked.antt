@@ -1,7 +1,8 @@
--- What a call of `check` comes to. This project's own.
-use Rattle.std.specs.Prelude.{ℕ, Bool, true, false, ◌||◌, ◌&&◌, if◌then◌else◌, nat_lt, Result, Ok, Err}
+-- What calls come to that find faults: `check`, `compare` and `try`. This project's own.
+use Rattle.std.specs.Prelude.{ℕ, Bool, true, false, not, ◌||◌, ◌&&◌, if◌then◌else◌, nat_lt, Result, Ok, Err}
 use Rattle.tool_commands.specs.declared.fault.Fault.{Fault}
 use Rattle.tool_commands.specs.declared.fault.Fault.TheVariants as fault
+use Rattle.run_comparison.specs.declared.comparison.Compared.{Compared}
 use Rattle.tool_commands.specs.declared.checking.Found.{Found}
 use Rattle.tool_commands.specs.declared.checking.Found.TheVariants.{Refused, Warnings}
 use Rattle.tool_commands.specs.declared.checking.Totals.{Totals}
@@ -16,3 +17,9 @@ abbrev pub answer_of : Totals → (is_strict : Bool) → Result (Unit {0}) Fault
 answer_of totals is_strict =
     if totals.is_refused then Err fault.Refused
     else (if is_strict && totals.is_warned then Err fault.Warned else Ok tt)
+
+-- a stream that ends early has a status of its own, and so has a difference
+abbrev pub answer_of_comparison : Compared → Result (Unit {0}) Fault
+answer_of_comparison found =
+    if not found.is_whole then Err fault.Early
+    else (if nat_lt 0 found.old || nat_lt 0 found.new then Err fault.Differs else Ok tt)

@@ -7,7 +7,7 @@ use Rattle.clap.specs.declared.error.kind.ErrorKind.TheVariants as kind
 use Rattle.tool_commands.specs.declared.fault.Fault.{Fault}
 use Rattle.tool_commands.specs.declared.fault.Fault.TheVariants as fault
 use Rattle.tool_commands.specs.declared.words.Plan.{Plan}
-use Rattle.tool_commands.specs.declared.words.Plan.TheVariants.{Said, Table, Stream, Packets, Scenario, Import, Export, Report, Check, Live}
+use Rattle.tool_commands.specs.declared.words.Plan.TheVariants.{Said, Table, Stream, Packets, Scenario, Import, Export, Report, Check, Compare, Try, Live}
 use Rattle.tool_commands.specs.declared.words.ImportWords.{ImportWords}
 
 -- where no command is found, by the kind of what `clap` says: help and the version are asked for, and other words are at fault
@@ -24,6 +24,7 @@ HoldsImport rows how = (first_of (codes "only") rows ≡ option_map (λ word. wo
     × (first_of (codes "epoch") rows ≡ option_map (λ word. word.now) how.epoch)
     × (first_of (codes "step") rows ≡ option_map (λ word. word.now) how.step)
     × (first_of (codes "tick") rows ≡ option_map (λ word. word.now) how.tick)
+    × (first_of (codes "start") rows ≡ option_map (λ word. word.now) how.start)
 
 -- a plan is of the command with this word, and holds the files that it is given
 abbrev pub HoldsRows : Text × List Row → Plan → Type 0
@@ -43,5 +44,11 @@ HoldsRows command (Report schedule stream page rules) = (command.0 ≡ codes "re
     × (first_of (codes "PAGE") command.1 ≡ Some page.now) × (all_of (codes "RULES") command.1 ≡ Some (map (λ rule. rule.now) rules.items))
 HoldsRows command (Check schedule rules all strict) = (command.0 ≡ codes "check")
     × (first_of (codes "schedule") command.1 ≡ option_map (λ word. word.now) schedule) × (all_of (codes "RULES") command.1 ≡ Some (map (λ rule. rule.now) rules.items))
+HoldsRows command (Compare schedule stream old new) = (command.0 ≡ codes "compare")
+    × (first_of (codes "SCHEDULE") command.1 ≡ Some schedule.now) × (first_of (codes "STREAM") command.1 ≡ Some stream.now)
+    × (first_of (codes "OLD") command.1 ≡ Some old.now) × (first_of (codes "NEW") command.1 ≡ Some new.now)
+HoldsRows command (Try script schedule rules) = (command.0 ≡ codes "try")
+    × (first_of (codes "SCRIPT") command.1 ≡ Some script.now) × (first_of (codes "SCHEDULE") command.1 ≡ Some schedule.now)
+    × (all_of (codes "RULES") command.1 ≡ Some (map (λ rule. rule.now) rules.items))
 HoldsRows command (Live schedule rules) = (command.0 ≡ codes "live")
     × (first_of (codes "SCHEDULE") command.1 ≡ Some schedule.now) × (all_of (codes "RULES") command.1 ≡ Some (map (λ rule. rule.now) rules.items))

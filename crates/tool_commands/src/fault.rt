@@ -7,6 +7,8 @@ ghost use Rattle.tool_commands.specs.declared.fault.Fault.TheVariants.{Memory};
 use clap::Error;
 use flight_core::RunError;
 use program_files::Why;
+use rpn_compiler::CompileError;
+use run_expectations::ReadError;
 use run_report::ReportError;
 use std::alloc::{AllocError, AllocFailed};
 use std::fmt::{self, Display, Formatter, Write};
@@ -32,6 +34,14 @@ pub enum Fault<'a> {
     Schedule(&'a str, ScheduleError),
     /// A rule text of a run that is refused.
     Report(ReportError),
+    /// A rule text that is refused, by its file's name.
+    Rules(&'a str, CompileError),
+    /// A script whose expectations can't be read, by its file's name.
+    Expectation(&'a str, ReadError),
+    /// What came of two rule texts differs, which the listing says.
+    Differs,
+    /// Expectations that aren't met, which the listing says.
+    Unmet,
     /// A rule text that is refused, which the listing says.
     Refused,
     /// Rules or tables that can't be judged, by their file's name.
@@ -77,7 +87,8 @@ fn status_of_run(error: RunError) -> u8
 }
 
 impl Fault<'_> {
-    /// The exit status: 0 nobody reads any more; 1 a table file has a fault, a script, a schedule or a rule text is refused, or there are warnings; 2
+    /// The exit status: 0 nobody reads any more; 1 a table file has a fault, a script, a schedule or a rule text is refused, there are warnings, runs differ, or expectations
+    /// aren't met; 2
     /// the words are no command; 3 a file or a device; 4 a stream or packets end early; 5 no memory.
     pub fn status(&self) -> u8
         ensures { result ≡ status_of self.now }
@@ -86,6 +97,7 @@ impl Fault<'_> {
             Fault::Gone => 0,
             Fault::Table | Fault::Script(..) | Fault::Schedule(..) | Fault::Report(_) => 1,
             Fault::Refused | Fault::Judgement(..) | Fault::Warned => 1,
+            Fault::Rules(..) | Fault::Expectation(..) | Fault::Differs | Fault::Unmet => 1,
             Fault::Words(_) | Fault::NoText | Fault::Value(..) => 2,
             Fault::File(..) => 3,
             Fault::Early => 4,
@@ -102,9 +114,12 @@ impl Display for Fault<'_> {
             Fault::NoText => writeln!(f, "a word of the command line is no text (UTF-8)"),
             Fault::Value(option, word) => writeln!(f, "{option} {word}: no such value"),
             Fault::Table | Fault::Early | Fault::Gone | Fault::Refused | Fault::Warned => Ok(()),
+            Fault::Differs | Fault::Unmet => Ok(()),
             Fault::Script(name, error) => writeln!(f, "{name}: {error}"),
             Fault::Schedule(name, error) => writeln!(f, "{name}: {error}"),
             Fault::Report(error) => writeln!(f, "{error}"),
+            Fault::Rules(name, error) => writeln!(f, "{name}: {error}"),
+            Fault::Expectation(name, error) => writeln!(f, "{name}: {error}"),
             Fault::Judgement(name, error) => writeln!(f, "{name}: {error}"),
             Fault::Run(error) => writeln!(f, "{error}"),
             Fault::File(name, why) => writeln!(f, "cannot use {name}: {why}"),

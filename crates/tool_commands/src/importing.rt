@@ -8,11 +8,13 @@ use crate::files::{fault_at, is_apart};
 use crate::output::listed;
 use crate::words::ImportWords;
 use lc_model::Moment;
+use lc_model::stream::{HEADER, moment_of};
 use packet_archive::{Asked, Choice, Clock, Front, Met, Report, Tally, Times, import_held};
 use program_files::{begin, discard, fault_of, keep};
 use std::alloc::Global;
 use std::fs::Files;
 use std::io::Write;
+use stream_script::read_script;
 
 /// Where the time of this profile's telemetry stands.
 const OWN_TIME: u32 = 6;
@@ -114,17 +116,58 @@ fn may_go_on(met: Met) -> bool {
     matches!(met, Met::Stands(Front::Over | Front::Cut))
 }
 
-/// Imports an archive behind others into a stream of this name, and says what was met. Answers whether it ends behind a whole
-/// packet.
+/// The records that bring both halves of a rule text as the Limit Checker's own tables, and start it and the scheduler, as a script
+/// says them.
+fn start_of<'a>(alloc: Global, moment: Moment, text: u16) -> Result<Vec<u8>, Fault<'a>> {
+    let Moment {
+        seconds,
+        subseconds,
+    } = moment;
+    let mut script = Vec::new(alloc);
+    listed(writeln!(script, "at {seconds} {subseconds}"))?;
+    listed(writeln!(script, "wdt {text} /cf/lc_def_wdt.tbl"))?;
+    listed(writeln!(script, "adt {text} /cf/lc_def_adt.tbl"))?;
+    listed(script.write_all(b"start LC\nstart SCH\n"))?;
+    read_script(alloc, script.as_slice()).map_err(|_| Fault::Memory)
+}
+
+/// The stream that is being written.
+struct Stream<'a, 's, S> {
+    name: &'a str,
+    file: &'s mut S,
+    /// The rule text with which it starts, where that is asked for and nothing is written yet.
+    start: Option<u16>,
+}
+
+impl<'a, S: Write> Stream<'a, '_, S> {
+    /// Writes bytes.
+    fn push(&mut self, bytes: &[u8]) -> Result<(), Fault<'a>> {
+        self.file.write_all(bytes).map_err(|error| fault_at(self.name, fault_of(&error)))
+    }
+
+    /// Writes records, behind the start where they are the first.
+    fn push_records(&mut self, alloc: Global, records: &[u8]) -> Result<(), Fault<'a>> {
+        if records.len() < HEADER {
+            return Ok(());
+        }
+        if let Some(text) = self.start {
+            self.start = None;
+            let start = start_of(alloc, moment_of(records), text)?;
+            self.push(start.as_slice())?;
+        }
+        self.push(records)
+    }
+}
+
+/// Imports an archive behind others into a stream, and says what was met. Answers whether it ends behind a whole packet.
 fn import_one<'a, R: Files + AllocGlobal, S: Write, W: Write>(
     rt: &R,
     name: &'a str,
-    stream: (&'a str, &mut S),
+    stream: &mut Stream<'a, '_, S>,
     clock: &mut Clock,
     asked: &Asked<'_>,
     out: &mut W,
 ) -> Result<bool, Fault<'a>> {
-    let (stream_name, stream_file) = stream;
     let mut feed = feed_of(rt, name)?;
     let mut tally = Tally::new();
     let mut records = Vec::new(rt.alloc());
@@ -133,10 +176,8 @@ fn import_one<'a, R: Files + AllocGlobal, S: Write, W: Write>(
         let held = feed.held().len();
         let (rest, met) = import_held(&mut records, clock, &mut tally, asked, feed.held())?;
         let left = rest.len();
-        match stream_file.write_all(records.as_slice()) {
-            Ok(()) => records.clear(),
-            Err(error) => return Err(fault_at(stream_name, fault_of(&error))),
-        }
+        stream.push_records(rt.alloc(), records.as_slice())?;
+        records.clear();
         if !is_more || !may_go_on(met) {
             let report = Report {
                 name,
@@ -150,6 +191,34 @@ fn import_one<'a, R: Files + AllocGlobal, S: Write, W: Write>(
         feed.let_go(held.saturating_sub(left));
     }
     Ok(false)
+}
+
+/// Imports archives, one behind the other, into a stream, and says what was met. Answers whether each ends behind a whole packet.
+fn import_all<'a, R: Files + AllocGlobal, S: Write, W: Write>(
+    rt: &R,
+    archives: &[&'a str],
+    mut stream: Stream<'a, '_, S>,
+    clock: &mut Clock,
+    asked: &Asked<'_>,
+    out: &mut W,
+) -> Result<bool, Fault<'a>> {
+    let mut is_whole = true;
+    for name in archives {
+        let ends = import_one(rt, name, &mut stream, clock, asked, out)?;
+        is_whole = is_whole && ends;
+    }
+    Ok(is_whole)
+}
+
+/// The number of the rule text with which a stream starts, where one is given.
+fn start_number<'a>(word: Option<&'a str>) -> Result<Option<u16>, Fault<'a>> {
+    match word {
+        None => Ok(None),
+        Some(word) => match number_in(word, 65_535) {
+            Some(number) => Ok(Some(number as u16)),
+            None => Err(Fault::Value("--start", word)),
+        },
+    }
 }
 
 /// Imports archives of space packets, one behind the other, into a stream, which is written beside its name and takes it at the
@@ -173,20 +242,24 @@ pub fn import<'a, R: Files + AllocGlobal, W: Write>(
         },
         times: times_of(wanted)?,
     };
+    let start = start_number(wanted.start)?;
     let mut clock = Clock::new(number_of("--tick", wanted.tick, u32::MAX, 0)?);
     is_apart(rt, stream, archives)?;
     let mut draft = begin(rt, stream).map_err(|fault| fault_at(stream, fault))?;
-    let mut is_whole = true;
-    for name in archives {
-        match import_one(rt, name, (stream, &mut draft.file), &mut clock, &asked, out) {
-            Ok(ends) => is_whole = is_whole && ends,
-            Err(fault) => {
-                discard(rt, draft);
-                return Err(fault);
-            }
+    let into = Stream {
+        name: stream,
+        file: &mut draft.file,
+        start,
+    };
+    match import_all(rt, archives, into, &mut clock, &asked, out) {
+        Ok(is_whole) => {
+            keep(rt, draft).map_err(|fault| fault_at(stream, fault))?;
+            listed(out.flush())?;
+            if is_whole { Ok(()) } else { Err(Fault::Early) }
+        }
+        Err(fault) => {
+            discard(rt, draft);
+            Err(fault)
         }
     }
-    keep(rt, draft).map_err(|fault| fault_at(stream, fault))?;
-    listed(out.flush())?;
-    if is_whole { Ok(()) } else { Err(Fault::Early) }
 }

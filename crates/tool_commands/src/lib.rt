@@ -6,6 +6,7 @@ ghost use Rattle.std.specs.Prelude.{◌≡◌};
 ghost use Rattle.tool_commands.specs.Status.{status_by};
 
 mod checking;
+mod comparing;
 mod exporting;
 mod fault;
 mod feed;
@@ -17,6 +18,7 @@ mod live;
 mod output;
 mod report;
 mod scenario;
+mod trying;
 mod words;
 
 use crate::checking::Asked;
@@ -77,6 +79,17 @@ pub fn obey<'a, R: Files + Eprint + AllocGlobal, I: Read + Drop, W: Write>(
         }
         Plan::Import { files, how } => importing::import(rt, files.as_slice(), how, out),
         Plan::Export { stream, raw } => exporting::export(rt, stream, raw),
+        Plan::Compare {
+            schedule,
+            stream,
+            old,
+            new,
+        } => comparing::compare(rt, schedule, stream, old, new, out),
+        Plan::Try {
+            script,
+            schedule,
+            rules,
+        } => trying::try_out(rt, script, schedule, rules.as_slice(), out),
         Plan::Live { schedule, rules } => live::run(rt, schedule, rules.as_slice(), input, out),
     }
 }

@@ -4,11 +4,11 @@ use crate::checking::mark;
 use crate::fault::Fault;
 use crate::feed::{Feed, feed_of};
 use crate::files::{LONGEST_TABLE, read};
-use crate::output::{STANDARD_OUTPUT, listed, output_fault};
+use crate::output::{listed, written_fault};
 use clap::Error;
 use lc_model::packet::first_packet;
 use packet_listing::Line;
-use program_files::{Noting, Why};
+use program_files::Noting;
 use std::alloc::Global;
 use std::cell::Cell;
 use std::fs::Files;
@@ -48,10 +48,7 @@ pub fn table<'a, R: Files + AllocGlobal, W: Write>(
             }
         }
         Err(ListingError::Memory) => Err(Fault::Memory),
-        Err(ListingError::Write) => Err(match kind.get() {
-            Some(kind) => output_fault(kind),
-            None => Fault::File(STANDARD_OUTPUT, Why::Failed),
-        }),
+        Err(ListingError::Write) => Err(written_fault(kind.get())),
     }
 }
 

@@ -1,16 +1,16 @@
 //! Standard input and standard output, and how they fail.
 
-ghost use Rattle.tool_commands.specs.Cause.{IsListed, IsOfInput, IsOfOutput};
+ghost use Rattle.tool_commands.specs.Cause.{IsListed, IsOfInput, IsOfOutput, IsOfWrite};
 
 use crate::fault::Fault;
-use program_files::reason_for;
+use program_files::{Why, reason_for};
 use std::io::{self, ErrorKind};
 
 /// What is said of standard input.
 const STANDARD_INPUT: &str = "standard input";
 
 /// What is said of standard output.
-pub const STANDARD_OUTPUT: &str = "standard output";
+const STANDARD_OUTPUT: &str = "standard output";
 
 /// Of an error of standard input.
 pub fn input_fault(kind: ErrorKind) -> Fault<'static>
@@ -30,6 +30,16 @@ pub fn output_fault(kind: ErrorKind) -> Fault<'static>
         ErrorKind::OutOfMemory => Fault::Memory,
         ErrorKind::BrokenPipe => Fault::Gone,
         kind => Fault::File(STANDARD_OUTPUT, reason_for(kind)),
+    }
+}
+
+/// Of a write to standard output that failed by this kind of error, if one was noted.
+pub fn written_fault(kind: Option<ErrorKind>) -> Fault<'static>
+    ensures { IsOfWrite kind result }
+{
+    match kind {
+        Some(kind) => output_fault(kind),
+        None => Fault::File(STANDARD_OUTPUT, Why::Failed),
     }
 }
 

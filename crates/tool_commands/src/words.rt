@@ -58,6 +58,19 @@ pub enum Plan<'a> {
         all: bool,
         strict: bool,
     },
+    /// `compare SCHEDULE STREAM OLD NEW`: what comes of one of two rule texts alone.
+    Compare {
+        schedule: &'a str,
+        stream: &'a str,
+        old: &'a str,
+        new: &'a str,
+    },
+    /// `try SCRIPT SCHEDULE RULES..`: a run of a script, and whether what it expects comes.
+    Try {
+        script: &'a str,
+        schedule: &'a str,
+        rules: Vec<&'a str>,
+    },
     /// `live SCHEDULE RULES..`: a run over a stream as it comes, from standard input to standard output.
     Live {
         schedule: &'a str,
@@ -84,6 +97,8 @@ pub struct ImportWords<'a> {
     pub step: Option<&'a str>,
     /// The seconds from tick to tick.
     pub tick: Option<&'a str>,
+    /// The number of the rule text with which the stream starts.
+    pub start: Option<&'a str>,
 }
 
 /// What a command takes beside its files.
@@ -111,7 +126,7 @@ struct Row {
 }
 
 /// All commands, as the help lists them.
-const ROWS: [Row; 9] = [
+const ROWS: [Row; 11] = [
     Row {
         word: "table",
         about: "Says what a table file holds",
@@ -169,6 +184,26 @@ const ROWS: [Row; 9] = [
         about: "Says of rules whether they compile, and what is so for every stream",
         files: &[],
         more: More::Checked,
+    },
+    Row {
+        word: "compare",
+        about: "Says what comes of one of two rule texts alone, over one stream",
+        files: &[
+            ("SCHEDULE", "The schedule"),
+            ("STREAM", "A stream of records"),
+            ("OLD", "The rule text that flies"),
+            ("NEW", "The rule text that is to fly"),
+        ],
+        more: More::Nothing,
+    },
+    Row {
+        word: "try",
+        about: "Runs a script, and says what of that which it expects doesn't come",
+        files: &[
+            ("SCRIPT", "The script, line by line"),
+            ("SCHEDULE", "The schedule"),
+        ],
+        more: More::Rules,
     },
     Row {
         word: "live",
@@ -246,6 +281,11 @@ fn with_times<'a>(alloc: Global, command: Command<'a>) -> Result<Command<'a>, Al
             alloc,
             "tick",
             "The seconds from tick to tick; no ticks where it isn't given",
+        ))?
+        .arg(option_word(
+            alloc,
+            "start",
+            "The rule text whose tables and start stand in front",
         ))
 }
 
@@ -369,6 +409,8 @@ fn given_plan<'a>(alloc: Global, matches: &ArgMatches<'a>) -> Result<Option<Plan
         Some(("export", found)) => Ok(export_plan(found)),
         Some(("report", found)) => report_plan(alloc, found),
         Some(("check", found)) => check_plan(alloc, found),
+        Some(("compare", found)) => Ok(compare_plan(found)),
+        Some(("try", found)) => try_plan(alloc, found),
         Some(("live", found)) => live_plan(alloc, found),
         _ => Ok(None),
     }
@@ -450,6 +492,7 @@ fn import_words<'a>(found: &ArgMatches<'a>) -> ImportWords<'a>
         epoch: named(found, "epoch"),
         step: named(found, "step"),
         tick: named(found, "tick"),
+        start: named(found, "start"),
     }
 }
 
@@ -531,6 +574,40 @@ fn check_plan<'a>(alloc: Global, found: &ArgMatches<'a>) -> Result<Option<Plan<'
 {
     match rules_of(alloc, found)? {
         Some(rules) => Ok(Some(check_of(found, rules))),
+        None => Ok(None),
+    }
+}
+
+fn compare_plan<'a>(found: &ArgMatches<'a>) -> Option<Plan<'a>>
+    ensures { IfSome result (HoldsRows (codes "compare", rows_of (found_of found.now))) }
+{
+    Some(Plan::Compare {
+        schedule: file_of(found, "SCHEDULE")?,
+        stream: file_of(found, "STREAM")?,
+        old: file_of(found, "OLD")?,
+        new: file_of(found, "NEW")?,
+    })
+}
+
+/// The plan of a script that is tried with these rule texts.
+fn try_of<'a>(found: &ArgMatches<'a>, rules: Vec<&'a str>) -> Option<Plan<'a>>
+    requires { all_of (codes "RULES") (rows_of (found_of found.now)) ≡
+        Some (map (λ word. word.now) rules.items) }
+    ensures { IfSome result (HoldsRows (codes "try", rows_of (found_of found.now))) }
+{
+    Some(Plan::Try {
+        script: file_of(found, "SCRIPT")?,
+        schedule: file_of(found, "SCHEDULE")?,
+        rules,
+    })
+}
+
+fn try_plan<'a>(alloc: Global, found: &ArgMatches<'a>) -> Result<Option<Plan<'a>>, AllocError>
+    ensures { IfOk result (λ plan. IfSome plan
+        (HoldsRows (codes "try", rows_of (found_of found.now)))) }
+{
+    match rules_of(alloc, found)? {
+        Some(rules) => Ok(try_of(found, rules)),
         None => Ok(None),
     }
 }

@@ -1,6 +1,6 @@
 //! One run over the whole stream, with what each record led to.
 
-use crate::error::ReportError;
+use crate::error::CourseError;
 use crate::sent::{Sent, read_packet};
 use crate::steps::{Kept, Steps};
 use flight_core::{Report, RunError};
@@ -43,7 +43,7 @@ pub struct Entry<'a> {
 }
 
 /// How the stream ended. Source and sink are in memory and fail for want of it alone.
-fn ending_of(answer: Result<Report, RunError>) -> Result<Ending, ReportError> {
+fn ending_of(answer: Result<Report, RunError>) -> Result<Ending, CourseError> {
     match answer {
         Ok(report) => Ok(Ending::Whole {
             records: report.records,
@@ -51,8 +51,8 @@ fn ending_of(answer: Result<Report, RunError>) -> Result<Ending, ReportError> {
         Err(RunError::BadRecord { n }) => Ok(Ending::NoRecord { n }),
         Err(RunError::Truncated { n }) => Ok(Ending::Cut { n }),
         Err(RunError::ReadBound) => Ok(Ending::Bound),
-        Err(RunError::Compile { text, error }) => Err(ReportError::Rules { text, error }),
-        Err(RunError::Read | RunError::Write { .. } | RunError::Memory) => Err(ReportError::Memory),
+        Err(RunError::Compile { text, error }) => Err(CourseError::Rules { text, error }),
+        Err(RunError::Read | RunError::Write { .. } | RunError::Memory) => Err(CourseError::Memory),
     }
 }
 
@@ -73,7 +73,7 @@ pub fn run_over(
     texts: &[&[u8]],
     schedule: &Schedule,
     stream: &[u8],
-) -> Result<Course, ReportError> {
+) -> Result<Course, CourseError> {
     let mut output = Vec::new(alloc);
     let mut marks = Vec::new(alloc);
     let written = Cell::new(0);

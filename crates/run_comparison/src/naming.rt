@@ -1,0 +1,122 @@
+//! Rules as events speak of them.
+
+use rule_lexer::lex;
+use rule_parser::{Item, RuleItem, parse};
+use std::alloc::{AllocError, Global};
+
+/// What an event says before the number of the rule whose own event it is.
+const OF_RULE: &[u8] = b": AP = ";
+
+/// What an event of another kind says before a rule's number.
+const ABOUT_RULE: &[u8] = b"actionpoint ";
+
+/// The numbers of the events that say of a rule, by its number, how it failed or turned.
+const ABOUT_RULES: [u16; 4] = [3, 4, 5, 6];
+
+/// A rule, by what events and sequence requests say of it.
+#[derive(Clone, Copy)]
+pub struct Named<'a> {
+    pub name: &'a [u8],
+    /// The number of its own event, and what that says first.
+    event: i64,
+    text: &'a [u8],
+    pub sequence: i64,
+}
+
+impl<'a> Named<'a> {
+    /// What is said of a rule.
+    fn of(rule: &RuleItem<'a>) -> Named<'a> {
+        Named {
+            name: rule.name.text,
+            event: rule.event_id.value,
+            text: rule.text,
+            sequence: rule.sequence.value,
+        }
+    }
+}
+
+/// The rules of a text that compiles, in order. Out of memory is the only error.
+pub fn rules_of<'a>(alloc: Global, text: &'a [u8]) -> Result<Vec<Named<'a>>, AllocError> {
+    let mut rules = Vec::new(alloc);
+    let Ok(tokens) = lex(alloc, text) else {
+        return Err(AllocError);
+    };
+    let Ok(file) = parse(alloc, text, tokens.as_slice()) else {
+        return Err(AllocError);
+    };
+    for item in &file.items {
+        if let Item::Rule(rule) = item {
+            rules.push(Named::of(rule))?;
+        }
+    }
+    Ok(rules)
+}
+
+/// What stands behind this in front, where it does.
+fn behind<'t>(front: &[u8], text: &'t [u8]) -> Option<&'t [u8]> {
+    match text.split_at_checked(front.len()) {
+        Some((first, rest)) if first == front => Some(rest),
+        _ => None,
+    }
+}
+
+/// A number at the front of a text, and what stands behind its digits.
+fn number_in(text: &[u8]) -> Option<(usize, &[u8])> {
+    let size = text.iter().take_while(|byte| byte.is_ascii_digit()).count();
+    let (digits, rest) = text.split_at_checked(size)?;
+    let digits = str::from_utf8(digits).ok()?;
+    Some((digits.parse().ok()?, rest))
+}
+
+/// A rule that an event speaks of, and what that says of it: the rule's own text, where it is its own event, and the rest.
+#[derive(Clone, Copy)]
+pub struct About<'r, 't> {
+    pub name: &'r [u8],
+    pub text: &'r [u8],
+    pub rest: &'t [u8],
+}
+
+/// The rule with this number whose own event this is, where it is.
+fn own_event<'r, 't>(
+    rule: &Named<'r>,
+    number: usize,
+    id: u16,
+    text: &'t [u8],
+) -> Option<About<'r, 't>> {
+    if rule.event != i64::from(id) {
+        return None;
+    }
+    let (of, rest) = number_in(behind(OF_RULE, behind(rule.text, text)?)?)?;
+    if of != number {
+        return None;
+    }
+    Some(About {
+        name: rule.name,
+        text: rule.text,
+        rest,
+    })
+}
+
+/// The rule of which an event of the Limit Checker says how it failed or turned, where it does.
+fn about_rule<'r, 't>(rules: &[Named<'r>], id: u16, text: &'t [u8]) -> Option<About<'r, 't>> {
+    if !ABOUT_RULES.contains(&id) {
+        return None;
+    }
+    let (number, rest) = number_in(behind(ABOUT_RULE, text)?)?;
+    Some(About {
+        name: rules.get(number)?.name,
+        text: b"",
+        rest: behind(b" ", rest)?,
+    })
+}
+
+/// The rule that an event of the Limit Checker speaks of, where it speaks of one of these.
+pub fn about<'r, 't>(rules: &[Named<'r>], id: u16, text: &'t [u8]) -> Option<About<'r, 't>> {
+    for (number, rule) in rules.iter().enumerate() {
+        let found = own_event(rule, number, id, text);
+        if found.is_some() {
+            return found;
+        }
+    }
+    about_rule(rules, id, text)
+}

@@ -1,0 +1,83 @@
+//! What came of a record, as a line: rules are called by their names.
+
+use crate::naming::{Named, about};
+use lc_model::EventKind;
+use packet_listing::Field;
+use run_course::{Event, Sent};
+use std::fmt::{self, Display, Formatter, Write};
+
+/// Who sends what the Limit Checker says.
+const LIMIT_CHECKER: &[u8] = b"LC";
+
+/// A sequence request or an event, and the rules of the text in whose run it came.
+#[derive(Clone, Copy)]
+pub struct Said<'a> {
+    pub sent: Sent<'a>,
+    pub rules: &'a [Named<'a>],
+}
+
+/// The rules that request the sequence of this number.
+fn say_requesters<W: Write>(
+    rules: &[Named<'_>],
+    sequence: u16,
+    f: &mut Formatter<W>,
+) -> fmt::Result {
+    let mut sign = " (";
+    for rule in rules {
+        if rule.sequence == i64::from(sequence) {
+            let name = Field(rule.name);
+            write!(f, "{sign}{name}")?;
+            sign = ", ";
+        }
+    }
+    if sign == ", " { write!(f, ")") } else { Ok(()) }
+}
+
+/// An event's type.
+fn level(kind: EventKind) -> &'static str {
+    match kind {
+        EventKind::Debug => "debug",
+        EventKind::Information => "information",
+        EventKind::Error => "error",
+        EventKind::Critical => "critical",
+    }
+}
+
+/// An event, and of which rule it is.
+fn say_event<W: Write>(
+    rules: &[Named<'_>],
+    event: Event<'_>,
+    f: &mut Formatter<W>,
+) -> fmt::Result {
+    let sender = Field(event.sender);
+    let level = level(event.kind);
+    write!(f, "{sender} {} {level}", event.id)?;
+    let found = if event.sender == LIMIT_CHECKER {
+        about(rules, event.id, event.text)
+    } else {
+        None
+    };
+    match found {
+        Some(rule) => write!(
+            f,
+            " of {}: {}{}",
+            Field(rule.name),
+            Field(rule.text),
+            Field(rule.rest)
+        ),
+        None => write!(f, ": {}", Field(event.text)),
+    }
+}
+
+impl Display for Said<'_> {
+    fn fmt<W: Write>(&self, f: &mut Formatter<W>) -> fmt::Result {
+        match self.sent {
+            Sent::Request(sequence) => {
+                write!(f, "sequence {sequence}")?;
+                say_requesters(self.rules, sequence, f)
+            }
+            Sent::Event(event) => say_event(self.rules, event, f),
+            Sent::Housekeeping { mode: _, count, rules: _ } => write!(f, "housekeeping of {count} rules"),
+        }
+    }
+}

@@ -1,0 +1,78 @@
+//! Why a script isn't tried.
+
+use crate::reading::ReadError;
+use rpn_compiler::CompileError;
+use run_course::CourseError;
+use std::alloc::{AllocError, AllocFailed};
+use std::io::{self, ErrorKind};
+use stream_script::ScriptError;
+use thiserror::Error;
+
+/// Why a script isn't tried, or what comes of it not wholly written.
+#[derive(Clone, Copy, Debug, PartialEq, Eq, Error)]
+pub enum TrialError {
+    /// A line, counted from 1, says no expectation.
+    #[error("{error}")]
+    Expectation { error: ReadError },
+    /// The script says no stream.
+    #[error("{error}")]
+    Script { error: ScriptError },
+    /// A rule text doesn't compile. Texts count from 0.
+    #[error("text {text}: {error}")]
+    Rules { text: usize, error: CompileError },
+    /// Out of memory.
+    #[error("out of memory")]
+    Memory,
+    /// What is found can't be written.
+    #[error("a write failed")]
+    Write,
+}
+
+impl From<ReadError> for TrialError {
+    fn from(error: ReadError) -> TrialError {
+        match error {
+            ReadError::Memory => TrialError::Memory,
+            error => TrialError::Expectation { error },
+        }
+    }
+}
+
+impl From<ScriptError> for TrialError {
+    fn from(error: ScriptError) -> TrialError {
+        match error {
+            ScriptError::Memory => TrialError::Memory,
+            error => TrialError::Script { error },
+        }
+    }
+}
+
+impl From<CourseError> for TrialError {
+    fn from(error: CourseError) -> TrialError {
+        match error {
+            CourseError::Memory => TrialError::Memory,
+            CourseError::Rules { text, error } => TrialError::Rules { text, error },
+        }
+    }
+}
+
+impl From<AllocError> for TrialError {
+    fn from(_error: AllocError) -> TrialError {
+        TrialError::Memory
+    }
+}
+
+impl<T: Drop> From<AllocFailed<T>> for TrialError {
+    fn from(_error: AllocFailed<T>) -> TrialError {
+        TrialError::Memory
+    }
+}
+
+impl From<io::Error> for TrialError {
+    fn from(error: io::Error) -> TrialError {
+        if error.kind() == ErrorKind::OutOfMemory {
+            TrialError::Memory
+        } else {
+            TrialError::Write
+        }
+    }
+}

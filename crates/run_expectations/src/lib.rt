@@ -1,0 +1,16 @@
+//! A run as a test: what a script expects to come, and whether it has.
+#![tactic(auto)]
+
+mod error;
+mod expectation;
+mod fault;
+mod reading;
+mod telling;
+mod trial;
+mod words;
+
+pub use error::TrialError;
+pub use expectation::{Arrival, Expectation, Span, What, has_come};
+pub use fault::Fault;
+pub use reading::{Placed, ReadError, read_expectations, silenced};
+pub use trial::{Tried, try_script};

@@ -1,0 +1,147 @@
+//! Why an expectation isn't met: what came in its place.
+
+use crate::expectation::{Arrival, Span, What};
+use run_course::{result_in, result_word, state_in, state_word};
+use std::fmt::{self, Display, Formatter, Write};
+
+/// Of what came so many are told, at most.
+const TOLD: usize = 3;
+
+/// What was found of a rule.
+#[derive(Clone, Copy)]
+pub enum Found {
+    /// No text has a rule of that name, or the tables in force have no rule of its number.
+    NoRule,
+    /// The Limit Checker doesn't run.
+    Stopped,
+    /// The rule's byte in housekeeping.
+    Stands(u8),
+}
+
+/// Why an expectation isn't met.
+#[derive(Clone, Copy)]
+pub enum Unmet<'a> {
+    /// Nothing of this came within these seconds, among all that came.
+    Missing { what: What, span: Span, arrivals: &'a [Arrival] },
+    /// Some of this came within these seconds.
+    Came { what: What, span: Span, arrivals: &'a [Arrival] },
+    /// The rule is in another state.
+    State(Found),
+    /// The rule has another result.
+    Result(Found),
+}
+
+impl Display for Arrival {
+    fn fmt<W: Write>(&self, f: &mut Formatter<W>) -> fmt::Result {
+        let word = if self.is_event { "event" } else { "sequence" };
+        write!(f, "{word} {} in second {}", self.number, self.second)
+    }
+}
+
+/// Which of what came are told of: of this alone, where it is named, and within these seconds, or else outside of them.
+#[derive(Clone, Copy)]
+struct Which {
+    what: Option<What>,
+    span: Span,
+    is_within: bool,
+}
+
+impl Which {
+    /// Whether this is told of.
+    fn takes(self, one: Arrival) -> bool {
+        let is_asked = match self.what {
+            Some(what) => what.is(one),
+            None => true,
+        };
+        is_asked && self.span.holds(one.second) == self.is_within
+    }
+}
+
+/// Says the first few of these behind some words, and answers whether there is one.
+fn say_those<W: Write>(
+    words: &str,
+    which: Which,
+    arrivals: &[Arrival],
+    f: &mut Formatter<W>,
+) -> Result<bool, fmt::Error> {
+    let mut count = 0usize;
+    for one in arrivals {
+        if which.takes(*one) {
+            if count == TOLD {
+                write!(f, " ..")?;
+                return Ok(true);
+            }
+            let sign = if count == 0 { words } else { ", " };
+            write!(f, "{sign}{one}")?;
+            count += 1;
+        }
+    }
+    Ok(count > 0)
+}
+
+/// Says what came in the place of something that didn't: the same at other times, or else what came at its time.
+fn say_missing<W: Write>(
+    what: What,
+    span: Span,
+    arrivals: &[Arrival],
+    f: &mut Formatter<W>,
+) -> fmt::Result {
+    let elsewhere = Which {
+        what: Some(what),
+        span,
+        is_within: false,
+    };
+    if say_those("there came ", elsewhere, arrivals, f)? {
+        return Ok(());
+    }
+    let others = Which {
+        what: None,
+        span,
+        is_within: true,
+    };
+    if say_those("there came ", others, arrivals, f)? {
+        return Ok(());
+    }
+    write!(f, "nothing came")
+}
+
+/// Says how a rule isn't found.
+fn say_not_found<W: Write>(found: Found, f: &mut Formatter<W>) -> fmt::Result {
+    match found {
+        Found::NoRule => write!(f, "there is no such rule"),
+        Found::Stopped => write!(f, "the Limit Checker doesn't run"),
+        Found::Stands(_) => Ok(()),
+    }
+}
+
+impl Display for Unmet<'_> {
+    fn fmt<W: Write>(&self, f: &mut Formatter<W>) -> fmt::Result {
+        match *self {
+            Unmet::Missing {
+                what,
+                span,
+                arrivals,
+            } => say_missing(what, span, arrivals, f),
+            Unmet::Came {
+                what,
+                span,
+                arrivals,
+            } => {
+                let those = Which {
+                    what: Some(what),
+                    span,
+                    is_within: true,
+                };
+                let _is_told = say_those("there came ", those, arrivals, f)?;
+                Ok(())
+            }
+            Unmet::State(Found::Stands(byte)) => write!(f, "it is {}", state_word(state_in(byte))),
+            Unmet::Result(Found::Stands(byte)) => write!(
+                f,
+                "its last result is {}",
+                result_word(result_in(byte))
+            ),
+            Unmet::State(found) | Unmet::Result(found) => say_not_found(found, f),
+        }
+    }
+}

@@ -1,0 +1,240 @@
+//! A run of a script, and whether what it expects has come.
+
+use crate::error::TrialError;
+use crate::expectation::{Arrival, Expectation, Span, What, has_come};
+use crate::reading::{Placed, read_expectations, silenced};
+use crate::telling::{Found, Unmet};
+use lc_model::{ApMode, ApResult};
+use packet_listing::list_packets;
+use rule_lexer::{TokenKind, lex};
+use run_course::{
+    Course, Ending, Entry, Plan, Sent, Standing, ends_of, moment_of, record_in, result_in, run_over,
+    standing_behind, state_in,
+};
+use std::alloc::{AllocError, Global};
+use std::io::Write;
+use stream_script::read_script;
+
+/// What a trial came to: how many expectations there are, and how many weren't met.
+#[derive(Clone, Copy, Debug, PartialEq, Eq)]
+pub struct Tried {
+    pub expected: u64,
+    pub unmet: u64,
+}
+
+/// A run of a script: the rule texts and the schedule, the script without its expectations, and what came.
+struct Trial<'a> {
+    alloc: Global,
+    plan: Plan<'a>,
+    script: &'a [u8],
+    arrivals: &'a [Arrival],
+}
+
+/// A request or an event of the Limit Checker, by its number.
+fn arrival(entry: Entry<'_>, second: u32) -> Option<Arrival> {
+    match entry.sent {
+        Sent::Request(number) => Some(Arrival {
+            second,
+            is_event: false,
+            number,
+        }),
+        Sent::Event(event) if event.sender == b"LC" => Some(Arrival {
+            second,
+            is_event: true,
+            number: event.id,
+        }),
+        Sent::Event(_) | Sent::Housekeeping { .. } => None,
+    }
+}
+
+/// What came of a run over this stream, in order.
+fn arrivals_of(alloc: Global, course: &Course, stream: &[u8]) -> Result<Vec<Arrival>, AllocError> {
+    let ends = ends_of(alloc, stream)?;
+    let entries = course.entries(alloc)?;
+    let mut arrivals = Vec::new(alloc);
+    for entry in &entries {
+        let moment = moment_of(record_in(stream, ends.as_slice(), entry.record));
+        if let Some(one) = arrival(*entry, moment.seconds) {
+            arrivals.push(one)?;
+        }
+    }
+    Ok(arrivals)
+}
+
+/// The number of the rule with this name in a text that compiles: rules count from 0.
+fn number_of(alloc: Global, text: &[u8], name: &[u8]) -> Result<Option<usize>, AllocError> {
+    let Ok(tokens) = lex(alloc, text) else {
+        return Err(AllocError);
+    };
+    let mut number = 0usize;
+    let mut is_name = false;
+    for token in &tokens {
+        if is_name {
+            if token.text == name {
+                return Ok(Some(number));
+            }
+            number = number.saturating_add(1);
+        }
+        is_name = token.kind == TokenKind::Rule;
+    }
+    Ok(None)
+}
+
+/// The number of the rule with this name in the first text that has one.
+fn first_number(alloc: Global, texts: &[&[u8]], name: &[u8]) -> Result<Option<usize>, AllocError> {
+    for text in texts {
+        let number = number_of(alloc, text, name)?;
+        if number.is_some() {
+            return Ok(number);
+        }
+    }
+    Ok(None)
+}
+
+impl Trial<'_> {
+    /// How the rules stand behind what the script says before a place: nothing where the Limit Checker doesn't run.
+    fn standing_at(&self, at: usize) -> Result<Option<Standing>, TrialError> {
+        let front = self.script.get(..at).unwrap_or(self.script);
+        let mut records = read_script(self.alloc, front)?;
+        let ends = ends_of(self.alloc, records.as_slice())?;
+        let Some(last) = ends.len().checked_sub(1) else {
+            return Ok(None);
+        };
+        let course = run_over(self.alloc, self.plan.texts, self.plan.schedule, records.as_slice())?;
+        let record = Vec::from_slice(
+            self.alloc,
+            record_in(records.as_slice(), ends.as_slice(), last),
+        )?;
+        let mut output = Vec::new(self.alloc);
+        Ok(standing_behind(
+            self.alloc,
+            self.plan,
+            &mut records,
+            record.as_slice(),
+            course.output.len(),
+            &mut output,
+        )?)
+    }
+
+    /// A rule's byte in the standing behind what the script says before a place.
+    fn byte_at(&self, name: &[u8], at: usize) -> Result<Found, TrialError> {
+        let Some(number) = first_number(self.alloc, self.plan.texts, name)? else {
+            return Ok(Found::NoRule);
+        };
+        match self.standing_at(at)? {
+            None => Ok(Found::Stopped),
+            Some(standing) => match standing.rules.as_slice().get(number) {
+                Some(byte) => Ok(Found::Stands(*byte)),
+                None => Ok(Found::NoRule),
+            },
+        }
+    }
+
+    /// Why a rule isn't in this state, where it isn't.
+    fn state(&self, name: &[u8], state: ApMode, at: usize) -> Result<Option<Unmet<'_>>, TrialError> {
+        let found = self.byte_at(name, at)?;
+        let is_met = matches!(found, Found::Stands(byte) if state_in(byte) == state);
+        Ok(if is_met { None } else { Some(Unmet::State(found)) })
+    }
+
+    /// Why a rule's last result isn't this one, where it isn't.
+    fn result(
+        &self,
+        name: &[u8],
+        last: Option<ApResult>,
+        at: usize,
+    ) -> Result<Option<Unmet<'_>>, TrialError> {
+        let found = self.byte_at(name, at)?;
+        let is_met = matches!(found, Found::Stands(byte) if result_in(byte) == last);
+        Ok(if is_met { None } else { Some(Unmet::Result(found)) })
+    }
+
+    /// Why nothing of this came within these seconds, where nothing did.
+    fn comes(&self, what: What, span: Span) -> Option<Unmet<'_>> {
+        if has_come(what, span, self.arrivals) {
+            return None;
+        }
+        Some(Unmet::Missing {
+            what,
+            span,
+            arrivals: self.arrivals,
+        })
+    }
+
+    /// What of this came within these seconds, where something did.
+    fn absent(&self, what: What, span: Span) -> Option<Unmet<'_>> {
+        if !has_come(what, span, self.arrivals) {
+            return None;
+        }
+        Some(Unmet::Came {
+            what,
+            span,
+            arrivals: self.arrivals,
+        })
+    }
+
+    /// Why an expectation isn't met, where it isn't.
+    fn unmet(&self, placed: Placed<'_>) -> Result<Option<Unmet<'_>>, TrialError> {
+        match placed.expectation {
+            Expectation::Comes(what, span) => Ok(self.comes(what, span)),
+            Expectation::Absent(what, span) => Ok(self.absent(what, span)),
+            Expectation::State(name, state) => self.state(name, state, placed.at),
+            Expectation::Result(name, last) => self.result(name, last, placed.at),
+        }
+    }
+
+    /// Writes a line for each expectation that isn't met, and answers how many these are.
+    fn judge<W: Write>(
+        &self,
+        name: &str,
+        expectations: &[Placed<'_>],
+        out: &mut W,
+    ) -> Result<u64, TrialError> {
+        let mut count = 0u64;
+        for placed in expectations {
+            if let Some(unmet) = self.unmet(*placed)? {
+                write!(out, "{name}:{}: not met: ", placed.n)?;
+                out.write_all(placed.line)?;
+                writeln!(out, ": {unmet}")?;
+                count = count.saturating_add(1);
+            }
+        }
+        Ok(count)
+    }
+}
+
+/// Runs rule texts over the stream that a script says. Without expectations in the script, the packets that came are listed. Else
+/// a line is written for each expectation that isn't met, with what came in its place, and a last one with how many there are.
+///
+/// Errors: `Expectation` and `Script` with the first line that can't be read, and `Rules` with the first text that doesn't
+/// compile, before anything is written; `Memory`; `Write`, where the writer fails.
+pub fn try_script<W: Write>(
+    alloc: Global,
+    name: &str,
+    script: &[u8],
+    plan: Plan<'_>,
+    out: &mut W,
+) -> Result<Tried, TrialError> {
+    let expectations = read_expectations(alloc, script)?;
+    let quiet = silenced(alloc, script, expectations.as_slice())?;
+    let stream = read_script(alloc, quiet.as_slice())?;
+    let course = run_over(alloc, plan.texts, plan.schedule, stream.as_slice())?;
+    if expectations.is_empty() {
+        list_packets(course.output.as_slice(), out)?;
+        return Ok(Tried {
+            expected: 0,
+            unmet: 0,
+        });
+    }
+    let arrivals = arrivals_of(alloc, &course, stream.as_slice())?;
+    let trial = Trial {
+        alloc,
+        plan,
+        script: quiet.as_slice(),
+        arrivals: arrivals.as_slice(),
+    };
+    let unmet = trial.judge(name, expectations.as_slice(), out)?;
+    let expected = expectations.len() as u64;
+    writeln!(out, "{name}: {expected} expectations, {unmet} not met")?;
+    Ok(Tried { expected, unmet })
+}
