@@ -168,6 +168,8 @@ Commands:
   export    Writes the packets of a stream, one behind the other
   report    Makes a page of a run, for a browser
   check     Says of rules whether they compile, and what is so for every stream
+  compare   Says what comes of one of two rule texts alone, over one stream
+  try       Runs a script, and says what of that which it expects doesn't come
   live      Runs a stream from standard input as it comes, to standard output
   help      Print this message or the help of the given subcommand(s)
 
@@ -187,7 +189,7 @@ WORDS = [
     Row("help is no fault", ["flight_tools", "--help"], output=HELP),
     Row("no command", ["flight_tools"], status=2, error=b"""\
 error: 'flight_tools' requires a subcommand but one was not provided
-  [subcommands: table, stream, packets, scenario, import, export, report, check, live, help]
+  [subcommands: table, stream, packets, scenario, import, export, report, check, compare, try, live, help]
 
 Usage: flight_tools <COMMAND>
 
