@@ -5,8 +5,10 @@ mod event;
 mod housekeeping;
 mod line;
 mod listing;
+mod sent;
 mod text;
 
 pub use line::Line;
 pub use listing::list_packets;
+pub use sent::{Event, Sent, read_packet};
 pub use text::{Field, Time};

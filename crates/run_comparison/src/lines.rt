@@ -3,7 +3,8 @@
 use crate::error::{ComparisonError, Which};
 use crate::naming::{Named, rules_of};
 use crate::said::Said;
-use run_course::{Course, Ending, Entry, Sent, run_over};
+use packet_listing::Sent;
+use run_course::{Course, Ending, Entry, run_over};
 use std::alloc::{AllocError, Global};
 use std::io::Write;
 use tick_scheduler::Schedule;

@@ -2,8 +2,7 @@
 
 use crate::naming::{Named, about};
 use lc_model::EventKind;
-use packet_listing::Field;
-use run_course::{Event, Sent};
+use packet_listing::{Event, Field, Sent};
 use std::fmt::{self, Display, Formatter, Write};
 
 /// Who sends what the Limit Checker says.

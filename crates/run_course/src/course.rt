@@ -1,11 +1,11 @@
 //! One run over the whole stream, with what each record led to.
 
 use crate::error::CourseError;
-use crate::sent::{Sent, read_packet};
 use crate::steps::{Kept, Steps};
 use flight_core::{Report, RunError};
 use flight_stock::launch;
 use lc_model::packet::first_packet;
+use packet_listing::{Sent, read_packet};
 use std::alloc::{AllocError, Global};
 use std::cell::Cell;
 use tick_scheduler::Schedule;

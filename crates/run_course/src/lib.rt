@@ -6,7 +6,6 @@ mod error;
 mod framing;
 mod moment;
 mod probe;
-mod sent;
 mod standing;
 mod steps;
 
@@ -15,5 +14,4 @@ pub use error::CourseError;
 pub use framing::{ends_of, moment_of, record_in};
 pub use moment::Seconds;
 pub use probe::{Plan, standing_behind};
-pub use sent::{Event, Sent, read_packet};
 pub use standing::{Standing, result_in, result_word, state_in, state_word};

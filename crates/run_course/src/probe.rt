@@ -5,12 +5,12 @@
 //! tells is how it stood behind these records.
 
 use crate::error::CourseError;
-use crate::sent::{Sent, read_packet};
 use crate::standing::Standing;
 use crate::steps::Kept;
 use flight_stock::launch;
 use lc_model::Pieces;
 use lc_model::packet::first_packet;
+use packet_listing::{Sent, read_packet};
 use std::alloc::{AllocError, Global};
 use std::cell::Cell;
 use tick_scheduler::Schedule;

@@ -5,12 +5,9 @@ use crate::expectation::{Arrival, Expectation, Span, What, has_come};
 use crate::reading::{Placed, read_expectations, silenced};
 use crate::telling::{Found, Unmet};
 use lc_model::{ApMode, ApResult};
-use packet_listing::list_packets;
+use packet_listing::{Sent, list_packets};
 use rule_lexer::{TokenKind, lex};
-use run_course::{
-    Course, Ending, Entry, Plan, Sent, Standing, ends_of, moment_of, record_in, result_in, run_over,
-    standing_behind, state_in,
-};
+use run_course::{Course, Ending, Entry, Plan, Standing, ends_of, moment_of, record_in, result_in, run_over, standing_behind, state_in};
 use std::alloc::{AllocError, Global};
 use std::io::Write;
 use stream_script::read_script;

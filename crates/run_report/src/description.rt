@@ -5,7 +5,8 @@ use crate::escape::{put, put_text};
 use lc_model::packet::message_id;
 use lc_model::stream::{HALF, HEADER, NAME};
 use lc_model::{EventKind, mids, name_in, u16_at};
-use run_course::{Entry, Sent};
+use packet_listing::Sent;
+use run_course::Entry;
 use std::io::{self, Write};
 
 /// What a record brings.

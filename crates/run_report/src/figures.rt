@@ -4,7 +4,8 @@ use crate::account::Account;
 use crate::description::{Brings, read_record};
 use crate::escape::put;
 use lc_model::EventKind;
-use run_course::{Ending, Sent};
+use packet_listing::Sent;
+use run_course::Ending;
 use std::io::{self, Write};
 
 /// How many there are of what.

@@ -5,7 +5,8 @@ use crate::description::{Brings, kind_class, put_entry, put_record, read_record}
 use crate::escape::put;
 use crate::geometry::{ROOM, Tenths, edge, middle, slot};
 use lc_model::EventKind;
-use run_course::{Entry, Sent};
+use packet_listing::Sent;
+use run_course::Entry;
 use std::alloc::{AllocError, Global};
 use std::io::{self, Write};
 

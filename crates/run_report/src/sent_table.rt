@@ -4,7 +4,8 @@ use crate::account::Account;
 use crate::description::{kind_class, kind_word};
 use crate::escape::{put, put_text};
 use crate::figures::put_number;
-use run_course::{Entry, Event, Sent};
+use packet_listing::{Event, Sent};
+use run_course::Entry;
 use std::io::{self, Write};
 
 /// The most rows.

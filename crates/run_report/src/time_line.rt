@@ -8,7 +8,8 @@ use crate::geometry::{Tenths, WIDTH, edge, middle, slot};
 use crate::lanes::{Lane, Mark, has_marks, marks_of, put_marks, put_numbers};
 use crate::result_lanes::{put_mode_lane, put_rule_lane};
 use lc_model::EventKind;
-use run_course::{Entry, Sent};
+use packet_listing::Sent;
+use run_course::Entry;
 use std::alloc::Global;
 use std::io::{self, Write};
 

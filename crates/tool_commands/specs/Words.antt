@@ -9,6 +9,7 @@ use Rattle.tool_commands.specs.declared.fault.Fault.TheVariants as fault
 use Rattle.tool_commands.specs.declared.words.Plan.{Plan}
 use Rattle.tool_commands.specs.declared.words.Plan.TheVariants.{Said, Table, Stream, Packets, Scenario, Import, Export, Report, Check, Compare, Try, Live}
 use Rattle.tool_commands.specs.declared.words.ImportWords.{ImportWords}
+use Rattle.tool_commands.specs.declared.words.RowWords.{RowWords}
 
 -- where no command is found, by the kind of what `clap` says: help and the version are asked for, and other words are at fault
 abbrev pub answer_by : ErrorKind → Error → Result Plan Fault
@@ -26,13 +27,19 @@ HoldsImport rows how = (first_of (codes "only") rows ≡ option_map (λ word. wo
     × (first_of (codes "tick") rows ≡ option_map (λ word. word.now) how.tick)
     × (first_of (codes "start") rows ≡ option_map (λ word. word.now) how.start)
 
+-- what is given of the epoch of rows
+abbrev pub HoldsEpoch : List Row → RowWords → Type 0
+HoldsEpoch rows how = first_of (codes "epoch") rows ≡ option_map (λ word. word.now) how.epoch
+
 -- a plan is of the command with this word, and holds the files that it is given
 abbrev pub HoldsRows : Text × List Row → Plan → Type 0
 HoldsRows command (Said error) = ⊥
 HoldsRows command (Table file watchpoints) = (command.0 ≡ codes "table")
     × (first_of (codes "FILE") command.1 ≡ Some file.now) × (first_of (codes "watchpoints") command.1 ≡ option_map (λ word. word.now) watchpoints)
-HoldsRows command (Stream file whole) = (command.0 ≡ codes "stream") × (first_of (codes "FILE") command.1 ≡ Some file.now)
-HoldsRows command (Packets file) = (command.0 ≡ codes "packets") × (first_of (codes "FILE") command.1 ≡ Some file.now)
+HoldsRows command (Stream file whole how) = (command.0 ≡ codes "stream")
+    × (first_of (codes "FILE") command.1 ≡ Some file.now) × HoldsEpoch command.1 how
+HoldsRows command (Packets file how) = (command.0 ≡ codes "packets")
+    × (first_of (codes "FILE") command.1 ≡ Some file.now) × HoldsEpoch command.1 how
 HoldsRows command (Scenario script stream) = (command.0 ≡ codes "scenario")
     × (first_of (codes "SCRIPT") command.1 ≡ Some script.now) × (first_of (codes "STREAM") command.1 ≡ Some stream.now)
 HoldsRows command (Import files how) = (command.0 ≡ codes "import")

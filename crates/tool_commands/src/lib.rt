@@ -17,11 +17,13 @@ mod listing;
 mod live;
 mod output;
 mod report;
+mod rows;
 mod scenario;
 mod trying;
 mod words;
 
 use crate::checking::Asked;
+use crate::rows::wanted;
 pub use crate::fault::Fault;
 use crate::words::{Plan, read_words};
 use std::fs::Files;
@@ -56,8 +58,14 @@ pub fn obey<'a, R: Files + Eprint + AllocGlobal, I: Read + Drop, W: Write>(
     match read_words(rt.alloc(), words)? {
         Plan::Said(text) => listing::said(&text, out),
         Plan::Table { file, watchpoints } => listing::table(rt, file, watchpoints, out),
-        Plan::Stream { file, whole } => listing::stream(rt, file, whole, out),
-        Plan::Packets { file } => listing::packets(rt, file, out),
+        Plan::Stream { file, whole, rows } => match wanted(rows)? {
+            Some(rows) => rows::records(rt, file, rows, out),
+            None => listing::stream(rt, file, whole, out),
+        },
+        Plan::Packets { file, rows } => match wanted(rows)? {
+            Some(rows) => rows::packets(rt, file, rows, out),
+            None => listing::packets(rt, file, out),
+        },
         Plan::Scenario { script, stream } => scenario::make_stream(rt, script, stream),
         Plan::Report {
             schedule,

@@ -118,7 +118,7 @@ pub fn stream<'a, R: Files + AllocGlobal, W: Write>(
 }
 
 /// The end of what is listed, which is whole or not.
-fn ended_with<'a>(is_whole: bool) -> Result<(), Fault<'a>> {
+pub fn ended_with<'a>(is_whole: bool) -> Result<(), Fault<'a>> {
     if is_whole { Ok(()) } else { Err(Fault::Early) }
 }
 

@@ -2,7 +2,7 @@
 
 ghost use Rattle.std.specs.Prelude.{◌≡◌, codes, map, option_map, IfOk, IfSome, IsSomeAnd, Some};
 ghost use Rattle.clap.specs.Words.{all_of, first_of, found_of, kind_of, rows_of, subcommand_rows_of};
-ghost use Rattle.tool_commands.specs.Words.{HoldsImport, HoldsRows, answer_by};
+ghost use Rattle.tool_commands.specs.Words.{HoldsEpoch, HoldsImport, HoldsRows, answer_by};
 
 use crate::fault::Fault;
 use clap::error::ErrorKind;
@@ -20,14 +20,16 @@ pub enum Plan<'a> {
         file: &'a str,
         watchpoints: Option<&'a str>,
     },
-    /// `stream [--whole] FILE`: the records of a stream as text, or as a script that says all of them.
+    /// `stream [--whole] [ROWS] FILE`: the records of a stream as text, as a script that says all of them, or as rows.
     Stream {
         file: &'a str,
         whole: bool,
+        rows: RowWords<'a>,
     },
-    /// `packets FILE`: the packets that a run wrote, as text.
+    /// `packets [ROWS] FILE`: the packets that a run wrote, as text or as rows.
     Packets {
         file: &'a str,
+        rows: RowWords<'a>,
     },
     /// `scenario SCRIPT STREAM`: a script is made into a stream.
     Scenario {
@@ -78,6 +80,17 @@ pub enum Plan<'a> {
     },
 }
 
+/// Whether rows are wanted, as the words say it: `--csv` or `--json`, and `--epoch INSTANT`.
+#[derive(Clone, Copy)]
+pub struct RowWords<'a> {
+    /// Comma-separated values.
+    pub csv: bool,
+    /// An object a line.
+    pub json: bool,
+    /// The instant of second 0.
+    pub epoch: Option<&'a str>,
+}
+
 /// How archives are imported, as the words say it.
 #[derive(Clone, Copy)]
 pub struct ImportWords<'a> {
@@ -107,7 +120,9 @@ enum More {
     Nothing,
     /// The file with the watchpoints of a table of actionpoints.
     Watchpoints,
-    /// Whether a script is wanted.
+    /// Whether rows are wanted.
+    Rows,
+    /// Whether a script is wanted, or rows.
     Whole,
     /// Archives and a stream, and how they are imported.
     Imported,
@@ -143,7 +158,7 @@ const ROWS: [Row; 11] = [
         word: "packets",
         about: "Says what the packets are that a run wrote",
         files: &[("FILE", "The packets, one behind the other")],
-        more: More::Nothing,
+        more: More::Rows,
     },
     Row {
         word: "scenario",
@@ -289,6 +304,18 @@ fn with_times<'a>(alloc: Global, command: Command<'a>) -> Result<Command<'a>, Al
         ))
 }
 
+/// A listing with its rows.
+fn with_rows<'a>(alloc: Global, command: Command<'a>) -> Result<Command<'a>, AllocError> {
+    command
+        .arg(flag_word(alloc, "csv", "Writes comma-separated values"))?
+        .arg(flag_word(alloc, "json", "Writes one JSON object a line"))?
+        .arg(option_word(
+            alloc,
+            "epoch",
+            "The instant of second 0, for times in UTC: 2000-01-01T12:00:00Z",
+        ))
+}
+
 /// Archives and a stream.
 fn archive_words<'a>(alloc: Global) -> Arg<'a> {
     file_word(
@@ -313,7 +340,8 @@ fn with_more<'a>(
             "watchpoints",
             "The watchpoints of these actionpoints, so that these are judged",
         )),
-        More::Whole => command.arg(flag_word(
+        More::Rows => with_rows(alloc, command),
+        More::Whole => with_rows(alloc, command)?.arg(flag_word(
             alloc,
             "whole",
             "Writes a script from which scenario makes the same stream",
@@ -453,12 +481,24 @@ fn table_plan<'a>(found: &ArgMatches<'a>) -> Option<Plan<'a>>
     })
 }
 
+/// Whether rows are wanted.
+fn row_words<'a>(found: &ArgMatches<'a>) -> RowWords<'a>
+    ensures { HoldsEpoch (rows_of (found_of found.now)) result }
+{
+    RowWords {
+        csv: found.get_flag("csv"),
+        json: found.get_flag("json"),
+        epoch: named(found, "epoch"),
+    }
+}
+
 fn stream_plan<'a>(found: &ArgMatches<'a>) -> Option<Plan<'a>>
     ensures { IfSome result (HoldsRows (codes "stream", rows_of (found_of found.now))) }
 {
     Some(Plan::Stream {
         file: file_of(found, "FILE")?,
         whole: found.get_flag("whole"),
+        rows: row_words(found),
     })
 }
 
@@ -467,6 +507,7 @@ fn packets_plan<'a>(found: &ArgMatches<'a>) -> Option<Plan<'a>>
 {
     Some(Plan::Packets {
         file: file_of(found, "FILE")?,
+        rows: row_words(found),
     })
 }
 

@@ -1,10 +1,8 @@
 //! The packets that a host writes.
 
+use crate::event::EVENT_SIZE;
 use lc_model::packet::{REQUEST_SIZE, message_id};
 use lc_model::{EventKind, LcMode, Moment, mids, u16_at, u32_at};
-
-/// The bytes of an event packet.
-const EVENT_SIZE: usize = 168;
 
 /// The bytes of a housekeeping packet before the rules'.
 const BEFORE_RULES: usize = 16;

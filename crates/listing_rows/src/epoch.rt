@@ -1,0 +1,65 @@
+//! Times of a stream, in UTC.
+
+use crate::cell::Cell;
+use jiff::Timestamp;
+use lc_model::Moment;
+use packet_listing::Time;
+use std::alloc::{AllocError, Global};
+
+/// The nanoseconds of a second.
+const NANOSECONDS: i128 = 1_000_000_000;
+
+/// The parts of a second that a moment counts.
+const PARTS: i128 = 65_536;
+
+/// The instant of second 0 of a stream. Leap seconds aren't counted, as in POSIX time.
+#[derive(Clone, Copy)]
+pub struct Epoch {
+    zero: Timestamp,
+}
+
+impl Epoch {
+    /// The instant that a word names as RFC 3339 does, as `2000-01-01T12:00:00Z`.
+    pub fn read(word: &str) -> Option<Epoch> {
+        match word.parse::<Timestamp>() {
+            Ok(zero) => Some(Epoch { zero }),
+            Err(_) => None,
+        }
+    }
+
+    /// A moment's instant, its part of a second rounded down to nanoseconds; none behind the year 9999.
+    pub fn at(self, moment: Moment) -> Option<Timestamp> {
+        let part = i128::from(moment.subseconds) * NANOSECONDS / PARTS;
+        let behind = i128::from(moment.seconds) * NANOSECONDS + part;
+        match Timestamp::from_nanosecond(self.zero.as_nanosecond() + behind) {
+            Ok(instant) => Some(instant),
+            Err(_) => None,
+        }
+    }
+}
+
+/// A moment in seconds, with five digits behind the point.
+pub fn time_cell(alloc: Global, moment: Option<Moment>) -> Result<Cell, AllocError> {
+    match moment {
+        Some(moment) => {
+            let time = Time::at(moment);
+            Ok(Cell::Text(format!(in alloc; "{time}")?))
+        }
+        None => Ok(Cell::Empty),
+    }
+}
+
+/// A moment in UTC, where it has a moment and the epoch is known.
+pub fn utc_cell(
+    alloc: Global,
+    epoch: Option<Epoch>,
+    moment: Option<Moment>,
+) -> Result<Cell, AllocError> {
+    let (Some(epoch), Some(moment)) = (epoch, moment) else {
+        return Ok(Cell::Empty);
+    };
+    match epoch.at(moment) {
+        Some(instant) => Ok(Cell::Text(format!(in alloc; "{instant}")?)),
+        None => Ok(Cell::Empty),
+    }
+}

@@ -1,0 +1,38 @@
+//! Why a row isn't written.
+
+use std::alloc::{AllocError, AllocFailed};
+use std::io::{self, ErrorKind};
+use thiserror::Error;
+
+/// Why a row is not, or not wholly, written.
+#[derive(Clone, Copy, Debug, PartialEq, Eq, Error)]
+pub enum RowError {
+    /// Out of memory.
+    #[error("out of memory")]
+    Memory,
+    /// The row can't be written.
+    #[error("a write failed")]
+    Write,
+}
+
+impl From<AllocError> for RowError {
+    fn from(_error: AllocError) -> RowError {
+        RowError::Memory
+    }
+}
+
+impl<T: Drop> From<AllocFailed<T>> for RowError {
+    fn from(_error: AllocFailed<T>) -> RowError {
+        RowError::Memory
+    }
+}
+
+impl From<io::Error> for RowError {
+    fn from(error: io::Error) -> RowError {
+        if error.kind() == ErrorKind::OutOfMemory {
+            RowError::Memory
+        } else {
+            RowError::Write
+        }
+    }
+}

@@ -1,0 +1,16 @@
+//! Packets and records as rows for other programs: comma-separated values with a line of names, or one JSON object a line. Both
+//! have the same columns in each row; what a row hasn't is empty, or null.
+#![tactic(auto)]
+
+mod cell;
+mod epoch;
+mod error;
+mod form;
+mod packet;
+mod record;
+
+pub use epoch::Epoch;
+pub use error::RowError;
+pub use form::{Form, write_names};
+pub use packet::{PACKET_NAMES, write_packet};
+pub use record::{RECORD_NAMES, write_record};

@@ -1,0 +1,165 @@
+//! Packets and records as rows, for other programs.
+
+use crate::fault::Fault;
+use crate::feed::feed_of;
+use crate::listing::ended_with;
+use crate::output::{listed, written_fault};
+use crate::words::RowWords;
+use lc_model::packet::first_packet;
+use listing_rows::{
+    Epoch, Form, PACKET_NAMES, RECORD_NAMES, RowError, write_names, write_packet, write_record,
+};
+use packet_listing::Line;
+use program_files::Noting;
+use std::alloc::Global;
+use std::cell::Cell;
+use std::fs::Files;
+use std::io::{ErrorKind, Write};
+use stream_script::{Front, front_of};
+
+/// How rows are written.
+#[derive(Clone, Copy)]
+pub struct Rows {
+    form: Form,
+    epoch: Option<Epoch>,
+}
+
+/// The epoch that is named, where one is.
+fn epoch_of<'a>(word: Option<&'a str>) -> Result<Option<Epoch>, Fault<'a>> {
+    match word {
+        None => Ok(None),
+        Some(word) => match Epoch::read(word) {
+            Some(epoch) => Ok(Some(epoch)),
+            None => Err(Fault::Value("--epoch", word)),
+        },
+    }
+}
+
+/// How the rows are written that are asked for, where they are. Values and objects can't be had at once.
+pub fn wanted<'a>(words: RowWords<'a>) -> Result<Option<Rows>, Fault<'a>> {
+    let epoch = epoch_of(words.epoch)?;
+    match (words.csv, words.json) {
+        (false, false) => Ok(None),
+        (true, false) => Ok(Some(Rows {
+            form: Form::Csv,
+            epoch,
+        })),
+        (false, true) => Ok(Some(Rows {
+            form: Form::Json,
+            epoch,
+        })),
+        (true, true) => Err(Fault::Value("--csv", "--json")),
+    }
+}
+
+/// The fault of a row that isn't written to standard output, which failed by this kind of error, if one was noted.
+fn row_fault(error: RowError, kind: Option<ErrorKind>) -> Fault<'static> {
+    match error {
+        RowError::Memory => Fault::Memory,
+        RowError::Write => written_fault(kind),
+    }
+}
+
+/// What is written, and how much of what is held that is.
+type Written = Result<(u64, usize), RowError>;
+
+/// Writes the rows of the whole packets that are held, behind so many, and answers how many there are then, and how many bytes
+/// they have.
+fn write_packets<W: Write>(
+    alloc: Global,
+    rows: Rows,
+    packets: &[u8],
+    before: u64,
+    out: &mut W,
+) -> Written {
+    let mut number = before;
+    let mut rest = packets;
+    for _ in 0..packets.len() {
+        let Some((packet, behind)) = first_packet(rest) else {
+            break;
+        };
+        number = number.saturating_add(1);
+        write_packet(alloc, rows.form, rows.epoch, Line { number, packet }, out)?;
+        rest = behind;
+    }
+    Ok((number, packets.len().saturating_sub(rest.len())))
+}
+
+/// Writes the rows of the whole records that are held, behind so many, and answers how many there are then, and how many bytes
+/// they have.
+fn write_records<W: Write>(
+    alloc: Global,
+    rows: Rows,
+    records: &[u8],
+    before: u64,
+    out: &mut W,
+) -> Written {
+    let mut number = before;
+    let mut rest = records;
+    for _ in 0..records.len() {
+        let Front::Record { kind: _, size } = front_of(rest) else {
+            break;
+        };
+        let (record, behind) = rest.split_at(size);
+        number = number.saturating_add(1);
+        write_record(alloc, rows.form, rows.epoch, number, record, out)?;
+        rest = behind;
+    }
+    Ok((number, records.len().saturating_sub(rest.len())))
+}
+
+/// Writes a row for each packet of a file, piece by piece. Bytes behind the last whole packet have another status.
+pub fn packets<'a, R: Files + AllocGlobal, W: Write>(
+    rt: &R,
+    file: &'a str,
+    rows: Rows,
+    out: &mut W,
+) -> Result<(), Fault<'a>> {
+    let mut feed = feed_of(rt, file)?;
+    let kind = Cell::new(None);
+    let mut noted = Noting::new(out, &kind);
+    write_names(rt.alloc(), rows.form, &PACKET_NAMES, &mut noted).map_err(|error| row_fault(
+        error, kind.get(),
+    ))?;
+    let mut number = 0u64;
+    for _ in 0..u64::MAX {
+        let is_more = feed.read_on()?;
+        let (count, size) = write_packets(rt.alloc(), rows, feed.held(), number, &mut noted)
+            .map_err(|error| row_fault(error, kind.get()))?;
+        number = count;
+        feed.let_go(size);
+        if !is_more {
+            break;
+        }
+    }
+    listed(noted.flush())?;
+    ended_with(feed.held().is_empty())
+}
+
+/// Writes a row for each record of a stream, piece by piece. A stream that ends early has another status.
+pub fn records<'a, R: Files + AllocGlobal, W: Write>(
+    rt: &R,
+    file: &'a str,
+    rows: Rows,
+    out: &mut W,
+) -> Result<(), Fault<'a>> {
+    let mut feed = feed_of(rt, file)?;
+    let kind = Cell::new(None);
+    let mut noted = Noting::new(out, &kind);
+    write_names(rt.alloc(), rows.form, &RECORD_NAMES, &mut noted).map_err(|error| row_fault(
+        error, kind.get(),
+    ))?;
+    let mut number = 0u64;
+    for _ in 0..u64::MAX {
+        let is_more = feed.read_on()?;
+        let (count, size) = write_records(rt.alloc(), rows, feed.held(), number, &mut noted)
+            .map_err(|error| row_fault(error, kind.get()))?;
+        number = count;
+        feed.let_go(size);
+        if !is_more || matches!(front_of(feed.held()), Front::NoRecord) {
+            break;
+        }
+    }
+    listed(noted.flush())?;
+    ended_with(feed.held().is_empty())
+}
