@@ -3,6 +3,7 @@
 use crate::reading::ReadError;
 use rpn_compiler::CompileError;
 use run_course::CourseError;
+use scenario_words::ScenarioError;
 use std::alloc::{AllocError, AllocFailed};
 use std::io::{self, ErrorKind};
 use stream_script::ScriptError;
@@ -11,6 +12,9 @@ use thiserror::Error;
 /// Why a script isn't tried, or what comes of it not wholly written.
 #[derive(Clone, Copy, Debug, PartialEq, Eq, Error)]
 pub enum TrialError {
+    /// A line, counted from 1, says no line of a script.
+    #[error("{error}")]
+    Scenario { error: ScenarioError },
     /// A line, counted from 1, says no expectation.
     #[error("{error}")]
     Expectation { error: ReadError },
@@ -26,6 +30,15 @@ pub enum TrialError {
     /// What is found can't be written.
     #[error("a write failed")]
     Write,
+}
+
+impl From<ScenarioError> for TrialError {
+    fn from(error: ScenarioError) -> TrialError {
+        match error {
+            ScenarioError::Memory => TrialError::Memory,
+            error => TrialError::Scenario { error },
+        }
+    }
 }
 
 impl From<ReadError> for TrialError {

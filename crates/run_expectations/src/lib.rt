@@ -13,4 +13,4 @@ pub use error::TrialError;
 pub use expectation::{Arrival, Expectation, Span, What, has_come};
 pub use fault::Fault;
 pub use reading::{Placed, ReadError, read_expectations, silenced};
-pub use trial::{Tried, try_script};
+pub use trial::{Tried, script_error_at, try_scenario};

@@ -6,6 +6,7 @@
 use crate::expectation::Expectation;
 use crate::fault::Fault;
 use crate::words::expectation;
+use scenario_words::Plain;
 use std::alloc::{AllocError, AllocFailed, Global};
 use thiserror::Error;
 
@@ -21,6 +22,19 @@ pub enum ReadError {
     /// Out of memory.
     #[error("out of memory")]
     Memory,
+}
+
+impl ReadError {
+    /// The error at the line of the scenario that says the plain script's line.
+    pub fn at(self, plain: &Plain) -> ReadError {
+        match self {
+            ReadError::Line { n, fault } => ReadError::Line {
+                n: plain.line(n),
+                fault,
+            },
+            ReadError::Memory => ReadError::Memory,
+        }
+    }
 }
 
 impl From<AllocError> for ReadError {

@@ -8,9 +8,10 @@ use lc_model::{ApMode, ApResult};
 use packet_listing::{Sent, list_packets};
 use rule_lexer::{TokenKind, lex};
 use run_course::{Course, Ending, Entry, Plan, Standing, ends_of, moment_of, record_in, result_in, run_over, standing_behind, state_in};
+use scenario_words::{Plain, declared_in, plain_script};
 use std::alloc::{AllocError, Global};
 use std::io::Write;
-use stream_script::read_script;
+use stream_script::{ScriptError, read_script};
 
 /// What a trial came to: how many expectations there are, and how many weren't met.
 #[derive(Clone, Copy, Debug, PartialEq, Eq)]
@@ -19,10 +20,12 @@ pub struct Tried {
     pub unmet: u64,
 }
 
-/// A run of a script: the rule texts and the schedule, the script without its expectations, and what came.
+/// A run of a scenario: the rule texts and the schedule, its plain script with the lines that say that, the script without its
+/// expectations, and what came.
 struct Trial<'a> {
     alloc: Global,
     plan: Plan<'a>,
+    plain: &'a Plain,
     script: &'a [u8],
     arrivals: &'a [Arrival],
 }
@@ -190,7 +193,7 @@ impl Trial<'_> {
         let mut count = 0u64;
         for placed in expectations {
             if let Some(unmet) = self.unmet(*placed)? {
-                write!(out, "{name}:{}: not met: ", placed.n)?;
+                write!(out, "{name}:{}: not met: ", self.plain.line(placed.n))?;
                 out.write_all(placed.line)?;
                 writeln!(out, ": {unmet}")?;
                 count = count.saturating_add(1);
@@ -200,21 +203,40 @@ impl Trial<'_> {
     }
 }
 
-/// Runs rule texts over the stream that a script says. Without expectations in the script, the packets that came are listed. Else
+/// An error of a plain script, at the line of the scenario that says it.
+pub fn script_error_at(plain: &Plain, error: ScriptError) -> ScriptError {
+    match error {
+        ScriptError::Line { n, reason } => ScriptError::Line {
+            n: plain.line(n),
+            reason,
+        },
+        ScriptError::Memory => ScriptError::Memory,
+    }
+}
+
+/// Runs rule texts over the stream that a scenario says in their words. Without expectations in it, the packets that came are listed. Else
 /// a line is written for each expectation that isn't met, with what came in its place, and a last one with how many there are.
 ///
-/// Errors: `Expectation` and `Script` with the first line that can't be read, and `Rules` with the first text that doesn't
-/// compile, before anything is written; `Memory`; `Write`, where the writer fails.
-pub fn try_script<W: Write>(
+/// Errors: `Rules` with the first text that doesn't compile, and `Scenario`, `Expectation` and `Script` with the first line that
+/// can't be read, before anything is written; `Memory`; `Write`, where the writer fails.
+pub fn try_scenario<W: Write>(
     alloc: Global,
     name: &str,
-    script: &[u8],
+    scenario: &[u8],
     plan: Plan<'_>,
     out: &mut W,
 ) -> Result<Tried, TrialError> {
-    let expectations = read_expectations(alloc, script)?;
-    let quiet = silenced(alloc, script, expectations.as_slice())?;
-    let stream = read_script(alloc, quiet.as_slice())?;
+    // For the texts' sake alone: one that doesn't compile declares nothing.
+    let _nothing = run_over(alloc, plan.texts, plan.schedule, &[])?;
+    let declared = declared_in(alloc, plan.texts)?;
+    let plain = plain_script(alloc, scenario, &declared)?;
+    let expectations = read_expectations(alloc, plain.text.as_slice()).map_err(|error| TrialError::from(
+        error.at(&plain),
+    ))?;
+    let quiet = silenced(alloc, plain.text.as_slice(), expectations.as_slice())?;
+    let stream = read_script(alloc, quiet.as_slice()).map_err(|error| TrialError::from(script_error_at(
+        &plain, error,
+    )))?;
     let course = run_over(alloc, plan.texts, plan.schedule, stream.as_slice())?;
     if expectations.is_empty() {
         list_packets(course.output.as_slice(), out)?;
@@ -227,6 +249,7 @@ pub fn try_script<W: Write>(
     let trial = Trial {
         alloc,
         plan,
+        plain: &plain,
         script: quiet.as_slice(),
         arrivals: arrivals.as_slice(),
     };

@@ -10,6 +10,9 @@ use std::alloc::{AllocError, Global};
 /// The most lines of a plain script.
 const MOST_LINES: usize = 1_000_000;
 
+/// The most lines that are said, those that repeat others and end repetitions among them.
+const MOST_STEPS: u64 = 10_000_000;
+
 /// A plain script, and of each of its lines the number of the scenario's line that says it, from 1.
 #[derive(Drop)]
 pub struct Plain {
@@ -161,9 +164,9 @@ pub fn plain_script(
         repetitions: Vec::new(alloc),
     };
     let mut place = 0usize;
-    for _ in 0..u64::MAX {
+    for _ in 0..MOST_STEPS {
         if place >= lines.len() {
-            break;
+            return Ok(saying.plain);
         }
         match saying.say(alloc, lines.as_slice(), place) {
             Ok(next) => place = next,
@@ -176,10 +179,8 @@ pub fn plain_script(
             Err(Fault::Memory) => return Err(ScenarioError::Memory),
         }
     }
-    let Saying {
-        packets: _,
-        plain,
-        repetitions: _,
-    } = saying;
-    Ok(plain)
+    Err(ScenarioError::Line {
+        n: place.saturating_add(1),
+        reason: Reason::TooLong,
+    })
 }

@@ -17,6 +17,8 @@ use Rattle.run_report.specs.declared.error.ReportError.{ReportError}
 use Rattle.run_report.specs.declared.error.ReportError.TheVariants as page
 use Rattle.run_expectations.specs.declared.reading.ReadError.{ReadError}
 use Rattle.run_expectations.specs.declared.reading.ReadError.TheVariants as read
+use Rattle.scenario_words.specs.declared.error.ScenarioError.{ScenarioError}
+use Rattle.scenario_words.specs.declared.error.ScenarioError.TheVariants as scenario
 use Rattle.stream_script.specs.declared.error.ScriptError.{ScriptError}
 use Rattle.stream_script.specs.declared.error.ScriptError.TheVariants as script
 use Rattle.judgement_listing.specs.declared.error.ListingError.{ListingError}
@@ -34,6 +36,10 @@ fault_of_file name (file.Unusable why) = fault.File name why
 abbrev pub fault_of_script : Bor (List ℕ) → ScriptError → Fault
 fault_of_script name script.Memory = fault.Memory
 fault_of_script name error = fault.Script name error
+
+abbrev pub fault_of_scenario : Bor (List ℕ) → ScenarioError → Fault
+fault_of_scenario name scenario.Memory = fault.Memory
+fault_of_scenario name error = fault.Scenario name error
 
 abbrev pub fault_of_expectation : Bor (List ℕ) → ReadError → Fault
 fault_of_expectation name read.Memory = fault.Memory

@@ -40,8 +40,9 @@ HoldsRows command (Stream file whole how) = (command.0 ≡ codes "stream")
     × (first_of (codes "FILE") command.1 ≡ Some file.now) × HoldsEpoch command.1 how
 HoldsRows command (Packets file how) = (command.0 ≡ codes "packets")
     × (first_of (codes "FILE") command.1 ≡ Some file.now) × HoldsEpoch command.1 how
-HoldsRows command (Scenario script stream) = (command.0 ≡ codes "scenario")
+HoldsRows command (Scenario script stream rules) = (command.0 ≡ codes "scenario")
     × (first_of (codes "SCRIPT") command.1 ≡ Some script.now) × (first_of (codes "STREAM") command.1 ≡ Some stream.now)
+    × (first_of (codes "rules") command.1 ≡ option_map (λ word. word.now) rules)
 HoldsRows command (Import files how) = (command.0 ≡ codes "import")
     × (all_of (codes "FILES") command.1 ≡ Some (map (λ file. file.now) files.items)) × HoldsImport command.1 how
 HoldsRows command (Export stream raw) = (command.0 ≡ codes "export")

@@ -10,6 +10,7 @@ use program_files::Why;
 use rpn_compiler::CompileError;
 use run_expectations::ReadError;
 use run_report::ReportError;
+use scenario_words::ScenarioError;
 use std::alloc::{AllocError, AllocFailed};
 use std::fmt::{self, Display, Formatter, Write};
 use stream_script::ScriptError;
@@ -36,6 +37,8 @@ pub enum Fault<'a> {
     Report(ReportError),
     /// A rule text that is refused, by its file's name.
     Rules(&'a str, CompileError),
+    /// A script whose words can't be read, by its file's name.
+    Scenario(&'a str, ScenarioError),
     /// A script whose expectations can't be read, by its file's name.
     Expectation(&'a str, ReadError),
     /// What came of two rule texts differs, which the listing says.
@@ -97,7 +100,7 @@ impl Fault<'_> {
             Fault::Gone => 0,
             Fault::Table | Fault::Script(..) | Fault::Schedule(..) | Fault::Report(_) => 1,
             Fault::Refused | Fault::Judgement(..) | Fault::Warned => 1,
-            Fault::Rules(..) | Fault::Expectation(..) | Fault::Differs | Fault::Unmet => 1,
+            Fault::Rules(..) | Fault::Scenario(..) | Fault::Expectation(..) | Fault::Differs | Fault::Unmet => 1,
             Fault::Words(_) | Fault::NoText | Fault::Value(..) => 2,
             Fault::File(..) => 3,
             Fault::Early => 4,
@@ -119,6 +122,7 @@ impl Display for Fault<'_> {
             Fault::Schedule(name, error) => writeln!(f, "{name}: {error}"),
             Fault::Report(error) => writeln!(f, "{error}"),
             Fault::Rules(name, error) => writeln!(f, "{name}: {error}"),
+            Fault::Scenario(name, error) => writeln!(f, "{name}: {error}"),
             Fault::Expectation(name, error) => writeln!(f, "{name}: {error}"),
             Fault::Judgement(name, error) => writeln!(f, "{name}: {error}"),
             Fault::Run(error) => writeln!(f, "{error}"),

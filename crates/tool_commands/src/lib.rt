@@ -66,7 +66,11 @@ pub fn obey<'a, R: Files + Eprint + AllocGlobal, I: Read + Drop, W: Write>(
             Some(rows) => rows::packets(rt, file, rows, out),
             None => listing::packets(rt, file, out),
         },
-        Plan::Scenario { script, stream } => scenario::make_stream(rt, script, stream),
+        Plan::Scenario {
+            script,
+            stream,
+            rules,
+        } => scenario::make_stream(rt, script, stream, rules),
         Plan::Report {
             schedule,
             stream,

@@ -6,7 +6,7 @@ use crate::given::{schedule_in, texts_in};
 use crate::output::{listed, written_fault};
 use program_files::Noting;
 use run_course::Plan;
-use run_expectations::{Tried, TrialError, try_script};
+use run_expectations::{Tried, TrialError, try_scenario};
 use std::cell::Cell;
 use std::fs::Files;
 use std::io::{ErrorKind, Write};
@@ -19,6 +19,7 @@ fn trial_fault<'a>(
     kind: Option<ErrorKind>,
 ) -> Fault<'a> {
     match error {
+        TrialError::Scenario { error } => Fault::Scenario(script, error),
         TrialError::Expectation { error } => Fault::Expectation(script, error),
         TrialError::Script { error } => Fault::Script(script, error),
         TrialError::Rules { text, error } => match rules.get(text) {
@@ -52,7 +53,7 @@ pub fn try_out<'a, R: Files + AllocGlobal, W: Write>(
     };
     let kind = Cell::new(None);
     let mut noted = Noting::new(out, &kind);
-    match try_script(rt.alloc(), script, text.as_slice(), plan, &mut noted) {
+    match try_scenario(rt.alloc(), script, text.as_slice(), plan, &mut noted) {
         Ok(Tried { expected: _, unmet }) => {
             listed(noted.flush())?;
             if unmet > 0 { Err(Fault::Unmet) } else { Ok(()) }

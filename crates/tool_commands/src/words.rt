@@ -31,10 +31,11 @@ pub enum Plan<'a> {
         file: &'a str,
         rows: RowWords<'a>,
     },
-    /// `scenario SCRIPT STREAM`: a script is made into a stream.
+    /// `scenario [--rules RULES] SCRIPT STREAM`: a script is made into a stream.
     Scenario {
         script: &'a str,
         stream: &'a str,
+        rules: Option<&'a str>,
     },
     /// `import [OPTIONS] RAW.. STREAM`: archives of space packets are made into a stream.
     Import {
@@ -120,6 +121,8 @@ enum More {
     Nothing,
     /// The file with the watchpoints of a table of actionpoints.
     Watchpoints,
+    /// The rule text in whose words a script is.
+    Named,
     /// Whether rows are wanted.
     Rows,
     /// Whether a script is wanted, or rows.
@@ -167,7 +170,7 @@ const ROWS: [Row; 11] = [
             ("SCRIPT", "The script, line by line"),
             ("STREAM", "The stream, which is written"),
         ],
-        more: More::Nothing,
+        more: More::Named,
     },
     Row {
         word: "import",
@@ -339,6 +342,11 @@ fn with_more<'a>(
             alloc,
             "watchpoints",
             "The watchpoints of these actionpoints, so that these are judged",
+        )),
+        More::Named => command.arg(option_word(
+            alloc,
+            "rules",
+            "The rule text whose packets, fields and rules the script names",
         )),
         More::Rows => with_rows(alloc, command),
         More::Whole => with_rows(alloc, command)?.arg(flag_word(
@@ -517,6 +525,7 @@ fn scenario_plan<'a>(found: &ArgMatches<'a>) -> Option<Plan<'a>>
     Some(Plan::Scenario {
         script: file_of(found, "SCRIPT")?,
         stream: file_of(found, "STREAM")?,
+        rules: named(found, "rules"),
     })
 }
 
