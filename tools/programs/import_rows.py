@@ -74,6 +74,26 @@ GAP = bytes(20_000)
 
 IMPORT = ["flight_tools", "import"]
 
+
+def half(name, number, text):
+    """The half of a rule text, at the moment of the first packet."""
+    body = name.ljust(40, b"\0") + bytes([number]) + text.to_bytes(2, "big")
+    return b"\x04" + (100).to_bytes(4, "big") + b"\x80\0" + len(body).to_bytes(4, "big") + body
+
+
+def started(name):
+    """The command that starts an application, at the moment of the first packet."""
+    packet = b"\x18\x06\xc0\0\0\x15\x01\0" + name.ljust(20, b"\0")
+    check = 0xFF
+    for byte in packet:
+        check ^= byte
+    return recorded(packet[:7] + bytes([check]) + packet[8:], 100, 0x8000)
+
+
+def start_of(text):
+    return half(b"/cf/lc_def_wdt.tbl", 1, text) + half(b"/cf/lc_def_adt.tbl", 2, text) + started(b"LC") + started(b"SCH")
+
+
 ROWS = [
     Row("an archive", [*IMPORT, "raw", "stream"], {"raw": PLAIN}, output=counts("raw", 10), after={"stream": STREAM}),
     Row(
@@ -83,6 +103,14 @@ ROWS = [
         output=counts("first", 10) + counts("second", 1),
         after={"stream": STREAM + recorded(OTHER, 200)},
     ),
+    Row(
+        "two archives behind the start of a rule text",
+        [*IMPORT, "--start", "3", "first", "second", "stream"],
+        {"first": PLAIN, "second": OTHER},
+        output=counts("first", 10) + counts("second", 1),
+        after={"stream": start_of(3) + STREAM + recorded(OTHER, 200)},
+    ),
+    Row("nothing behind the start of a rule text", [*IMPORT, "--start", "0", "raw", "stream"], {"raw": b""}, output=counts("raw", 0), after={"stream": b""}),
     Row("an empty archive", [*IMPORT, "raw", "stream"], {"raw": b""}, output=counts("raw", 0), after={"stream": b""}),
     Row("the packets of a stream", ["flight_tools", "export", "stream", "raw"], {"stream": tick(7) + STREAM + tick(8)}, after={"raw": PLAIN}),
     Row(
