@@ -28,7 +28,10 @@ pub struct Compared {
 
 /// The lines in front that came of this record, and the lines behind them.
 fn parted(lines: &[Line], record: usize) -> (&[Line], &[Line]) {
-    let count = lines.iter().take_while(|line| line.record == record).count();
+    let count = lines
+        .iter()
+        .take_while(|line| line.record == record)
+        .count();
     match lines.split_at_checked(count) {
         Some(parts) => parts,
         None => (lines, &[]),
@@ -61,7 +64,12 @@ struct Place {
 }
 
 /// Writes the lines that came of a record with one text alone, and answers how many there are.
-fn write_alone<W: Write>(place: Place, name: &str, lines: &[&[u8]], out: &mut W) -> io::Result<u64> {
+fn write_alone<W: Write>(
+    place: Place,
+    name: &str,
+    lines: &[&[u8]],
+    out: &mut W,
+) -> io::Result<u64> {
     let Place { time, record } = place;
     let number = record.saturating_add(1);
     let mut count = 0u64;
@@ -163,6 +171,10 @@ pub fn write_comparison<W: Write>(
     };
     let found = write_records(alloc, stream, names, &before, &after, out)?;
     let Compared { old, new, both, .. } = found;
-    writeln!(out, "{} alone: {old}; {} alone: {new}; both: {both}", names.old, names.new)?;
+    writeln!(
+        out,
+        "{} alone: {old}; {} alone: {new}; both: {both}",
+        names.old, names.new
+    )?;
     Ok(found)
 }

@@ -43,11 +43,7 @@ fn level(kind: EventKind) -> &'static str {
 }
 
 /// An event, and of which rule it is.
-fn say_event<W: Write>(
-    rules: &[Named<'_>],
-    event: Event<'_>,
-    f: &mut Formatter<W>,
-) -> fmt::Result {
+fn say_event<W: Write>(rules: &[Named<'_>], event: Event<'_>, f: &mut Formatter<W>) -> fmt::Result {
     let sender = Field(event.sender);
     let level = level(event.kind);
     write!(f, "{sender} {} {level}", event.id)?;
@@ -76,7 +72,11 @@ impl Display for Said<'_> {
                 say_requesters(self.rules, sequence, f)
             }
             Sent::Event(event) => say_event(self.rules, event, f),
-            Sent::Housekeeping { mode: _, count, rules: _ } => write!(f, "housekeeping of {count} rules"),
+            Sent::Housekeeping {
+                mode: _,
+                count,
+                rules: _,
+            } => write!(f, "housekeeping of {count} rules"),
         }
     }
 }

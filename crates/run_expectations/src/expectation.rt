@@ -77,5 +77,6 @@ impl Span {
 pub fn has_come(what: What, span: Span, came: &[Arrival]) -> bool
     ensures { result ≡ has_come what span came.now }
 {
-    came.iter().any(|one| what.is(*one) && span.holds(one.second))
+    came.iter()
+        .any(|one| what.is(*one) && span.holds(one.second))
 }

@@ -120,7 +120,10 @@ fn expected<'a>(
 /// The expectations of a script, in order.
 ///
 /// Errors, of which the least line's is answered: `Line` with what is wrong; `Memory`.
-pub fn read_expectations<'a>(alloc: Global, script: &'a [u8]) -> Result<Vec<Placed<'a>>, ReadError> {
+pub fn read_expectations<'a>(
+    alloc: Global,
+    script: &'a [u8],
+) -> Result<Vec<Placed<'a>>, ReadError> {
     let mut found = Vec::new(alloc);
     let mut left = Some(script);
     let mut n = 0usize;
@@ -138,7 +141,11 @@ pub fn read_expectations<'a>(alloc: Global, script: &'a [u8]) -> Result<Vec<Plac
 }
 
 /// A script whose expectations are comments: of each the first letter is `#`. Out of memory is the only error.
-pub fn silenced(alloc: Global, script: &[u8], expectations: &[Placed<'_>]) -> Result<Vec<u8>, AllocError> {
+pub fn silenced(
+    alloc: Global,
+    script: &[u8],
+    expectations: &[Placed<'_>],
+) -> Result<Vec<u8>, AllocError> {
     let mut text = Vec::from_slice(alloc, script)?;
     for placed in expectations {
         let line = script.get(placed.at..).unwrap_or(&[]);

@@ -22,9 +22,17 @@ pub enum Found {
 #[derive(Clone, Copy)]
 pub enum Unmet<'a> {
     /// Nothing of this came within these seconds, among all that came.
-    Missing { what: What, span: Span, arrivals: &'a [Arrival] },
+    Missing {
+        what: What,
+        span: Span,
+        arrivals: &'a [Arrival],
+    },
     /// Some of this came within these seconds.
-    Came { what: What, span: Span, arrivals: &'a [Arrival] },
+    Came {
+        what: What,
+        span: Span,
+        arrivals: &'a [Arrival],
+    },
     /// The rule is in another state.
     State(Found),
     /// The rule has another result.

@@ -7,7 +7,10 @@ use crate::telling::{Found, Unmet};
 use lc_model::{ApMode, ApResult};
 use packet_listing::{Sent, list_packets};
 use rule_lexer::{TokenKind, lex};
-use run_course::{Course, Ending, Entry, Plan, Standing, ends_of, moment_of, record_in, result_in, run_over, standing_behind, state_in};
+use run_course::{
+    Course, Ending, Entry, Plan, Standing, ends_of, moment_of, record_in, result_in, run_over,
+    standing_behind, state_in,
+};
 use scenario_words::{Plain, declared_in, plain_script};
 use std::alloc::{AllocError, Global};
 use std::io::Write;
@@ -100,7 +103,12 @@ impl Trial<'_> {
         let Some(last) = ends.len().checked_sub(1) else {
             return Ok(None);
         };
-        let course = run_over(self.alloc, self.plan.texts, self.plan.schedule, records.as_slice())?;
+        let course = run_over(
+            self.alloc,
+            self.plan.texts,
+            self.plan.schedule,
+            records.as_slice(),
+        )?;
         let record = Vec::from_slice(
             self.alloc,
             record_in(records.as_slice(), ends.as_slice(), last),
@@ -131,10 +139,19 @@ impl Trial<'_> {
     }
 
     /// Why a rule isn't in this state, where it isn't.
-    fn state(&self, name: &[u8], state: ApMode, at: usize) -> Result<Option<Unmet<'_>>, TrialError> {
+    fn state(
+        &self,
+        name: &[u8],
+        state: ApMode,
+        at: usize,
+    ) -> Result<Option<Unmet<'_>>, TrialError> {
         let found = self.byte_at(name, at)?;
         let is_met = matches!(found, Found::Stands(byte) if state_in(byte) == state);
-        Ok(if is_met { None } else { Some(Unmet::State(found)) })
+        Ok(if is_met {
+            None
+        } else {
+            Some(Unmet::State(found))
+        })
     }
 
     /// Why a rule's last result isn't this one, where it isn't.
@@ -146,7 +163,11 @@ impl Trial<'_> {
     ) -> Result<Option<Unmet<'_>>, TrialError> {
         let found = self.byte_at(name, at)?;
         let is_met = matches!(found, Found::Stands(byte) if result_in(byte) == last);
-        Ok(if is_met { None } else { Some(Unmet::Result(found)) })
+        Ok(if is_met {
+            None
+        } else {
+            Some(Unmet::Result(found))
+        })
     }
 
     /// Why nothing of this came within these seconds, where nothing did.
@@ -230,13 +251,13 @@ pub fn try_scenario<W: Write>(
     let _nothing = run_over(alloc, plan.texts, plan.schedule, &[])?;
     let declared = declared_in(alloc, plan.texts)?;
     let plain = plain_script(alloc, scenario, &declared)?;
-    let expectations = read_expectations(alloc, plain.text.as_slice()).map_err(|error| TrialError::from(
-        error.at(&plain),
-    ))?;
+    let expectations = read_expectations(alloc, plain.text.as_slice()).map_err(
+        |error| TrialError::from(error.at(&plain)),
+    )?;
     let quiet = silenced(alloc, plain.text.as_slice(), expectations.as_slice())?;
-    let stream = read_script(alloc, quiet.as_slice()).map_err(|error| TrialError::from(script_error_at(
-        &plain, error,
-    )))?;
+    let stream = read_script(alloc, quiet.as_slice()).map_err(|error| TrialError::from(
+        script_error_at(&plain, error),
+    ))?;
     let course = run_over(alloc, plan.texts, plan.schedule, stream.as_slice())?;
     if expectations.is_empty() {
         list_packets(course.output.as_slice(), out)?;

@@ -38,9 +38,7 @@ pub fn probe_columns<P: Progress>(
         let last = columns.behind(column).saturating_sub(1);
         let record = record_in(asked.stream, asked.ends, last);
         let written = course.written_before(columns.behind(column));
-        standings.push(standing_behind(
-            alloc, plan, &mut front, record, written, &mut output,
-        )?)?;
+        standings.push(standing_behind(alloc, plan, &mut front, record, written, &mut output)?)?;
         progress.done(column.saturating_add(1), columns.count);
     }
     Ok(standings)

@@ -51,7 +51,9 @@ pub fn declared_in<'a>(alloc: Global, texts: &[&'a [u8]]) -> Result<Declared<'a>
 impl Declared<'_> {
     /// The place of the first packet of a name.
     pub(crate) fn packet(&self, name: &[u8]) -> Option<usize> {
-        self.packets.iter().position(|packet| packet.name.text == name)
+        self.packets
+            .iter()
+            .position(|packet| packet.name.text == name)
     }
 
     /// The place of the first field of a name.

@@ -74,7 +74,12 @@ pub fn compare<'a, R: Files + AllocGlobal, W: Write>(
     let kind = Cell::new(None);
     let mut noted = Noting::new(out, &kind);
     let found = write_comparison(
-        rt.alloc(), &plan, bytes.as_slice(), old_side, new_side, &mut noted,
+        rt.alloc(),
+        &plan,
+        bytes.as_slice(),
+        old_side,
+        new_side,
+        &mut noted,
     );
     match found {
         Ok(found) => {

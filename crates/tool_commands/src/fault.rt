@@ -100,7 +100,11 @@ impl Fault<'_> {
             Fault::Gone => 0,
             Fault::Table | Fault::Script(..) | Fault::Schedule(..) | Fault::Report(_) => 1,
             Fault::Refused | Fault::Judgement(..) | Fault::Warned => 1,
-            Fault::Rules(..) | Fault::Scenario(..) | Fault::Expectation(..) | Fault::Differs | Fault::Unmet => 1,
+            Fault::Rules(..)
+            | Fault::Scenario(..)
+            | Fault::Expectation(..)
+            | Fault::Differs
+            | Fault::Unmet => 1,
             Fault::Words(_) | Fault::NoText | Fault::Value(..) => 2,
             Fault::File(..) => 3,
             Fault::Early => 4,

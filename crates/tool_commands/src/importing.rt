@@ -142,7 +142,9 @@ struct Stream<'a, 's, S> {
 impl<'a, S: Write> Stream<'a, '_, S> {
     /// Writes bytes.
     fn push(&mut self, bytes: &[u8]) -> Result<(), Fault<'a>> {
-        self.file.write_all(bytes).map_err(|error| fault_at(self.name, fault_of(&error)))
+        self.file
+            .write_all(bytes)
+            .map_err(|error| fault_at(self.name, fault_of(&error)))
     }
 
     /// Writes records, behind the start where they are the first.

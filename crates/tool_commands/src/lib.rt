@@ -23,8 +23,8 @@ mod trying;
 mod words;
 
 use crate::checking::Asked;
-use crate::rows::wanted;
 pub use crate::fault::Fault;
+use crate::rows::wanted;
 use crate::words::{Plan, read_words};
 use std::fs::Files;
 use std::io::{self, BufWriter, Eprint, Input, Print, Read, Write};

@@ -119,13 +119,19 @@ pub fn packets<'a, R: Files + AllocGlobal, W: Write>(
     let kind = Cell::new(None);
     let mut noted = Noting::new(out, &kind);
     write_names(rt.alloc(), rows.form, &PACKET_NAMES, &mut noted).map_err(|error| row_fault(
-        error, kind.get(),
+        error,
+        kind.get(),
     ))?;
     let mut number = 0u64;
     for _ in 0..u64::MAX {
         let is_more = feed.read_on()?;
-        let (count, size) = write_packets(rt.alloc(), rows, feed.held(), number, &mut noted)
-            .map_err(|error| row_fault(error, kind.get()))?;
+        let (count, size) = write_packets(
+            rt.alloc(),
+            rows,
+            feed.held(),
+            number,
+            &mut noted,
+        ).map_err(|error| row_fault(error, kind.get()))?;
         number = count;
         feed.let_go(size);
         if !is_more {
@@ -147,13 +153,19 @@ pub fn records<'a, R: Files + AllocGlobal, W: Write>(
     let kind = Cell::new(None);
     let mut noted = Noting::new(out, &kind);
     write_names(rt.alloc(), rows.form, &RECORD_NAMES, &mut noted).map_err(|error| row_fault(
-        error, kind.get(),
+        error,
+        kind.get(),
     ))?;
     let mut number = 0u64;
     for _ in 0..u64::MAX {
         let is_more = feed.read_on()?;
-        let (count, size) = write_records(rt.alloc(), rows, feed.held(), number, &mut noted)
-            .map_err(|error| row_fault(error, kind.get()))?;
+        let (count, size) = write_records(
+            rt.alloc(),
+            rows,
+            feed.held(),
+            number,
+            &mut noted,
+        ).map_err(|error| row_fault(error, kind.get()))?;
         number = count;
         feed.let_go(size);
         if !is_more || matches!(front_of(feed.held()), Front::NoRecord) {

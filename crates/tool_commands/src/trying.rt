@@ -6,7 +6,7 @@ use crate::given::{schedule_in, texts_in};
 use crate::output::{listed, written_fault};
 use program_files::Noting;
 use run_course::Plan;
-use run_expectations::{Tried, TrialError, try_scenario};
+use run_expectations::{TrialError, Tried, try_scenario};
 use std::cell::Cell;
 use std::fs::Files;
 use std::io::{ErrorKind, Write};
