@@ -41,7 +41,7 @@ fn arrival(entry: Entry<'_>, second: u32) -> Option<Arrival> {
             is_event: false,
             number,
         }),
-        Sent::Event(event) if event.sender == b"LC" => Some(Arrival {
+        Sent::Event(event) if event.sender == b"LC".as_slice() => Some(Arrival {
             second,
             is_event: true,
             number: event.id,

@@ -25,6 +25,11 @@ fn number(most: u32, word: &[u8]) -> Option<u32> {
     }
 }
 
+/// Whether a word is this one.
+fn is(word: &[u8], other: &[u8]) -> bool {
+    word == other
+}
+
 /// Whether a word begins as a number does.
 fn is_numeral(word: &[u8]) -> bool {
     match word {
@@ -50,25 +55,25 @@ fn narrowed(span: Span, word: &[u8], second: &[u8]) -> Result<Span, Fault> {
     let Some(second) = number(u32::MAX, second) else {
         return Err(Fault::BadSecond);
     };
-    if word == b"from" {
+    if is(word, b"from") {
         return Ok(Span {
             first: second,
             last,
         });
     }
-    if word == b"at" {
+    if is(word, b"at") {
         return Ok(Span {
             first: second,
             last: second,
         });
     }
-    if word == b"by" {
+    if is(word, b"by") {
         return Ok(Span {
             first,
             last: second,
         });
     }
-    if word != b"until" {
+    if !is(word, b"until") {
         return Err(Fault::NoSpan);
     }
     match second.checked_sub(1) {
@@ -102,8 +107,8 @@ fn coming(words: &[&[u8]]) -> Result<(What, Span), Fault> {
     let [first, rest @ ..] = words else {
         return Err(Fault::NoWhat);
     };
-    let is_sequence = *first == b"sequence";
-    if !is_sequence && *first != b"event" {
+    let is_sequence = is(first, b"sequence");
+    if !is_sequence && !is(first, b"event") {
         return Err(Fault::NoWhat);
     }
     let (number, rest) = optional(rest)?;
@@ -117,16 +122,16 @@ fn coming(words: &[&[u8]]) -> Result<(What, Span), Fault> {
 
 /// The state that a word names.
 fn state_named(word: &[u8]) -> Option<ApMode> {
-    if word == b"active" {
+    if is(word, b"active") {
         return Some(ApMode::Active);
     }
-    if word == b"passive" {
+    if is(word, b"passive") {
         return Some(ApMode::Passive);
     }
-    if word == b"disabled" {
+    if is(word, b"disabled") {
         return Some(ApMode::Disabled);
     }
-    if word == b"off" {
+    if is(word, b"off") {
         return Some(ApMode::PermOff);
     }
     None
@@ -134,19 +139,19 @@ fn state_named(word: &[u8]) -> Option<ApMode> {
 
 /// The result that a word names: none before the first sample.
 fn result_named(word: &[u8]) -> Option<Option<ApResult>> {
-    if word == b"none" {
+    if is(word, b"none") {
         return Some(None);
     }
-    if word == b"pass" {
+    if is(word, b"pass") {
         return Some(Some(ApResult::Pass));
     }
-    if word == b"fail" {
+    if is(word, b"fail") {
         return Some(Some(ApResult::Fail));
     }
-    if word == b"stale" {
+    if is(word, b"stale") {
         return Some(Some(ApResult::Stale));
     }
-    if word == b"error" {
+    if is(word, b"error") {
         return Some(Some(ApResult::Error));
     }
     None
@@ -179,13 +184,13 @@ pub fn expectation<'a>(words: &[&'a [u8]]) -> Result<Expectation<'a>, Fault> {
     let [first, rest @ ..] = words else {
         return Err(Fault::NoWhat);
     };
-    if *first == b"state" {
+    if is(first, b"state") {
         return state(rest);
     }
-    if *first == b"result" {
+    if is(first, b"result") {
         return result(rest);
     }
-    if *first == b"no" {
+    if is(first, b"no") {
         let (what, span) = coming(rest)?;
         return Ok(Expectation::Absent(what, span));
     }

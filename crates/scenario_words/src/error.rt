@@ -35,13 +35,13 @@ pub enum Reason {
     #[error("a filter is `filter APPLICATION EVENT MASK`")]
     NoFilter,
     /// A repetition isn't written so.
-    #[error("lines are repeated by `repeat NUMBER {` before them and `}` behind them")]
+    #[error("lines are repeated by `repeat NUMBER {{` before them and `}}` behind them")]
     NoRepeat,
     /// A repetition has no end.
-    #[error("`repeat` has no `}`")]
+    #[error("`repeat` has no `}}`")]
     Unended,
     /// A repetition that is no repetition's end.
-    #[error("`}` ends no `repeat`")]
+    #[error("`}}` ends no `repeat`")]
     Unbegun,
     /// A script of too many lines.
     #[error("the script has over 1000000 lines")]

@@ -4,7 +4,7 @@ use crate::error::{Fault, Reason};
 use crate::orders::{write_filter, write_mode, write_state};
 use crate::packets::Packets;
 use crate::ramp::Ramp;
-use crate::words::is_plain;
+use crate::words::{is, is_plain};
 use std::io::Write;
 
 /// Writes a line of a packet with its fields' values.
@@ -49,7 +49,7 @@ pub(crate) fn write_lines<W: Write>(
         write_plain(words, out)?;
         return Ok(1);
     }
-    if *verb == b"ramp" {
+    if is(verb, b"ramp") {
         let ramp = Ramp::read(packets, rest)?;
         return ramp.write(packets, out);
     }
@@ -57,19 +57,19 @@ pub(crate) fn write_lines<W: Write>(
         write_packet(packets, packet, words, out)?;
         return Ok(1);
     }
-    if *verb == b"mode" {
+    if is(verb, b"mode") {
         write_mode(rest, out)?;
         return Ok(1);
     }
-    if *verb == b"state" {
+    if is(verb, b"state") {
         write_state(packets.declared, rest, out)?;
         return Ok(1);
     }
-    if *verb == b"filter" {
+    if is(verb, b"filter") {
         write_filter(rest, out)?;
         return Ok(1);
     }
-    if *verb == b"}" {
+    if is(verb, b"}") {
         return Err(Fault::Line(Reason::Unbegun));
     }
     write_plain(words, out)?;

@@ -2,7 +2,7 @@
 
 use crate::declared::Declared;
 use crate::error::{Fault, Reason};
-use crate::words::number_in;
+use crate::words::{is, number_in};
 use std::io::Write;
 
 /// All rules, in the place of a rule's number.
@@ -13,13 +13,13 @@ const NAME: usize = 20;
 
 /// The number of a mode or a state.
 fn standing_number(word: &[u8]) -> Option<u16> {
-    if word == b"active" {
+    if is(word, b"active") {
         return Some(1);
     }
-    if word == b"passive" {
+    if is(word, b"passive") {
         return Some(2);
     }
-    if word == b"disabled" {
+    if is(word, b"disabled") {
         return Some(3);
     }
     None
@@ -41,7 +41,7 @@ pub(crate) fn write_mode<W: Write>(words: &[&[u8]], out: &mut W) -> Result<(), F
 
 /// The number of the rule that a word names, or of all.
 fn rule_number(declared: &Declared<'_>, word: &[u8]) -> Option<u16> {
-    if word == b"all" {
+    if is(word, b"all") {
         Some(ALL)
     } else {
         declared.rule(word)
@@ -60,7 +60,7 @@ pub(crate) fn write_state<W: Write>(
     let Some(rule) = rule_number(declared, name) else {
         return Err(Fault::Line(Reason::UnknownRule));
     };
-    if *state == b"off" && rule != ALL {
+    if is(state, b"off") && rule != ALL {
         writeln!(out, "command 18a4 4 {rule:04x}0000")?;
         return Ok(());
     }

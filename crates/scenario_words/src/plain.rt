@@ -4,7 +4,7 @@ use crate::declared::Declared;
 use crate::error::{Fault, Reason, ScenarioError};
 use crate::line::write_lines;
 use crate::packets::Packets;
-use crate::words::{number_in, words_of};
+use crate::words::{is, number_in, words_of};
 use std::alloc::{AllocError, Global};
 
 /// The most lines of a plain script.
@@ -54,7 +54,7 @@ fn lines_of(alloc: Global, scenario: &[u8]) -> Result<Vec<&[u8]>, AllocError> {
 /// How often the lines behind `repeat NUMBER {` are said.
 fn times(words: &[&[u8]]) -> Result<u32, Reason> {
     match words {
-        [number, open] if *open == b"{" => match number_in(1_000_000, number) {
+        [number, open] if is(open, b"{") => match number_in(1_000_000, number) {
             Some(number) => Ok(number),
             None => Err(Reason::BadNumber),
         },
@@ -64,12 +64,12 @@ fn times(words: &[&[u8]]) -> Result<u32, Reason> {
 
 /// Whether a line with these words begins a repetition.
 fn is_repeat(words: &[&[u8]]) -> bool {
-    matches!(words, [verb, ..] if *verb == b"repeat")
+    matches!(words, [verb, ..] if is(verb, b"repeat"))
 }
 
 /// Whether a line with these words ends one.
 fn is_end(words: &[&[u8]]) -> bool {
-    matches!(words, [verb] if *verb == b"}")
+    matches!(words, [verb] if is(verb, b"}"))
 }
 
 /// The line behind the end of the repetition whose first line this is.

@@ -2,7 +2,7 @@
 
 use crate::error::{Fault, Reason};
 use crate::packets::Packets;
-use crate::words::{number_in, value_in};
+use crate::words::{is, number_in, value_in};
 use std::io::Write;
 
 /// The most packets of a ramp.
@@ -41,12 +41,12 @@ impl Ramp {
         let [name, from, to, by, step, each, seconds, rest @ ..] = words else {
             return Err(Reason::NoRamp);
         };
-        if *by != b"by" || *each != b"each" {
+        if !is(by, b"by") || !is(each, b"each") {
             return Err(Reason::NoRamp);
         }
         let has_ticks = match rest {
             [] => false,
-            [word] if *word == b"tick" => true,
+            [word] if is(word, b"tick") => true,
             _ => return Err(Reason::NoRamp),
         };
         let Some(field) = packets.declared.field(name) else {

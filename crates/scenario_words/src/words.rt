@@ -51,6 +51,11 @@ pub(crate) fn words_of(alloc: Global, line: &[u8]) -> Result<Vec<&[u8]>, AllocEr
     Ok(words)
 }
 
+/// Whether a word is this one.
+pub(crate) fn is(word: &[u8], other: &[u8]) -> bool {
+    word == other
+}
+
 /// Whether a line that begins with this word is one of a plain script.
 pub(crate) fn is_plain(word: &[u8]) -> bool {
     PLAIN.iter().any(|plain| *plain == word)
