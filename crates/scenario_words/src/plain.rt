@@ -36,6 +36,7 @@ struct Repetition {
 }
 
 /// A scenario that is being said.
+#[derive(Drop)]
 struct Saying<'d, 'a> {
     packets: Packets<'d, 'a>,
     plain: Plain,
