@@ -17,7 +17,9 @@ fn number(most: u32, word: &[u8]) -> Option<u32> {
         if !byte.is_ascii_digit() {
             return None;
         }
-        number = number * 10 + u64::from(byte - b'0');
+        number = number
+            .saturating_mul(10)
+            .saturating_add(u64::from(byte - b'0'));
     }
     match u32::try_from(number) {
         Ok(number) if number <= most => Some(number),

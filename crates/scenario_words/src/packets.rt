@@ -101,7 +101,7 @@ impl<'d, 'a> Packets<'d, 'a> {
         };
         let (mid, length) = (item.mid.value, item.length.value);
         write!(out, "fields {mid:04x} {count} {length}")?;
-        *count = (*count + 1) % COUNT_END;
+        *count = count.wrapping_add(1) % COUNT_END;
         self.write_fields(item.name.text, out)?;
         out.write_all(b"\n")?;
         Ok(())

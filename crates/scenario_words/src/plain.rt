@@ -52,10 +52,10 @@ fn lines_of(alloc: Global, scenario: &[u8]) -> Result<Vec<&[u8]>, AllocError> {
     Ok(lines)
 }
 
-/// How often the lines behind `repeat NUMBER {` are said.
+/// How often the lines behind a line with these words are said: `repeat NUMBER {`.
 fn times(words: &[&[u8]]) -> Result<u32, Reason> {
     match words {
-        [number, open] if is(open, b"{") => match number_in(1_000_000, number) {
+        [_repeat, number, open] if is(open, b"{") => match number_in(1_000_000, number) {
             Some(number) => Ok(number),
             None => Err(Reason::BadNumber),
         },
@@ -79,10 +79,10 @@ fn behind_end(alloc: Global, lines: &[&[u8]], first: usize) -> Result<usize, Fau
     for (place, line) in lines.iter().enumerate().skip(first) {
         let words = words_of(alloc, line)?;
         if is_repeat(words.as_slice()) {
-            depth += 1;
+            depth = depth.saturating_add(1);
         } else if is_end(words.as_slice()) {
             if depth == 0 {
-                return Ok(place + 1);
+                return Ok(place.saturating_add(1));
             }
             depth -= 1;
         }
@@ -111,7 +111,7 @@ impl Saying<'_, '_> {
         let words = words_of(alloc, line)?;
         let words = words.as_slice();
         if is_repeat(words) {
-            let left = times(words.split_first().map_or(&[][..], |parts| parts.1))?;
+            let left = times(words)?;
             let end = behind_end(alloc, lines, behind)?;
             if left == 0 {
                 return Ok(end);

@@ -102,10 +102,10 @@ impl Ramp {
             packets.write(packet, out)?;
             if self.has_ticks {
                 out.write_all(b"tick\n")?;
-                lines += 1;
+                lines = lines.saturating_add(1);
             }
             writeln!(out, "after {}", self.each)?;
-            lines += 2;
+            lines = lines.saturating_add(2);
             value = self.next(value);
         }
         Err(Fault::Line(Reason::TooLong))

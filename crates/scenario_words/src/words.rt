@@ -71,7 +71,9 @@ fn decimal(digits: &[u8]) -> Option<u64> {
         if !digit.is_ascii_digit() {
             return None;
         }
-        number = number * 10 + u64::from(digit - b'0');
+        number = number
+            .saturating_mul(10)
+            .saturating_add(u64::from(digit - b'0'));
     }
     Some(number)
 }
