@@ -84,7 +84,7 @@ fn write_json<W: Write>(
     cells: &[Cell],
     out: &mut W,
 ) -> Result<(), RowError> {
-    let mut members = BTreeMap::new_in(alloc);
+    let mut members = BTreeMap::new(alloc);
     for (name, cell) in names.iter().zip(cells) {
         put(&mut members, alloc, name, value_of(alloc, cell)?)?;
     }
