@@ -1,5 +1,7 @@
 //! The packets that a run writes, as rows.
 
+ghost use Rattle.std.specs.Prelude.{◌≤◌, length};
+
 use crate::cell::{Cell, number, some_word, word};
 use crate::epoch::{Epoch, time_cell, utc_cell};
 use crate::error::RowError;
@@ -31,6 +33,9 @@ const COUNT_END: u16 = 16_384;
 
 /// The bytes of a packet's primary header.
 const PRIMARY_HEADER: usize = 6;
+
+/// The bytes of telemetry's headers, whose last six are its time.
+const TELEMETRY_HEADERS: usize = 12;
 
 /// What a packet is.
 #[derive(Drop)]
@@ -86,7 +91,9 @@ fn event_said(alloc: Global, event: Event<'_>) -> Result<Said, RowError> {
 }
 
 /// A housekeeping packet: its text is what its line says behind the sender.
-fn housekeeping_said(alloc: Global, packet: &[u8]) -> Result<Said, RowError> {
+fn housekeeping_said(alloc: Global, packet: &[u8]) -> Result<Said, RowError>
+    requires { TELEMETRY_HEADERS ≤ length packet.now }
+{
     let line = Line { number: 0, packet };
     let line = format!(in alloc; "{line}")?;
     let text = match line.as_str().split_once("housekeeping: ") {
@@ -112,8 +119,10 @@ fn said_of(alloc: Global, packet: &[u8]) -> Result<Said, RowError> {
             ..plain("request")
         }),
         Some(Sent::Event(event)) => event_said(alloc, event),
-        Some(Sent::Housekeeping { .. }) => housekeeping_said(alloc, packet),
-        None => Ok(plain("other")),
+        Some(Sent::Housekeeping { .. }) if packet.len() >= TELEMETRY_HEADERS => {
+            housekeeping_said(alloc, packet)
+        }
+        _ => Ok(plain("other")),
     }
 }
 

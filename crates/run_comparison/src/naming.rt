@@ -111,7 +111,7 @@ fn about_rule<'r, 't>(rules: &[Named<'r>], id: u16, text: &'t [u8]) -> Option<Ab
 }
 
 /// The rule that an event of the Limit Checker speaks of, where it speaks of one of these.
-pub fn about<'r, 't>(rules: &[Named<'r>], id: u16, text: &'t [u8]) -> Option<About<'r, 't>> {
+pub fn spoken_of<'r, 't>(rules: &[Named<'r>], id: u16, text: &'t [u8]) -> Option<About<'r, 't>> {
     for (number, rule) in rules.iter().enumerate() {
         let found = own_event(rule, number, id, text);
         if found.is_some() {

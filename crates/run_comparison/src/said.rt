@@ -1,6 +1,6 @@
 //! What came of a record, as a line: rules are called by their names.
 
-use crate::naming::{Named, about};
+use crate::naming::{Named, spoken_of};
 use lc_model::EventKind;
 use packet_listing::{Event, Field, Sent};
 use std::fmt::{self, Display, Formatter, Write};
@@ -48,7 +48,7 @@ fn say_event<W: Write>(rules: &[Named<'_>], event: Event<'_>, f: &mut Formatter<
     let level = level(event.kind);
     write!(f, "{sender} {} {level}", event.id)?;
     let found = if event.sender == LIMIT_CHECKER {
-        about(rules, event.id, event.text)
+        spoken_of(rules, event.id, event.text)
     } else {
         None
     };

@@ -25,6 +25,7 @@ pub struct Tried {
 
 /// A run of a scenario: the rule texts and the schedule, its plain script with the lines that say that, the script without its
 /// expectations, and what came.
+#[derive(Drop)]
 struct Trial<'a> {
     alloc: Global,
     plan: Plan<'a>,
