@@ -128,7 +128,10 @@ pub fn read_expectations<'a>(
     let mut left = Some(script);
     let mut n = 0usize;
     let mut at = 0usize;
-    while let Some(text) = left {
+    for _ in 0..script.len().saturating_add(1) {
+        let Some(text) = left else {
+            break;
+        };
         let (line, rest) = first_line(text);
         n = n.saturating_add(1);
         if let Some(placed) = expected(alloc, line, n, at)? {

@@ -81,7 +81,7 @@ fn say_those<W: Write>(
             }
             let sign = if count == 0 { words } else { ", " };
             write!(f, "{sign}{one}")?;
-            count += 1;
+            count = count.saturating_add(1);
         }
     }
     Ok(count > 0)
