@@ -18,8 +18,7 @@ SCHEDULE = b"slots 2\n0 sample 0 175 age\n1 housekeeping\n"
 COMPARE = ["flight_tools", "compare", "schedule", "stream", "old", "new"]
 COMPARED = {"schedule": SCHEDULE, "stream": BUS_STREAM, "old": RULES, "new": LATER}
 
-COMPARISONS = [
-    Row("a text and a later one", COMPARE, COMPARED, status=1, output=b"""\
+DIFFERENCES = b"""\
 105.00000 record 14: only old: sequence 7 (LOW)
 105.00000 record 14: only old: LC 1001 error of LOW: low volts, FailCount = 2, RTS = 7
 107.00000 record 18: only new: sequence 8 (HOT)
@@ -27,7 +26,10 @@ COMPARISONS = [
 109.00000 record 22: only old: sequence 8 (HOT)
 109.00000 record 22: only old: LC 1002 critical of HOT: hot, FailCount = 2, RTS = 8
 old alone: 4; new alone: 2; both: 5
-"""),
+"""
+
+COMPARISONS = [
+    Row("a text and a later one", COMPARE, COMPARED, status=1, output=DIFFERENCES),
     Row("a text and itself in another order", COMPARE, {**COMPARED, "new": FIELDS + HOT + LOW}, output=b"""\
 old alone: 0; new alone: 0; both: 9
 """),
@@ -49,15 +51,7 @@ old alone: 2; new alone: 0; both: 7
 105.00000 record 14: only old: LC 1001 error of LOW: low volts, FailCount = 2, RTS = 7
 old alone: 2; new alone: 0; both: 5
 """),
-    Row("a comparison over a stream that is cut", COMPARE, {**COMPARED, "stream": BUS_STREAM[:-1]}, status=4, output=b"""\
-105.00000 record 14: only old: sequence 7 (LOW)
-105.00000 record 14: only old: LC 1001 error of LOW: low volts, FailCount = 2, RTS = 7
-107.00000 record 18: only new: sequence 8 (HOT)
-107.00000 record 18: only new: LC 1002 critical of HOT: hot, FailCount = 1, RTS = 8
-109.00000 record 22: only old: sequence 8 (HOT)
-109.00000 record 22: only old: LC 1002 critical of HOT: hot, FailCount = 2, RTS = 8
-old alone: 4; new alone: 2; both: 5
-"""),
+    Row("a comparison over a stream that is cut", COMPARE, {**COMPARED, "stream": BUS_STREAM[:-1]}, status=4, output=DIFFERENCES),
     Row(
         "a later text that doesn't compile",
         COMPARE,
