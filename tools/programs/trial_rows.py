@@ -45,7 +45,7 @@ old alone: 2; new alone: 0; both: 7
     Row("two rules of one sequence", COMPARE, {
         **COMPARED,
         "old": FIELDS + LOW + HOT.replace(b"sequence 8", b"sequence 7").replace(b"> 60", b"> 600"),
-        "new": FIELDS,
+        "new": FIELDS + LOW.replace(b"2400", b"1"),
     }, status=1, output=b"""\
 105.00000 record 14: only old: sequence 7 (LOW, HOT)
 105.00000 record 14: only old: LC 1001 error of LOW: low volts, FailCount = 2, RTS = 7
