@@ -132,6 +132,7 @@ fn start_of<'a>(alloc: Global, moment: Moment, text: u16) -> Result<Vec<u8>, Fau
 }
 
 /// The stream that is being written.
+#[derive(Drop)]
 struct Stream<'a, 's, S> {
     name: &'a str,
     file: &'s mut S,
