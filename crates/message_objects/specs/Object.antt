@@ -1,0 +1,103 @@
+-- The object that tells of a message. This project's own, of JSON (RFC 8259).
+use Rattle.std.specs.Prelude.{◌≡◌, ℕ, ◌+◌, min, Bool, if◌then◌else◌, List, [], ◌∷◌, ◌++◌, length, map, Option, Some, None, codes, string_bytes}
+use Rattle.serde_json.specs.Data.{Data, Items, object, member, no_members, string, array, no_items, number, unsigned, null}
+use Rattle.serde_json.specs.View.{items_of}
+use Rattle.serde_json.specs.Written.{compact_text}
+use Rattle.text_places.specs.Line.{line_number}
+use Rattle.text_places.specs.Character.{characters, column}
+use Rattle.text_places.specs.Window as window
+use Rattle.rule_messages.specs.declared.message.Mark.{Mark}
+use Rattle.rule_messages.specs.declared.message.Message.{Message}
+use Rattle.message_objects.specs.declared.object.Told.{Told}
+use Rattle.message_objects.specs.declared.spot.Spot.{Spot}
+
+-- ---- places
+
+-- so many bytes at a place, as far as they stand on its line
+abbrev pub token_in_line : List ℕ → (at size : ℕ) → List ℕ
+token_in_line text at size = window.token_in_line text at size
+
+-- the column behind them
+abbrev pub end_column : List ℕ → (at size : ℕ) → ℕ
+end_column text at size = column text at + length (characters (token_in_line text at size))
+
+-- where a mark stands: a place behind the text's end is its end
+abbrev pub place_of : List ℕ → Mark → ℕ
+place_of text mark = min mark.at (length text)
+
+-- the line and the columns of a mark, and what is said of it
+pub record IsSpot (text : List ℕ) (mark : Mark) (spot : Spot) : Type 0 where
+  pub line : spot.line ≡ line_number text (place_of text mark)
+  pub column : spot.column ≡ column text (place_of text mark)
+  pub end_column : spot.end_column ≡ end_column text (place_of text mark) mark.size
+  pub label : spot.label.now ≡ string_bytes mark.label
+
+-- ---- objects, whose members stand in the order of their names
+
+abbrev number_of : ℕ → Data
+number_of n = number (unsigned n)
+
+-- a number, or null
+abbrev number_or_null : Option ℕ → Data
+number_or_null None = null
+number_or_null (Some n) = number_of n
+
+abbrev members : (code column end_column : Data) → (file label level : List ℕ) → (line : Data) → (message : List ℕ) → Items → Data
+members code column end_column file label level line message others =
+    object (member (codes "code") code
+    (member (codes "column") column
+    (member (codes "end_column") end_column
+    (member (codes "file") (string file)
+    (member (codes "label") (string label)
+    (member (codes "level") (string level)
+    (member (codes "line") line
+    (member (codes "message") (string message)
+    (member (codes "others") (array others) no_members)))))))))
+
+-- what is told at a place
+abbrev pub placed_object : Told → Spot → Items → Data
+placed_object told spot others =
+    members (number_or_null told.code) (number_of spot.column) (number_of spot.end_column) told.file.now spot.label.now told.level.now
+    (number_of spot.line) told.message.now others
+
+-- what is told of a file as a whole
+abbrev pub note_object : Told → Data
+note_object told = members (number_or_null told.code) null null told.file.now [] told.level.now null told.message.now no_items
+
+-- another place
+abbrev pub mark_object : List ℕ → Mark → Data
+mark_object text mark =
+    object (member (codes "column") (number_of (column text (place_of text mark)))
+    (member (codes "end_column") (number_of (end_column text (place_of text mark) mark.size))
+    (member (codes "label") (string (string_bytes mark.label))
+    (member (codes "line") (number_of (line_number text (place_of text mark))) no_members))))
+
+-- all other places
+abbrev pub mark_objects : List ℕ → List Mark → Items
+mark_objects text marks = items_of (map (mark_object text) marks)
+
+-- a message of a text in a file of this name
+abbrev pub message_by : Option Mark → (file text : List ℕ) → Message → Data
+message_by None file text message =
+    members (number_of message.code) null null file [] (codes "error") null (string_bytes message.head) no_items
+message_by (Some mark) file text message =
+    let at : ℕ = place_of text mark in
+    members (number_of message.code) (number_of (column text at)) (number_of (end_column text at mark.size)) file (string_bytes mark.label)
+    (codes "error") (number_of (line_number text at)) (string_bytes message.head) (mark_objects text message.others.items)
+
+abbrev pub message_object : (file text : List ℕ) → Message → Data
+message_object file text message = message_by message.first file text message
+
+-- ---- lines
+
+-- the object's text, with a line feed
+abbrev pub message_text : (file text : List ℕ) → Message → List ℕ
+message_text file text message = compact_text (message_object file text message) ++ 10 ∷ []
+
+-- a warning or a note
+abbrev pub level_of : Bool → List ℕ
+level_of is_warning = if is_warning then codes "warning" else codes "note"
+
+abbrev pub note_text : List ℕ → Bool → List ℕ → List ℕ
+note_text file is_warning note =
+    compact_text (members null null null file [] (level_of is_warning) null note no_items) ++ 10 ∷ []
