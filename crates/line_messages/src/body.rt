@@ -14,9 +14,10 @@ fn byte_count(word: Word<'_>) -> usize {
     }
 }
 
-/// What is said of bytes behind so many others, where there may be at most so many of both.
+/// What is said of a packet or a record that has these bytes behind so many others, where it may have at most so many in all.
 fn too_long(
     alloc: Global,
+    what: &str,
     bytes: Word<'_>,
     before: usize,
     most: usize,
@@ -24,8 +25,8 @@ fn too_long(
     let count = byte_count(bytes).saturating_add(before);
     let over = Grouped(count.saturating_sub(most) as u64);
     let (count, most) = (Grouped(count as u64), Grouped(most as u64));
-    let head = format!(in alloc; "that are {count} bytes, at most {most} are allowed")?;
-    let label = format!(in alloc; "shorten them by {over}")?;
+    let head = format!(in alloc; "the {what} has {count} bytes, at most {most} are allowed")?;
+    let label = format!(in alloc; "shorten it by {over}")?;
     Ok(said(bytes, head, label))
 }
 
@@ -41,7 +42,7 @@ fn record_said(alloc: Global, kind: Word<'_>, bytes: Word<'_>) -> Result<Said, A
             "a file begins with its name, in 40 bytes",
             "write 00 in the place of each byte that the name doesn't have",
         ),
-        _ => return too_long(alloc, bytes, 0, 65_536),
+        _ => return too_long(alloc, "record", bytes, 0, 65_536),
     };
     advised(alloc, bytes, String::from_str(alloc, head)?, advice)
 }
@@ -50,10 +51,10 @@ fn record_said(alloc: Global, kind: Word<'_>, bytes: Word<'_>) -> Result<Said, A
 pub fn body_said(alloc: Global, line: &[u8]) -> Result<Said, AllocError> {
     let verb = word(line, 0);
     match verb.text {
-        b"packet" => too_long(alloc, word(line, 1), 0, 65_536),
-        b"file" => too_long(alloc, word(line, 2), 40, 65_536),
-        b"telemetry" => too_long(alloc, word(line, 3), 12, 2_048),
-        b"command" => too_long(alloc, word(line, 3), 8, 2_048),
+        b"packet" => too_long(alloc, "packet", word(line, 1), 0, 65_536),
+        b"file" => too_long(alloc, "record", word(line, 2), 40, 65_536),
+        b"telemetry" => too_long(alloc, "packet", word(line, 3), 12, 2_048),
+        b"command" => too_long(alloc, "packet", word(line, 3), 8, 2_048),
         b"after" => {
             let head = String::from_str(alloc, "moments end at second 4,294,967,295")?;
             advised(alloc, word(line, 1), head, "this goes on behind it: write less")

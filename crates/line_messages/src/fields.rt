@@ -70,13 +70,26 @@ fn size_of(line: &[u8]) -> u64 {
     number_in(word(line, LENGTH).text, MOST_DIGITS).unwrap_or(0)
 }
 
+/// So many bytes, in words.
+fn bytes_of(alloc: Global, width: u64) -> Result<String, AllocError> {
+    if width == 1 {
+        String::from_str(alloc, "1 byte")
+    } else {
+        format!(in alloc; "{width} bytes")
+    }
+}
+
 /// What to do about a field of so many bytes that isn't inside a packet of this size.
 fn inside_advice(alloc: Global, width: u64, size: u64) -> Result<String, AllocError> {
+    let bytes = bytes_of(alloc, width)?;
     let last = size.saturating_sub(width);
     if last < HEADERS {
-        return format!(in alloc; "the packet has no room for {width} bytes behind its headers");
+        format!(in alloc; "the packet has no room for {bytes} behind its headers")
+    } else if last == HEADERS {
+        format!(in alloc; "write 12: it has {bytes}")
+    } else {
+        format!(in alloc; "write 12 to {last}: it has {bytes}")
     }
-    format!(in alloc; "write 12 to {last}: it has {width} bytes")
 }
 
 /// What is said of a field that isn't inside its packet.

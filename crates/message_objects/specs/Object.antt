@@ -52,7 +52,8 @@ members code column end_column file label level line message others =
     (member (codes "level") (string level)
     (member (codes "line") line
     (member (codes "message") (string message)
-    (member (codes "others") (array others) no_members)))))))))
+    (member (codes "others") (array others)
+    (member (codes "warning") null no_members))))))))))
 
 -- what is told at a place
 abbrev pub placed_object : Told → Spot → Items → Data

@@ -3,7 +3,7 @@
 ghost use Rattle.std.specs.Prelude.{◌≡◌, ◌++◌, [], ◌∷◌, false, codes, if◌then◌else◌, string_bytes, IfOk};
 ghost use Rattle.serde_json.specs.View.{view};
 ghost use Rattle.serde_json.specs.Written.{compact_text, has_float};
-ghost use Rattle.message_objects.specs.Object.{message_text, note_text};
+ghost use Rattle.message_objects.specs.Object.{message_object, message_text, note_text};
 
 use crate::object::{Told, mark_objects, note_object, placed_object};
 use crate::spot::spot_of;
@@ -27,7 +27,9 @@ fn message_object(
     file: &str,
     text: &[u8],
     message: &Message,
-) -> Result<Value, AllocError> {
+) -> Result<Value, AllocError>
+    ensures { IfOk result (λ value. view value ≡ message_object file.now text.now message.now) }
+{
     let told = Told {
         file,
         level: "error",

@@ -40,7 +40,8 @@ pub fn placed_object(
         "level": told.level,
         "line": spot.line,
         "message": told.message,
-        "others": others
+        "others": others,
+        "warning": null
     })
 }
 
@@ -57,7 +58,8 @@ pub fn note_object(alloc: Global, told: Told<'_>) -> Result<Value, AllocError>
         "level": told.level,
         "line": null,
         "message": told.message,
-        "others": []
+        "others": [],
+        "warning": null
     })
 }
 
