@@ -1,6 +1,6 @@
 //! What is said of a word of a statement that isn't what it has to be.
 
-use crate::said::{Said, advised, expected, expected_word, said};
+use crate::said::{Said, advised, expected, expected_word, said_of};
 use crate::statement::{Shape, Wanted};
 use crate::word::{Word, are_digits, number_in};
 use message_words::quoted;
@@ -33,7 +33,7 @@ fn is_message_id(word: &[u8]) -> bool {
 
 /// Whether a word writes bytes.
 fn are_bytes(word: &[u8]) -> bool {
-    word == b"-" || hex_digits(word) == word.len() && word.len() % 2 == 0
+    matches!(word, b"-") || hex_digits(word) == word.len() && word.len() % 2 == 0
 }
 
 /// Whether a word is what it has to be.
@@ -81,7 +81,7 @@ fn behind_prefix(word: &[u8]) -> Option<&[u8]> {
 
 /// The message id that was meant, where it is known: what is written without `0x`.
 fn meant_id(word: &[u8]) -> Option<&[u8]> {
-    behind_prefix(word).filter(|digits| is_message_id(digits))
+    behind_prefix(word).filter(|digits| is_message_id(*digits))
 }
 
 /// What is said of digits of which there aren't four.
@@ -96,7 +96,7 @@ fn digits_said(alloc: Global, word: Word<'_>) -> Result<Said, AllocError> {
     meant.extend_from_slice(word.text)?;
     let meant = quoted(alloc, meant.as_slice())?;
     let label = format!(in alloc; "did you mean {meant}?")?;
-    Ok(said(word, head, label))
+    Ok(said_of(word, head, label))
 }
 
 /// What is said of a word that is no message id.
@@ -149,7 +149,7 @@ fn name_said(alloc: Global, word: Word<'_>, most: usize) -> Result<Said, AllocEr
     let over = count.saturating_sub(most);
     let head = format!(in alloc; "the name has {count} bytes, at most {most} are allowed")?;
     let label = format!(in alloc; "shorten it by {over}")?;
-    Ok(said(word, head, label))
+    Ok(said_of(word, head, label))
 }
 
 /// What is said of a word that isn't what it has to be.

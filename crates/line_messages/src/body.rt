@@ -1,16 +1,15 @@
 //! What is said of a line whose words are right, one by one, and whose record can't be.
 
-use crate::said::{Said, advised, said};
-use crate::word::{Word, word};
+use crate::said::{Said, advised, said_of};
+use crate::word::{Word, nth_word};
 use message_words::Grouped;
 use std::alloc::{AllocError, Global};
 
 /// How many bytes a word writes.
 fn byte_count(word: Word<'_>) -> usize {
-    if word.text == b"-" {
-        0
-    } else {
-        word.text.len() / 2
+    match word.text {
+        b"-" => 0,
+        digits => digits.len() / 2,
     }
 }
 
@@ -27,7 +26,7 @@ fn too_long(
     let (count, most) = (Grouped(count as u64), Grouped(most as u64));
     let head = format!(in alloc; "the {what} has {count} bytes, at most {most} are allowed")?;
     let label = format!(in alloc; "shorten it by {over}")?;
-    Ok(said(bytes, head, label))
+    Ok(said_of(bytes, head, label))
 }
 
 /// What is said of a record whose kind can't have its bytes.
@@ -49,16 +48,16 @@ fn record_said(alloc: Global, kind: Word<'_>, bytes: Word<'_>) -> Result<Said, A
 
 /// What is said of a line whose words are right one by one: together they are no record.
 pub fn body_said(alloc: Global, line: &[u8]) -> Result<Said, AllocError> {
-    let verb = word(line, 0);
+    let verb = nth_word(line, 0);
     match verb.text {
-        b"packet" => too_long(alloc, "packet", word(line, 1), 0, 65_536),
-        b"file" => too_long(alloc, "record", word(line, 2), 40, 65_536),
-        b"telemetry" => too_long(alloc, "packet", word(line, 3), 12, 2_048),
-        b"command" => too_long(alloc, "packet", word(line, 3), 8, 2_048),
+        b"packet" => too_long(alloc, "packet", nth_word(line, 1), 0, 65_536),
+        b"file" => too_long(alloc, "record", nth_word(line, 2), 40, 65_536),
+        b"telemetry" => too_long(alloc, "packet", nth_word(line, 3), 12, 2_048),
+        b"command" => too_long(alloc, "packet", nth_word(line, 3), 8, 2_048),
         b"after" => {
             let head = String::from_str(alloc, "moments end at second 4,294,967,295")?;
-            advised(alloc, word(line, 1), head, "this goes on behind it: write less")
+            advised(alloc, nth_word(line, 1), head, "this goes on behind it: write less")
         }
-        _ => record_said(alloc, word(line, 3), word(line, 4)),
+        _ => record_said(alloc, nth_word(line, 3), nth_word(line, 4)),
     }
 }

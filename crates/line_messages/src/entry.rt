@@ -2,7 +2,7 @@
 
 use crate::first_line::MOST_DIGITS;
 use crate::said::{Said, advised, expected, expected_word, too_many};
-use crate::word::{Word, are_digits, number_in, word};
+use crate::word::{Word, are_digits, number_in, nth_word};
 use std::alloc::{AllocError, Global};
 
 const VERBS: &[&[u8]] = &[b"sample", b"housekeeping"];
@@ -28,7 +28,7 @@ fn number(word: Word<'_>) -> u64 {
 
 /// What is said of a slot that isn't there, where there are so many.
 fn slot_said(alloc: Global, line: &[u8], slots: u64) -> Result<Said, AllocError> {
-    let slot = word(line, 0);
+    let slot = nth_word(line, 0);
     let last = slots.saturating_sub(1);
     let advice = format!(in alloc; "write 0 to {last}")?;
     if !are_digits(slot.text) {
@@ -46,7 +46,7 @@ fn is_rule(number: u64) -> bool {
 
 /// What is said of rules that aren't a range.
 fn range_said(alloc: Global, line: &[u8]) -> Result<Said, AllocError> {
-    let (first, last) = (word(line, 2), word(line, 3));
+    let (first, last) = (nth_word(line, 2), nth_word(line, 3));
     if !is_rule(number(first)) {
         let shown = first.shown(alloc)?;
         let head = format!(in alloc; "there is no rule {shown}")?;
@@ -69,18 +69,18 @@ fn is_age(word: Word<'_>) -> bool {
 
 /// What is said of a sample.
 fn sample_said(alloc: Global, line: &[u8]) -> Result<Said, AllocError> {
-    let (first, last) = (word(line, 2), word(line, 3));
+    let (first, last) = (nth_word(line, 2), nth_word(line, 3));
     if !are_digits(first.text) {
         return expected(alloc, first, "the first rule's number", RULES_ADVICE);
     }
     if !are_digits(last.text) {
         return expected(alloc, last, "the last rule's number", RULES_ADVICE);
     }
-    let ages = word(line, 4);
+    let ages = nth_word(line, 4);
     if !is_age(ages) {
         return expected_word(alloc, ages, AGES, "`age` or `keep`", AGES_ADVICE);
     }
-    let behind = word(line, 5);
+    let behind = nth_word(line, 5);
     if !behind.is_end() {
         return too_many(alloc, behind);
     }
@@ -89,13 +89,13 @@ fn sample_said(alloc: Global, line: &[u8]) -> Result<Said, AllocError> {
 
 /// What is said of a line that should be an entry of one of so many slots.
 pub fn entry_said(alloc: Global, line: &[u8], slots: u64) -> Result<Said, AllocError> {
-    if number(word(line, 0)) >= slots {
+    if number(nth_word(line, 0)) >= slots {
         return slot_said(alloc, line, slots);
     }
-    let verb = word(line, 1);
+    let verb = nth_word(line, 1);
     match verb.text {
         b"sample" => sample_said(alloc, line),
-        b"housekeeping" => too_many(alloc, word(line, 2)),
+        b"housekeeping" => too_many(alloc, nth_word(line, 2)),
         _ => expected_word(
             alloc,
             verb,
@@ -108,7 +108,7 @@ pub fn entry_said(alloc: Global, line: &[u8], slots: u64) -> Result<Said, AllocE
 
 /// What is said of the ninth entry of a slot.
 pub fn full_said(alloc: Global, line: &[u8]) -> Result<Said, AllocError> {
-    let slot = word(line, 0);
+    let slot = nth_word(line, 0);
     let shown = slot.shown(alloc)?;
     let head = format!(in alloc; "slot {shown} has over 8 entries")?;
     advised(alloc, slot, head, "this is the 9th: take another slot")

@@ -1,9 +1,9 @@
 //! What is said of the fields of a packet.
 
 use crate::argument::{MOST_DIGITS, is_right, word_said};
-use crate::said::{Said, advised, expected, marked, said};
+use crate::said::{Said, advised, expected, marked};
 use crate::statement::{OFFSET, TYPE};
-use crate::word::{Word, are_digits, number_in, word, word_behind};
+use crate::word::{Word, are_digits, number_in, nth_word, word_behind};
 use lc_model::FieldType;
 use std::alloc::{AllocError, Global};
 
@@ -67,7 +67,7 @@ fn is_inside(width: u64, place: u64, size: u64) -> bool {
 
 /// The size of the packet, as the line says it.
 fn size_of(line: &[u8]) -> u64 {
-    number_in(word(line, LENGTH).text, MOST_DIGITS).unwrap_or(0)
+    number_in(nth_word(line, LENGTH).text, MOST_DIGITS).unwrap_or(0)
 }
 
 /// So many bytes, in words.
@@ -109,11 +109,10 @@ fn outside_said(
     let head = String::from_str(alloc, head)?;
     let label = inside_advice(alloc, width, size)?;
     let length = format!(in alloc; "the packet has {size} bytes")?;
-    let Said { head, first, .. } = said(offset, head, label);
     Ok(Said {
         head,
-        first,
-        other: Some(marked(word(line, LENGTH), length)),
+        first: marked(offset, label),
+        other: Some(marked(nth_word(line, LENGTH), length)),
     })
 }
 
@@ -154,7 +153,7 @@ fn field_said(
 
 /// What is said of the first field of the line that something is wrong with.
 pub fn fields_said(alloc: Global, line: &[u8]) -> Result<Option<Said>, AllocError> {
-    let mut from = word(line, LENGTH).end();
+    let mut from = nth_word(line, LENGTH).end();
     for _ in 0..line.len() {
         let kind = word_behind(line, from);
         if kind.is_end() {

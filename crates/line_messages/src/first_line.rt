@@ -1,7 +1,7 @@
 //! What is said of a line that should be `slots N`.
 
 use crate::said::{Said, advised, expected, expected_word, too_many};
-use crate::word::{are_digits, number_in, word};
+use crate::word::{are_digits, number_in, nth_word};
 use std::alloc::{AllocError, Global};
 
 /// The first word.
@@ -15,12 +15,12 @@ pub const MOST_DIGITS: usize = 5;
 
 /// The number of slots that the first line with words asks for.
 pub fn slots_in(line: &[u8]) -> u64 {
-    number_in(word(line, 1).text, MOST_DIGITS).unwrap_or(0)
+    number_in(nth_word(line, 1).text, MOST_DIGITS).unwrap_or(0)
 }
 
 /// What is wrong with the number of slots.
 fn number_said(alloc: Global, line: &[u8]) -> Result<Said, AllocError> {
-    let number = word(line, 1);
+    let number = nth_word(line, 1);
     if !are_digits(number.text) {
         return expected(alloc, number, "the number of slots", RANGE);
     }
@@ -31,13 +31,13 @@ fn number_said(alloc: Global, line: &[u8]) -> Result<Said, AllocError> {
 
 /// What is said of the first line with words.
 pub fn first_said(alloc: Global, line: &[u8]) -> Result<Said, AllocError> {
-    let first = word(line, 0);
+    let first = nth_word(line, 0);
     let is_slots = matches!(first.text, b"slots");
     if !is_slots {
         let advice = "a schedule begins with `slots` and their number";
         return expected_word(alloc, first, SLOTS, "`slots`", advice);
     }
-    let behind = word(line, 2);
+    let behind = nth_word(line, 2);
     if (1..=64).contains(&slots_in(line)) && !behind.is_end() {
         return too_many(alloc, behind);
     }

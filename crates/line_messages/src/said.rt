@@ -31,7 +31,7 @@ pub fn marked(word: Word<'_>, label: String) -> Mark {
 }
 
 /// What is said of a word.
-pub fn said(word: Word<'_>, head: String, label: String) -> Said {
+pub fn said_of(word: Word<'_>, head: String, label: String) -> Said {
     Said {
         head,
         first: marked(word, label),
@@ -46,7 +46,7 @@ pub fn advised(
     head: String,
     advice: &str,
 ) -> Result<Said, AllocError> {
-    Ok(said(word, head, String::from_str(alloc, advice)?))
+    Ok(said_of(word, head, String::from_str(alloc, advice)?))
 }
 
 /// What is said where another word should be, with advice.

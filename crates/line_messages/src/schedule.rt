@@ -11,7 +11,7 @@ use crate::first_line::{first_said, slots_in};
 use crate::line::{Line, line_numbered};
 use crate::refusal::Refusal;
 use crate::said::{Said, message_at_end, message_on};
-use crate::word::word;
+use crate::word::nth_word;
 use rule_messages::Message;
 use std::alloc::{AllocError, Global};
 use tick_scheduler::{Schedule, ScheduleError, parse_schedule};
@@ -27,7 +27,7 @@ const TOO_MANY_ENTRIES: u8 = 133;
 
 /// Whether the line says nothing: it has no words, or the first begins with `#`.
 fn is_silent(line: &[u8]) -> bool {
-    let first = word(line, 0);
+    let first = nth_word(line, 0);
     first.is_end() || first.text.starts_with(b"#")
 }
 

@@ -13,7 +13,7 @@ use crate::line::line_numbered;
 use crate::refusal::Refusal;
 use crate::said::{Said, expected_word, message_on, too_many};
 use crate::statement::{Statement, VERBS, statement_of};
-use crate::word::word;
+use crate::word::nth_word;
 use rule_messages::Message;
 use std::alloc::{AllocError, Global};
 use stream_script::{Reason, ScriptError, read_script};
@@ -45,13 +45,13 @@ fn count_said(
 ) -> Result<Option<Said>, AllocError> {
     let mut number = 1usize;
     for wanted in statement.wanted {
-        let found = word(line, number);
+        let found = nth_word(line, number);
         if found.is_end() {
             return Ok(Some(word_said(alloc, *wanted, found)?));
         }
         number = number.saturating_add(1);
     }
-    let behind = word(line, number);
+    let behind = nth_word(line, number);
     if statement.has_fields || behind.is_end() {
         return Ok(None);
     }
@@ -66,7 +66,7 @@ fn words_said(
 ) -> Result<Option<Said>, AllocError> {
     let mut number = 1usize;
     for wanted in statement.wanted {
-        let found = word(line, number);
+        let found = nth_word(line, number);
         if !is_right(*wanted, found) {
             return Ok(Some(word_said(alloc, *wanted, found)?));
         }
@@ -95,7 +95,7 @@ fn statement_said(
 
 /// What is said of a line that is refused.
 fn line_said(alloc: Global, line: &[u8]) -> Result<Said, AllocError> {
-    let verb = word(line, 0);
+    let verb = nth_word(line, 0);
     match statement_of(verb.text) {
         Some(statement) => statement_said(alloc, line, statement),
         None => expected_word(alloc, verb, VERBS, "a statement", VERBS_ADVICE),

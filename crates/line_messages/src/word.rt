@@ -89,7 +89,7 @@ pub fn word_behind(line: &[u8], from: usize) -> Word<'_> {
 }
 
 /// The word with this number, from 0.
-pub fn word(line: &[u8], number: usize) -> Word<'_> {
+pub fn nth_word(line: &[u8], number: usize) -> Word<'_> {
     let mut from = 0;
     for _ in 0..number {
         from = word_behind(line, from).end();
