@@ -119,8 +119,8 @@ pub of_script : (text : List ℕ) (reason : Reason) (number : ℕ) → script_in
     → (1 ≤ number) × (number ≤ line_count text)
 of_script text reason number fault =
     let is = of_stream (lines_said nothing_said 1 (script.lines_of text)) 1 (1 + length (script.lines_of text))
-        (of_statements (script.lines_of text) nothing_said 1) in
+    (of_statements (script.lines_of text) nothing_said 1) in
     let place : (1 ≤ number) × (number < 1 + length (script.lines_of text)) =
-        subst (IsBetween 1 (1 + length (script.lines_of text))) fault is in
+    subst (IsBetween 1 (1 + length (script.lines_of text))) fault is in
     let count = length-slice_split is_line_feed text in
     (place.0, omega (arith, place.1, count))

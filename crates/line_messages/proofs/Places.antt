@@ -86,7 +86,7 @@ line_from text number begin line begins is_number is_begin is_bytes =
       within = let a = length-take size rest in let b = length-drop begin text in let c = begins.within in grind (arith, is_begin, taken, a, b, c);
       on = λ offset short.
           ap (λ at. line_number text (at + offset)) is_begin
-          ∙ number_on text begin offset size (omega (arith, short, taken)) ∙ begins.line
+          ∙ number_on text begin offset size (omega (arith, short, taken)) ∙ begins.line;
     }
 
 -- ---- messages on a line
@@ -98,7 +98,7 @@ on_line text line at some is from to =
     record {
       within = omega (arith, to, is.within);
       on = λ positive. ap (λ n. line_number text n) (sym whole) ∙ is.on (at - line.begin) (omega (arith, from, to));
-      end = λ none. absurd (omega (arith, some, none))
+      end = λ none. absurd (omega (arith, some, none));
     }
 
 -- a message at a place of a line is on it
@@ -112,6 +112,6 @@ is_on text line code at (Err failed) from to told some is = told
 -- a message at the text's end
 pub is_at_end : (text : List ℕ) (code at : ℕ) (message : Message) → at ≡ length text → IsAt code at message → IsOn text code 0 message
 is_at_end text code at message end told = record {
-    code = told.0;
-    place = subst (λ p. IsSomeAnd p (IsOnLine text 0)) (sym told.1) (record { within = le_of_eq end; on = λ some. absurd (omega (arith, some)); end = λ none. end })
-  }
+  code = told.0;
+  place = subst (λ p. IsSomeAnd p (IsOnLine text 0)) (sym told.1) (record { within = le_of_eq end; on = λ some. absurd (omega (arith, some)); end = λ none. end });
+}

@@ -23,7 +23,9 @@ fn is_number(word: &[u8], least: u64, most: u64) -> bool {
 
 /// How many hexadecimal digits stand in front.
 fn hex_digits(word: &[u8]) -> usize {
-    word.iter().take_while(|byte| byte.is_ascii_hexdigit()).count()
+    word.iter()
+        .take_while(|byte| byte.is_ascii_hexdigit())
+        .count()
 }
 
 /// Whether a word has hexadecimal digits alone, so many.

@@ -56,7 +56,12 @@ pub fn body_said(alloc: Global, line: &[u8]) -> Result<Said, AllocError> {
         b"command" => too_long(alloc, "packet", nth_word(line, 3), 8, 2_048),
         b"after" => {
             let head = String::from_str(alloc, "moments end at second 4,294,967,295")?;
-            advised(alloc, nth_word(line, 1), head, "this goes on behind it: write less")
+            advised(
+                alloc,
+                nth_word(line, 1),
+                head,
+                "this goes on behind it: write less",
+            )
         }
         _ => record_said(alloc, nth_word(line, 3), nth_word(line, 4)),
     }

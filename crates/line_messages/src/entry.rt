@@ -2,7 +2,7 @@
 
 use crate::first_line::MOST_DIGITS;
 use crate::said::{Said, advised, expected, expected_word, too_many};
-use crate::word::{Word, are_digits, number_in, nth_word};
+use crate::word::{Word, are_digits, nth_word, number_in};
 use std::alloc::{AllocError, Global};
 
 const VERBS: &[&[u8]] = &[b"sample", b"housekeeping"];

@@ -3,7 +3,7 @@
 use crate::argument::{MOST_DIGITS, is_right, word_said};
 use crate::said::{Said, advised, expected, marked};
 use crate::statement::{OFFSET, TYPE};
-use crate::word::{Word, are_digits, number_in, nth_word, word_behind};
+use crate::word::{Word, are_digits, nth_word, number_in, word_behind};
 use lc_model::FieldType;
 use std::alloc::{AllocError, Global};
 

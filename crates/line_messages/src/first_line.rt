@@ -1,7 +1,7 @@
 //! What is said of a line that should be `slots N`.
 
 use crate::said::{Said, advised, expected, expected_word, too_many};
-use crate::word::{are_digits, number_in, nth_word};
+use crate::word::{are_digits, nth_word, number_in};
 use std::alloc::{AllocError, Global};
 
 /// The first word.

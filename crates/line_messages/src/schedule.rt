@@ -50,12 +50,7 @@ fn bad_line_said(alloc: Global, before: &[u8], line: &[u8]) -> Result<Said, Allo
 }
 
 /// What is said of a line that has this refusal, behind these bytes of the text.
-fn line_said(
-    alloc: Global,
-    code: u8,
-    before: &[u8],
-    line: &[u8],
-) -> Result<Said, AllocError> {
+fn line_said(alloc: Global, code: u8, before: &[u8], line: &[u8]) -> Result<Said, AllocError> {
     if code == TOO_MANY_ENTRIES {
         full_said(alloc, line)
     } else {
@@ -80,12 +75,7 @@ fn numbered_message(
 }
 
 /// What is said of a refusal: of no line where it has the number 0.
-fn message(
-    alloc: Global,
-    text: &[u8],
-    code: u8,
-    number: usize,
-) -> Result<Message, AllocError>
+fn message(alloc: Global, text: &[u8], code: u8, number: usize) -> Result<Message, AllocError>
     requires { number ≤ line_count text.now }
     ensures { IfOk result (IsOn text.now code number) }
 {

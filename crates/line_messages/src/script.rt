@@ -79,11 +79,7 @@ fn words_said(
 }
 
 /// What is said of a line that is refused, of a statement.
-fn statement_said(
-    alloc: Global,
-    line: &[u8],
-    statement: Statement,
-) -> Result<Said, AllocError> {
+fn statement_said(alloc: Global, line: &[u8], statement: Statement) -> Result<Said, AllocError> {
     if let Some(said) = count_said(alloc, line, statement)? {
         return Ok(said);
     }
@@ -103,12 +99,7 @@ fn line_said(alloc: Global, line: &[u8]) -> Result<Said, AllocError> {
 }
 
 /// What is said of the line with this number.
-fn message(
-    alloc: Global,
-    text: &[u8],
-    code: u8,
-    number: usize,
-) -> Result<Message, AllocError>
+fn message(alloc: Global, text: &[u8], code: u8, number: usize) -> Result<Message, AllocError>
     requires some { 1 ≤ number }
     requires there { number ≤ line_count text.now }
     ensures { IfOk result (IsOn text.now code number) }

@@ -42,7 +42,11 @@ fn word_size(bytes: &[u8]) -> usize
 
 /// The place behind the line's last word.
 fn line_end(line: &[u8]) -> usize {
-    let blanks = line.iter().rev().take_while(|byte| is_blank(**byte)).count();
+    let blanks = line
+        .iter()
+        .rev()
+        .take_while(|byte| is_blank(**byte))
+        .count();
     line.len().saturating_sub(blanks)
 }
 

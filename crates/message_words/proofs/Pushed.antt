@@ -11,7 +11,7 @@ pub pushed : (text before columns : List ℕ) (number char : ℕ) → number < l
     → text ≡ before ++ encode_utf8_all (take number columns) → text ++ encode_utf8 char ≡ before ++ encode_utf8_all (take (number + 1) columns)
 pushed text before columns number char inside is so_far =
     let next : take (number + 1) columns ≡ take number columns ++ char ∷ [] =
-        ap (λ n. take n columns) (one_more number) ∙ take-suc columns number char inside ∙ ap (λ c. take number columns ++ c ∷ []) (sym is) in
+    ap (λ n. take n columns) (one_more number) ∙ take-suc columns number char inside ∙ ap (λ c. take number columns ++ c ∷ []) (sym is) in
     ap (λ bytes. bytes ++ encode_utf8 char) so_far
     ∙ append_assoc before (encode_utf8_all (take number columns)) (encode_utf8 char)
     ∙ ap (λ bytes. before ++ bytes)

@@ -9,10 +9,10 @@ use crate::files::{LONGEST_TABLE, LONGEST_TEXT, read, read_text};
 use crate::output::listed;
 use crate::telling::{alone, write_messages};
 use judgement_listing::{ListingError, Which, list_actionpoints, list_judgement, list_unsampled};
-use rpn_compiler::{CompileError, compile};
 use line_messages::{Refusal, read_schedule};
 use message_objects::note_line;
 use message_words::written;
+use rpn_compiler::{CompileError, compile};
 use rule_messages::messages;
 use std::alloc::Global;
 use std::fs::Files;
@@ -158,8 +158,9 @@ fn judge<'a, W: Write>(
     out: &mut W,
 ) -> Result<usize, Fault<'a>> {
     let mut lines = Vec::new(alloc);
-    list_judgement(alloc, text, asked.which(), &mut lines)
-        .map_err(|error| judgement_fault(name, error))?;
+    list_judgement(alloc, text, asked.which(), &mut lines).map_err(|error| judgement_fault(
+        name, error,
+    ))?;
     if let Some(plan) = plan {
         list_unsampled(alloc, text, plan, &mut lines).map_err(|error| judgement_fault(
             name, error,

@@ -300,11 +300,7 @@ fn with_more<'a>(
                 "strict",
                 "Ends with status 1 where there is a warning",
             ))?
-            .arg(flag_word(
-                alloc,
-                "json",
-                "Says all of it in JSON, an object a line",
-            ))?
+            .arg(flag_word(alloc, "json", "Says all of it in JSON, an object a line"))?
             .arg(rule_words(alloc)),
     }
 }
