@@ -68,7 +68,7 @@ some_more : (byte : ℕ) (pieces : List (List ℕ)) (count : ℕ) (b : Bool) →
     → length (cond b ([] ∷ pieces) (onto_first byte pieces)) ≡ cond b 1 0 + count + 1
 some_more byte pieces count true e = omega (arith, e)
 some_more byte [] count false e = absurd (omega (arith, e))
-some_more byte (piece ∷ pieces) count false e = e
+some_more byte (piece ∷ pieces) count false e = omega (arith, e)
 
 count_parted : (text : List ℕ) → length (parted is_line_feed text) ≡ count_by is_line_feed text + 1
 count_parted [] = refl

@@ -35,9 +35,45 @@ pub start_of_text : (text : List ℕ) → line_start text 0 ≡ 0
 unfolding line_start
 start_of_text text = refl
 
+-- what the search for a line keeps
+abbrev pub Keeps : List ℕ → (number at line : ℕ) → Type 0
+Keeps text number at line = (at ≤ length text) × (line ≡ line_number text at) × (line ≤ number) × (number ≤ line → line_start text at ≡ at)
+
+pub kept_behind_feed : (text : List ℕ) (number at line next : ℕ) → at < length text → line < number → line ≡ line_number text at
+    → slice_index text at ≡ line_feed → next ≡ line + 1 → Keeps text number (at + 1) next
+kept_behind_feed text number at line next inside below is feed more = (
+  omega (arith, inside),
+  more ∙ ap (λ n. n + 1) is ∙ sym (number_behind_feed text at inside feed),
+  omega (arith, below, more),
+  λ _. start_behind_feed text at feed,
+)
+
+pub kept_behind_other : (text : List ℕ) (number at line next : ℕ) → at < length text → line < number → line ≡ line_number text at
+    → slice_index text at ≢ line_feed → next ≡ line → Keeps text number (at + 1) next
+kept_behind_other text number at line next inside below is other same = (
+  omega (arith, inside),
+  same ∙ is ∙ sym (number_behind_other text at inside other),
+  omega (arith, below, same),
+  λ reached. absurd (omega (arith, below, same, reached)),
+)
+
+pub found_line : (text : List ℕ) (number at line : ℕ) → Keeps text number at line → number ≤ line → IsLineBegin text number at
+found_line text number at line kept reached = record {
+  within = kept.0;
+  first = kept.3 reached;
+  line = sym kept.1 ∙ omega (arith, kept.2, reached);
+}
+
 -- the last line's number is how many lines there are
 pub number_at_end : (text : List ℕ) → line_number text (length text) ≡ line_count text
 number_at_end text = ap (λ bytes. count_by is_line_feed bytes + 1) (take_all (length text) text (le_refl (length text)))
+
+pub found_last : (text : List ℕ) (number at line : ℕ) → Keeps text number at line → length text ≤ at → number ≤ line_count text
+    → IsLineBegin text number at
+found_last text number at line kept end there =
+    let whole : at ≡ length text = omega (arith, kept.0, end) in
+    let last : line ≡ line_count text = kept.1 ∙ ap (λ n. line_number text n) whole ∙ number_at_end text in
+    found_line text number at line kept (omega (arith, last, there))
 
 -- ---- places on a line
 
@@ -48,9 +84,10 @@ one_byte n byte bytes true is short rest =
     absurd (omega (arith, short, none))
 one_byte n byte bytes false is short rest =
     let more : prefix_len is_line_byte (byte ∷ bytes) ≡ 1 + prefix_len is_line_byte bytes = ap (λ t. cond (not t) (1 + prefix_len is_line_byte bytes) 0) is in
-    sum_by-cons (λ x. cond (is_line_feed x) 1 0) byte (take n bytes)
-    ∙ ap (λ t. cond t 1 0 + count_by is_line_feed (take n bytes)) is
-    ∙ rest (omega (arith, short, more))
+    let first : cond (is_line_feed byte) 1 0 ≡ 0 = ap (λ t. cond t 1 0) is in
+    let whole = sum_by-cons (λ x. cond (is_line_feed x) 1 0) byte (take n bytes) in
+    let none = rest (omega (arith, short, more)) in
+    omega (arith, first, whole, none)
 
 no_feeds : (n : ℕ) (bytes : List ℕ) → n ≤ prefix_len is_line_byte bytes → count_by is_line_feed (take n bytes) ≡ 0
 no_feeds zero bytes short = refl
@@ -82,7 +119,7 @@ line_from text number begin line begins is_number is_begin is_bytes =
     let bytes : line.bytes.now ≡ take size rest = is_bytes ∙ ap (λ at. take (prefix_len is_line_byte (drop at text)) (drop at text)) begins.first in
     let taken : length line.bytes.now ≡ length (take size rest) = ap length bytes in
     record {
-      number = is_number;
+      numbered = is_number;
       within = let a = length-take size rest in let b = length-drop begin text in let c = begins.within in grind (arith, is_begin, taken, a, b, c);
       on = λ offset short.
           ap (λ at. line_number text (at + offset)) is_begin
@@ -106,7 +143,7 @@ pub is_on : {E : Type 0} (text : List ℕ) (line : Line) (code at : ℕ) (result
     → at ≤ line.begin + length line.bytes.now → IfOk result (IsAt code at) → 1 ≤ line.number → IsLine text line.number line
     → IfOk result (IsOn text code line.number)
 is_on text line code at (Ok message) from to told some is =
-    record { code = told.0; place = subst (λ p. IsSomeAnd p (IsOnLine text line.number)) (sym told.1) (on_line text line at some is from to) }
+    record { told = told.0; place = subst (λ p. IsSomeAnd p (IsOnLine text line.number)) (sym told.1) (on_line text line at some is from to) }
 is_on text line code at (Err failed) from to told some is = told
 
 -- a message at the text's end

@@ -1,5 +1,5 @@
 -- What a message says of a line that is refused: its number, and a place on the line. This project's own.
-use Rattle.std.specs.Prelude.{◌≡◌, ℕ, ◌≤◌, List, length, ⊤, ⊥, IsSomeAnd, Result, Ok, Err}
+use Rattle.std.specs.Prelude.{◌≡◌, ℕ, ◌≤◌, List, length, ⊤, IsSomeAnd, Result, Ok, Err}
 use Rattle.lc_model.specs.Host.Schedule.{Schedule}
 use Rattle.lc_model.specs.Host.ScheduleText.{ScheduleFault}
 use Rattle.text_places.specs.Line.{line_number}
@@ -19,7 +19,7 @@ pub record IsOnLine (text : List ℕ) (line at : ℕ) : Type 0 where
 
 -- the message has this number, and stands on this line
 pub record IsOn (text : List ℕ) (code line : ℕ) (message : Message) : Type 0 where
-  pub code : message.code ≡ code
+  pub told : message.code ≡ code
   pub place : IsSomeAnd (first_place message) (IsOnLine text line)
 
 -- ---- schedules

@@ -90,8 +90,8 @@ pub fn too_many(alloc: Global, word: Word<'_>) -> Result<Said, AllocError> {
 /// The mark at its place of the text, where its line begins behind so many bytes. A place behind the line's end is its end.
 fn placed(line: Line<'_>, mark: Mark) -> Mark
     requires { line.begin + length line.bytes.now < 2 ^ 63 }
-    ensures from { line.begin ≤ result.at }
-    ensures to { result.at ≤ line.begin + length line.bytes.now }
+    ensures from { line.entry.begin ≤ result.at }
+    ensures to { result.at ≤ line.entry.begin + length line.entry.bytes.now }
 {
     let Mark { at, size, label } = mark;
     Mark {
@@ -119,8 +119,8 @@ pub fn message_on(
     said: Said,
 ) -> Result<Message, AllocError>
     requires { line.begin + length line.bytes.now < 2 ^ 63 }
-    ensures { (text : List ℕ) → 1 ≤ line.number → IsLine text line.number line →
-        IfOk result (IsOn text code line.number) }
+    ensures { (text : List ℕ) → 1 ≤ line.entry.number → IsLine text line.entry.number line.entry →
+        IfOk result (IsOn text code line.entry.number) }
 {
     let Said { head, first, other } = said;
     let message = Message::at(alloc, code, head, placed(line, first));
