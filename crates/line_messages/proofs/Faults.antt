@@ -1,10 +1,10 @@
 -- The line of a reader's fault is one of the text's.
 use Rattle.std.proofs.Common.{◌≡◌, ◌+◌, ◌<◌, ◌≤◌, ℕ, Bool, true, false, suc, cond, List, [], ◌∷◌, length, count_by, nat_lt, nat_le, not, refl, sym, ◌∙◌, ap, subst, arith, Option, Some, None, Result, Ok, Err}
-use Rattle.std.specs.Prelude.{⊤, slice_index_or, slice_set, replicate, ◌++◌}
+use Rattle.std.specs.Prelude.{⊤, slice_index_or}
 use Rattle.std.proofs.lemmas.List.Splits.{length-slice_split}
 use Rattle.std.proofs.lemmas.List.Sums.{sum_by-cons}
 use Rattle.lc_model.specs.Host.Schedule.{Schedule, ScheduleEntry, most_slots, most_entries}
-use Rattle.lc_model.specs.Host.ScheduleText.{ScheduleFault, bad_line, entry_added, entry_in, empty_slots, is_silent, line_read, lines_of, lines_read, onto_first, parted, schedule_in, slots_in, words_of}
+use Rattle.lc_model.specs.Host.ScheduleText.{ScheduleFault, entry_added, entry_in, empty_slots, is_silent, line_read, lines_of, lines_read, onto_first, parted, schedule_in, slots_in, words_of}
 use Rattle.text_places.specs.Line.{is_line_feed}
 use Rattle.stream_script.specs.Error.{ScriptFault}
 use Rattle.stream_script.specs.Part as script

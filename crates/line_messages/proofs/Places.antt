@@ -1,9 +1,9 @@
 -- Where a line with a number begins, and which places are on it.
-use Rattle.std.proofs.Common.{◌≡◌, ◌≢◌, ◌+◌, ◌-◌, ◌<◌, ◌≤◌, ◌==◌, ◌++◌, ℕ, Bool, true, false, not, zero, suc, cond, List, [], ◌∷◌, length, take, drop, slice_index, count_by, refl, sym, ◌∙◌, ap, subst, arith, take_all, take-add, length-take, length-drop, le_refl, le_of_eq, IfOk, IsSomeAnd, Option, Some, None, Result, Ok, Err, eq-eqb, ne_eqb}
+use Rattle.std.proofs.Common.{◌≡◌, ◌≢◌, ◌+◌, ◌-◌, ◌<◌, ◌≤◌, ◌==◌, ℕ, Bool, true, false, not, zero, suc, cond, List, [], ◌∷◌, length, take, drop, slice_index, count_by, refl, sym, ◌∙◌, ap, subst, arith, take_all, take-add, length-take, length-drop, le_refl, le_of_eq, IfOk, IsSomeAnd, Result, Ok, Err, eq-eqb, ne_eqb}
 use Rattle.std.specs.List.{prefix_len}
 use Rattle.std.proofs.lemmas.List.Sums.{count_by_more_yes, count_by_more_no, sum_by-append, sum_by-cons}
 use Rattle.text_places.specs.Line.{is_line_byte, is_line_feed, line_feed, line_number, line_of, line_start}
-use Rattle.rule_messages.specs.Telling.{IsAt, first_place}
+use Rattle.rule_messages.specs.Telling.{IsAt}
 use Rattle.rule_messages.specs.declared.message.Message.{Message}
 use Rattle.line_messages.specs.Line.{IsLine, IsLineBegin, line_count}
 use Rattle.line_messages.specs.Telling.{IsOn, IsOnLine}
@@ -84,7 +84,7 @@ one_byte n byte bytes true is short rest =
     absurd (omega (arith, short, none))
 one_byte n byte bytes false is short rest =
     let more : prefix_len is_line_byte (byte ∷ bytes) ≡ 1 + prefix_len is_line_byte bytes = ap (λ t. cond (not t) (1 + prefix_len is_line_byte bytes) 0) is in
-    let first : cond (is_line_feed byte) 1 0 ≡ 0 = ap (λ t. cond t 1 0) is in
+    let first : ◌≡◌ {A = ℕ} (cond (is_line_feed byte) 1 0) 0 = ap (λ t. cond {A = ℕ} t 1 0) is in
     let whole = sum_by-cons (λ x. cond (is_line_feed x) 1 0) byte (take n bytes) in
     let none = rest (omega (arith, short, more)) in
     omega (arith, first, whole, none)
@@ -111,15 +111,14 @@ number_on text begin offset size short =
     omega (arith, whole, none)
 
 -- the line that begins there, as far as the next line feed
-pub line_from : (text : List ℕ) (number begin : ℕ) (line : Line) → IsLineBegin text number begin → line.number ≡ number → line.begin ≡ begin
+pub line_from : (text : List ℕ) (number begin : ℕ) (line : Line) → IsLineBegin text number begin → line.begin ≡ begin
     → line.bytes.now ≡ line_of text begin → IsLine text number line
-line_from text number begin line begins is_number is_begin is_bytes =
+line_from text number begin line begins is_begin is_bytes =
     let rest : List ℕ = drop begin text in
     let size : ℕ = prefix_len is_line_byte rest in
     let bytes : line.bytes.now ≡ take size rest = is_bytes ∙ ap (λ at. take (prefix_len is_line_byte (drop at text)) (drop at text)) begins.first in
     let taken : length line.bytes.now ≡ length (take size rest) = ap length bytes in
     record {
-      numbered = is_number;
       within = let a = length-take size rest in let b = length-drop begin text in let c = begins.within in grind (arith, is_begin, taken, a, b, c);
       on = λ offset short.
           ap (λ at. line_number text (at + offset)) is_begin
@@ -128,9 +127,9 @@ line_from text number begin line begins is_number is_begin is_bytes =
 
 -- ---- messages on a line
 
-on_line : (text : List ℕ) (line : Line) (at : ℕ) → 1 ≤ line.number → IsLine text line.number line → line.begin ≤ at
-    → at ≤ line.begin + length line.bytes.now → IsOnLine text line.number at
-on_line text line at some is from to =
+on_line : (text : List ℕ) (number : ℕ) (line : Line) (at : ℕ) → 1 ≤ number → IsLine text number line → line.begin ≤ at
+    → at ≤ line.begin + length line.bytes.now → IsOnLine text number at
+on_line text number line at some is from to =
     let whole : line.begin + (at - line.begin) ≡ at = omega (arith, from) in
     record {
       within = omega (arith, to, is.within);
@@ -139,16 +138,16 @@ on_line text line at some is from to =
     }
 
 -- a message at a place of a line is on it
-pub is_on : {E : Type 0} (text : List ℕ) (line : Line) (code at : ℕ) (result : Result Message E) → line.begin ≤ at
-    → at ≤ line.begin + length line.bytes.now → IfOk result (IsAt code at) → 1 ≤ line.number → IsLine text line.number line
-    → IfOk result (IsOn text code line.number)
-is_on text line code at (Ok message) from to told some is =
-    record { told = told.0; place = subst (λ p. IsSomeAnd p (IsOnLine text line.number)) (sym told.1) (on_line text line at some is from to) }
-is_on text line code at (Err failed) from to told some is = told
+pub is_on : {E : Type 0} (text : List ℕ) (number : ℕ) (line : Line) (code at : ℕ) (result : Result Message E) → line.begin ≤ at
+    → at ≤ line.begin + length line.bytes.now → IfOk result (IsAt code at) → 1 ≤ number → IsLine text number line
+    → IfOk result (IsOn text code number)
+is_on text number line code at (Ok message) from to told some is =
+    record { told = told.0; place = subst (λ p. IsSomeAnd p (IsOnLine text number)) (sym told.1) (on_line text number line at some is from to) }
+is_on text number line code at (Err failed) from to told some is = told
 
 -- a message at the text's end
 pub is_at_end : (text : List ℕ) (code at : ℕ) (message : Message) → at ≡ length text → IsAt code at message → IsOn text code 0 message
 is_at_end text code at message end told = record {
-  code = told.0;
+  told = told.0;
   place = subst (λ p. IsSomeAnd p (IsOnLine text 0)) (sym told.1) (record { within = le_of_eq end; on = λ some. absurd (omega (arith, some)); end = λ none. end });
 }

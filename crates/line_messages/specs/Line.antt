@@ -15,6 +15,5 @@ pub record IsLineBegin (text : List ℕ) (number at : ℕ) : Type 0 where
 
 -- what a message of a line stands on: each of its places is one of the text's line with this number
 pub record IsLine (text : List ℕ) (number : ℕ) (line : Line) : Type 0 where
-  pub numbered : line.number ≡ number
   pub within : line.begin + length line.bytes.now ≤ length text
   pub on : (offset : ℕ) → offset ≤ length line.bytes.now → line_number text (line.begin + offset) ≡ number

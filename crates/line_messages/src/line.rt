@@ -8,8 +8,6 @@ use text_places::line_of;
 /// A line of a text.
 #[derive(Clone, Copy)]
 pub struct Line<'a> {
-    /// From 1.
-    pub number: usize,
     /// Bytes of the text before it.
     pub begin: usize,
     /// Its bytes, without the line feed.
@@ -41,7 +39,6 @@ pub fn line_numbered(text: &[u8], number: usize) -> Line<'_>
 {
     let begin = line_begin(text, number);
     Line {
-        number,
         begin,
         bytes: line_of(text, begin),
     }

@@ -119,8 +119,8 @@ pub fn message_on(
     said: Said,
 ) -> Result<Message, AllocError>
     requires { line.begin + length line.bytes.now < 2 ^ 63 }
-    ensures { (text : List ℕ) → 1 ≤ line.entry.number → IsLine text line.entry.number line.entry →
-        IfOk result (IsOn text code line.entry.number) }
+    ensures { (text : List ℕ) (number : ℕ) → 1 ≤ number → IsLine text number line.entry →
+        IfOk result (IsOn text code number) }
 {
     let Said { head, first, other } = said;
     let message = Message::at(alloc, code, head, placed(line, first));

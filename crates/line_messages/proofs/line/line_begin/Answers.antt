@@ -1,5 +1,5 @@
 use Rattle.std.proofs.Common.{arith, refl}
-use Rattle.line_messages.proofs.Places.{found_last, found_line, kept_behind_feed, kept_behind_other, start_of_text}
+use Rattle.line_messages.proofs.Places.{kept_behind_feed, kept_behind_other, start_of_text}
 use Rattle.line_messages.proofs.line.line_begin.Goals.{else-text-at-eq10, then-text-at-eq10}
 use Rattle.line_messages.proofs.line.line_begin.Goals as goal
 
@@ -13,6 +13,6 @@ loop-line-preserved c =
     let stays = kept_behind_other c.args.text.now c.args.number c.loop-line.at c.loop-line.line c.if-text-at-eq10.line c.if-at-text.true
     c.loop-line-test.true c.loop-line.invariant.1 in
     elim c.if-text-at-eq10.branch [
-      | then-text-at-eq10 w ↦ kept w.if-text-at-eq10 w.line-is
-      | else-text-at-eq10 w ↦ stays w.if-text-at-eq10 w.line-is
+      | then-text-at-eq10 w ↦ kept w.if-text-at-eq10.true w.line-is
+      | else-text-at-eq10 w ↦ stays w.if-text-at-eq10.false w.line-is
     ]
