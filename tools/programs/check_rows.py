@@ -32,8 +32,8 @@ def noted(lines):
     def noted_line(line):
         note = line.decode().rstrip("\n")
         level = "warning" if note.startswith("warning: ") else "note"
-        members = {"level": level, "message": note.removeprefix("warning: "), "file": "rules", "label": "", "others": []}
-        nothing = dict.fromkeys(["code", "column", "end_column", "line", "warning"])
+        members = {"level": level, "message": note.removeprefix("warning: "), "file": "rules", "others": []}
+        nothing = dict.fromkeys(["at", "code", "warning"])
         return json.dumps({**members, **nothing}, sort_keys=True, separators=(",", ":")) + "\n"
 
     return "".join(map(noted_line, lines)).encode()

@@ -42,30 +42,21 @@ abbrev number_or_null : Option ℕ → Data
 number_or_null None = null
 number_or_null (Some n) = number_of n
 
-abbrev members : (code column end_column : Data) → (file label level : List ℕ) → (line : Data) → (message : List ℕ) → Items → Data
-members code column end_column file label level line message others =
-    object (member (codes "code") code
-    (member (codes "column") column
-    (member (codes "end_column") end_column
+-- what is told, at a place or at none, with other places
+abbrev members : (at code : Data) → (file level message : List ℕ) → Items → Data
+members at code file level message others =
+    object (member (codes "at") at
+    (member (codes "code") code
     (member (codes "file") (string file)
-    (member (codes "label") (string label)
     (member (codes "level") (string level)
-    (member (codes "line") line
     (member (codes "message") (string message)
     (member (codes "others") (array others)
-    (member (codes "warning") null no_members))))))))))
+    (member (codes "warning") null no_members)))))))
 
--- what is told at a place
-abbrev pub placed_object : Told → Spot → Items → Data
-placed_object told spot others =
-    members (number_or_null told.code) (number_of spot.column) (number_of spot.end_column) told.file.now spot.label.now told.level.now
-    (number_of spot.line) told.message.now others
+abbrev pub told_object : Told → Data → Items → Data
+told_object told at others = members at (number_or_null told.code) told.file.now told.level.now told.message.now others
 
--- what is told of a file as a whole
-abbrev pub note_object : Told → Data
-note_object told = members (number_or_null told.code) null null told.file.now [] told.level.now null told.message.now no_items
-
--- another place
+-- a place
 abbrev pub mark_object : List ℕ → Mark → Data
 mark_object text mark =
     object (member (codes "column") (number_of (column text (place_of text mark)))
@@ -73,21 +64,20 @@ mark_object text mark =
     (member (codes "label") (string (string_bytes mark.label))
     (member (codes "line") (number_of (line_number text (place_of text mark))) no_members))))
 
+-- a place, or null where there is none
+abbrev pub place_object : List ℕ → Option Mark → Data
+place_object text None = null
+place_object text (Some mark) = mark_object text mark
+
 -- all other places
 abbrev pub mark_objects : List ℕ → List Mark → Items
 mark_objects text marks = items_of (map (mark_object text) marks)
 
 -- a message of a text in a file of this name
-abbrev pub message_by : Option Mark → (file text : List ℕ) → Message → Data
-message_by None file text message =
-    members (number_of message.code) null null file [] (codes "error") null (string_bytes message.head) no_items
-message_by (Some mark) file text message =
-    let at : ℕ = place_of text mark in
-    members (number_of message.code) (number_of (column text at)) (number_of (end_column text at mark.size)) file (string_bytes mark.label)
-    (codes "error") (number_of (line_number text at)) (string_bytes message.head) (mark_objects text message.others.items)
-
 abbrev pub message_object : (file text : List ℕ) → Message → Data
-message_object file text message = message_by message.first file text message
+message_object file text message =
+    members (place_object text message.first) (number_of message.code) file (codes "error") (string_bytes message.head)
+    (mark_objects text message.others.items)
 
 -- ---- lines
 
@@ -99,6 +89,6 @@ message_text file text message = compact_text (message_object file text message)
 abbrev pub level_of : Bool → List ℕ
 level_of is_warning = if is_warning then codes "warning" else codes "note"
 
+-- what is said of a file as a whole
 abbrev pub note_text : List ℕ → Bool → List ℕ → List ℕ
-note_text file is_warning note =
-    compact_text (members null null null file [] (level_of is_warning) null note no_items) ++ 10 ∷ []
+note_text file is_warning note = compact_text (members null null file (level_of is_warning) note no_items) ++ 10 ∷ []

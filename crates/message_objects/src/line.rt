@@ -3,10 +3,9 @@
 ghost use Rattle.std.specs.Prelude.{◌≡◌, ◌++◌, [], ◌∷◌, false, codes, if◌then◌else◌, string_bytes, IfOk};
 ghost use Rattle.serde_json.specs.View.{view};
 ghost use Rattle.serde_json.specs.Written.{compact_text, has_float};
-ghost use Rattle.message_objects.specs.Object.{message_object, message_text, note_text};
+ghost use Rattle.message_objects.specs.Object.{level_of, message_object, message_text, note_text};
 
-use crate::object::{Told, mark_objects, note_object, placed_object};
-use crate::spot::spot_of;
+use crate::object::{Told, mark_objects, place_object, told_object};
 use rule_messages::Message;
 use serde_json::Value;
 use std::alloc::{AllocError, Global};
@@ -36,13 +35,9 @@ fn message_object(
         code: Some(message.code),
         message: message.head.as_str(),
     };
-    match &message.first {
-        Some(mark) => {
-            let others = mark_objects(alloc, text, message.others.as_slice())?;
-            placed_object(alloc, told, spot_of(text, mark), others)
-        }
-        None => note_object(alloc, told),
-    }
+    let at = place_object(alloc, text, &message.first)?;
+    let others = mark_objects(alloc, text, message.others.as_slice())?;
+    told_object(alloc, told, at, others)
 }
 
 /// A message of a text in a file of this name, as a line.
@@ -59,6 +54,13 @@ pub fn message_line(
     line_of(alloc, &object)
 }
 
+/// The level of what is said of a file as a whole.
+fn level_of(is_warning: bool) -> &'static str
+    ensures { result.now ≡ level_of is_warning }
+{
+    if is_warning { "warning" } else { "note" }
+}
+
 /// What is said of a file of this name as a whole, as a line: a warning, or a note.
 pub fn note_line(
     alloc: Global,
@@ -70,10 +72,10 @@ pub fn note_line(
 {
     let told = Told {
         file,
-        level: if is_warning { "warning" } else { "note" },
+        level: level_of(is_warning),
         code: None,
         message: note,
     };
-    let object = note_object(alloc, told)?;
+    let object = told_object(alloc, told, Value::Null, Vec::new(alloc))?;
     line_of(alloc, &object)
 }

@@ -2,9 +2,9 @@
 
 ghost use Rattle.std.specs.Prelude.{◌≡◌, map, IfOk};
 ghost use Rattle.serde_json.specs.View.{view, items_view};
-ghost use Rattle.message_objects.specs.Object.{mark_object, mark_objects, note_object, placed_object};
+ghost use Rattle.message_objects.specs.Object.{mark_object, place_object, told_object};
 
-use crate::spot::{Spot, spot_of};
+use crate::spot::spot_of;
 use rule_messages::Mark;
 use serde_json::{Value, json};
 use std::alloc::{AllocError, Global};
@@ -22,48 +22,28 @@ pub struct Told<'a> {
     pub message: &'a str,
 }
 
-/// What is told at a place, with the objects of other places.
-pub fn placed_object(
+/// What is told, at a place or at none, with other places.
+pub fn told_object(
     alloc: Global,
     told: Told<'_>,
-    spot: Spot<'_>,
+    at: Value,
     others: Vec<Value>,
 ) -> Result<Value, AllocError>
-    ensures { IfOk result (λ value. view value ≡ placed_object told spot (items_view others.items)) }
+    ensures { IfOk result
+        (λ value. view value ≡ told_object told.entry (view at) (items_view others.items)) }
 {
     json!(in alloc; {
+        "at": at,
         "code": told.code,
-        "column": spot.column,
-        "end_column": spot.end_column,
         "file": told.file,
-        "label": spot.label,
         "level": told.level,
-        "line": spot.line,
         "message": told.message,
         "others": others,
         "warning": null
     })
 }
 
-/// What is told of a file as a whole.
-pub fn note_object(alloc: Global, told: Told<'_>) -> Result<Value, AllocError>
-    ensures { IfOk result (λ value. view value ≡ note_object told) }
-{
-    json!(in alloc; {
-        "code": told.code,
-        "column": null,
-        "end_column": null,
-        "file": told.file,
-        "label": "",
-        "level": told.level,
-        "line": null,
-        "message": told.message,
-        "others": [],
-        "warning": null
-    })
-}
-
-/// Another place.
+/// A place.
 fn mark_object(alloc: Global, text: &[u8], mark: &Mark) -> Result<Value, AllocError>
     ensures { IfOk result (λ value. view value ≡ mark_object text.now mark.now) }
 {
@@ -74,6 +54,16 @@ fn mark_object(alloc: Global, text: &[u8], mark: &Mark) -> Result<Value, AllocEr
         "label": spot.label,
         "line": spot.line
     })
+}
+
+/// A place, or null where there is none.
+pub fn place_object(alloc: Global, text: &[u8], mark: &Option<Mark>) -> Result<Value, AllocError>
+    ensures { IfOk result (λ value. view value ≡ place_object text.now mark.now) }
+{
+    match mark {
+        Some(mark) => mark_object(alloc, text, mark),
+        None => Ok(Value::Null),
+    }
 }
 
 /// All other places.

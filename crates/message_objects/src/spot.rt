@@ -34,7 +34,8 @@ fn end_column(text: &[u8], at: usize, size: usize) -> usize
     requires { at ≤ length text.now }
     ensures { result ≡ end_column text.now at size }
 {
-    place_of(text, at).column + character_count(token_in_line(text, at, size))
+    let before = text.split_at(at).0.split_at(line_start(text, at)).1;
+    character_count(before) + 1 + character_count(token_in_line(text, at, size))
 }
 
 /// Where a mark stands. A place behind the text's end is its end.
