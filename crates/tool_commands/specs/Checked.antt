@@ -1,5 +1,5 @@
 -- What calls come to that find faults: `check`, `compare` and `try`. This project's own.
-use Rattle.std.specs.Prelude.{ℕ, Bool, true, false, not, ◌||◌, ◌&&◌, if◌then◌else◌, nat_lt, Result, Ok, Err}
+use Rattle.std.specs.Prelude.{Bool, true, not, ◌||◌, ◌&&◌, if◌then◌else◌, nat_lt, Result, Ok, Err}
 use Rattle.tool_commands.specs.declared.fault.Fault.{Fault}
 use Rattle.tool_commands.specs.declared.fault.Fault.TheVariants as fault
 use Rattle.run_comparison.specs.declared.comparison.Compared.{Compared}

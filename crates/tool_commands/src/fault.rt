@@ -8,13 +8,9 @@ use clap::Error;
 use flight_core::RunError;
 use program_files::Why;
 use rpn_compiler::CompileError;
-use run_expectations::ReadError;
 use run_report::ReportError;
-use scenario_words::ScenarioError;
 use std::alloc::{AllocError, AllocFailed};
 use std::fmt::{self, Display, Formatter, Write};
-use stream_script::ScriptError;
-use tick_scheduler::ScheduleError;
 
 /// Why the program ended.
 #[derive(Debug, Drop)]
@@ -29,18 +25,12 @@ pub enum Fault<'a> {
     Table,
     /// A stream or packets that end early, which the listing or the page says.
     Early,
-    /// A script that says no stream, by its file's name.
-    Script(&'a str, ScriptError),
-    /// A schedule that is refused, by its file's name.
-    Schedule(&'a str, ScheduleError),
+    /// A schedule or a script that is refused, and what is said of it.
+    Lines(String),
     /// A rule text of a run that is refused.
     Report(ReportError),
     /// A rule text that is refused, by its file's name.
     Rules(&'a str, CompileError),
-    /// A script whose words can't be read, by its file's name.
-    Scenario(&'a str, ScenarioError),
-    /// A script whose expectations can't be read, by its file's name.
-    Expectation(&'a str, ReadError),
     /// What came of two rule texts differs, which the listing says.
     Differs,
     /// Expectations that aren't met, which the listing says.
@@ -98,13 +88,9 @@ impl Fault<'_> {
     {
         match self {
             Fault::Gone => 0,
-            Fault::Table | Fault::Script(..) | Fault::Schedule(..) | Fault::Report(_) => 1,
+            Fault::Table | Fault::Lines(_) | Fault::Report(_) => 1,
             Fault::Refused | Fault::Judgement(..) | Fault::Warned => 1,
-            Fault::Rules(..)
-            | Fault::Scenario(..)
-            | Fault::Expectation(..)
-            | Fault::Differs
-            | Fault::Unmet => 1,
+            Fault::Rules(..) | Fault::Differs | Fault::Unmet => 1,
             Fault::Words(_) | Fault::NoText | Fault::Value(..) => 2,
             Fault::File(..) => 3,
             Fault::Early => 4,
@@ -122,12 +108,9 @@ impl Display for Fault<'_> {
             Fault::Value(option, word) => writeln!(f, "{option} {word}: no such value"),
             Fault::Table | Fault::Early | Fault::Gone | Fault::Refused | Fault::Warned => Ok(()),
             Fault::Differs | Fault::Unmet => Ok(()),
-            Fault::Script(name, error) => writeln!(f, "{name}: {error}"),
-            Fault::Schedule(name, error) => writeln!(f, "{name}: {error}"),
+            Fault::Lines(page) => write!(f, "{page}"),
             Fault::Report(error) => writeln!(f, "{error}"),
             Fault::Rules(name, error) => writeln!(f, "{name}: {error}"),
-            Fault::Scenario(name, error) => writeln!(f, "{name}: {error}"),
-            Fault::Expectation(name, error) => writeln!(f, "{name}: {error}"),
             Fault::Judgement(name, error) => writeln!(f, "{name}: {error}"),
             Fault::Run(error) => writeln!(f, "{error}"),
             Fault::File(name, why) => writeln!(f, "cannot use {name}: {why}"),

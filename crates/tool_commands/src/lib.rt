@@ -19,6 +19,7 @@ mod output;
 mod report;
 mod rows;
 mod scenario;
+mod telling;
 mod trying;
 mod words;
 
@@ -82,10 +83,12 @@ pub fn obey<'a, R: Files + Eprint + AllocGlobal, I: Read + Drop, W: Write>(
             rules,
             all,
             strict,
+            json,
         } => {
             let asked = Asked {
                 is_all: all,
                 is_strict: strict,
+                is_json: json,
             };
             checking::check(rt, schedule, rules.as_slice(), asked, out)
         }

@@ -1,10 +1,10 @@
 //! `scenario [--rules RULES] SCRIPT STREAM`
 
-ghost use Rattle.std.specs.Prelude.{◌≡◌};
-ghost use Rattle.tool_commands.specs.Cause.{fault_of_expectation, fault_of_scenario, fault_of_script};
+ghost use Rattle.tool_commands.specs.Cause.{IsToldFault};
 
 use crate::fault::Fault;
 use crate::files::{LONGEST_WHOLE, fault_at, is_apart, read, read_text};
+use crate::telling::{line_fault, script_fault};
 use program_files::{begin, discard, fault_of, keep};
 use rpn_compiler::{CompileError, compile};
 use run_expectations::{ReadError, read_expectations, script_error_at, silenced};
@@ -12,35 +12,45 @@ use scenario_words::{ScenarioError, declared_in, plain_script};
 use std::alloc::Global;
 use std::fs::Files;
 use std::io::Write;
-use stream_script::{ScriptError, read_script};
+use stream_script::read_script;
 
-/// The fault of a script in a file of this name.
-fn script_fault(name: &str, error: ScriptError) -> Fault<'_>
-    ensures { result ≡ fault_of_script name.entry error }
-{
-    match error {
-        ScriptError::Memory => Fault::Memory,
-        error => Fault::Script(name, error),
-    }
-}
+/// The number of a line of a scenario that says no line of a plain script.
+const NO_WORDS: u8 = 169;
 
-/// The fault of expectations in a file of this name.
-pub fn expectation_fault(name: &str, error: ReadError) -> Fault<'_>
-    ensures { result ≡ fault_of_expectation name.entry error }
-{
-    match error {
-        ReadError::Memory => Fault::Memory,
-        error => Fault::Expectation(name, error),
-    }
-}
+/// The number of a line that says no expectation.
+const NO_EXPECTATION: u8 = 170;
 
-/// The fault of a scenario's words in a file of this name.
-fn words_fault(name: &str, error: ScenarioError) -> Fault<'_>
-    ensures { result ≡ fault_of_scenario name.entry error }
+/// The fault of a scenario in a file of this name whose words say no plain script.
+pub fn words_fault(
+    alloc: Global,
+    name: &str,
+    scenario: &[u8],
+    error: ScenarioError,
+) -> Fault<'static>
+    ensures { IsToldFault result }
 {
     match error {
         ScenarioError::Memory => Fault::Memory,
-        error => Fault::Scenario(name, error),
+        ScenarioError::Line { n, reason } => {
+            line_fault(alloc, name, scenario, NO_WORDS, n, &reason)
+        }
+    }
+}
+
+/// The fault of a scenario in a file of this name whose expectations can't be read.
+pub fn expectation_fault(
+    alloc: Global,
+    name: &str,
+    scenario: &[u8],
+    error: ReadError,
+) -> Fault<'static>
+    ensures { IsToldFault result }
+{
+    match error {
+        ReadError::Memory => Fault::Memory,
+        ReadError::Line { n, fault } => {
+            line_fault(alloc, name, scenario, NO_EXPECTATION, n, &fault)
+        }
     }
 }
 
@@ -53,17 +63,20 @@ fn stream_of<'a>(
     texts: &[&[u8]],
 ) -> Result<Vec<u8>, Fault<'a>> {
     let declared = declared_in(alloc, texts)?;
-    let plain = plain_script(alloc, scenario, &declared).map_err(|error| words_fault(name, error))?;
+    let plain = match plain_script(alloc, scenario, &declared) {
+        Ok(plain) => plain,
+        Err(error) => return Err(words_fault(alloc, name, scenario, error)),
+    };
     let script = plain.text.as_slice();
-    let expectations = read_expectations(alloc, script).map_err(|error| expectation_fault(
-        name,
-        error.at(&plain),
-    ))?;
+    let expectations = match read_expectations(alloc, script) {
+        Ok(expectations) => expectations,
+        Err(error) => return Err(expectation_fault(alloc, name, scenario, error.at(&plain))),
+    };
     let quiet = silenced(alloc, script, expectations.as_slice())?;
-    read_script(alloc, quiet.as_slice()).map_err(|error| script_fault(
-        name,
-        script_error_at(&plain, error),
-    ))
+    match read_script(alloc, quiet.as_slice()) {
+        Ok(stream) => Ok(stream),
+        Err(error) => Err(script_fault(alloc, name, scenario, script_error_at(&plain, error))),
+    }
 }
 
 /// The rule text in a file of this name, which compiles.

@@ -4,27 +4,32 @@ use crate::fault::Fault;
 use crate::files::{LONGEST_WHOLE, read};
 use crate::given::{schedule_in, texts_in};
 use crate::output::{listed, written_fault};
+use crate::scenario::{expectation_fault, words_fault};
+use crate::telling::script_fault;
 use program_files::Noting;
 use run_course::Plan;
 use run_expectations::{TrialError, Tried, try_scenario};
+use std::alloc::Global;
 use std::cell::Cell;
 use std::fs::Files;
 use std::io::{ErrorKind, Write};
 
 /// Why a script in a file of this name isn't tried with rule texts in files of these names.
 fn trial_fault<'a>(
-    script: &'a str,
+    alloc: Global,
+    script: (&'a str, &[u8]),
     rules: &[&'a str],
     error: TrialError,
     kind: Option<ErrorKind>,
 ) -> Fault<'a> {
+    let (name, text) = script;
     match error {
-        TrialError::Scenario { error } => Fault::Scenario(script, error),
-        TrialError::Expectation { error } => Fault::Expectation(script, error),
-        TrialError::Script { error } => Fault::Script(script, error),
+        TrialError::Scenario { error } => words_fault(alloc, name, text, error),
+        TrialError::Expectation { error } => expectation_fault(alloc, name, text, error),
+        TrialError::Script { error } => script_fault(alloc, name, text, error),
         TrialError::Rules { text, error } => match rules.get(text) {
-            Some(name) => Fault::Rules(name, error),
-            None => Fault::Rules(script, error),
+            Some(rules) => Fault::Rules(rules, error),
+            None => Fault::Rules(name, error),
         },
         TrialError::Memory => Fault::Memory,
         TrialError::Write => written_fault(kind),
@@ -58,6 +63,12 @@ pub fn try_out<'a, R: Files + AllocGlobal, W: Write>(
             listed(noted.flush())?;
             if unmet > 0 { Err(Fault::Unmet) } else { Ok(()) }
         }
-        Err(error) => Err(trial_fault(script, rules, error, kind.get())),
+        Err(error) => Err(trial_fault(
+            rt.alloc(),
+            (script, text.as_slice()),
+            rules,
+            error,
+            kind.get(),
+        )),
     }
 }
