@@ -2,7 +2,7 @@
 commands."""
 
 from row import Row
-from trial_rows import RULES, SCHEDULE
+from trial_rows import RULES, SCHEDULE, told
 
 SCENARIO = ["flight_tools", "scenario", "--rules", "rules", "script", "stream"]
 
@@ -35,7 +35,7 @@ def says(title, lines, stream):
 
 
 def refused(title, lines, line, why):
-    return Row(title, SCENARIO, {"rules": RULES, "script": lines}, status=1, error=b"script: line %d: %s\n" % (line, why))
+    return Row(title, SCENARIO, {"rules": RULES, "script": lines}, status=1, error=told(lines, line, 169, why))
 
 
 NO_FIELD = b"behind a packet's name stand its fields as `FIELD=VALUE`"
@@ -65,6 +65,8 @@ expect sequence 7 at 105
 expect no sequence 8
 expect state LOW passive
 """
+
+TOCK = b"repeat 3 {\ntick\n}\ntock\n"
 
 ROWS = [
     says("fields by name keep their values", b"""\
@@ -123,7 +125,6 @@ filter LC 1001 0xFFFF
     refused("a word behind a packet that is no field", b"BUS VOLTS\n", 1, NO_FIELD),
     refused("a field that no text declares", b"tick\nBUS VOLT=1\n", 2, b"no rule text declares that field"),
     refused("a value that is no number", b"BUS VOLTS=low\n", 1, NUMBER),
-    refused("a value that the field's type hasn't", b"repeat 2 {\nBUS VOLTS=65536\n}\n", 2, NUMBER),
     refused("a ramp that stands still", b"ramp VOLTS 1 2 by 0 each 1\n", 1, NUMBER),
     refused("a ramp without its seconds", b"ramp VOLTS 1 2 by 1\n", 1, RAMP),
     refused("a ramp of no field", b"ramp VOLT 1 2 by 1 each 1\n", 1, b"no rule text declares that field"),
@@ -136,5 +137,11 @@ filter LC 1001 0xFFFF
     refused("an end of no repetition", b"tick\n}\n", 2, b"`}` ends no `repeat`"),
     refused("too many lines", b"repeat 1000 {\nrepeat 1001 {\ntick\n}\n}\n", 3, b"the script has over 1000000 lines"),
     refused("too many repetitions of nothing", b"repeat 1000000 {\nrepeat 1000000 {\n}\n}\n", 3, b"the script has over 1000000 lines"),
-    refused("a line of a plain script behind others", b"repeat 3 {\ntick\n}\ntock\n", 4, b"no statement"),
+    Row(
+        "a line of a plain script behind others",
+        SCENARIO,
+        {"rules": RULES, "script": TOCK},
+        status=1,
+        error=told(TOCK, 4, 161, b"expected a statement, found `tock`", b"did you mean `tick`?"),
+    ),
 ]

@@ -96,14 +96,19 @@ def trial(script):
     return {"script": script, "schedule": SCHEDULE, "rules": RULES}
 
 
+def told(lines, n, code, why, label=b""):
+    """What is said of a line of a script, which is marked as a whole."""
+    line = lines.split(b"\n")[n - 1]
+    mark = (b"^" * len(line) + b" " + label).rstrip()
+    return b"script:%d:1: error[%d]: %s\n  %d | %s\n    | %s\n\n1 error\n" % (n, code, why, n, line, mark)
+
+
 def refused(line, why):
-    return Row(
-        "no expectation: " + line.decode(),
-        TRY,
-        trial(b"tick\n" + line + b"\n"),
-        status=1,
-        error=b"script: line 2: " + why + b"\n",
-    )
+    lines = b"tick\n" + line + b"\n"
+    return Row("no expectation: " + line.decode(), TRY, trial(lines), status=1, error=told(lines, 2, 170, why))
+
+
+TOCK = b"expect sequence 7\ntock\n"
 
 
 TRIALS = [
@@ -132,7 +137,13 @@ TRIALS = [
     Row("a stream of a script with expectations", ["flight_tools", "scenario", "script", "stream"], trial(BUS_SCRIPT + EXPECTED), after={
         "stream": BUS_STREAM,
     }),
-    Row("a script that is refused behind an expectation", TRY, trial(b"expect sequence 7\ntock\n"), status=1, error=b"script: line 2: no statement\n"),
+    Row(
+        "a script that is refused behind an expectation",
+        TRY,
+        trial(TOCK),
+        status=1,
+        error=told(TOCK, 2, 161, b"expected a statement, found `tock`", b"did you mean `tick`?"),
+    ),
     Row("a text that isn't tried", TRY, {**trial(b"tick\n"), "rules": b"packet BUS"}, status=1, error=b"rules: expected `=` at 10\n"),
     refused(b"expect", b"`expect` goes on with `sequence`, `event`, `state` or `result`, or with `no` and one of the first two"),
     refused(b"expect no state LOW active", b"`expect` goes on with `sequence`, `event`, `state` or `result`, or with `no` and one of the first two"),
