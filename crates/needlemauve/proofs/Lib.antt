@@ -1,6 +1,0 @@
--- Lemmas of the library for C.
-pub mod Files
-pub mod Memory
-pub mod NotRun
-pub mod Sentences
-pub mod Parted

@@ -1,5 +1,0 @@
--- What the contracts of the library for C cite.
-pub mod Refusing
-pub mod Compiling
-pub mod Running
-pub mod Texts

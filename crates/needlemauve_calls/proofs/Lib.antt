@@ -1,0 +1,7 @@
+-- Lemmas of the library for C.
+pub mod Files
+pub mod Live
+pub mod Memory
+pub mod NotRun
+pub mod Sentences
+pub mod Parted

@@ -1,0 +1,6 @@
+-- What the contracts of the library for C cite.
+pub mod Refusing
+pub mod Compiling
+pub mod Running
+pub mod Live
+pub mod Texts
