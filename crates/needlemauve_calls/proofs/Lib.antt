@@ -1,6 +1,6 @@
 -- Lemmas of the library for C.
 pub mod Files
-pub mod Live
+pub mod Heard
 pub mod Memory
 pub mod NotRun
 pub mod Sentences

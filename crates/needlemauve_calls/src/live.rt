@@ -25,7 +25,7 @@ pub struct End {
 }
 
 /// Runs from the one descriptor to the other.
-#[tactic(auto, using(crate::proofs::Live::live))]
+#[tactic(auto, using(crate::proofs::Heard::live))]
 fn run_between(
     alloc: Global,
     texts: &[&[u8]],
@@ -65,7 +65,7 @@ fn run_scheduled(alloc: Global, texts: &[&[u8]], schedule: &[u8], input: i32, ou
 
 /// Runs rule texts, which lie one behind the other and have these lengths, from the one descriptor to the other: before each
 /// read all that the records so far led to is written.
-#[tactic(auto, using(crate::proofs::Live::of_these, crate::proofs::NotRun::out_of_memory, crate::proofs::NotRun::unfit_lengths, crate::proofs::NotRun::unscheduled))]
+#[tactic(auto, using(crate::proofs::Heard::of_these, crate::proofs::NotRun::out_of_memory, crate::proofs::NotRun::unfit_lengths, crate::proofs::NotRun::unscheduled))]
 pub fn run_live(
     alloc: Global,
     texts: &[u8],
