@@ -1,5 +1,5 @@
 -- A run from memory to memory. This project's own.
-use Rattle.std.specs.Prelude.{◌≡◌, ◌≢◌, ◌⊎◌, ⊤, ℕ, Bool, false, List, [], take, length, Option, Some, None, Result, Ok, Err}
+use Rattle.std.specs.Prelude.{◌≡◌, ◌≢◌, ◌⊎◌, ⊤, ℕ, Bool, true, false, List, [], take, length, Option, Some, None, Result, Ok, Err}
 use Rattle.std.specs.List.{sum}
 use Rattle.lc_model.specs.Device.{Source, Sink}
 use Rattle.lc_model.specs.Host.Schedule.{Schedule}
@@ -36,11 +36,12 @@ unwritten = record { gained = Some []; failed = false }
 abbrev pub written_in : List ℕ → ℕ → Bool → Sink
 written_in output written full = record { gained = Some (take written output); failed = full }
 
--- a run over memory: all that a run promises holds of it, and no read fails
+-- a run over memory: all that a run promises holds of it, no read fails, and a write only where the output is full
 pub record RunsInMemory (sources : List (List ℕ)) (schedule : Schedule) (stream output : List ℕ) (written : ℕ) (answer : Result Report RunError) : Type 0 where
   pub after : Source
   pub full : Bool
   pub no_read_fails : after.failed ≡ false
+  pub is_full : full ≡ true → written ≡ length output
   pub promises : Promises ⊤ (mission sources schedule) (devices (unread stream) after unwritten (written_in output written full)) answer
 
 -- ---- in numbers

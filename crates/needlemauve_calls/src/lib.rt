@@ -8,6 +8,7 @@ mod descriptors;
 mod ending;
 mod live;
 mod refusal;
+mod room;
 mod running;
 mod sentence;
 mod stream;

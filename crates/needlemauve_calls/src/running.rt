@@ -7,12 +7,12 @@ ghost use Rattle.needlemauve_calls.specs.Texts.{texts_in};
 
 use crate::ending::{UNFIT, ending_in_numbers, no_schedule, not_run, said};
 use crate::refusal::{NO_MEMORY, Refusal};
+use crate::room::Room;
 use crate::sentence::Sentence;
 use crate::stream::Stream;
 use crate::texts::{are_lengths, texts_in};
 use flight_core::{Report, RunError};
 use flight_stock::launch;
-use lc_model::Limited;
 use std::alloc::Global;
 use tick_scheduler::{Schedule, parse_schedule};
 
@@ -42,15 +42,14 @@ fn run_in_memory(
     let Ok(mut room) = Vec::from_elem(alloc, 0u8, size) else {
         return None;
     };
-    let limit = room.len();
-    let writer = Limited::new(room.as_mut_slice(), limit);
+    let writer = Room::new(room.as_mut_slice());
     let (answer, writer) = launch(alloc, texts, schedule, &mut reader, writer);
-    let bytes = writer.bytes();
-    let written = bytes.len();
-    // Never so: a device's contract doesn't say that its limit stays.
-    if written > output.len() {
+    // Never so: a device's contract doesn't say that its room stays.
+    if writer.size() != output.len() {
         return None;
     }
+    let bytes = writer.bytes();
+    let written = bytes.len();
     output[..written].copy_from_slice(bytes);
     Some((answer, written))
 }

@@ -14,7 +14,8 @@ returns-clause-run c =
     (record { gained = Some (take w.taken w.room.now); failed = w.failed })
     w.failed
     c.new-reader.ensures refl
+    (λ fails. c.bytes-bytes.ensures.full fails ∙ search rules)
     (λ i. record { gained = Some (take (c.new-writer.ensures.taken i) c.new-writer.result.room.now); failed = c.new-writer.ensures.failed i })
-    (ap (λ (bytes : List ℕ). record { gained = Some bytes; failed = w.failed }) (sym c.bytes-bytes.ensures)
+    (ap (λ (bytes : List ℕ). record { gained = Some bytes; failed = w.failed }) (sym c.bytes-bytes.ensures.bytes)
     ∙ copied c.bytes-bytes.result.now c.copy_from_slice.new.self (drop (length c.bytes-bytes.result.now) c.args.output.now) w.failed (search rules))
     c.launch-answer.ensures.promises
