@@ -74,6 +74,8 @@ pub record RunsOf (sources : List (List ℕ)) (schedule stream output : List ℕ
   pub answer : Result Report RunError
   pub run : RunsInMemory sources slots stream output written answer
   pub is_told : told ≡ numbers_of_ending (ending_of answer)
+  -- that a write failed is told only where the output is full
+  pub full : told.of ≡ records → told.code ≡ 144 → written ≡ length output
 
 -- ---- where nothing was run
 

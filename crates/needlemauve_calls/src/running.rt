@@ -67,7 +67,7 @@ fn unrun(ending: Refusal, sentence: Sentence) -> Run
 }
 
 /// Runs a schedule's text over a stream, with these rule texts.
-#[tactic(auto, using(crate::proofs::NotRun::not_run))]
+#[tactic(auto, using(crate::proofs::Memory::full_where_told, crate::proofs::NotRun::not_run))]
 fn run_scheduled(
     alloc: Global,
     texts: &[&[u8]],
