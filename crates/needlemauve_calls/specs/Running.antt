@@ -13,7 +13,7 @@ use Rattle.flight_core.specs.Ending.{ending_of}
 use Rattle.flight_core.specs.Promises.{Promises}
 use Rattle.flight_stock.specs.Stock.{own_names, most_reads}
 use Rattle.needlemauve_calls.specs.declared.refusal.Refusal.{Refusal}
-use Rattle.needlemauve_calls.specs.Refusing.{no_memory, nothing, numbers_of}
+use Rattle.needlemauve_calls.specs.Refusing.{no_memory, numbers_of}
 
 -- these texts with this schedule
 abbrev pub mission : List (List ℕ) → Schedule → Mission

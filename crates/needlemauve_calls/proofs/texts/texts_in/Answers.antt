@@ -1,4 +1,4 @@
-use Rattle.std.proofs.Common.{◌≡◌, ◌∙◌, ap, rules, refl, length, ℕ, List, ◌++◌, [], ◌∷◌, arith}
+use Rattle.std.proofs.Common.{◌∙◌, ap, rules, length, [], ◌∷◌}
 use Rattle.std.proofs.lemmas.List.{map-append, length-drop}
 use Rattle.flight_core.specs.Compiled.{sources_of}
 use Rattle.needlemauve_calls.proofs.Parted.{counts_left, none_left, one_more}
