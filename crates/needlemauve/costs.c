@@ -2,15 +2,12 @@
  * for in all. Prints a line a call. Wants pthreads, and stands in the place of memory.c. */
 #define _GNU_SOURCE
 #include "needlemauve.h"
-#include "needlemauve_host.h"
 
-#include <fcntl.h>
 #include <pthread.h>
 #include <stdbool.h>
 #include <stdio.h>
 #include <stdlib.h>
 #include <string.h>
-#include <unistd.h>
 
 enum { STACK = 1 << 20, FILLED = 0xA5 };
 
@@ -91,18 +88,6 @@ static void *run(void *result)
   return result;
 }
 
-/* The same stream out of a pipe. */
-static void *live(void *result)
-{
-  struct needlemauve_end told;
-  int pipes[2], out = open("/dev/null", O_WRONLY);
-  if (out < 0 || pipe(pipes) != 0 || write(pipes[1], stream, sizeof stream) != sizeof stream || close(pipes[1]) != 0) exit(99);
-  *(uint32_t *)result =
-      needlemauve_live(text, length, &length, 1, (const uint8_t *)schedule, sizeof schedule - 1, pipes[0], out, &told);
-  if (close(pipes[0]) != 0 || close(out) != 0) exit(99);
-  return result;
-}
-
 /* Calls on a stack of its own, and answers how much of it was touched. */
 static size_t stack_of(void *(*call)(void *), uint32_t *answer)
 {
@@ -133,7 +118,7 @@ int main(int words, char **word)
   static const struct {
     const char *name;
     void *(*call)(void *);
-  } calls[] = {{"compile", compile}, {"validate", validate}, {"run", run}, {"live", live}};
+  } calls[] = {{"compile", compile}, {"validate", validate}, {"run", run}};
   size_t empty, touched, n;
   uint32_t answer = 0;
   FILE *file = words > 1 ? fopen(word[1], "rb") : NULL;

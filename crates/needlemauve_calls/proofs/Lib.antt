@@ -1,6 +1,5 @@
 -- Lemmas of the library for C.
 pub mod Files
-pub mod Heard
 pub mod Memory
 pub mod NotRun
 pub mod Sentences

@@ -2,5 +2,4 @@
 pub mod Refusing
 pub mod Compiling
 pub mod Running
-pub mod Live
 pub mod Texts

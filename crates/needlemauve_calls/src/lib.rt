@@ -1,12 +1,9 @@
 //! What the library for C calls, below its archives: rule texts are compiled into a caller's room, and a host runs from memory to
-//! memory or between two descriptors. Each call takes its memory by an allocator of the caller's program, and gives all of it
-//! back before it answers.
+//! memory. Each call takes its memory by an allocator of the caller's program, and gives all of it back before it answers.
 #![tactic(auto)]
 
 mod compiling;
-mod descriptors;
 mod ending;
-mod live;
 mod refusal;
 mod room;
 mod running;
@@ -15,7 +12,6 @@ mod stream;
 mod texts;
 
 pub use compiling::{ADT, Compiled, WDT, compile_files};
-pub use live::{End, run_live};
 pub use refusal::Refusal;
 pub use running::{Run, run_texts};
 pub use sentence::Sentence;
