@@ -3,13 +3,7 @@
 #![tactic(auto)]
 
 mod compiling;
-mod refusal;
 mod running;
-mod sentence;
-mod stream;
-mod texts;
 
-pub use compiling::{Compiled, needlemauve_compile};
-pub use refusal::Refusal;
-pub use running::{Run, needlemauve_run};
-pub use sentence::Sentence;
+pub use compiling::needlemauve_compile;
+pub use running::needlemauve_run;

@@ -1,0 +1,28 @@
+-- What is compiled, in the room of a caller.
+use Rattle.std.proofs.Common.{◌≡◌, subst, ℕ, List, Result, Ok}
+use Rattle.std.specs.Prelude.{IfOk}
+use Rattle.lc_model.specs.Rule.{NamedRule}
+use Rattle.lc_model.specs.Tables.Compiling.{Compiles}
+use Rattle.lc_model.specs.Tables.InForce.{limits}
+use Rattle.rpn_compiler.specs.declared.error.CompileError.{CompileError}
+use Rattle.rpn_compiler.specs.declared.files.TablePair.{TablePair}
+use Rattle.rpn_compiler.specs.Pair.{AreTables}
+use Rattle.needlemauve_calls.specs.Compiling.{AreFiles}
+
+pub are_files : (text wdt adt : List ℕ) (watchpoints rules : ℕ) (tried : Result TablePair CompileError) (pair : TablePair) → tried ≡ Ok pair
+    → IfOk tried (λ pair. (rules : List NamedRule) × Compiles limits text rules × AreTables text rules pair)
+    → wdt ≡ pair.wdt.items → adt ≡ pair.adt.items → watchpoints ≡ pair.watchpoints → rules ≡ pair.rules
+    → AreFiles text wdt adt watchpoints rules
+are_files text wdt adt watchpoints rules tried pair is compiled first second count others =
+    let known : (says : List NamedRule) × Compiles limits text says × AreTables text says pair =
+    subst (λ r. IfOk r (λ pair. (says : List NamedRule) × Compiles limits text says × AreTables text says pair)) is compiled in
+    record {
+      says = known.0;
+      compiles = known.1;
+      pair = pair;
+      tables = known.2;
+      first = first;
+      second = second;
+      watchpoints_counted = count;
+      rules_counted = others;
+    }

@@ -1,0 +1,14 @@
+use Rattle.std.proofs.Common.{rules, ap}
+use Rattle.needlemauve_calls.specs.declared.compiling.Compiled.{Compiled}
+use Rattle.needlemauve_calls.proofs.Files.{are_files}
+use Rattle.needlemauve_calls.proofs.compiling.compile_files.Goals.{in-Ok, in-Err}
+use Rattle.needlemauve_calls.proofs.compiling.compile_files.Goals as goal
+
+pub returns-clause-compiled : goal.returns-clause-compiled
+returns-clause-compiled c is = elim c.match-compile.branch [
+  | in-Ok w ↦ are_files c.args.text.now c.match-compile.wdt c.match-compile.adt c.match-compile.told.watchpoints c.match-compile.told.rules
+      c.compile.result w.in-Ok.pair w.in-Ok.is c.compile.ensures.compiles
+      (search rules) (search rules)
+      (ap (λ (t : Compiled). t.watchpoints) w.told-is) (ap (λ (t : Compiled). t.rules) w.told-is)
+  | in-Err w ↦ search rules
+]

@@ -1,0 +1,120 @@
+//! A run from memory to memory.
+
+ghost use Rattle.std.specs.Prelude.{◌≡◌, ◌≢◌, ◌≤◌, length, IfSome};
+ghost use Rattle.flight_core.specs.Compiled.{sources_of};
+ghost use Rattle.needlemauve_calls.specs.Running.{IsNotRun, IsUnscheduled, RunsInMemory, RunsOf};
+ghost use Rattle.needlemauve_calls.specs.Texts.{texts_in};
+
+use crate::ending::{UNFIT, ending_in_numbers, no_schedule, not_run, said};
+use crate::refusal::{NO_MEMORY, Refusal};
+use crate::room::Room;
+use crate::sentence::Sentence;
+use crate::stream::Stream;
+use crate::texts::{are_lengths, texts_in};
+use flight_core::{Report, RunError};
+use flight_stock::launch;
+use std::alloc::Global;
+use tick_scheduler::{Schedule, parse_schedule};
+
+/// What is told of a run: how it ended, how many bytes of the output were written, and a sentence for people.
+#[repr(C)]
+#[derive(Clone, Copy)]
+pub struct Run {
+    pub ending: Refusal,
+    pub written: u64,
+    pub sentence: Sentence,
+}
+
+/// Runs, and answers how it ended and how many bytes were written; none where there is no memory for what is written.
+fn run_in_memory(
+    alloc: Global,
+    texts: &[&[u8]],
+    schedule: &Schedule,
+    stream: &[u8],
+    output: &mut [u8],
+) -> Option<(Result<Report, RunError>, usize)>
+    ensures run { IfSome result (λ told. RunsInMemory (sources_of texts.now) schedule.now
+        stream.now output.new told.1 told.0) }
+    ensures within { IfSome result (λ told. told.1 ≤ length output.new) }
+{
+    let mut reader = Stream::new(stream);
+    let size = output.len();
+    let Ok(mut room) = Vec::from_elem(alloc, 0u8, size) else {
+        return None;
+    };
+    let writer = Room::new(room.as_mut_slice());
+    let (answer, writer) = launch(alloc, texts, schedule, &mut reader, writer);
+    // Never so: a device's contract doesn't say that its room stays.
+    if writer.size() != output.len() {
+        return None;
+    }
+    let bytes = writer.bytes();
+    let written = bytes.len();
+    output[..written].copy_from_slice(bytes);
+    Some((answer, written))
+}
+
+/// What is told where nothing was run.
+fn unrun(ending: Refusal, sentence: Sentence) -> Run
+    ensures ending { result.ending ≡ ending }
+    ensures written { result.written ≡ 0 }
+{
+    Run {
+        ending,
+        written: 0,
+        sentence,
+    }
+}
+
+/// Runs a schedule's text over a stream, with these rule texts.
+#[tactic(auto, using(crate::proofs::Memory::full_where_told, crate::proofs::NotRun::not_run))]
+fn run_scheduled(
+    alloc: Global,
+    texts: &[&[u8]],
+    schedule: &[u8],
+    stream: &[u8],
+    output: &mut [u8],
+) -> Run
+    ensures within { result.written ≤ length output.new }
+    ensures run { result.ending.of ≢ 4 → RunsOf (sources_of texts.now) schedule.now stream.now
+        output.new result.written result.ending }
+    ensures unrun { result.ending.of ≡ 4 → IsUnscheduled schedule.now result.ending }
+{
+    match parse_schedule(alloc, schedule) {
+        Ok(slots) => match run_in_memory(alloc, texts, &slots, stream, output) {
+            Some((answer, written)) => Run {
+                ending: ending_in_numbers(answer),
+                written: written as u64,
+                sentence: said(answer),
+            },
+            None => unrun(not_run(NO_MEMORY, 0), Sentence::of("out of memory")),
+        },
+        Err(error) => unrun(no_schedule(error), Sentence::of(error)),
+    }
+}
+
+/// Runs rule texts, which lie one behind the other and have these lengths, over a stream.
+#[tactic(auto, using(crate::proofs::NotRun::of_these, crate::proofs::NotRun::out_of_memory, crate::proofs::NotRun::unfit_lengths, crate::proofs::NotRun::unscheduled))]
+pub fn run_texts(
+    alloc: Global,
+    texts: &[u8],
+    lengths: &[usize],
+    schedule: &[u8],
+    stream: &[u8],
+    output: &mut [u8],
+) -> Run
+    ensures within { result.written ≤ length output.new }
+    ensures run { result.ending.of ≢ 4 → RunsOf (texts_in texts.now lengths.now) schedule.now
+        stream.now output.new result.written result.ending }
+    ensures unrun { result.ending.of ≡ 4 →
+        IsNotRun texts.now lengths.now schedule.now result.ending }
+{
+    if !are_lengths(lengths, texts.len()) {
+        let why = Sentence::of("the lengths are not those of the texts");
+        return unrun(not_run(UNFIT, 0), why);
+    }
+    match texts_in(alloc, texts, lengths) {
+        Ok(texts) => run_scheduled(alloc, texts.as_slice(), schedule, stream, output),
+        Err(_) => unrun(not_run(NO_MEMORY, 0), Sentence::of("out of memory")),
+    }
+}
