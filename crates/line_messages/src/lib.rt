@@ -17,4 +17,4 @@ mod word;
 
 pub use refusal::Refusal;
 pub use schedule::read_schedule;
-pub use script::read_stream;
+pub use script::{read_stream, script_message};

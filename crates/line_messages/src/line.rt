@@ -1,6 +1,6 @@
 //! The lines of a text by their numbers.
 
-ghost use Rattle.std.specs.Prelude.{◌≤◌};
+ghost use Rattle.std.specs.Prelude.{◌≡◌, ◌≤◌};
 ghost use Rattle.line_messages.specs.Line.{IsLine, IsLineBegin, line_count};
 
 use text_places::line_of;
@@ -29,6 +29,13 @@ fn line_begin(text: &[u8], number: usize) -> usize
         at += 1;
     }
     at
+}
+
+/// How many lines the text has: one more than line feeds.
+pub fn line_count(text: &[u8]) -> usize
+    ensures { result ≡ line_count text.now }
+{
+    text.iter().filter(|byte| **byte == b'\n').count() + 1
 }
 
 /// The line with this number.

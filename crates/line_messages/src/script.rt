@@ -9,7 +9,7 @@ ghost use Rattle.line_messages.specs.Telling.{IsOn, IsScriptRefusal, reason_code
 use crate::argument::{is_right, word_said};
 use crate::body::body_said;
 use crate::fields::fields_said;
-use crate::line::line_numbered;
+use crate::line::{line_count, line_numbered};
 use crate::refusal::Refusal;
 use crate::said::{Said, expected_word, message_on, too_many};
 use crate::statement::{Statement, VERBS, statement_of};
@@ -107,6 +107,23 @@ fn message(alloc: Global, text: &[u8], code: u8, number: usize) -> Result<Messag
     let line = line_numbered(text, number);
     let said = line_said(alloc, line.bytes)?;
     message_on(alloc, line, code, said)
+}
+
+/// What is said of the line with this number, from 1, for which the reader gives this reason. Of a number that no line has the nearest
+/// line is told.
+///
+/// Errors: there is no memory for what is said.
+pub fn script_message(
+    alloc: Global,
+    text: &[u8],
+    number: usize,
+    reason: Reason,
+) -> Result<Message, AllocError>
+    ensures { 1 ≤ number → number ≤ line_count text.now →
+        IfOk result (IsOn text.now (reason_code reason) number) }
+{
+    let nearest = number.min(line_count(text)).max(1);
+    message(alloc, text, code_of(reason), nearest)
 }
 
 /// The refusal of a text with this fault.
