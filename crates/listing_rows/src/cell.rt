@@ -1,5 +1,8 @@
 //! What stands in a column of a row.
 
+ghost use Rattle.std.specs.Prelude.{◌≡◌};
+ghost use Rattle.listing_rows.specs.Cell.{number_cell};
+
 use std::alloc::{AllocError, Global};
 
 /// What stands in a column.
@@ -12,7 +15,9 @@ pub enum Cell {
 }
 
 /// A number, where there is one.
-pub fn number(number: Option<u16>) -> Cell {
+pub fn number(number: Option<u16>) -> Cell
+    ensures { result ≡ number_cell number }
+{
     match number {
         Some(number) => Cell::Number(u64::from(number)),
         None => Cell::Empty,

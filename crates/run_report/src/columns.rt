@@ -1,5 +1,7 @@
 //! Columns of a time line: each has one record, or, of more records, about as many as each other.
 
+ghost use Rattle.std.specs.Prelude.{◌≡◌, min};
+
 /// The most columns.
 pub const MOST: usize = 400;
 
@@ -12,7 +14,10 @@ pub struct Columns {
 
 impl Columns {
     /// A column for each record, or 400.
-    pub fn new(records: usize) -> Columns {
+    pub fn new(records: usize) -> Columns
+        ensures records { result.records ≡ records }
+        ensures count { result.count ≡ min records MOST }
+    {
         Columns {
             records,
             count: records.min(MOST),

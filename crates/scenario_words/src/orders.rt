@@ -1,5 +1,8 @@
 //! Commands in words: the Limit Checker's mode, the state of its rules, and filters of events.
 
+ghost use Rattle.std.specs.Prelude.{◌≡◌};
+ghost use Rattle.scenario_words.specs.Orders.{standing_number};
+
 use crate::declared::Declared;
 use crate::error::{Fault, Reason};
 use crate::words::{is, number_in};
@@ -11,8 +14,10 @@ const ALL: u16 = 0xFFFF;
 /// The bytes of an application's name.
 const NAME: usize = 20;
 
-/// The number of a mode or a state.
-fn standing_number(word: &[u8]) -> Option<u16> {
+/// The number of a mode or a state that a command sets.
+fn standing_number(word: &[u8]) -> Option<u16>
+    ensures { result ≡ standing_number word.now }
+{
     if is(word, b"active") {
         return Some(1);
     }

@@ -1,5 +1,7 @@
 //! Lines and words of a scenario.
 
+ghost use Rattle.std.specs.Prelude.{◌≡◌, bytes_eq};
+
 use std::alloc::{AllocError, Global};
 
 /// The most digits of a number.
@@ -52,7 +54,9 @@ pub(crate) fn words_of(alloc: Global, line: &[u8]) -> Result<Vec<&[u8]>, AllocEr
 }
 
 /// Whether a word is this one.
-pub(crate) fn is(word: &[u8], other: &[u8]) -> bool {
+pub(crate) fn is(word: &[u8], other: &[u8]) -> bool
+    ensures { result ≡ bytes_eq word.now other.now }
+{
     word == other
 }
 
