@@ -3,7 +3,7 @@
 import os
 
 from records import LOW_VOLTS
-from row import Row
+from row import Begins, Row
 
 FOLDER = os.path.join(os.path.dirname(os.path.abspath(__file__)), "messages")
 
@@ -40,6 +40,23 @@ def objects(title, kind, *words):
     return Row(f"{title}, in JSON".replace("_", " "), ["flight_tools", "check", "--json", *words], before, status=1, output=read(f"{title}.json"))
 
 
+# Lines that say packets, and hardly those that are meant.
+UNFIT = b"""at 100 0
+fields 18A4 0 16
+telemetry 0883 1 -
+command 0883 1 -
+tick
+"""
+OF_UNFIT = b"""script.txt:2:8: warning[message-id]: the message id `18A4` is not one of telemetry
+  2 | fields 18A4 0 16
+    |        ^^^^ telemetry has 0800 to 0FFF
+
+script.txt:4:9: warning[message-id]: the message id `0883` is not one of a command
+  4 | command 0883 1 -
+    |         ^^^^ commands have 1800 to 1FFF
+
+"""
+
 OF_GOOD = b"good: 1 rules, 0 warnings\n"
 BEHIND = read("a_misspelt_word.rules")
 SAID_OF_BEHIND = read("a_misspelt_word.said")
@@ -50,6 +67,13 @@ ROWS = [
     *(no_script(title) for title in titles(".script")),
     *(objects(title, "rules", "rules.txt") for title in titles(".json") if title in titles(".rules")),
     *(objects(title, "schedule", "--schedule", "schedule.txt", "good") for title in titles(".json") if title in titles(".schedule")),
+    Row(
+        "a script with message ids that do not fit their packets",
+        ["flight_tools", "scenario", "script.txt", "stream"],
+        {"script.txt": UNFIT},
+        error=OF_UNFIT,
+        after={"stream": Begins(b"\x01\x00\x00\x00\x64\x00\x00\x00\x00\x00\x10\x18\xA4")},
+    ),
     Row("an empty text", ["flight_tools", "check", "rules.txt"], {"rules.txt": b""}, output=b"rules.txt: 0 rules, 0 warnings\n"),
     Row(
         "texts behind one that doesn't compile",

@@ -13,7 +13,10 @@ mod tables;
 mod text;
 
 pub use error::ListingError;
-pub use listing::{Which, list_judgement};
+pub use fields::FieldNames;
+pub use lines::{FieldName, Names, ShownTerm, Values};
+pub use listing::{Which, goes_both_ways, list_judgement, list_outcomes, terms_in, why};
 pub use marking::list_actionpoints;
+pub use said::{Said, said_of};
 pub use schedule::{list_unsampled, unsampled_rules};
 pub use tables::{condition_at, terms_of};

@@ -26,7 +26,7 @@ pub enum Which {
 }
 
 /// The terms of a rule's comparisons.
-fn terms_in(alloc: Global, comparisons: &[ComparisonJudgement]) -> Result<Vec<Term>, AllocError> {
+pub fn terms_in(alloc: Global, comparisons: &[ComparisonJudgement]) -> Result<Vec<Term>, AllocError> {
     let mut terms = Vec::new(alloc);
     for comparison in comparisons {
         terms.push(comparison.term)?;
@@ -35,7 +35,7 @@ fn terms_in(alloc: Global, comparisons: &[ComparisonJudgement]) -> Result<Vec<Te
 }
 
 /// Why something is not known.
-fn why(reason: Reason) -> &'static str {
+pub fn why(reason: Reason) -> &'static str {
     match reason {
         Reason::Overlap => "its fields share bits",
         Reason::Steps => "its fields have too many numbers",
@@ -154,7 +154,7 @@ fn write_judged<W: Write>(
 }
 
 /// Whether a rule both can fail and can pass, or may.
-fn goes_both_ways(judged: &RuleJudgement) -> bool
+pub fn goes_both_ways(judged: &RuleJudgement) -> bool
     ensures { result ≡ (not (is_never judged.now.fails) && not (is_never judged.now.passes)) }
 {
     !matches!(&judged.fails, Finding::Never) && !matches!(&judged.passes, Finding::Never)
@@ -273,4 +273,41 @@ pub fn list_judgement<W: Write>(
         write_spare(&text, &judgement, spare, out)?;
     }
     write_unread(alloc, &text, out)
+}
+
+/// Writes for which values of its fields a rule fails and passes, if it does both.
+fn write_outcome<W: Write>(
+    alloc: Global,
+    names: &FieldNames<'_>,
+    rule: &Rule,
+    judged: &RuleJudgement,
+    out: &mut W,
+) -> Result<(), ListingError> {
+    if !matches!(said_of(judged), Said::FailsAndPasses { .. }) {
+        return Ok(());
+    }
+    let terms = terms_in(alloc, &judged.comparisons)?;
+    let subject = Subject {
+        name: Title::Rule(rule.name.as_slice()),
+        names: Names::Text(names),
+        terms: &terms,
+    };
+    write_rule(subject, judged, Which::All, out)
+}
+
+/// Writes of each rule of a text that can fail and can pass for which values of its fields it does, a line a rule.
+///
+/// Errors: the text's first fault, where it doesn't compile; `Memory`; `Write`, where the writer refuses bytes.
+pub fn list_outcomes<W: Write>(
+    alloc: Global,
+    source: &[u8],
+    out: &mut W,
+) -> Result<(), ListingError> {
+    let text = RuleText::read(alloc, source)?;
+    let judgement = judge(alloc, &text.rules.rules)?;
+    let rules = text.rules.rules.as_slice();
+    for (rule, judged) in rules.iter().zip(&judgement.rules) {
+        write_outcome(alloc, &text.names, rule, judged, out)?;
+    }
+    Ok(())
 }

@@ -7,7 +7,7 @@ use rule_judgement::{Finding, Reason, RuleJudgement};
 
 /// What is said of a rule by whether it can fail, and whether it can pass; with packets that show it.
 #[derive(Clone, Copy, Debug)]
-pub(crate) enum Said<'a> {
+pub enum Said<'a> {
     FailsAndPasses {
         fails: &'a [Vec<u8>],
         passes: &'a [Vec<u8>],
@@ -22,7 +22,7 @@ pub(crate) enum Said<'a> {
 }
 
 /// What is said of a rule that is judged.
-pub(crate) fn said_of<'a>(judged: &'a RuleJudgement) -> Said<'a>
+pub fn said_of<'a>(judged: &'a RuleJudgement) -> Said<'a>
     ensures { kind_of result ≡ line_of judged.now.fails judged.now.passes }
 {
     match (&judged.fails, &judged.passes) {

@@ -1,5 +1,6 @@
 -- The object that tells of a message. This project's own, of JSON (RFC 8259).
 use Rattle.std.specs.Prelude.{◌≡◌, ℕ, ◌+◌, min, Bool, if◌then◌else◌, List, [], ◌∷◌, ◌++◌, length, map, Option, Some, None, codes, string_bytes}
+use denote.Ref.{Bor}
 use Rattle.serde_json.specs.Data.{Data, Items, object, member, no_members, string, array, no_items, number, unsigned, null}
 use Rattle.serde_json.specs.View.{items_of}
 use Rattle.serde_json.specs.Written.{compact_text}
@@ -38,23 +39,28 @@ abbrev number_of : ℕ → Data
 number_of n = number (unsigned n)
 
 -- a number, or null
-abbrev number_or_null : Option ℕ → Data
+abbrev pub number_or_null : Option ℕ → Data
 number_or_null None = null
 number_or_null (Some n) = number_of n
 
 -- what is told, at a place or at none, with other places
-abbrev members : (at code : Data) → (file level message : List ℕ) → Items → Data
-members at code file level message others =
+abbrev members : (at code : Data) → (file level message : List ℕ) → Items → Data → Data
+members at code file level message others warning =
     object (member (codes "at") at
     (member (codes "code") code
     (member (codes "file") (string file)
     (member (codes "level") (string level)
     (member (codes "message") (string message)
     (member (codes "others") (array others)
-    (member (codes "warning") null no_members)))))))
+    (member (codes "warning") warning no_members)))))))
 
-abbrev pub told_object : Told → Data → Items → Data
-told_object told at others = members at (number_or_null told.code) told.file.now told.level.now told.message.now others
+abbrev pub told_object : Told → Data → Items → Data → Data
+told_object told at others warning = members at (number_or_null told.code) told.file.now told.level.now told.message.now others warning
+
+-- the name of a warning, or null where there is none
+abbrev pub name_object : Option (Bor (List ℕ)) → Data
+name_object None = null
+name_object (Some name) = string name.now
 
 -- a place
 abbrev pub mark_object : List ℕ → Mark → Data
@@ -73,11 +79,21 @@ place_object text (Some mark) = mark_object text mark
 abbrev pub mark_objects : List ℕ → List Mark → Items
 mark_objects text marks = items_of (map (mark_object text) marks)
 
+-- an error, or a warning, which has a name
+abbrev pub kind_of : Option (Bor (List ℕ)) → List ℕ
+kind_of None = codes "error"
+kind_of (Some name) = codes "warning"
+
+-- the number of the refusal; a warning has none
+abbrev pub code_of : Option (Bor (List ℕ)) → ℕ → Option ℕ
+code_of None code = Some code
+code_of (Some name) code = None
+
 -- a message of a text in a file of this name
 abbrev pub message_object : (file text : List ℕ) → Message → Data
 message_object file text message =
-    members (place_object text message.first) (number_of message.code) file (codes "error") (string_bytes message.head)
-    (mark_objects text message.others.items)
+    members (place_object text message.first) (number_or_null (code_of message.warning message.code)) file (kind_of message.warning)
+    (string_bytes message.head) (mark_objects text message.others.items) (name_object message.warning)
 
 -- ---- lines
 
@@ -91,4 +107,4 @@ level_of is_warning = if is_warning then codes "warning" else codes "note"
 
 -- what is said of a file as a whole
 abbrev pub note_text : List ℕ → Bool → List ℕ → List ℕ
-note_text file is_warning note = compact_text (members null null file (level_of is_warning) note no_items) ++ 10 ∷ []
+note_text file is_warning note = compact_text (members null null file (level_of is_warning) note no_items null) ++ 10 ∷ []

@@ -3,9 +3,9 @@
 ghost use Rattle.std.specs.Prelude.{◌≡◌, ◌++◌, [], ◌∷◌, false, codes, if◌then◌else◌, string_bytes, IfOk};
 ghost use Rattle.serde_json.specs.View.{view};
 ghost use Rattle.serde_json.specs.Written.{compact_text, has_float};
-ghost use Rattle.message_objects.specs.Object.{level_of, message_object, message_text, note_text};
+ghost use Rattle.message_objects.specs.Object.{code_of, kind_of, level_of, message_object, message_text, note_text};
 
-use crate::object::{Told, mark_objects, place_object, told_object};
+use crate::object::{Told, mark_objects, name_object, place_object, told_object};
 use rule_messages::Message;
 use serde_json::Value;
 use std::alloc::{AllocError, Global};
@@ -20,6 +20,26 @@ fn line_of(alloc: Global, value: &Value) -> Result<String, AllocError>
     Ok(line)
 }
 
+/// Whether a message is an error or a warning.
+fn kind_of(message: &Message) -> &'static str
+    ensures { result.now ≡ kind_of message.now.warning }
+{
+    match message.warning {
+        Some(_) => "warning",
+        None => "error",
+    }
+}
+
+/// The number of the refusal that a message tells. A warning has none.
+fn code_of(message: &Message) -> Option<u8>
+    ensures { result ≡ code_of message.now.warning message.now.code }
+{
+    match message.warning {
+        Some(_) => None,
+        None => Some(message.code),
+    }
+}
+
 /// The object of a message of a text in a file of this name.
 fn message_object(
     alloc: Global,
@@ -31,13 +51,14 @@ fn message_object(
 {
     let told = Told {
         file,
-        level: "error",
-        code: Some(message.code),
+        level: kind_of(message),
+        code: code_of(message),
         message: message.head.as_str(),
     };
     let at = place_object(alloc, text, &message.first)?;
     let others = mark_objects(alloc, text, message.others.as_slice())?;
-    told_object(alloc, told, at, others)
+    let warning = name_object(alloc, message.warning)?;
+    told_object(alloc, told, at, others, warning)
 }
 
 /// A message of a text in a file of this name, as a line.
@@ -76,6 +97,6 @@ pub fn note_line(
         code: None,
         message: note,
     };
-    let object = told_object(alloc, told, Value::Null, Vec::new(alloc))?;
+    let object = told_object(alloc, told, Value::Null, Vec::new(alloc), Value::Null)?;
     line_of(alloc, &object)
 }

@@ -2,7 +2,7 @@
 
 ghost use Rattle.std.specs.Prelude.{◌≡◌, map, IfOk};
 ghost use Rattle.serde_json.specs.View.{view, items_view};
-ghost use Rattle.message_objects.specs.Object.{mark_object, place_object, told_object};
+ghost use Rattle.message_objects.specs.Object.{mark_object, name_object, place_object, told_object};
 
 use crate::spot::spot_of;
 use rule_messages::Mark;
@@ -28,9 +28,10 @@ pub fn told_object(
     told: Told<'_>,
     at: Value,
     others: Vec<Value>,
+    warning: Value,
 ) -> Result<Value, AllocError>
-    ensures { IfOk result
-        (λ value. view value ≡ told_object told.entry (view at) (items_view others.items)) }
+    ensures { IfOk result (λ value.
+        view value ≡ told_object told.entry (view at) (items_view others.items) (view warning)) }
 {
     json!(in alloc; {
         "at": at,
@@ -39,8 +40,18 @@ pub fn told_object(
         "level": told.level,
         "message": told.message,
         "others": others,
-        "warning": null
+        "warning": warning
     })
+}
+
+/// The name of a warning, or null where there is none.
+pub fn name_object(alloc: Global, name: Option<&str>) -> Result<Value, AllocError>
+    ensures { IfOk result (λ value. view value ≡ name_object name.entry) }
+{
+    match name {
+        Some(name) => Ok(Value::String(String::from_str(alloc, name)?)),
+        None => Ok(Value::Null),
+    }
 }
 
 /// A place.

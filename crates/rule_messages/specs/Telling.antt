@@ -1,5 +1,6 @@
 -- What a message says of a refusal: its number, and its place in the text. This project's own.
 use Rattle.std.specs.Prelude.{◌≡◌, ℕ, ◌==◌, ◌&&◌, Bool, true, false, if◌then◌else◌, List, [], ◌∷◌, drop, ⊤, Option, Some, None, option_map}
+use denote.Ref.{Bor}
 use Rattle.lc_model.specs.Text.Reading as model
 use Rattle.lc_model.specs.Text.Reading.{ParseFault, TextRefusal, ForText, AtPlace, Unparsed, ForRule}
 use Rattle.lc_model.specs.Text.Token.{not_a_string}
@@ -21,6 +22,11 @@ first_place message = option_map (λ (mark : Mark). mark.at) message.first
 -- the message has this number and this place
 abbrev pub IsAt : (code at : ℕ) → Message → Type 0
 IsAt code at message = (message.code ≡ code) × (first_place message ≡ Some at)
+
+-- the message is the warning of this name, at this place
+abbrev pub IsWarning : (name : List ℕ) (at : ℕ) → Message → Type 0
+IsWarning name at message =
+    (option_map (λ (text : Bor (List ℕ)). text.now) message.warning ≡ Some name) × (first_place message ≡ Some at)
 
 -- a carriage return in front, right before a line feed or the text's end
 abbrev pub ends_line : List ℕ → Bool

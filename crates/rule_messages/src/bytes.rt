@@ -68,12 +68,29 @@ fn push_bytes(alloc: Global, text: &mut String, bytes: &[u8]) -> Result<(), Allo
     Ok(())
 }
 
+/// Adds what the user wrote, as it can be shown, between backticks.
+pub fn push_quoted(alloc: Global, text: &mut String, bytes: &[u8]) -> Result<(), AllocError> {
+    text.push_str("`")?;
+    push_bytes(alloc, text, bytes)?;
+    text.push_str("`")
+}
+
+/// What the user wrote, as it can be shown, between backticks, with what stands before and behind it.
+pub fn around(
+    alloc: Global,
+    before: &str,
+    bytes: &[u8],
+    behind: &str,
+) -> Result<String, AllocError> {
+    let mut text = String::from_str(alloc, before)?;
+    push_quoted(alloc, &mut text, bytes)?;
+    text.push_str(behind)?;
+    Ok(text)
+}
+
 /// What the user wrote, as it can be shown, between backticks.
 pub fn quoted(alloc: Global, bytes: &[u8]) -> Result<String, AllocError> {
-    let mut text = String::from_str(alloc, "`")?;
-    push_bytes(alloc, &mut text, bytes)?;
-    text.push_str("`")?;
-    Ok(text)
+    around(alloc, "", bytes, "")
 }
 
 /// What the user wrote, as it can be shown.

@@ -13,30 +13,23 @@ use crate::checks::check_place;
 use crate::explaining::explain;
 use crate::item_faults::Checked;
 use crate::message::Message;
+use crate::page::MOST_TOLD;
 use crate::reading::read_items;
 use crate::source::Source;
-use crate::tables::{is_too_long, rule_count, rule_part, words_of};
-use crate::tokens::{Mended, follows, hides_items, mend};
+use crate::tables::{is_too_long, rule_parts, words_of};
+use crate::tokens::{Mended, hides_items, mend, own_errors};
 use field_checker::CheckError;
 use rpn_compiler::{CompileError, compile};
 use rule_lexer::{LexError, lex};
+use rule_parser::ParseError;
 use std::alloc::{AllocError, Global};
 
-/// The errors of rules that are too long, where nothing else is wrong.
-fn long_rules(
-    alloc: Global,
-    source: &Source<'_>,
-    first: CompileError,
-) -> Result<Vec<CompileError>, AllocError> {
+/// The errors of rules that are too long.
+fn long_rules(alloc: Global, source: &Source<'_>) -> Result<Vec<CompileError>, AllocError> {
     let mut errors = Vec::new(alloc);
-    if !matches!(first, CompileError::EquationTooLong { .. }) {
-        return Ok(errors);
-    }
-    for rule in 0..rule_count(source) {
-        if let Some(item) = rule_part(source, rule) {
-            if is_too_long(words_of(source, item)) {
-                errors.push(CompileError::EquationTooLong { rule })?;
-            }
+    for (rule, item) in rule_parts(alloc, source)?.iter().enumerate() {
+        if is_too_long(words_of(source, *item)) {
+            errors.push(CompileError::EquationTooLong { rule })?;
         }
     }
     Ok(errors)
@@ -55,6 +48,58 @@ fn item_errors(
     Ok(faults)
 }
 
+/// Adds errors of tokens.
+fn add_tokens(errors: &[LexError], all: &mut Vec<CompileError>) -> Result<(), AllocError> {
+    for error in errors {
+        all.push(CompileError::Lex(*error))?;
+    }
+    Ok(())
+}
+
+/// Adds errors of the grammar.
+fn add_grammar(errors: &[ParseError], all: &mut Vec<CompileError>) -> Result<(), AllocError> {
+    for error in errors {
+        all.push(CompileError::Parse(*error))?;
+    }
+    Ok(())
+}
+
+/// Adds errors of items.
+fn add_items(errors: &[CheckError], all: &mut Vec<CompileError>) -> Result<(), AllocError> {
+    for error in errors {
+        all.push(CompileError::Check(*error))?;
+    }
+    Ok(())
+}
+
+/// Adds the errors of the grammar, and then those of items.
+fn add_parts(
+    alloc: Global,
+    source: &Source<'_>,
+    mended: &Mended,
+    all: &mut Vec<CompileError>,
+) -> Result<(), AllocError> {
+    let bad = mended.errors.as_slice();
+    let grammar = read_items(alloc, source, mended.text.as_slice(), bad)?;
+    add_grammar(grammar.errors.as_slice(), all)?;
+    let hides_items = bad.iter().any(|error| hides_items(source.text, *error));
+    let faults = item_errors(alloc, source, grammar.whole.as_slice(), hides_items)?;
+    add_items(faults.as_slice(), all)
+}
+
+/// All errors of tokens, of the grammar and of items, in this order.
+fn all_errors(
+    alloc: Global,
+    source: &Source<'_>,
+    mended: &Mended,
+) -> Result<Vec<CompileError>, AllocError> {
+    let mut all = Vec::new(alloc);
+    let own = own_errors(alloc, source.text, mended.errors.as_slice())?;
+    add_tokens(own.as_slice(), &mut all)?;
+    add_parts(alloc, source, mended, &mut all)?;
+    Ok(all)
+}
+
 /// All errors, in the order of the compiler's parts. Where the compiler's first may follow from another of them, nobody knows which of the
 /// two is the mistake, and there are none beside it.
 fn errors(
@@ -63,29 +108,14 @@ fn errors(
     mended: &Mended,
     first: CompileError,
 ) -> Result<Vec<CompileError>, AllocError> {
-    let mut all = Vec::new(alloc);
-    let bad = mended.errors.as_slice();
-    for error in bad {
-        if !follows(source.text, bad, *error) {
-            all.push(CompileError::Lex(*error))?;
-        }
+    let all = all_errors(alloc, source, mended)?;
+    if all.contains(&first) {
+        return Ok(all);
     }
-    let grammar = read_items(alloc, source, mended.text.as_slice(), bad)?;
-    for error in &grammar.errors {
-        all.push(CompileError::Parse(*error))?;
+    if all.is_empty() && matches!(first, CompileError::EquationTooLong { .. }) {
+        return long_rules(alloc, source);
     }
-    let hides_items = bad.iter().any(|error| hides_items(source.text, *error));
-    let faults = item_errors(alloc, source, grammar.whole.as_slice(), hides_items)?;
-    for fault in &faults {
-        all.push(CompileError::Check(*fault))?;
-    }
-    if all.is_empty() {
-        return long_rules(alloc, source, first);
-    }
-    if !all.contains(&first) {
-        all.clear();
-    }
-    Ok(all)
+    Ok(Vec::new(alloc))
 }
 
 /// This message alone.
@@ -97,7 +127,7 @@ fn alone(alloc: Global, message: Message) -> Result<Vec<Message>, AllocError>
     Ok(told)
 }
 
-/// Adds what is said of each other error.
+/// Adds what is said of each other error, up to so many that it is known that there are more than are told of.
 fn add_others(
     alloc: Global,
     source: &Source<'_>,
@@ -108,6 +138,9 @@ fn add_others(
     ensures { IfOk result (λ _. (more : List Message) × (told.new.items ≡ told.old.items ++ more)) }
 {
     for error in errors {
+        if told.len() > MOST_TOLD {
+            break;
+        }
         if *error != first {
             told.push(explain(alloc, source, *error)?)?;
         }

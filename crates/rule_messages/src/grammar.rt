@@ -3,7 +3,8 @@
 ghost use Rattle.std.specs.Prelude.{◌≡◌, IfOk};
 ghost use Rattle.rule_messages.specs.Telling.{IsAt};
 
-use crate::bytes::quoted;
+use crate::bytes::{around, written};
+use crate::marks::{declared_mark, token_mark};
 use crate::message::{Mark, Message};
 use crate::nearest::nearest;
 use crate::source::{Declared, Kind, Source, begins_item};
@@ -32,6 +33,22 @@ fn turned(op: CmpOp) -> &'static str {
         CmpOp::GreaterOrEqual => "<=",
         CmpOp::Greater => "<",
     }
+}
+
+/// A comparison as it was meant.
+#[derive(Clone, Copy)]
+struct Exchanged<'a> {
+    name: &'a [u8],
+    op: &'static str,
+    value: &'a [u8],
+}
+
+/// What to do about a number on the left.
+fn exchanged_label(alloc: Global, meant: Exchanged<'_>) -> Result<String, AllocError> {
+    let name = written(alloc, meant.name)?;
+    let value = written(alloc, meant.value)?;
+    let op = meant.op;
+    format!(in alloc; "the field comes first: did you mean `{name} {op} {value}`?")
 }
 
 /// A mark where something is to be written, behind a token.
@@ -64,43 +81,37 @@ impl<'a> Stop<'_, 'a> {
         }
     }
 
-    /// A word that was meant.
-    fn suggestion(&self, alloc: Global) -> Result<Option<String>, AllocError> {
-        let Some(token) = self.token() else {
-            return Ok(None);
-        };
-        if token.kind != TokenKind::Name && !is_reserved(token.kind) {
-            return Ok(None);
+    /// What is written there, where it is a name or a word of the language.
+    fn word(&self) -> Option<&'a [u8]> {
+        let token = self.token()?;
+        if token.kind == TokenKind::Name || is_reserved(token.kind) {
+            Some(token.text)
+        } else {
+            None
         }
-        let words = words_for(self.source, self.part(), self.what);
-        match nearest(alloc, token.text, words)? {
-            Some(word) => {
-                let word = quoted(alloc, word)?;
-                Ok(Some(format!(in alloc; "did you mean {word}?")?))
-            }
+    }
+
+    /// A word that was meant.
+    fn suggestion(&self, alloc: Global) -> Result<Option<&'static [u8]>, AllocError> {
+        match self.word() {
+            Some(word) => nearest(alloc, word, words_for(self.source, self.part(), self.what)),
             None => Ok(None),
         }
     }
 
-    /// The comparison as it was meant, where its number stands on the left.
-    fn exchanged(&self, alloc: Global) -> Result<Option<String>, AllocError> {
-        let (Some(number), Some(op), Some(field)) = (
-            self.token(),
-            self.source.token(self.number.saturating_add(1)),
-            self.source.token(self.number.saturating_add(2)),
-        ) else {
-            return Ok(None);
-        };
-        let TokenKind::Compare(sign) = op.kind else {
-            return Ok(None);
-        };
-        if !matches!(number.kind, TokenKind::Number(_)) || field.kind != TokenKind::Name {
-            return Ok(None);
+    /// The field, the sign and the number of a comparison whose number stands on the left.
+    fn exchanged(&self) -> Option<Exchanged<'a>> {
+        let value = self.token()?;
+        let op = self.source.token(self.number.saturating_add(1))?;
+        let name = self.source.token(self.number.saturating_add(2))?;
+        match (value.kind, op.kind, name.kind) {
+            (TokenKind::Number(_), TokenKind::Compare(op), TokenKind::Name) => Some(Exchanged {
+                name: name.text,
+                op: turned(op),
+                value: value.text,
+            }),
+            _ => None,
         }
-        let value = crate::bytes::written(alloc, number.text)?;
-        let name = crate::bytes::written(alloc, field.text)?;
-        let op = turned(sign);
-        Ok(Some(format!(in alloc; "the field comes first: did you mean `{name} {op} {value}`?")?))
     }
 
     /// The field that stands where its comparison wants a number.
@@ -138,49 +149,69 @@ impl<'a> Stop<'_, 'a> {
     /// What to do, where nothing more fitting can be said.
     fn plain_label(&self, alloc: Global) -> Result<String, AllocError> {
         let wanted = wanted(alloc, self.what)?;
-        match self.what {
-            What::Word(_) | What::Sign(_) => format!(in alloc; "write {wanted} before this"),
-            _ => format!(in alloc; "write {wanted} here"),
+        let place = match self.what {
+            What::Word(_) | What::Sign(_) => "before this",
+            _ => "here",
+        };
+        format!(in alloc; "write {wanted} {place}")
+    }
+
+    /// What to do by the kind of what stands there.
+    fn kind_label(&self) -> Option<&'static str> {
+        match self.token() {
+            Some(token) if self.what == What::Name && is_reserved(token.kind) => {
+                Some("this word belongs to the language: take another name")
+            }
+            Some(token) if begins_item(token.kind) => Some("the next item begins here"),
+            Some(_) => None,
+            None => Some("the file ends here"),
         }
     }
 
     /// What to do by the class that is wanted.
-    fn class_label(&self, alloc: Global) -> Result<String, AllocError> {
-        match (self.what, self.token()) {
-            (What::Name, Some(token)) if is_reserved(token.kind) => String::from_str(
-                alloc,
-                "this word belongs to the language: take another name",
-            ),
-            (What::FieldKind, _) => format!(in alloc; "a type is {TYPES}"),
-            (What::State, _) => String::from_str(alloc, "write one of these three"),
-            (What::Level, _) => String::from_str(alloc, "write one of these four"),
-            (_, Some(token)) if begins_item(token.kind) => String::from_str(
-                alloc,
-                "the next item begins here",
-            ),
-            (_, None) => String::from_str(alloc, "the file ends here"),
-            _ => self.plain_label(alloc),
+    fn class_label(&self) -> Option<&'static str> {
+        match self.what {
+            What::FieldKind => Some(TYPES),
+            What::State => Some("write one of these three"),
+            What::Level => Some("write one of these four"),
+            _ => self.kind_label(),
+        }
+    }
+
+    /// What to do about a sign or a field that stands there.
+    fn own_label(&self) -> Option<&'static str> {
+        let kind = self.token().map(|token| token.kind);
+        if self.what == What::Compare && kind == Some(TokenKind::Equals) {
+            Some("did you mean `==`?")
+        } else if self.what == What::Number && self.compared_field().is_some() {
+            Some("a field is compared with a number, not with a field")
+        } else {
+            self.class_label()
+        }
+    }
+
+    /// What to do, where no word was meant.
+    fn other_label(&self, alloc: Global) -> Result<String, AllocError> {
+        match self.own_label() {
+            Some(label) => String::from_str(alloc, label),
+            None => self.plain_label(alloc),
+        }
+    }
+
+    /// What to do where an operand is wanted, and no word was meant.
+    fn operand_label(&self, alloc: Global) -> Result<String, AllocError> {
+        match self.exchanged() {
+            Some(meant) if self.what == What::Operand => exchanged_label(alloc, meant),
+            _ => self.other_label(alloc),
         }
     }
 
     /// What to do.
     fn label(&self, alloc: Global) -> Result<String, AllocError> {
-        if let Some(label) = self.suggestion(alloc)? {
-            return Ok(label);
+        match self.suggestion(alloc)? {
+            Some(word) => around(alloc, "did you mean ", word, "?"),
+            None => self.operand_label(alloc),
         }
-        let kind = self.token().map(|token| token.kind);
-        if self.what == What::Compare && kind == Some(TokenKind::Equals) {
-            return String::from_str(alloc, "did you mean `==`?");
-        }
-        if self.what == What::Operand {
-            if let Some(label) = self.exchanged(alloc)? {
-                return Ok(label);
-            }
-        }
-        if self.what == What::Number && self.compared_field().is_some() {
-            return String::from_str(alloc, "a field is compared with a number, not with a field");
-        }
-        self.class_label(alloc)
     }
 
     /// Where something is to be written, if the next item begins too early, or the text ends.
@@ -194,34 +225,25 @@ impl<'a> Stop<'_, 'a> {
         }
     }
 
-    /// The parenthesis that is to be closed.
-    fn opened(&self, alloc: Global) -> Result<Option<Mark>, AllocError> {
-        if self.what != What::Sign(Sign::Close) {
-            return Ok(None);
-        }
-        match self.open() {
-            Some(open) => Ok(Some(Mark {
-                at: open.at,
-                size: open.text.len(),
-                label: String::from_str(alloc, "opened here")?,
-            })),
-            None => Ok(None),
+    /// The parenthesis that is to be closed, or the declaration of the field that stands where a number is wanted.
+    fn other(&self, alloc: Global) -> Result<Option<Mark>, AllocError> {
+        match self.what {
+            What::Sign(Sign::Close) => token_mark(alloc, self.open(), "opened here"),
+            What::Number => declared_mark(alloc, self.compared_field(), "declared here"),
+            _ => Ok(None),
         }
     }
 
-    /// The declaration of the field that stands where a number is wanted.
-    fn declaration(&self, alloc: Global) -> Result<Option<Mark>, AllocError> {
-        if self.what != What::Number {
-            return Ok(None);
-        }
-        match self.compared_field() {
-            Some(field) => Ok(Some(Mark {
-                at: field.at,
-                size: field.text.len(),
-                label: String::from_str(alloc, "declared here")?,
-            })),
-            None => Ok(None),
-        }
+    /// What is wanted, and what stands there.
+    fn head(&self, alloc: Global) -> Result<String, AllocError> {
+        let wanted = wanted(alloc, self.what)?;
+        let found = found(alloc, self.token())?;
+        format!(in alloc; "expected {wanted}, found {found}")
+    }
+
+    /// The bytes of what stands there.
+    fn size(&self) -> usize {
+        self.token().map_or(0, |token| token.text.len())
     }
 }
 
@@ -239,16 +261,12 @@ pub fn expected_message(
         number: source.number_at(at),
         what,
     };
-    let token = stop.token();
-    let wanted = wanted(alloc, what)?;
-    let found = found(alloc, token)?;
-    let head = format!(in alloc; "expected {wanted}, found {found}")?;
+    let head = stop.head(alloc)?;
     let label = stop.label(alloc)?;
-    let size = token.map_or(0, |token| token.text.len());
+    let size = stop.size();
     Message::at(alloc, 11, head, Mark { at, size, label })
         .with(stop.missing(alloc)?)?
-        .with(stop.opened(alloc)?)?
-        .with(stop.declaration(alloc)?)
+        .with(stop.other(alloc)?)
 }
 
 /// What is said of the 65th token that nests in a condition.
@@ -271,12 +289,6 @@ fn begin_mark(
     source: &Source<'_>,
     number: usize,
 ) -> Result<Option<Mark>, AllocError> {
-    match source.first_of(source.part_of(number), TokenKind::When) {
-        Some(when) => Ok(Some(Mark {
-            at: when.at,
-            size: when.text.len(),
-            label: String::from_str(alloc, "the condition begins here")?,
-        })),
-        None => Ok(None),
-    }
+    let when = source.first_of(source.part_of(number), TokenKind::When);
+    token_mark(alloc, when, "the condition begins here")
 }

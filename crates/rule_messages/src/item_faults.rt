@@ -1,6 +1,8 @@
 //! All faults of items that are whole.
 
-use crate::checks::{declared_in, names, packet_of, type_of, value_of};
+use crate::fields::{packet_of, type_of};
+use crate::marks::value_of;
+use crate::naming::{declared_in, names};
 use crate::source::{Declared, Kind, Part, Source};
 use field_checker::{CheckError, RuleNumber};
 use lc_model::{FieldType, mids};
@@ -216,9 +218,10 @@ impl<'s, 'a> Checked<'s, 'a> {
         let Some(field) = declared_in(self.source, number) else {
             return Ok(());
         };
-        let Some((_, kind)) = type_of(self.source, field) else {
+        let Some(typed) = type_of(self.source, field) else {
             return Ok(());
         };
+        let kind = typed.kind;
         let Some(packet) = self.source.token(part.from.saturating_add(3)) else {
             return Ok(());
         };
@@ -302,8 +305,8 @@ impl<'s, 'a> Checked<'s, 'a> {
         if !self.is_right(field) {
             return Ok(());
         }
-        if let Some((_, kind)) = type_of(self.source, field) {
-            if !kind.has(value_of(value)) {
+        if let Some(typed) = type_of(self.source, field) {
+            if !typed.kind.has(value_of(value)) {
                 found.push(CheckError::ConstRange { at: value.at })?;
             }
         }

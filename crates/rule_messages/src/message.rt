@@ -1,7 +1,7 @@
 //! A message for the author of a text.
 
-ghost use Rattle.std.specs.Prelude.{◌≡◌, ℕ, IfOk};
-ghost use Rattle.rule_messages.specs.Telling.{IsAt};
+ghost use Rattle.std.specs.Prelude.{◌≡◌, ℕ, List, IfOk};
+ghost use Rattle.rule_messages.specs.Telling.{IsAt, IsWarning};
 
 use std::alloc::{AllocError, Global};
 
@@ -15,11 +15,13 @@ pub struct Mark {
     pub label: String,
 }
 
-/// What is wrong with a text.
+/// What is wrong with a text, or what is to be looked at.
 #[derive(Drop)]
 pub struct Message {
-    /// The refusal's number.
+    /// The refusal's number; 0 of a warning.
     pub code: u8,
+    /// The name of a warning, as `unused-field`; none of a refusal.
+    pub warning: Option<&'static str>,
     /// What is wrong, in one sentence.
     pub head: String,
     /// Where, with what to do. A text that is too long as a whole has no such place.
@@ -29,12 +31,26 @@ pub struct Message {
 }
 
 impl Message {
-    /// With this place, and no other yet.
+    /// A refusal with this place, and no other yet.
     pub fn at(alloc: Global, code: u8, head: String, first: Mark) -> Message
         ensures { IsAt code first.at result }
     {
         Message {
             code,
+            warning: None,
+            head,
+            first: Some(first),
+            others: Vec::new(alloc),
+        }
+    }
+
+    /// A warning of this name with this place, and no other yet.
+    pub fn warning(alloc: Global, name: &'static str, head: String, first: Mark) -> Message
+        ensures { IsWarning name.now first.at result }
+    {
+        Message {
+            code: 0,
+            warning: Some(name),
             head,
             first: Some(first),
             others: Vec::new(alloc),
@@ -43,7 +59,9 @@ impl Message {
 
     /// Adds another place, if there is one, in the order of the text.
     pub fn with(mut self, other: Option<Mark>) -> Result<Message, AllocError>
-        ensures { (code at : ℕ) → IsAt code at self → IfOk result (IsAt code at) }
+        ensures error { (code at : ℕ) → IsAt code at self → IfOk result (IsAt code at) }
+        ensures warning { (name : List ℕ) → (at : ℕ) → IsWarning name at self →
+            IfOk result (IsWarning name at) }
     {
         let Some(other) = other else {
             return Ok(self);

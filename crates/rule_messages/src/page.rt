@@ -8,6 +8,9 @@ use text_places::{Excerpt, excerpt_of, place_of};
 /// The most messages that are shown.
 const MOST_SHOWN: usize = 10;
 
+/// The most faults that are told of; one more says that there are more.
+pub const MOST_TOLD: usize = 100;
+
 /// The least columns of a line's number.
 const NUMBER_COLUMNS: usize = 3;
 
@@ -132,6 +135,34 @@ fn push_excerpts(
     Ok(())
 }
 
+/// Where a message points, behind the file's name: its line and column, if it has a place.
+fn push_place(
+    alloc: Global,
+    page: &mut String,
+    text: &[u8],
+    mark: &Option<Mark>,
+) -> Result<(), AllocError> {
+    let Some(mark) = mark else {
+        return Ok(());
+    };
+    let place = place_of(text, mark.at.min(text.len()));
+    let line = place.line;
+    let column = place.column;
+    let place = format!(in alloc; ":{line}:{column}")?;
+    page.push_str(place.as_str())
+}
+
+/// What a message is: an error with its number, or a warning with its name.
+fn kind_of(alloc: Global, message: &Message) -> Result<String, AllocError> {
+    match message.warning {
+        Some(name) => format!(in alloc; ": warning[{name}]: "),
+        None => {
+            let code = message.code;
+            format!(in alloc; ": error[{code}]: ")
+        }
+    }
+}
+
 /// The head line of a message.
 fn push_head(
     alloc: Global,
@@ -141,28 +172,36 @@ fn push_head(
     message: &Message,
 ) -> Result<(), AllocError> {
     page.push_str(name)?;
-    if let Some(mark) = &message.first {
-        let place = place_of(text, mark.at.min(text.len()));
-        let line = place.line;
-        let column = place.column;
-        let place = format!(in alloc; ":{line}:{column}")?;
-        page.push_str(place.as_str())?;
-    }
-    let code = message.code;
-    let head = message.head.as_str();
-    let line = format!(in alloc; ": error[{code}]: {head}\n")?;
-    page.push_str(line.as_str())
+    push_place(alloc, page, text, &message.first)?;
+    let kind = kind_of(alloc, message)?;
+    page.push_str(kind.as_str())?;
+    page.push_str(message.head.as_str())?;
+    page.push_str("\n")
+}
+
+/// A message, and an empty line.
+fn push_message(
+    alloc: Global,
+    page: &mut String,
+    name: &str,
+    text: &[u8],
+    message: &Message,
+) -> Result<(), AllocError> {
+    push_head(alloc, page, name, text, message)?;
+    push_excerpts(alloc, page, text, message)?;
+    page.push_str("\n")
 }
 
 /// The last line, which counts all messages.
-fn push_count(alloc: Global, page: &mut String, count: usize) -> Result<(), AllocError> {
-    let many = Many(count, "error");
-    let line = if count > MOST_SHOWN {
-        format!(in alloc; "{many}, the first {MOST_SHOWN} shown\n")?
+fn count_line(alloc: Global, count: usize) -> Result<String, AllocError> {
+    let many = Many(count.min(MOST_TOLD), "error");
+    if count > MOST_TOLD {
+        format!(in alloc; "over {many}, the first {MOST_SHOWN} shown\n")
+    } else if count > MOST_SHOWN {
+        format!(in alloc; "{many}, the first {MOST_SHOWN} shown\n")
     } else {
-        format!(in alloc; "{many}\n")?
-    };
-    page.push_str(line.as_str())
+        format!(in alloc; "{many}\n")
+    }
 }
 
 /// The messages of a text in a file of this name, as they are printed: the first ten, and how many there are.
@@ -174,10 +213,23 @@ pub fn page_of(
 ) -> Result<String, AllocError> {
     let mut page = String::new(alloc);
     for message in messages.iter().take(MOST_SHOWN) {
-        push_head(alloc, &mut page, name, text, message)?;
-        push_excerpts(alloc, &mut page, text, message)?;
-        page.push('\n')?;
+        push_message(alloc, &mut page, name, text, message)?;
     }
-    push_count(alloc, &mut page, messages.len())?;
+    let last = count_line(alloc, messages.len())?;
+    page.push_str(last.as_str())?;
+    Ok(page)
+}
+
+/// The warnings of a text in a file of this name, as they are printed: all.
+pub fn warnings_page_of(
+    alloc: Global,
+    name: &str,
+    text: &[u8],
+    warnings: &[Message],
+) -> Result<String, AllocError> {
+    let mut page = String::new(alloc);
+    for warning in warnings {
+        push_message(alloc, &mut page, name, text, warning)?;
+    }
     Ok(page)
 }

@@ -35,30 +35,64 @@ fn reach_of(source: &Source<'_>, item: Part) -> usize {
     }
 }
 
-/// Whether a bad token stands in an item.
+/// Where it ends: before its `;`, or with the next one's first token.
+fn reach_end(source: &Source<'_>, item: Part) -> usize {
+    match source.token(item.to.saturating_sub(1)) {
+        Some(token) if token.kind == TokenKind::Semicolon => token.at,
+        _ => next_place(source, item),
+    }
+}
+
+/// The errors that don't stand before this place.
+fn errors_from(errors: &[LexError], begin: usize) -> &[LexError] {
+    let count = errors
+        .iter()
+        .take_while(|error| place(**error) < begin)
+        .count();
+    if count < errors.len() {
+        &errors[count..]
+    } else {
+        &[]
+    }
+}
+
+/// Whether the first of the errors, by place, that don't stand before an item stands in it.
 fn has_bad_token(source: &Source<'_>, item: Part, errors: &[LexError]) -> bool {
-    let begin = reach_of(source, item);
-    let next = match source.token(item.to) {
+    let end = reach_end(source, item);
+    match errors.first() {
+        Some(error) => place(*error) < end,
+        None => false,
+    }
+}
+
+/// The place of the first token behind an item, or the text's end.
+fn next_place(source: &Source<'_>, item: Part) -> usize {
+    match source.token(item.to) {
         Some(token) => token.at,
         None => source.text.len(),
-    };
-    let end = match source.token(item.to.saturating_sub(1)) {
-        Some(token) if token.kind == TokenKind::Semicolon => token.at,
-        _ => next,
-    };
-    errors
-        .iter()
-        .any(|error| begin <= place(*error) && place(*error) < end)
+    }
 }
 
 /// The place in the whole text of an error at this place of an item: behind its last token it is the next one's, or the text's end.
 fn place_in_text(source: &Source<'_>, item: Part, size: usize, at: usize) -> usize {
     if at < size {
-        return begin_of(source, item).saturating_add(at);
+        begin_of(source, item).saturating_add(at)
+    } else {
+        next_place(source, item)
     }
-    match source.token(item.to) {
-        Some(token) => token.at,
-        None => source.text.len(),
+}
+
+/// The error of an item of so many bytes, in the whole text.
+fn error_in_text(source: &Source<'_>, item: Part, size: usize, error: ParseError) -> ParseError {
+    match error {
+        ParseError::Expected { at, what } => ParseError::Expected {
+            at: place_in_text(source, item, size, at),
+            what,
+        },
+        ParseError::TooNested { at } => ParseError::TooNested {
+            at: place_in_text(source, item, size, at),
+        },
+        ParseError::Memory => ParseError::Memory,
     }
 }
 
@@ -77,13 +111,7 @@ fn grammar_error(
     match parse(alloc, text, tokens.as_slice()) {
         Ok(_) => Ok(None),
         Err(ParseError::Memory) => Err(AllocError),
-        Err(ParseError::Expected { at, what }) => Ok(Some(ParseError::Expected {
-            at: place_in_text(source, item, text.len(), at),
-            what,
-        })),
-        Err(ParseError::TooNested { at }) => Ok(Some(ParseError::TooNested {
-            at: place_in_text(source, item, text.len(), at),
-        })),
+        Err(error) => Ok(Some(error_in_text(source, item, text.len(), error))),
     }
 }
 
@@ -94,21 +122,27 @@ pub struct Grammar {
     pub whole: Vec<bool>,
 }
 
-/// Items of which each may go on what the one before it began, so that their errors may follow from one another.
+/// What is found of an item.
 #[derive(Clone, Copy)]
-struct Group {
-    /// Whether a bad token stands in one of them.
+struct Found {
+    /// Whether a bad token stands in it.
     is_bad: bool,
-    /// The first error of their grammar.
+    /// The error of its grammar.
     error: Option<ParseError>,
 }
 
-impl Group {
-    /// With one item more.
-    fn with(self, is_bad: bool, error: Option<ParseError>) -> Group {
-        Group {
-            is_bad: self.is_bad || is_bad,
-            error: self.error.or(error),
+/// Nothing.
+const NOTHING: Found = Found {
+    is_bad: false,
+    error: None,
+};
+
+impl Found {
+    /// The same of items of which each may go on what the one before it began, so that their errors may follow from one another.
+    fn with(self, next: Found) -> Found {
+        Found {
+            is_bad: self.is_bad || next.is_bad,
+            error: self.error.or(next.error),
         }
     }
 
@@ -116,19 +150,50 @@ impl Group {
     fn told(self) -> Option<ParseError> {
         if self.is_bad { None } else { self.error }
     }
+
+    /// Whether nothing is.
+    fn is_whole(self) -> bool {
+        !self.is_bad && self.error.is_none()
+    }
+}
+
+/// What is found of an item by its grammar, if no bad token stands in it.
+fn read_item(
+    alloc: Global,
+    source: &Source<'_>,
+    clean: &[u8],
+    item: Part,
+    is_bad: bool,
+) -> Result<Found, AllocError> {
+    let error = if is_bad {
+        None
+    } else {
+        grammar_error(alloc, source, clean, item)?
+    };
+    Ok(Found { is_bad, error })
 }
 
 impl Grammar {
-    /// Adds the error that is told of a group.
-    fn close(&mut self, group: Group) -> Result<(), AllocError> {
-        if let Some(error) = group.told() {
+    /// Adds the error that is told of some items.
+    fn close(&mut self, items: Found) -> Result<(), AllocError> {
+        if let Some(error) = items.told() {
             self.errors.push(error)?;
         }
         Ok(())
     }
+
+    /// Adds an item, and gives what is found of those that belong together with it, where those before it are given.
+    fn add(&mut self, before: Found, item: Found, goes_on: bool) -> Result<Found, AllocError> {
+        self.whole.push(item.is_whole())?;
+        if goes_on {
+            return Ok(before.with(item));
+        }
+        self.close(before)?;
+        Ok(item)
+    }
 }
 
-/// What the grammar says of each item.
+/// What the grammar says of each item. The errors of tokens stand by place.
 pub fn read_items(
     alloc: Global,
     source: &Source<'_>,
@@ -139,25 +204,15 @@ pub fn read_items(
         errors: Vec::new(alloc),
         whole: Vec::new(alloc),
     };
-    let nothing = Group {
-        is_bad: false,
-        error: None,
-    };
-    let mut group = nothing;
+    let mut group = NOTHING;
     let mut is_bad_before = false;
+    let mut left = bad;
     for item in &source.parts {
-        let is_bad = has_bad_token(source, *item, bad);
-        let error = if is_bad {
-            None
-        } else {
-            grammar_error(alloc, source, clean, *item)?
-        };
-        grammar.whole.push(!is_bad && error.is_none())?;
-        if !goes_on(alloc, source, *item, is_bad_before)? {
-            grammar.close(group)?;
-            group = nothing;
-        }
-        group = group.with(is_bad, error);
+        left = errors_from(left, reach_of(source, *item));
+        let is_bad = has_bad_token(source, *item, left);
+        let found = read_item(alloc, source, clean, *item, is_bad)?;
+        let goes_on = goes_on(alloc, source, *item, is_bad_before)?;
+        group = grammar.add(group, found, goes_on)?;
         is_bad_before = is_bad;
     }
     grammar.close(group)?;

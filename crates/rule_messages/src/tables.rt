@@ -3,7 +3,8 @@
 ghost use Rattle.std.specs.Prelude.{◌≡◌, IfOk};
 
 use crate::bytes::{Many, quoted};
-use crate::checks::{type_of, value_of};
+use crate::fields::{packet_of, type_of};
+use crate::marks::{mark, value_of};
 use crate::message::{Mark, Message};
 use crate::source::{Declared, Kind, Part, Source};
 use lc_model::{EQUATION_WORDS, FieldType, TABLE_ENTRIES, Term};
@@ -49,6 +50,17 @@ pub fn rule_part(source: &Source<'_>, rule: usize) -> Option<Part> {
         .copied()
 }
 
+/// The items of all rules.
+pub fn rule_parts(alloc: Global, source: &Source<'_>) -> Result<Vec<Part>, AllocError> {
+    let mut rules = Vec::new(alloc);
+    for part in &source.parts {
+        if source.kind_of(*part) == Some(Kind::Rule) {
+            rules.push(*part)?;
+        }
+    }
+    Ok(rules)
+}
+
 /// How many rules there are.
 pub fn rule_count(source: &Source<'_>) -> usize {
     source
@@ -89,6 +101,14 @@ pub fn rules_message(alloc: Global, source: &Source<'_>) -> Result<Message, Allo
     Ok(Message::at(alloc, 41, head, name_mark(source, part, label)))
 }
 
+/// What is wrong with a rule whose condition has so many comparisons and operators.
+fn length_head(alloc: Global, name: Option<Token<'_>>, count: usize) -> Result<String, AllocError> {
+    let name = quoted(alloc, name.map_or(b"", |name| name.text))?;
+    format!(in alloc;
+        "the condition of {name} has {count} comparisons and operators, at most 31 are allowed"
+    )
+}
+
 /// A rule of over 31 comparisons and operators.
 pub fn length_message(
     alloc: Global,
@@ -99,18 +119,19 @@ pub fn length_message(
 {
     let part = rule_part(source, rule).unwrap_or(Part { from: 0, to: 0 });
     let words = words_of(source, part);
-    let name = match source.token(part.from.saturating_add(1)) {
-        Some(name) => quoted(alloc, name.text)?,
-        None => quoted(alloc, b"")?,
-    };
+    let name = source.token(part.from.saturating_add(1));
     let count = words.comparisons.saturating_add(words.operators);
-    let head = format!(in alloc;
-        "the condition of {name} has {count} comparisons and operators, at most 31 are allowed"
-    )?;
+    let head = length_head(alloc, name, count)?;
     let label = String::from_str(alloc, "split this rule in two")?;
-    Message::at(alloc, 42, head, name_mark(source, Some(part), label)).with(condition_mark(
-        alloc, source, part, words,
-    )?)
+    let other = condition_mark(alloc, source, part, words)?;
+    Message::at(alloc, 42, head, name_mark(source, Some(part), label)).with(other)
+}
+
+/// What a condition has, in words.
+fn words_label(alloc: Global, words: Words) -> Result<String, AllocError> {
+    let comparisons = Many(words.comparisons, "comparison");
+    let operators = Many(words.operators, "operator");
+    format!(in alloc; "{comparisons} and {operators}")
 }
 
 /// The `when` of a rule, with what its condition has.
@@ -120,16 +141,10 @@ fn condition_mark(
     part: Part,
     words: Words,
 ) -> Result<Option<Mark>, AllocError> {
-    let Some(when) = source.first_of(part, TokenKind::When) else {
-        return Ok(None);
-    };
-    let comparisons = Many(words.comparisons, "comparison");
-    let operators = Many(words.operators, "operator");
-    Ok(Some(Mark {
-        at: when.at,
-        size: when.text.len(),
-        label: format!(in alloc; "{comparisons} and {operators}")?,
-    }))
+    match source.first_of(part, TokenKind::When) {
+        Some(when) => Ok(Some(mark(when, words_label(alloc, words)?))),
+        None => Ok(None),
+    }
 }
 
 /// The number behind a word of a field's or packet's item, or this one where it isn't written.
@@ -143,7 +158,7 @@ fn number_in(source: &Source<'_>, name: Declared<'_>, kind: TokenKind, otherwise
 /// What a comparison of this field says, but for its operator and its number.
 fn field_term(source: &Source<'_>, field: Declared<'_>, kind: FieldType) -> Term {
     let packet = match source.parts.get(field.part) {
-        Some(part) => crate::checks::packet_of(source, part.from),
+        Some(part) => packet_of(source, part.from),
         None => None,
     };
     let mid = packet.map_or(0, |packet| number_in(source, packet, TokenKind::Mid, 0));
@@ -165,7 +180,7 @@ fn term_at(source: &Source<'_>, number: usize) -> Option<Term> {
         return None;
     };
     let field = source.declared(Kind::Field, name.text)?;
-    let (_, kind) = type_of(source, field)?;
+    let kind = type_of(source, field)?.kind;
     let value = value_of(source.token(number.saturating_add(1))?);
     let mut term = field_term(source, field, kind);
     term.op = op;
@@ -173,28 +188,52 @@ fn term_at(source: &Source<'_>, number: usize) -> Option<Term> {
     Some(term)
 }
 
+/// The different comparisons of a text.
+#[derive(Drop)]
+struct Different {
+    terms: Vec<Term>,
+    /// The number of the operator of the first that is too much.
+    too_much: Option<usize>,
+}
+
+impl Different {
+    /// Adds the comparison whose operator has this number, unless it is there.
+    fn add(&mut self, term: Term, number: usize) -> Result<(), AllocError> {
+        if self.terms.contains(&term) {
+            return Ok(());
+        }
+        if self.terms.len() == TABLE_ENTRIES {
+            self.too_much = Some(number);
+        }
+        self.terms.push(term)?;
+        Ok(())
+    }
+}
+
+/// All different comparisons.
+fn different_terms(alloc: Global, source: &Source<'_>) -> Result<Different, AllocError> {
+    let mut found = Different {
+        terms: Vec::new(alloc),
+        too_much: None,
+    };
+    for number in 0..source.tokens.len() {
+        if let Some(term) = term_at(source, number) {
+            found.add(term, number)?;
+        }
+    }
+    Ok(found)
+}
+
 /// Over 176 different comparisons.
 pub fn comparisons_message(alloc: Global, source: &Source<'_>) -> Result<Message, AllocError>
     ensures { IfOk result (λ message. message.code ≡ 31) }
 {
-    let mut terms = Vec::new(alloc);
-    let mut first = None;
-    for number in 0..source.tokens.len() {
-        let Some(term) = term_at(source, number) else {
-            continue;
-        };
-        if terms.contains(&term) {
-            continue;
-        }
-        if terms.len() == TABLE_ENTRIES {
-            first = Some(number);
-        }
-        terms.push(term)?;
-    }
-    let count = Many(terms.len(), "different comparison");
+    let found = different_terms(alloc, source)?;
+    let count = Many(found.terms.len(), "different comparison");
     let head = format!(in alloc; "the file has {count}, at most 176 are allowed")?;
     let label = String::from_str(alloc, "this is the 177th")?;
-    Ok(Message::at(alloc, 31, head, comparison_mark(source, first, label)))
+    let place = comparison_mark(source, found.too_much, label);
+    Ok(Message::at(alloc, 31, head, place))
 }
 
 /// A mark under the comparison whose operator is the token with this number.

@@ -6,10 +6,7 @@ ghost use Rattle.rpn_compiler.specs.declared.error.CompileError.TheVariants.{Lex
 ghost use Rattle.rpn_compiler.specs.Fault.{refusal_of};
 ghost use Rattle.rule_messages.specs.Telling.{IsAt, TellsOf, TellsReason, ends_line, place_of};
 
-use crate::bytes::{
-    Grouped, Many, Signed, behind, character, front, is_word_byte, last_word, part, quoted,
-    word_size,
-};
+use crate::bytes::{Grouped, Many, around, behind, character, front, last_word, word_size};
 use crate::message::{Mark, Message};
 use rule_lexer::{LexError, LexReason, TokenKind, lex};
 use std::alloc::{AllocError, Global};
@@ -45,38 +42,69 @@ fn run_size(rest: &[u8]) -> usize {
     run.min(rest.len())
 }
 
-/// A blank that isn't ASCII, a byte order mark, or another character without width.
-fn is_unseen(character: char) -> bool {
-    matches!(
-        character as u32,
-        0xA0 | 0xAD | 0x1680 | 0x2000..=0x200D | 0x2028..=0x2029 | 0x202F | 0x205F..=0x2060 | 0x3000 | 0xFEFF
-    )
+/// Blanks that aren't ASCII, byte order marks, and other characters without width, from the first to the last of each row.
+const UNSEEN: &[(u32, u32)] = &[
+    (0xA0, 0xA0),
+    (0xAD, 0xAD),
+    (0x1680, 0x1680),
+    (0x2000, 0x200D),
+    (0x2028, 0x2029),
+    (0x202F, 0x202F),
+    (0x205F, 0x2060),
+    (0x3000, 0x3000),
+    (0xFEFF, 0xFEFF),
+];
+
+/// Single quotes, slanted quotes and angle quotes.
+const OTHER_QUOTES: &[(u32, u32)] = &[
+    (0x27, 0x27),
+    (0x60, 0x60),
+    (0xAB, 0xAB),
+    (0xB4, 0xB4),
+    (0xBB, 0xBB),
+    (0x2018, 0x201F),
+    (0x2039, 0x203A),
+];
+
+/// Whether one of the rows has the character.
+fn is_among(character: char, rows: &[(u32, u32)]) -> bool {
+    let code = character as u32;
+    rows.iter().any(|row| row.0 <= code && code <= row.1)
 }
 
-/// A single quote, a slanted quote or an angle quote.
-fn is_other_quote(character: char) -> bool {
-    matches!(
-        character as u32,
-        0x27 | 0x60 | 0xAB | 0xB4 | 0xBB | 0x2018..=0x201F | 0x2039..=0x203A
-    )
+/// What to do about characters that other languages have.
+const ADVICE: &[(char, &str)] = &[
+    ('&', "did you mean `and`?"),
+    ('|', "did you mean `or`?"),
+    ('!', "did you mean `not`?"),
+    ('^', "did you mean `xor`?"),
+    ('-', "`-` stands directly before a number"),
+    ('/', "a comment begins with `#`"),
+    ('[', "did you mean `(`?"),
+    ('{', "did you mean `(`?"),
+    (']', "did you mean `)`?"),
+    ('}', "did you mean `)`?"),
+];
+
+/// What to do about a character that begins no token, wherever it stands.
+fn plain_advice(character: char) -> &'static str {
+    if let Some(row) = ADVICE.iter().find(|row| row.0 == character) {
+        row.1
+    } else if is_among(character, OTHER_QUOTES) {
+        "write `\"` around a quoted text"
+    } else if is_among(character, UNSEEN) {
+        "this can't be seen: leave it out"
+    } else {
+        "leave it out"
+    }
 }
 
 /// What to do about a character that begins no token.
 fn advice(text: &[u8], at: usize, character: char) -> &'static str {
-    match character {
-        '&' => "did you mean `and`?",
-        '|' => "did you mean `or`?",
-        '!' => "did you mean `not`?",
-        '^' => "did you mean `xor`?",
-        '.' if is_behind_number(text, at) =>
-            "numbers are whole: write the raw value of the telemetry",
-        '-' => "`-` stands directly before a number",
-        '/' => "a comment begins with `#`",
-        '[' | '{' => "did you mean `(`?",
-        ']' | '}' => "did you mean `)`?",
-        other if is_other_quote(other) => "write `\"` around a quoted text",
-        other if is_unseen(other) => "this can't be seen: leave it out",
-        _ => "leave it out",
+    if character == '.' && is_behind_number(text, at) {
+        "numbers are whole: write the raw value of the telemetry"
+    } else {
+        plain_advice(character)
     }
 }
 
@@ -90,19 +118,26 @@ fn bad_byte(alloc: Global, text: &[u8], at: usize) -> Result<Message, AllocError
 {
     let rest = behind(text, at);
     let size = run_size(rest);
-    let found = quoted(alloc, front(rest, size))?;
     let (first, _) = character(rest);
+    let head = around(
+        alloc,
+        "",
+        front(rest, size),
+        " has no meaning in this language",
+    )?;
     let label = String::from_str(alloc, advice(text, at, first))?;
-    let head = format!(in alloc; "{found} has no meaning in this language")?;
     Ok(Message::at(alloc, 1, head, Mark { at, size, label }))
+}
+
+/// How many bytes the sign in front has.
+fn sign_size(rest: &[u8]) -> usize {
+    usize::from(matches!(rest, [b'-', ..]))
 }
 
 /// The bytes of the number in front, right or wrong, with its sign.
 fn number_size(rest: &[u8]) -> usize {
-    match rest {
-        [b'-', digits @ ..] => word_size(digits).saturating_add(1),
-        digits => word_size(digits),
-    }
+    let sign = sign_size(rest);
+    word_size(behind(rest, sign)).saturating_add(sign)
 }
 
 /// The decimal digits in front.
@@ -124,25 +159,25 @@ fn without_unit(digits: &[u8]) -> Option<&[u8]> {
     Some(front(digits, count))
 }
 
+/// What stands behind `0X`, or before an `h`.
+fn inner_digits(digits: &[u8]) -> &[u8] {
+    match digits {
+        [b'0', b'X', inner @ ..] => inner,
+        [inner @ .., b'h' | b'H'] => inner,
+        _ => &[],
+    }
+}
+
 /// A number, as it may have been meant, of what is written without a sign.
-fn meant(alloc: Global, digits: &[u8]) -> Result<Option<Vec<u8>>, AllocError> {
-    if let [b'0', b'X', rest @ ..] = digits {
-        if are_hexadecimal(rest) {
-            return Ok(Some(hexadecimal(alloc, rest)?));
-        }
+fn meant(alloc: Global, digits: &[u8]) -> Result<Vec<u8>, AllocError> {
+    let inner = inner_digits(digits);
+    if are_hexadecimal(inner) {
+        return hexadecimal(alloc, inner);
     }
-    if let [rest @ .., b'h' | b'H'] = digits {
-        if are_hexadecimal(rest) {
-            return Ok(Some(hexadecimal(alloc, rest)?));
-        }
+    match without_unit(digits) {
+        Some(number) => Vec::from_slice(alloc, number),
+        None => without_lines(alloc, digits),
     }
-    if let Some(number) = without_unit(digits) {
-        return Ok(Some(Vec::from_slice(alloc, number)?));
-    }
-    if digits.contains(&b'_') {
-        return Ok(Some(without_lines(alloc, digits)?));
-    }
-    Ok(None)
 }
 
 /// The digits behind `0x`.
@@ -172,24 +207,34 @@ fn is_number(alloc: Global, text: &[u8]) -> bool {
     }
 }
 
+/// The same with the sign that is written.
+fn signed(alloc: Global, written: &[u8]) -> Result<Vec<u8>, AllocError> {
+    let sign = sign_size(written);
+    let mut whole = Vec::from_slice(alloc, front(written, sign))?;
+    let number = meant(alloc, behind(written, sign))?;
+    whole.extend_from_slice(number.as_slice())?;
+    Ok(whole)
+}
+
 /// What to write in the place of a number that is none.
 fn number_advice(alloc: Global, written: &[u8]) -> Result<String, AllocError> {
-    let (sign, digits) = match written {
-        [b'-', digits @ ..] => ("-", digits),
-        digits => ("", digits),
-    };
-    if matches!(digits, b"0x") {
+    if matches!(behind(written, sign_size(written)), b"0x") {
         return String::from_str(alloc, "write hexadecimal digits behind `0x`");
     }
-    if let Some(number) = meant(alloc, digits)? {
-        let mut whole = Vec::from_slice(alloc, sign.as_bytes())?;
-        whole.extend_from_slice(number.as_slice())?;
-        if is_number(alloc, whole.as_slice()) {
-            let number = quoted(alloc, whole.as_slice())?;
-            return format!(in alloc; "did you mean {number}?");
-        }
+    let number = signed(alloc, written)?;
+    if is_number(alloc, number.as_slice()) {
+        return around(alloc, "did you mean ", number.as_slice(), "?");
     }
     String::from_str(alloc, "write digits, or hexadecimal digits behind `0x`")
+}
+
+/// What to do about a number that is none, or that is too large.
+fn number_label(alloc: Global, written: &[u8], is_too_large: bool) -> Result<String, AllocError> {
+    if !is_too_large {
+        return number_advice(alloc, written);
+    }
+    let most = Grouped(LARGEST_NUMBER);
+    format!(in alloc; "write at most {most}")
 }
 
 fn bad_number(
@@ -203,15 +248,13 @@ fn bad_number(
     let rest = behind(text, at);
     let size = number_size(rest);
     let written = front(rest, size);
-    let number = quoted(alloc, written)?;
-    if is_too_large {
-        let head = format!(in alloc; "{number} is too large")?;
-        let most = Grouped(LARGEST_NUMBER);
-        let label = format!(in alloc; "write at most {most}")?;
-        return Ok(Message::at(alloc, 2, head, Mark { at, size, label }));
-    }
-    let head = format!(in alloc; "{number} is not a number")?;
-    let label = number_advice(alloc, written)?;
+    let what = if is_too_large {
+        " is too large"
+    } else {
+        " is not a number"
+    };
+    let head = around(alloc, "", written, what)?;
+    let label = number_label(alloc, written, is_too_large)?;
     Ok(Message::at(alloc, 2, head, Mark { at, size, label }))
 }
 
@@ -237,9 +280,14 @@ pub fn line_rest(rest: &[u8]) -> usize {
 
 /// The bytes between a quote and the next one on its line, or up to its line's end, and whether there is a next one.
 fn inside(rest: &[u8]) -> (usize, bool) {
-    let line = front(rest, line_rest(rest));
-    let size = line.iter().take_while(|byte| **byte != b'"').count();
-    (size, size < line.len())
+    let size = rest
+        .iter()
+        .take_while(|byte| **byte != b'"' && **byte != b'\n')
+        .count();
+    match behind(rest, size) {
+        [b'"', ..] => (size, true),
+        _ => (line_rest(rest), false),
+    }
 }
 
 fn unclosed(alloc: Global, text: &[u8], at: usize) -> Result<Message, AllocError>
@@ -263,17 +311,20 @@ fn long_string(alloc: Global, text: &[u8], at: usize) -> Result<Message, AllocEr
     Ok(Message::at(alloc, 4, head, Mark { at, size, label }))
 }
 
+/// What is wrong with a character, of these bytes, that stands in a quoted text.
+fn forbidden_head(alloc: Global, first: char, found: &[u8]) -> Result<String, AllocError> {
+    if first == '\t' {
+        return String::from_str(alloc, "a tab may not stand in a quoted text");
+    }
+    around(alloc, "", found, " may not stand in a quoted text")
+}
+
 fn forbidden(alloc: Global, text: &[u8], at: usize) -> Result<Message, AllocError>
     ensures { IfOk result (IsAt 4 at) }
 {
     let rest = behind(text, at);
     let (first, size) = character(rest);
-    let head = if first == '\t' {
-        String::from_str(alloc, "a tab may not stand in a quoted text")?
-    } else {
-        let found = quoted(alloc, front(rest, size))?;
-        format!(in alloc; "{found} may not stand in a quoted text")?
-    };
+    let head = forbidden_head(alloc, first, front(rest, size))?;
     let label = String::from_str(
         alloc,
         "write A to Z, a to z, digits and signs of ASCII only",
@@ -299,6 +350,7 @@ fn long_text(alloc: Global, text: &[u8]) -> Result<Message, AllocError>
     let head = format!(in alloc; "the file has {count}, at most 65,536 are allowed")?;
     Ok(Message {
         code: 5,
+        warning: None,
         head,
         first: None,
         others: Vec::new(alloc),

@@ -4,7 +4,6 @@ use crate::bytes::part;
 use crate::token_faults::{bad_size, place};
 use rule_lexer::{LexError, lex};
 use std::alloc::{AllocError, Global};
-use text_places::line_start;
 
 /// A text in which blanks stand for each token that is none.
 #[derive(Drop)]
@@ -35,7 +34,9 @@ fn moved(error: LexError, by: usize) -> LexError {
 
 /// Puts blanks in the place of so many bytes. Line feeds stay.
 pub fn blank(text: &mut [u8], at: usize, size: usize) {
-    for byte in text.iter_mut().skip(at).take(size) {
+    let to = at.saturating_add(size).min(text.len());
+    let from = at.min(to);
+    for byte in text[from..to].iter_mut() {
         if *byte != b'\n' {
             *byte = b' ';
         }
@@ -47,19 +48,61 @@ fn is_of_text(error: LexError) -> bool {
     matches!(error, LexError::BadString { .. })
 }
 
+/// Whether no line ends between two places.
+fn are_on_one_line(text: &[u8], before: usize, at: usize) -> bool {
+    !part(text, before, at.saturating_sub(before)).contains(&b'\n')
+}
+
+/// An error, as one before others.
+#[derive(Clone, Copy)]
+struct Before {
+    error: LexError,
+    /// Whether it, or one before it on its line, is of a quoted text.
+    has_text: bool,
+    /// Whether it may follow from one before it on its line.
+    follows: bool,
+}
+
 /// Whether an error may follow from one before it on its line: it touches that one, or one of the two is of a quoted text, so that a
-/// quote that closes may have been read for one that opens.
-pub fn follows(text: &[u8], errors: &[LexError], error: LexError) -> bool {
-    let at = place(error);
-    let line = line_start(text, at.min(text.len()));
-    errors.iter().any(|other| {
-        let before = place(*other);
-        line <= before
-            && before < at
-            && (is_of_text(*other)
-                || is_of_text(error)
-                || before.saturating_add(bad_size(text, *other)) == at)
-    })
+/// quote that closes may have been read for one that opens. Bad tokens stand apart, so it can touch the last one alone.
+fn follows(text: &[u8], before: Before, error: LexError) -> bool {
+    let end = place(before.error).saturating_add(bad_size(text, before.error));
+    before.has_text || is_of_text(error) || end == place(error)
+}
+
+/// An error behind the last one before it.
+fn next(text: &[u8], last: Option<Before>, error: LexError) -> Before {
+    match last {
+        Some(before) if are_on_one_line(text, place(before.error), place(error)) => Before {
+            error,
+            has_text: before.has_text || is_of_text(error),
+            follows: follows(text, before, error),
+        },
+        _ => Before {
+            error,
+            has_text: is_of_text(error),
+            follows: false,
+        },
+    }
+}
+
+/// Those of a text's errors, by place, that don't follow from one before them. Each byte is looked at a few times, however many errors
+/// a line has.
+pub fn own_errors(
+    alloc: Global,
+    text: &[u8],
+    errors: &[LexError],
+) -> Result<Vec<LexError>, AllocError> {
+    let mut own = Vec::new(alloc);
+    let mut last = None;
+    for error in errors {
+        let found = next(text, last, *error);
+        if !found.follows {
+            own.push(*error)?;
+        }
+        last = Some(found);
+    }
+    Ok(own)
 }
 
 /// Whether an item that declares a name for others may begin in a bad quoted text.

@@ -1,6 +1,6 @@
 //! What the grammar wants at a place, and what stands there, in an author's words.
 
-use crate::bytes::{quoted, written};
+use crate::bytes::{around, written};
 use crate::source::{Kind, Part, Source};
 use rule_lexer::{Token, TokenKind};
 use rule_parser::{Sign, What, Word};
@@ -8,7 +8,7 @@ use std::alloc::{AllocError, Global};
 
 /// The types, as a list.
 pub const TYPES: &str =
-    "`u8`, `i8`, `u16be`, `u16le`, `i16be`, `i16le`, `u32be`, `u32le`, `i32be` or `i32le`";
+    "a type is `u8`, `i8`, `u16be`, `u16le`, `i16be`, `i16le`, `u32be`, `u32le`, `i32be` or `i32le`";
 
 /// The words of each class.
 const TYPE_WORDS: &[&[u8]] = &[
@@ -25,36 +25,22 @@ const JOINING_WORDS: &[&[u8]] = &[b"or", b"xor", b"and"];
 
 const OPERAND_WORDS: &[&[u8]] = &[b"not"];
 
-/// The word, as it is written.
-pub fn word_text(word: Word) -> &'static [u8] {
-    match word {
-        Word::Mid => b"mid",
-        Word::Length => b"length",
-        Word::At => b"at",
-        Word::Mask => b"mask",
-        Word::Stale => b"stale",
-        Word::Fails => b"fails",
-        Word::Sequence => b"sequence",
-        Word::Event => b"event",
-        Word::Report => b"report",
-        Word::When => b"when",
+/// What is wanted, in words, where the parser has others for it.
+fn own_words(what: What) -> Option<&'static str> {
+    match what {
+        What::Text => Some("a quoted text"),
+        What::FieldKind => Some("a type"),
+        What::Operand => Some("a field, `not` or `(`"),
+        What::Compare => Some("`<`, `<=`, `!=`, `==`, `>=` or `>`"),
+        _ => None,
     }
 }
 
 /// What is wanted, in words.
 pub fn wanted(alloc: Global, what: What) -> Result<String, AllocError> {
-    match what {
-        What::Item => String::from_str(alloc, "`packet`, `field` or `rule`"),
-        What::Name => String::from_str(alloc, "a name"),
-        What::Number => String::from_str(alloc, "a number"),
-        What::Text => String::from_str(alloc, "a quoted text"),
-        What::FieldKind => String::from_str(alloc, "a type"),
-        What::State => String::from_str(alloc, "`active`, `passive` or `disabled`"),
-        What::Level => String::from_str(alloc, "`debug`, `info`, `error` or `critical`"),
-        What::Operand => String::from_str(alloc, "a field, `not` or `(`"),
-        What::Compare => String::from_str(alloc, "`<`, `<=`, `!=`, `==`, `>=` or `>`"),
-        What::Word(word) => format!(in alloc; "`{word}`"),
-        What::Sign(sign) => format!(in alloc; "`{sign}`"),
+    match own_words(what) {
+        Some(words) => String::from_str(alloc, words),
+        None => format!(in alloc; "{what}"),
     }
 }
 
@@ -79,21 +65,28 @@ pub fn is_reserved(kind: TokenKind) -> bool {
         )
 }
 
+/// What a token is, before what is written there.
+fn class_of(kind: TokenKind) -> &'static str {
+    match kind {
+        TokenKind::Name => "the name ",
+        TokenKind::Number(_) => "the number ",
+        kind if is_sign(kind) => "",
+        _ => "the word ",
+    }
+}
+
+/// A quoted text that stands there, in words.
+fn found_text(alloc: Global, text: &[u8]) -> Result<String, AllocError> {
+    let text = written(alloc, text)?;
+    format!(in alloc; "the quoted text {text}")
+}
+
 /// What stands there, in words.
 pub fn found(alloc: Global, token: Option<Token<'_>>) -> Result<String, AllocError> {
-    let Some(token) = token else {
-        return String::from_str(alloc, "the end of the file");
-    };
-    if token.kind == TokenKind::Text {
-        let text = written(alloc, token.text)?;
-        return format!(in alloc; "the quoted text {text}");
-    }
-    let text = quoted(alloc, token.text)?;
-    match token.kind {
-        TokenKind::Name => format!(in alloc; "the name {text}"),
-        TokenKind::Number(_) => format!(in alloc; "the number {text}"),
-        kind if is_sign(kind) => Ok(text),
-        _ => format!(in alloc; "the word {text}"),
+    match token {
+        None => String::from_str(alloc, "the end of the file"),
+        Some(token) if token.kind == TokenKind::Text => found_text(alloc, token.text),
+        Some(token) => around(alloc, class_of(token.kind), token.text, ""),
     }
 }
 

@@ -200,14 +200,14 @@ fn import_one<'a, R: Files + AllocGlobal, S: Write, W: Write>(
 fn import_all<'a, R: Files + AllocGlobal, S: Write, W: Write>(
     rt: &R,
     archives: &[&'a str],
-    mut stream: Stream<'a, '_, S>,
+    stream: &mut Stream<'a, '_, S>,
     clock: &mut Clock,
     asked: &Asked<'_>,
     out: &mut W,
 ) -> Result<bool, Fault<'a>> {
     let mut is_whole = true;
     for name in archives {
-        let ends = import_one(rt, name, &mut stream, clock, asked, out)?;
+        let ends = import_one(rt, name, stream, clock, asked, out)?;
         is_whole = is_whole && ends;
     }
     Ok(is_whole)
@@ -249,12 +249,12 @@ pub fn import<'a, R: Files + AllocGlobal, W: Write>(
     let mut clock = Clock::new(number_of("--tick", wanted.tick, u32::MAX, 0)?);
     is_apart(rt, stream, archives)?;
     let mut draft = begin(rt, stream).map_err(|fault| fault_at(stream, fault))?;
-    let into = Stream {
+    let mut into = Stream {
         name: stream,
         file: &mut draft.file,
         start,
     };
-    match import_all(rt, archives, into, &mut clock, &asked, out) {
+    match import_all(rt, archives, &mut into, &mut clock, &asked, out) {
         Ok(is_whole) => {
             keep(rt, draft).map_err(|fault| fault_at(stream, fault))?;
             listed(out.flush())?;

@@ -117,7 +117,7 @@ pub fn packets<'a, R: Files + AllocGlobal, W: Write>(
 ) -> Result<(), Fault<'a>> {
     let mut feed = feed_of(rt, file)?;
     let kind = Cell::new(None);
-    let mut noted = Noting::new(out, &kind);
+    let mut noted = Noting::new(&mut *out, &kind);
     write_names(rt.alloc(), rows.form, &PACKET_NAMES, &mut noted).map_err(|error| row_fault(
         error,
         kind.get(),
@@ -151,7 +151,7 @@ pub fn records<'a, R: Files + AllocGlobal, W: Write>(
 ) -> Result<(), Fault<'a>> {
     let mut feed = feed_of(rt, file)?;
     let kind = Cell::new(None);
-    let mut noted = Noting::new(out, &kind);
+    let mut noted = Noting::new(&mut *out, &kind);
     write_names(rt.alloc(), rows.form, &RECORD_NAMES, &mut noted).map_err(|error| row_fault(
         error,
         kind.get(),

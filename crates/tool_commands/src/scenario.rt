@@ -5,13 +5,15 @@ ghost use Rattle.tool_commands.specs.Cause.{IsToldFault};
 use crate::fault::Fault;
 use crate::files::{LONGEST_WHOLE, fault_at, is_apart, read, read_text};
 use crate::telling::{line_fault, script_fault};
+use line_messages::script_warnings;
 use program_files::{begin, discard, fault_of, keep};
 use rpn_compiler::{CompileError, compile};
+use rule_messages::warnings_page_of;
 use run_expectations::{ReadError, read_expectations, script_error_at, silenced};
 use scenario_words::{ScenarioError, declared_in, plain_script};
 use std::alloc::Global;
 use std::fs::Files;
-use std::io::Write;
+use std::io::{Eprint, Write};
 use stream_script::read_script;
 
 /// The number of a line of a scenario that says no line of a plain script.
@@ -89,8 +91,16 @@ fn rules_in<'a, R: Files + AllocGlobal>(rt: &R, name: &'a str) -> Result<Vec<u8>
     }
 }
 
+/// Says on standard error what is to be looked at in a script in a file of this name that says a stream.
+fn warn<R: Eprint + AllocGlobal>(rt: &R, script: &str, text: &[u8]) -> Result<(), Fault<'static>> {
+    let told = script_warnings(rt.alloc(), text)?;
+    let page = warnings_page_of(rt.alloc(), script, text, told.as_slice())?;
+    let _said = eprint!(rt; "{page}");
+    Ok(())
+}
+
 /// The script's file is read, and the stream that it says is written beside its name, which it takes at the end.
-pub fn make_stream<'a, R: Files + AllocGlobal>(
+pub fn make_stream<'a, R: Files + Eprint + AllocGlobal>(
     rt: &R,
     script: &'a str,
     stream: &'a str,
@@ -106,6 +116,7 @@ pub fn make_stream<'a, R: Files + AllocGlobal>(
         }
         None => stream_of(rt.alloc(), script, text.as_slice(), &[])?,
     };
+    warn(rt, script, text.as_slice())?;
     let mut draft = begin(rt, stream).map_err(|fault| fault_at(stream, fault))?;
     match draft.file.write_all(bytes.as_slice()) {
         Ok(()) => keep(rt, draft).map_err(|fault| fault_at(stream, fault)),
