@@ -2,6 +2,8 @@
 
 What is said of each text is in `crates/judgement_rows/stdout`, where the texts stand, too; here it is said behind a file's name."""
 
+import json
+
 from records import LOW_VOLTS
 from row import Row
 from tool_rows import ADT_LISTING, COMPILED, NOT_THERE, read, unusable
@@ -22,6 +24,19 @@ def said_of(title):
 def named(lines, summary):
     """The lines behind the name of the file `rules`, and the last one."""
     return b"".join(b"rules: " + line for line in [*lines, summary])
+
+
+def noted(lines):
+    """The lines as JSON, an object a line."""
+
+    def noted_line(line):
+        note = line.decode().rstrip("\n")
+        level = "warning" if note.startswith("warning: ") else "note"
+        members = {"level": level, "message": note.removeprefix("warning: "), "file": "rules", "others": []}
+        nothing = dict.fromkeys(["at", "code", "warning"])
+        return json.dumps({**members, **nothing}, sort_keys=True, separators=(",", ":")) + "\n"
+
+    return "".join(map(noted_line, lines)).encode()
 
 
 OF_DEAD = said_of(b"dead_rules.rules")
@@ -52,6 +67,14 @@ ROWS = [
         {"rules": DEAD},
         status=1,
         output=named(OF_DEAD, OF_DEAD_RULES),
+    ),
+    Row("the warnings in JSON", ["flight_tools", "check", "--json", "rules"], {"rules": DEAD}, output=noted(WARNINGS)),
+    Row(
+        "all that is said of them in JSON",
+        ["flight_tools", "check", "--json", "--strict", "--all", "rules"],
+        {"rules": DEAD},
+        status=1,
+        output=noted(OF_DEAD),
     ),
     Row(
         "a rule that the schedule never samples",

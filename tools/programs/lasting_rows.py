@@ -4,7 +4,7 @@ write that fails is said; and memory is bounded, however long a file is."""
 from compile_rows import ADT, WDT
 from records import LOW, LOW_VOLTS, NO_ENTRIES, OF_TWO_FAILING_SAMPLES, STARTED, TWO_FAILING_SAMPLES, beginning, filled, record
 from row import GONE, Begins, Link, Row, Twin
-from tool_rows import BUS_SCRIPT, BUS_STREAM
+from tool_rows import BUS_SCRIPT, BUS_STREAM, NO_TOCK
 
 FILES = {"schedule": NO_ENTRIES, "stream": TWO_FAILING_SAMPLES, "rules": LOW_VOLTS, "link": Link("stream"), "twin": Twin("stream")}
 
@@ -123,7 +123,7 @@ OLD_RESULTS = [
         ["flight_tools", "scenario", "script", "stream"],
         {"script": b"tick\ntock\n", "stream": b"an old stream"},
         status=1,
-        error=b"script: line 2: no statement\n",
+        error=NO_TOCK,
     ),
     Row(
         "a stream by a name that leads to another",

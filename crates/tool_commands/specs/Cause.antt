@@ -1,5 +1,5 @@
 -- Which fault each failure is. This project's own.
-use Rattle.std.specs.Prelude.{◌≡◌, codes, List, ℕ, Option, Some, None, Result, Ok, Err}
+use Rattle.std.specs.Prelude.{◌≡◌, ⊤, codes, List, ℕ, Option, Some, None, Result, Ok, Err}
 use Rattle.std.specs.Borrow.{Bor}
 use Rattle.std.specs.IoError.{error_kind}
 use Rattle.std_io.specs.declared.io.error.Error.{Error}
@@ -15,12 +15,10 @@ use Rattle.flight_core.specs.declared.error.RunError.{RunError}
 use Rattle.flight_core.specs.declared.error.RunError.TheVariants as run
 use Rattle.run_report.specs.declared.error.ReportError.{ReportError}
 use Rattle.run_report.specs.declared.error.ReportError.TheVariants as page
-use Rattle.stream_script.specs.declared.error.ScriptError.{ScriptError}
-use Rattle.stream_script.specs.declared.error.ScriptError.TheVariants as script
+use Rattle.line_messages.specs.declared.refusal.Refusal.{Refusal}
+use Rattle.line_messages.specs.declared.refusal.Refusal.TheVariants as refusal
 use Rattle.judgement_listing.specs.declared.error.ListingError.{ListingError}
 use Rattle.judgement_listing.specs.declared.error.ListingError.TheVariants as judgement
-use Rattle.tick_scheduler.specs.declared.error.ScheduleError.{ScheduleError}
-use Rattle.tick_scheduler.specs.declared.error.ScheduleError.TheVariants as schedule
 use Rattle.tool_commands.specs.declared.fault.Fault.{Fault}
 use Rattle.tool_commands.specs.declared.fault.Fault.TheVariants as fault
 
@@ -29,13 +27,16 @@ abbrev pub fault_of_file : Bor (List ℕ) → FileFault → Fault
 fault_of_file name file.Memory = fault.Memory
 fault_of_file name (file.Unusable why) = fault.File name why
 
-abbrev pub fault_of_script : Bor (List ℕ) → ScriptError → Fault
-fault_of_script name script.Memory = fault.Memory
-fault_of_script name error = fault.Script name error
+-- what is said of a text is the fault, or there was no memory for it
+abbrev pub IsToldFault : Fault → Type 0
+IsToldFault (fault.Lines page) = ⊤
+IsToldFault fault.Memory = ⊤
+IsToldFault other = ⊥
 
-abbrev pub fault_of_schedule : Bor (List ℕ) → ScheduleError → Fault
-fault_of_schedule name schedule.Memory = fault.Memory
-fault_of_schedule name error = fault.Schedule name error
+-- of a schedule or a script that is refused
+abbrev pub IsOfRefusal : Refusal → Fault → Type 0
+IsOfRefusal refusal.Memory found = found ≡ fault.Memory
+IsOfRefusal (refusal.Told message) found = IsToldFault found
 
 -- of what was judged into memory
 abbrev pub fault_of_judgement : Bor (List ℕ) → ListingError → Fault

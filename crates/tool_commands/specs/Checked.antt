@@ -1,5 +1,5 @@
 -- What a call of `check` comes to. This project's own.
-use Rattle.std.specs.Prelude.{ℕ, Bool, true, false, ◌||◌, ◌&&◌, if◌then◌else◌, nat_lt, Result, Ok, Err}
+use Rattle.std.specs.Prelude.{Bool, true, ◌||◌, ◌&&◌, if◌then◌else◌, nat_lt, Result, Ok, Err}
 use Rattle.tool_commands.specs.declared.fault.Fault.{Fault}
 use Rattle.tool_commands.specs.declared.fault.Fault.TheVariants as fault
 use Rattle.tool_commands.specs.declared.checking.Found.{Found}

@@ -5,12 +5,15 @@ ghost use Rattle.tool_commands.specs.Cause.{fault_of_judgement};
 ghost use Rattle.tool_commands.specs.Checked.{answer_of, counted};
 
 use crate::fault::Fault;
-use crate::files::{LONGEST_TABLE, read, read_text};
-use crate::given::schedule_in;
+use crate::files::{LONGEST_TABLE, LONGEST_TEXT, read, read_text};
 use crate::output::listed;
+use crate::telling::{alone, write_messages};
 use judgement_listing::{ListingError, Which, list_actionpoints, list_judgement, list_unsampled};
+use line_messages::{Refusal, read_schedule};
+use message_objects::note_line;
+use message_words::written;
 use rpn_compiler::{CompileError, compile};
-use rule_messages::{messages, page_of};
+use rule_messages::messages;
 use std::alloc::Global;
 use std::fs::Files;
 use std::io::Write;
@@ -23,6 +26,19 @@ pub struct Asked {
     pub is_all: bool,
     /// A warning is a fault.
     pub is_strict: bool,
+    /// All is said in JSON, an object a line.
+    pub is_json: bool,
+}
+
+impl Asked {
+    /// Which lines of the judgement are said.
+    fn which(self) -> Which {
+        if self.is_all {
+            Which::All
+        } else {
+            Which::Warnings
+        }
+    }
 }
 
 /// What is found of a rule text.
@@ -83,39 +99,52 @@ fn judgement_fault(name: &str, error: ListingError) -> Fault<'_>
     }
 }
 
-/// Whether a line is a warning.
-fn is_warning(line: &[u8]) -> bool {
-    line.starts_with(b"warning: ")
+/// How a line begins that is a warning.
+const WARNING: &[u8] = b"warning: ";
+
+/// Writes a line as an object.
+fn write_note<'a, W: Write>(
+    alloc: Global,
+    name: &'a str,
+    line: &[u8],
+    out: &mut W,
+) -> Result<(), Fault<'a>> {
+    let warning = line.strip_prefix(WARNING);
+    let note = written(alloc, warning.unwrap_or(line))?;
+    let object = note_line(alloc, name, warning.is_some(), note.as_str())?;
+    listed(out.write_all(object.as_bytes()))
 }
 
-/// Writes lines, each behind the name of its file, and answers how many of them are warnings.
-fn write_lines<'a, W: Write>(name: &'a str, lines: &[u8], out: &mut W) -> Result<usize, Fault<'a>> {
+/// Writes a line behind the name of its file.
+fn write_named<'a, W: Write>(name: &'a str, line: &[u8], out: &mut W) -> Result<(), Fault<'a>> {
+    listed(write!(out, "{name}: "))?;
+    listed(out.write_all(line))?;
+    listed(out.write_all(b"\n"))
+}
+
+/// Writes lines, each behind the name of its file or as an object, and answers how many of them are warnings.
+fn write_lines<'a, W: Write>(
+    alloc: Global,
+    name: &'a str,
+    lines: &[u8],
+    is_json: bool,
+    out: &mut W,
+) -> Result<usize, Fault<'a>> {
     let mut warnings = 0usize;
     for line in lines.split(|byte| *byte == b'\n') {
         if line.is_empty() {
             continue;
         }
-        if is_warning(line) {
+        if line.starts_with(WARNING) {
             warnings = warnings.saturating_add(1);
         }
-        listed(write!(out, "{name}: "))?;
-        listed(out.write_all(line))?;
-        listed(out.write_all(b"\n"))?;
+        if is_json {
+            write_note(alloc, name, line, out)?;
+        } else {
+            write_named(name, line, out)?;
+        }
     }
     Ok(warnings)
-}
-
-/// Writes what is wrong with a rule text in a file of this name, which doesn't compile.
-fn refuse<'a, W: Write>(
-    alloc: Global,
-    name: &'a str,
-    text: &[u8],
-    out: &mut W,
-) -> Result<(), Fault<'a>> {
-    let told = messages(alloc, text)?;
-    let page = page_of(alloc, name, text, told.as_slice())?;
-    listed(out.write_all(page.as_bytes()))?;
-    listed(out.flush())
 }
 
 /// Writes what can be said of a rule text that compiles, with so many rules, and answers how many warnings these are.
@@ -125,18 +154,22 @@ fn judge<'a, W: Write>(
     text: &[u8],
     rules: u16,
     plan: &Option<Schedule>,
-    which: Which,
+    asked: Asked,
     out: &mut W,
 ) -> Result<usize, Fault<'a>> {
     let mut lines = Vec::new(alloc);
-    list_judgement(alloc, text, which, &mut lines).map_err(|error| judgement_fault(name, error))?;
+    list_judgement(alloc, text, asked.which(), &mut lines).map_err(|error| judgement_fault(
+        name, error,
+    ))?;
     if let Some(plan) = plan {
         list_unsampled(alloc, text, plan, &mut lines).map_err(|error| judgement_fault(
             name, error,
         ))?;
     }
-    let warnings = write_lines(name, lines.as_slice(), out)?;
-    listed(writeln!(out, "{name}: {rules} rules, {warnings} warnings"))?;
+    let warnings = write_lines(alloc, name, lines.as_slice(), asked.is_json, out)?;
+    if !asked.is_json {
+        listed(writeln!(out, "{name}: {rules} rules, {warnings} warnings"))?;
+    }
     listed(out.flush())?;
     Ok(warnings)
 }
@@ -146,25 +179,46 @@ fn check_text<'a, R: Files + AllocGlobal, W: Write>(
     rt: &R,
     name: &'a str,
     plan: &Option<Schedule>,
-    which: Which,
+    asked: Asked,
     out: &mut W,
 ) -> Result<Found, Fault<'a>> {
     let text = read_text(rt, name)?;
     let text = text.as_slice();
     match compile(rt.alloc(), text) {
         Ok(tables) => {
-            let warnings = judge(rt.alloc(), name, text, tables.rules, plan, which, out)?;
+            let warnings = judge(rt.alloc(), name, text, tables.rules, plan, asked, out)?;
             Ok(Found::Warnings(warnings))
         }
         Err(CompileError::Memory) => Err(Fault::Memory),
         Err(_) => {
-            refuse(rt.alloc(), name, text, out)?;
+            let told = messages(rt.alloc(), text)?;
+            write_messages(rt.alloc(), name, text, told.as_slice(), asked.is_json, out)?;
             Ok(Found::Refused)
         }
     }
 }
 
-/// Says of each rule text in these files whether it compiles; where it doesn't, what is wrong with it, and where it does, what can
+/// The schedule in a file. Where it is refused there is none, and what is wrong with it is written.
+fn plan_in<'a, R: Files + AllocGlobal, W: Write>(
+    rt: &R,
+    name: &'a str,
+    asked: Asked,
+    out: &mut W,
+) -> Result<Option<Schedule>, Fault<'a>> {
+    let text = read(rt, name, LONGEST_TEXT)?;
+    let text = text.as_slice();
+    match read_schedule(rt.alloc(), text) {
+        Ok(schedule) => Ok(Some(schedule)),
+        Err(Refusal::Told(message)) => {
+            let told = alone(rt.alloc(), message)?;
+            write_messages(rt.alloc(), name, text, told.as_slice(), asked.is_json, out)?;
+            Ok(None)
+        }
+        Err(Refusal::Memory) => Err(Fault::Memory),
+    }
+}
+
+/// Says of the schedule, where one is named, what is wrong with it, and of each rule text in these files whether it compiles; where it doesn't, what is wrong with it, and where it does, what can
 /// be said of its rules before any packet comes: a warning where a rule never fails or always does, where two say the same, where
 /// a comparison says nothing, or where the schedule never samples one; and of each rule, where all is asked for, for which values
 /// of its fields it fails and passes.
@@ -176,20 +230,15 @@ pub fn check<'a, R: Files + AllocGlobal, W: Write>(
     out: &mut W,
 ) -> Result<(), Fault<'a>> {
     let plan = match schedule {
-        Some(name) => Some(schedule_in(rt, name)?),
+        Some(name) => plan_in(rt, name, asked, out)?,
         None => None,
     };
-    let which = if asked.is_all {
-        Which::All
-    } else {
-        Which::Warnings
-    };
     let mut totals = Totals {
-        is_refused: false,
+        is_refused: schedule.is_some() && plan.is_none(),
         is_warned: false,
     };
     for name in rules {
-        totals = totals.with(check_text(rt, name, &plan, which, out)?);
+        totals = totals.with(check_text(rt, name, &plan, asked, out)?);
     }
     totals.answer(asked.is_strict)
 }

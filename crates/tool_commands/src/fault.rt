@@ -10,8 +10,6 @@ use program_files::Why;
 use run_report::ReportError;
 use std::alloc::{AllocError, AllocFailed};
 use std::fmt::{self, Display, Formatter, Write};
-use stream_script::ScriptError;
-use tick_scheduler::ScheduleError;
 
 /// Why the program ended.
 #[derive(Debug, Drop)]
@@ -26,10 +24,8 @@ pub enum Fault<'a> {
     Table,
     /// A stream or packets that end early, which the listing or the page says.
     Early,
-    /// A script that says no stream, by its file's name.
-    Script(&'a str, ScriptError),
-    /// A schedule that is refused, by its file's name.
-    Schedule(&'a str, ScheduleError),
+    /// A schedule or a script that is refused, and what is said of it.
+    Lines(String),
     /// A rule text of a run that is refused.
     Report(ReportError),
     /// A rule text that is refused, which the listing says.
@@ -84,7 +80,7 @@ impl Fault<'_> {
     {
         match self {
             Fault::Gone => 0,
-            Fault::Table | Fault::Script(..) | Fault::Schedule(..) | Fault::Report(_) => 1,
+            Fault::Table | Fault::Lines(_) | Fault::Report(_) => 1,
             Fault::Refused | Fault::Judgement(..) | Fault::Warned => 1,
             Fault::Words(_) | Fault::NoText | Fault::Value(..) => 2,
             Fault::File(..) => 3,
@@ -102,8 +98,7 @@ impl Display for Fault<'_> {
             Fault::NoText => writeln!(f, "a word of the command line is no text (UTF-8)"),
             Fault::Value(option, word) => writeln!(f, "{option} {word}: no such value"),
             Fault::Table | Fault::Early | Fault::Gone | Fault::Refused | Fault::Warned => Ok(()),
-            Fault::Script(name, error) => writeln!(f, "{name}: {error}"),
-            Fault::Schedule(name, error) => writeln!(f, "{name}: {error}"),
+            Fault::Lines(page) => write!(f, "{page}"),
             Fault::Report(error) => writeln!(f, "{error}"),
             Fault::Judgement(name, error) => writeln!(f, "{name}: {error}"),
             Fault::Run(error) => writeln!(f, "{error}"),

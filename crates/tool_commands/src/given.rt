@@ -1,22 +1,11 @@
 //! What a run is given: a schedule and rule texts, from files.
 
-ghost use Rattle.std.specs.Prelude.{◌≡◌};
-ghost use Rattle.tool_commands.specs.Cause.{fault_of_schedule};
-
 use crate::fault::Fault;
 use crate::files::{LONGEST_TEXT, read, read_text};
+use crate::telling::refusal_fault;
+use line_messages::read_schedule;
 use std::fs::Files;
-use tick_scheduler::{Schedule, ScheduleError, parse_schedule};
-
-/// The fault of a schedule in a file of this name.
-fn schedule_fault(name: &str, error: ScheduleError) -> Fault<'_>
-    ensures { result ≡ fault_of_schedule name.entry error }
-{
-    match error {
-        ScheduleError::Memory => Fault::Memory,
-        error => Fault::Schedule(name, error),
-    }
-}
+use tick_scheduler::Schedule;
 
 /// The schedule in a file.
 pub fn schedule_in<'a, R: Files + AllocGlobal>(
@@ -24,7 +13,11 @@ pub fn schedule_in<'a, R: Files + AllocGlobal>(
     name: &'a str,
 ) -> Result<Schedule, Fault<'a>> {
     let text = read(rt, name, LONGEST_TEXT)?;
-    parse_schedule(rt.alloc(), text.as_slice()).map_err(|error| schedule_fault(name, error))
+    let text = text.as_slice();
+    match read_schedule(rt.alloc(), text) {
+        Ok(schedule) => Ok(schedule),
+        Err(refusal) => Err(refusal_fault(rt.alloc(), name, text, refusal)),
+    }
 }
 
 /// The texts in these files.

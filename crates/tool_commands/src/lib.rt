@@ -17,6 +17,7 @@ mod live;
 mod output;
 mod report;
 mod scenario;
+mod telling;
 mod words;
 
 use crate::checking::Asked;
@@ -68,10 +69,12 @@ pub fn obey<'a, R: Files + Eprint + AllocGlobal, I: Read + Drop, W: Write>(
             rules,
             all,
             strict,
+            json,
         } => {
             let asked = Asked {
                 is_all: all,
                 is_strict: strict,
+                is_json: json,
             };
             checking::check(rt, schedule, rules.as_slice(), asked, out)
         }

@@ -51,12 +51,14 @@ pub enum Plan<'a> {
         page: &'a str,
         rules: Vec<&'a str>,
     },
-    /// `check [--schedule S] [--all] [--strict] RULES..`: what can be said of rules before any packet comes.
+    /// `check [--schedule S] [--all] [--strict] [--json] RULES..`: what is wrong with rules, or can be said of them before any packet
+    /// comes.
     Check {
         schedule: Option<&'a str>,
         rules: Vec<&'a str>,
         all: bool,
         strict: bool,
+        json: bool,
     },
     /// `live SCHEDULE RULES..`: a run over a stream as it comes, from standard input to standard output.
     Live {
@@ -298,6 +300,7 @@ fn with_more<'a>(
                 "strict",
                 "Ends with status 1 where there is a warning",
             ))?
+            .arg(flag_word(alloc, "json", "Says all of it in JSON, an object a line"))?
             .arg(rule_words(alloc)),
     }
 }
@@ -522,6 +525,7 @@ fn check_of<'a>(found: &ArgMatches<'a>, rules: Vec<&'a str>) -> Plan<'a>
         rules,
         all: found.get_flag("all"),
         strict: found.get_flag("strict"),
+        json: found.get_flag("json"),
     }
 }
 

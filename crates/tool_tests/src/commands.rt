@@ -66,7 +66,7 @@ const ROWS: &[Row] = &[
     (
         &["scenario", "@refused", "@none"],
         1,
-        "@refused: line 2: no statement\n",
+        "@refused:2:1: error[161]: expected a statement, found `tock`\n  2 | tock\n    | ^^^^ did you mean `tick`?\n\n1 error\n",
         "",
     ),
     (
@@ -91,7 +91,7 @@ const ROWS: &[Row] = &[
             "@no_text",
         ],
         1,
-        "@no_schedule: line 2 is no line of a schedule\n",
+        "@no_schedule:2:7: error[131]: a schedule has 1 to 64 slots, and not `0`\n  2 | slots 0\n    |       ^ write 1 to 64\n\n1 error\n",
         "",
     ),
     (

@@ -1,0 +1,3 @@
+-- Lemmas on lines and their messages.
+mod Places
+mod Faults

@@ -1,0 +1,3 @@
+-- What the contracts of messages on lines cite.
+pub mod Line
+pub mod Telling

@@ -1,0 +1,2 @@
+-- Lemmas on objects.
+mod Whole

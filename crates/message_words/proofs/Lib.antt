@@ -1,0 +1,2 @@
+-- Lemmas on characters that are written one after the other.
+mod Pushed

@@ -1,0 +1,39 @@
+//! What a person wrote, in a sentence.
+
+ghost use Rattle.std.specs.Prelude.{◌≡◌, ◌++◌, codes, encode_utf8_all, string_bytes, IfOk, OnOk};
+ghost use Rattle.text_places.specs.Character.{shown};
+
+use std::alloc::{AllocError, Global};
+use text_places::shown;
+
+/// Adds bytes as they can be shown.
+fn push_bytes(alloc: Global, text: &mut String, bytes: &[u8]) -> Result<(), AllocError>
+    ensures { OnOk result (string_bytes text.new ≡
+        string_bytes text.old ++ encode_utf8_all (shown bytes.now)) }
+{
+    let columns = shown(alloc, bytes)?;
+    for column in &columns {
+        text.push(*column)?;
+    }
+    Ok(())
+}
+
+/// What a person wrote, as it can be shown.
+pub fn written(alloc: Global, bytes: &[u8]) -> Result<String, AllocError>
+    ensures { IfOk result (λ text. string_bytes text ≡ encode_utf8_all (shown bytes.now)) }
+{
+    let mut text = String::new(alloc);
+    push_bytes(alloc, &mut text, bytes)?;
+    Ok(text)
+}
+
+/// What a person wrote, as it can be shown, between backticks.
+pub fn quoted(alloc: Global, bytes: &[u8]) -> Result<String, AllocError>
+    ensures { IfOk result (λ text. string_bytes text ≡
+        codes "`" ++ encode_utf8_all (shown bytes.now) ++ codes "`") }
+{
+    let mut text = String::from_str(alloc, "`")?;
+    push_bytes(alloc, &mut text, bytes)?;
+    text.push_str("`")?;
+    Ok(text)
+}
