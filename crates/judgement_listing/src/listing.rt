@@ -26,7 +26,10 @@ pub enum Which {
 }
 
 /// The terms of a rule's comparisons.
-pub fn terms_in(alloc: Global, comparisons: &[ComparisonJudgement]) -> Result<Vec<Term>, AllocError> {
+pub fn terms_in(
+    alloc: Global,
+    comparisons: &[ComparisonJudgement],
+) -> Result<Vec<Term>, AllocError> {
     let mut terms = Vec::new(alloc);
     for comparison in comparisons {
         terms.push(comparison.term)?;

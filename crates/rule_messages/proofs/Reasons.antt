@@ -1,18 +1,16 @@
 -- What is told by the reason of a bad token is told of the refusal, and what begins with it.
-use Rattle.std.proofs.Common.{◌≡◌, ◌+◌, ◌==◌, ℕ, Bool, true, false, cond, List, [], ◌∷◌, ◌++◌, Option, Some, None, is_some, Result, Ok, Err, IfOk, Vec, Global, refl, sym, ◌∙◌, ap, subst}
+use Rattle.std.proofs.Common.{◌≡◌, ◌+◌, ◌==◌, ℕ, Bool, true, false, cond, List, [], ◌∷◌, ◌++◌, Option, Some, None, is_some, Result, Ok, Err, IfOk, Vec, Global, ◌∙◌, ap}
 use Rattle.lc_model.specs.Text.Reading.{TextRefusal}
 use Rattle.lc_model.specs.Text.Token.{line_feed, magnitude, quote, is_text_byte}
 use Rattle.std.specs.Prelude.{drop, slice_get}
 use Rattle.std.specs.List.{prefix_len}
-use Rattle.rule_lexer.specs.Reason.{digits_at, number_reason, reason_of, string_reason, string_reason_at}
+use Rattle.rule_lexer.specs.Reason.{digits_at, reason_of, string_reason}
 use Rattle.rule_lexer.specs.declared.error.LexError.{LexError}
 use Rattle.rule_lexer.specs.declared.error.LexError.TheVariants as error
-use Rattle.rule_lexer.specs.declared.reason.LexReason.{LexReason}
-use Rattle.rule_lexer.specs.declared.reason.LexReason.TheVariants.{NoToken, NotANumber, NumberTooLarge, NameTooLong, Unclosed, StringTooLong, ForbiddenByte, TextTooLong, Memory}
-use Rattle.rpn_compiler.specs.declared.error.CompileError.{CompileError}
+use Rattle.rule_lexer.specs.declared.reason.LexReason.TheVariants.{NotANumber, NumberTooLarge, NameTooLong, Unclosed, StringTooLong, ForbiddenByte, TextTooLong, Memory}
 use Rattle.rpn_compiler.specs.declared.error.CompileError.TheVariants.{Lex}
 use Rattle.rpn_compiler.specs.Fault.{refusal_of}
-use Rattle.rule_messages.specs.Telling.{BeginsWith, IsAt, Tells, TellsOf, TellsReason, place_by_reason, place_of, string_place}
+use Rattle.rule_messages.specs.Telling.{IsAt, TellsOf, TellsReason, place_by_reason, place_of}
 use Rattle.rule_messages.specs.declared.message.Message.{Message}
 
 of_number : (text : List ℕ) (at : ℕ) (test : Bool) (message : Message)
@@ -51,11 +49,6 @@ pub tells : {E : Type 0} (text : List ℕ) (e : LexError) (result : Result Messa
 tells text e (Ok message) told = tells_one text e message told
 tells text e (Err failed) told = told
 
-begins_one : (text : List ℕ) (refusal : TextRefusal) (e : Option TextRefusal) (messages more : List Message) (message : Message)
-    → e ≡ Some refusal → messages ≡ message ∷ more → TellsOf text e message → BeginsWith text refusal messages
-begins_one text refusal e messages more message is items told =
-    subst (λ ms. BeginsWith text refusal ms) (sym items) (subst (λ x. TellsOf text x message) is told)
-
 -- a message that is told alone is told first
 pub told_alone : {E : Type 0} (text : List ℕ) (refusal : Option TextRefusal) (message : Message) (result : Result (Vec Message Global) E)
     → TellsOf text refusal message → IfOk result (λ told. told.items ≡ message ∷ [])
@@ -68,15 +61,6 @@ pub told_first : (text : List ℕ) (refusal : Option TextRefusal) (message : Mes
     → TellsOf text refusal message → alone ≡ message ∷ [] → (more : List Message) × (told ≡ alone ++ more)
     → (first : Message) × (more : List Message) × (told ≡ first ∷ more) × TellsOf text refusal first
 told_first text refusal message alone told tells one (more, items) = (message, more, items ∙ ap (λ list. list ++ more) one, tells)
-
--- messages whose first tells of an error begin with its refusal
-pub begins : {E : Type 0} (text : List ℕ) (refusal : TextRefusal) (e : CompileError) (result : Result (Vec Message Global) E)
-    → refusal_of e ≡ Some refusal
-    → IfOk result (λ told. (message : Message) × (more : List Message) × (told.items ≡ message ∷ more) × TellsOf text (refusal_of e) message)
-    → IfOk result (λ told. BeginsWith text refusal told.items)
-begins text refusal e (Ok told) is (message, more, items, tells_it) =
-    begins_one text refusal (refusal_of e) told.items more message is items tells_it
-begins text refusal e (Err failed) is found = found
 
 -- a message at a place has its number
 pub numbered : {E : Type 0} (code at : ℕ) (result : Result Message E) → IfOk result (IsAt code at)

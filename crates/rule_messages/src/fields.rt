@@ -79,6 +79,14 @@ fn later(
     }
 }
 
+/// The number that a token is, 0 where there is none.
+fn value_if(token: Option<Token<'_>>) -> i64 {
+    match token {
+        Some(token) => value_of(token),
+        None => 0,
+    }
+}
+
 /// What to do about a field that isn't inside its packet.
 fn outside_label(
     alloc: Global,
@@ -87,7 +95,7 @@ fn outside_label(
     is_before: bool,
 ) -> Result<String, AllocError> {
     match typed {
-        Some(typed) if !is_before => shorter(alloc, typed, length.map_or(0, value_of)),
+        Some(typed) if !is_before => shorter(alloc, typed, value_if(length)),
         _ => later(alloc, typed, length),
     }
 }
@@ -129,12 +137,10 @@ fn outside_head(
     } else {
         " ends behind its packet"
     };
-    around(
-        alloc,
-        "the field ",
-        field.map_or(b"", |field| field.text),
-        behind,
-    )
+    match field {
+        Some(field) => around(alloc, "the field ", field.text, behind),
+        None => around(alloc, "the field ", b"", behind),
+    }
 }
 
 /// A field that isn't inside its packet.
@@ -170,7 +176,10 @@ fn mask_head(alloc: Global, token: Token<'_>) -> Result<String, AllocError> {
 
 /// What to do about a mask.
 fn mask_label(alloc: Global, typed: Option<Typed<'_>>) -> Result<String, AllocError> {
-    let most = typed.map_or(0xFFFF_FFFF, |typed| typed.kind.full_mask());
+    let most = match typed {
+        Some(typed) => typed.kind.full_mask(),
+        None => 0xFFFF_FFFF,
+    };
     format!(in alloc; "write 1 to 0x{most:X}, or leave out `mask`")
 }
 

@@ -4,7 +4,7 @@ ghost use Rattle.std.specs.Prelude.{◌≡◌, IfOk};
 ghost use Rattle.rule_messages.specs.Telling.{IsAt};
 
 use crate::bytes::{around, written};
-use crate::marks::{declared_mark, token_mark};
+use crate::marks::{declared_mark, text_of, token_mark};
 use crate::message::{Mark, Message};
 use crate::nearest::nearest;
 use crate::source::{Declared, Kind, Source, begins_item};
@@ -178,10 +178,14 @@ impl<'a> Stop<'_, 'a> {
         }
     }
 
+    /// Whether `=` stands there.
+    fn is_equals(&self) -> bool {
+        matches!(self.token(), Some(token) if token.kind == TokenKind::Equals)
+    }
+
     /// What to do about a sign or a field that stands there.
     fn own_label(&self) -> Option<&'static str> {
-        let kind = self.token().map(|token| token.kind);
-        if self.what == What::Compare && kind == Some(TokenKind::Equals) {
+        if self.what == What::Compare && self.is_equals() {
             Some("did you mean `==`?")
         } else if self.what == What::Number && self.compared_field().is_some() {
             Some("a field is compared with a number, not with a field")
@@ -240,11 +244,6 @@ impl<'a> Stop<'_, 'a> {
         let found = found(alloc, self.token())?;
         format!(in alloc; "expected {wanted}, found {found}")
     }
-
-    /// The bytes of what stands there.
-    fn size(&self) -> usize {
-        self.token().map_or(0, |token| token.text.len())
-    }
 }
 
 /// What is said where this is wanted and something else stands.
@@ -263,7 +262,7 @@ pub fn expected_message(
     };
     let head = stop.head(alloc)?;
     let label = stop.label(alloc)?;
-    let size = stop.size();
+    let size = text_of(stop.token()).len();
     Message::at(alloc, 11, head, Mark { at, size, label })
         .with(stop.missing(alloc)?)?
         .with(stop.other(alloc)?)
@@ -274,7 +273,7 @@ pub fn nested_message(alloc: Global, source: &Source<'_>, at: usize) -> Result<M
     ensures { IfOk result (IsAt 12 at) }
 {
     let number = source.number_at(at);
-    let size = source.token(number).map_or(0, |token| token.text.len());
+    let size = text_of(source.token(number)).len();
     let head = String::from_str(
         alloc,
         "a condition has over 64 of `(`, `not`, `and`, `xor` and `or`",

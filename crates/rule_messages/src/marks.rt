@@ -46,6 +46,14 @@ pub fn declared_mark(
     }
 }
 
+/// The bytes of a token, none where there is no token.
+pub fn text_of<'a>(token: Option<Token<'a>>) -> &'a [u8] {
+    match token {
+        Some(token) => token.text,
+        None => &[],
+    }
+}
+
 /// The number that a token is, 0 where it is none.
 pub fn value_of(token: Token<'_>) -> i64 {
     match token.kind {

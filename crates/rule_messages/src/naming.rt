@@ -55,7 +55,10 @@ pub fn duplicate(
 {
     let kind = source.kind_of(source.part_of(number));
     let first = source.first_declared(token.text);
-    let first_kind = first.map_or(kind, |first| first.kind);
+    let first_kind = match first {
+        Some(first) => first.kind,
+        None => kind,
+    };
     let is_alike = first_kind == kind;
     let head = around(alloc, "the name ", token.text, " is declared twice")?;
     let label = String::from_str(alloc, twice_label(is_alike))?;

@@ -5,7 +5,7 @@ ghost use Rattle.rule_messages.specs.Telling.{IsAt};
 
 use crate::bytes::{Grouped, Signed, around, push_quoted};
 use crate::fields::{Typed, type_of};
-use crate::marks::mark;
+use crate::marks::{mark, text_of};
 use crate::message::{Mark, Message};
 use crate::source::{Kind, Source};
 use field_checker::RuleNumber;
@@ -69,10 +69,7 @@ fn type_mark(
 
 /// The name of the field that is compared with the number that has this number among the tokens.
 fn compared_name<'a>(source: &Source<'a>, number: usize) -> &'a [u8] {
-    match source.token(number.saturating_sub(2)) {
-        Some(name) => name.text,
-        None => &[],
-    }
+    text_of(source.token(number.saturating_sub(2)))
 }
 
 /// The type of the field of this name, where there is one.

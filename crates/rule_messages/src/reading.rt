@@ -19,9 +19,10 @@ fn end_of(source: &Source<'_>, item: Part) -> usize {
 
 /// The place of an item's first token.
 fn begin_of(source: &Source<'_>, item: Part) -> usize {
-    source
-        .token(item.from)
-        .map_or(source.text.len(), |token| token.at)
+    match source.token(item.from) {
+        Some(token) => token.at,
+        None => source.text.len(),
+    }
 }
 
 /// Where what belongs to an item begins: with its first word, or behind the item before, where no first word begins it.

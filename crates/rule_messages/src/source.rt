@@ -181,22 +181,6 @@ impl<'a> Source<'a> {
         self.names.iter().find(|name| name.text == text).copied()
     }
 
-    /// The token behind the first of this kind in the item that declares a name.
-    pub fn value_in(&self, name: Declared<'a>, kind: TokenKind) -> Option<Token<'a>> {
-        let part = *self.parts.get(name.part)?;
-        let tokens = self.tokens_of(part);
-        let before = tokens.iter().position(|token| token.kind == kind)?;
-        tokens.get(before.saturating_add(1)).copied()
-    }
-
-    /// The first token of an item that is of this kind.
-    pub fn first_of(&self, part: Part, kind: TokenKind) -> Option<Token<'a>> {
-        self.tokens_of(part)
-            .iter()
-            .find(|token| token.kind == kind)
-            .copied()
-    }
-
     /// The token so many behind the first of this kind in an item.
     pub fn behind_first(&self, part: Part, kind: TokenKind, count: usize) -> Option<Token<'a>> {
         let tokens = self.tokens_of(part);
@@ -204,8 +188,18 @@ impl<'a> Source<'a> {
         tokens.get(before.saturating_add(count)).copied()
     }
 
+    /// The first token of an item that is of this kind.
+    pub fn first_of(&self, part: Part, kind: TokenKind) -> Option<Token<'a>> {
+        self.behind_first(part, kind, 0)
+    }
+
     /// The number behind the first word of this kind in an item.
     pub fn first_number(&self, part: Part, kind: TokenKind) -> Option<Token<'a>> {
         self.behind_first(part, kind, 1)
+    }
+
+    /// The token behind the first of this kind in the item that declares a name.
+    pub fn value_in(&self, name: Declared<'a>, kind: TokenKind) -> Option<Token<'a>> {
+        self.behind_first(*self.parts.get(name.part)?, kind, 1)
     }
 }

@@ -4,7 +4,7 @@ ghost use Rattle.std.specs.Prelude.{◌≡◌, IfOk};
 
 use crate::bytes::{Many, quoted};
 use crate::fields::{packet_of, type_of};
-use crate::marks::{mark, value_of};
+use crate::marks::{mark, text_of, value_of};
 use crate::message::{Mark, Message};
 use crate::source::{Declared, Kind, Part, Source};
 use lc_model::{EQUATION_WORDS, FieldType, TABLE_ENTRIES, Term};
@@ -40,16 +40,6 @@ pub fn is_too_long(words: Words) -> bool {
     words.comparisons.saturating_add(words.operators) >= EQUATION_WORDS
 }
 
-/// The item of the rule with this number, counted from 0.
-pub fn rule_part(source: &Source<'_>, rule: usize) -> Option<Part> {
-    source
-        .parts
-        .iter()
-        .filter(|part| source.kind_of(**part) == Some(Kind::Rule))
-        .nth(rule)
-        .copied()
-}
-
 /// The items of all rules.
 pub fn rule_parts(alloc: Global, source: &Source<'_>) -> Result<Vec<Part>, AllocError> {
     let mut rules = Vec::new(alloc);
@@ -59,15 +49,6 @@ pub fn rule_parts(alloc: Global, source: &Source<'_>) -> Result<Vec<Part>, Alloc
         }
     }
     Ok(rules)
-}
-
-/// How many rules there are.
-pub fn rule_count(source: &Source<'_>) -> usize {
-    source
-        .parts
-        .iter()
-        .filter(|part| source.kind_of(**part) == Some(Kind::Rule))
-        .count()
 }
 
 /// A mark under an item's name.
@@ -90,20 +71,35 @@ fn name_mark(source: &Source<'_>, part: Option<Part>, label: String) -> Mark {
     }
 }
 
+/// What is wrong with a text that has so many of a thing.
+fn count_head(alloc: Global, count: usize, name: &str) -> Result<String, AllocError> {
+    let count = Many(count, name);
+    format!(in alloc; "the file has {count}, at most 176 are allowed")
+}
+
 /// Over 176 rules.
 pub fn rules_message(alloc: Global, source: &Source<'_>) -> Result<Message, AllocError>
     ensures { IfOk result (λ message. message.code ≡ 41) }
 {
-    let count = Many(rule_count(source), "rule");
-    let head = format!(in alloc; "the file has {count}, at most 176 are allowed")?;
+    let rules = rule_parts(alloc, source)?;
+    let head = count_head(alloc, rules.len(), "rule")?;
     let label = String::from_str(alloc, "this is the 177th")?;
-    let part = rule_part(source, TABLE_ENTRIES);
+    let part = rules.get(TABLE_ENTRIES).copied();
     Ok(Message::at(alloc, 41, head, name_mark(source, part, label)))
+}
+
+/// The item of the rule with this number, counted from 0.
+fn rule_part(alloc: Global, source: &Source<'_>, rule: usize) -> Result<Part, AllocError> {
+    let rules = rule_parts(alloc, source)?;
+    match rules.get(rule) {
+        Some(part) => Ok(*part),
+        None => Ok(Part { from: 0, to: 0 }),
+    }
 }
 
 /// What is wrong with a rule whose condition has so many comparisons and operators.
 fn length_head(alloc: Global, name: Option<Token<'_>>, count: usize) -> Result<String, AllocError> {
-    let name = quoted(alloc, name.map_or(b"", |name| name.text))?;
+    let name = quoted(alloc, text_of(name))?;
     format!(in alloc;
         "the condition of {name} has {count} comparisons and operators, at most 31 are allowed"
     )
@@ -117,7 +113,7 @@ pub fn length_message(
 ) -> Result<Message, AllocError>
     ensures { IfOk result (λ message. message.code ≡ 42) }
 {
-    let part = rule_part(source, rule).unwrap_or(Part { from: 0, to: 0 });
+    let part = rule_part(alloc, source, rule)?;
     let words = words_of(source, part);
     let name = source.token(part.from.saturating_add(1));
     let count = words.comparisons.saturating_add(words.operators);
@@ -161,7 +157,10 @@ fn field_term(source: &Source<'_>, field: Declared<'_>, kind: FieldType) -> Term
         Some(part) => packet_of(source, part.from),
         None => None,
     };
-    let mid = packet.map_or(0, |packet| number_in(source, packet, TokenKind::Mid, 0));
+    let mid = match packet {
+        Some(packet) => number_in(source, packet, TokenKind::Mid, 0),
+        None => 0,
+    };
     Term {
         kind,
         mid: u16::try_from(mid).unwrap_or(0),
@@ -229,8 +228,7 @@ pub fn comparisons_message(alloc: Global, source: &Source<'_>) -> Result<Message
     ensures { IfOk result (λ message. message.code ≡ 31) }
 {
     let found = different_terms(alloc, source)?;
-    let count = Many(found.terms.len(), "different comparison");
-    let head = format!(in alloc; "the file has {count}, at most 176 are allowed")?;
+    let head = count_head(alloc, found.terms.len(), "different comparison")?;
     let label = String::from_str(alloc, "this is the 177th")?;
     let place = comparison_mark(source, found.too_much, label);
     Ok(Message::at(alloc, 31, head, place))

@@ -1,6 +1,6 @@
 //! All tokens of a text that has bad ones.
 
-use crate::bytes::part;
+use crate::bytes::{behind, part};
 use crate::token_faults::{bad_size, place};
 use rule_lexer::{LexError, lex};
 use std::alloc::{AllocError, Global};
@@ -105,17 +105,25 @@ pub fn own_errors(
     Ok(own)
 }
 
+/// Whether a word stands among the bytes.
+fn has_word(bytes: &[u8], word: &[u8]) -> bool {
+    for at in 0..bytes.len() {
+        if behind(bytes, at).starts_with(word) {
+            return true;
+        }
+    }
+    false
+}
+
 /// Whether an item that declares a name for others may begin in a bad quoted text.
 pub fn hides_items(text: &[u8], error: LexError) -> bool {
     let hidden = part(text, place(error), bad_size(text, error));
-    is_of_text(error)
-        && (hidden.windows(6).any(|word| matches!(word, b"packet"))
-            || hidden.windows(5).any(|word| matches!(word, b"field")))
+    is_of_text(error) && (has_word(hidden, b"packet") || has_word(hidden, b"field"))
 }
 
 /// The first error behind so many bytes of a text, none where all that follows are tokens.
 fn next_error(alloc: Global, text: &[u8], from: usize) -> Result<Option<LexError>, AllocError> {
-    match lex(alloc, crate::bytes::behind(text, from)) {
+    match lex(alloc, behind(text, from)) {
         Ok(_) => Ok(None),
         Err(LexError::Memory) => Err(AllocError),
         Err(error) => Ok(Some(moved(error, from))),

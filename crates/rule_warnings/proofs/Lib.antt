@@ -1,0 +1,6 @@
+-- Lemmas on warnings.
+mod Parting
+mod Listed
+mod Nothing
+mod Naming
+mod Messages

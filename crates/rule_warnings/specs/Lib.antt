@@ -1,0 +1,7 @@
+-- Which warnings there are, where, and which of them are kept quiet. This project's own.
+pub mod Names
+pub mod Items
+pub mod Judged
+pub mod Quiet
+pub mod Words
+pub mod Warned
