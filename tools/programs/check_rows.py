@@ -1,24 +1,26 @@
 """`flight_tools check`, and `table --watchpoints`: what is said of rules before any packet comes.
 
-What is said of each text is in `crates/judgement_rows/stdout`, where the texts stand, too; here it is said behind a file's name."""
+What is said of each text in the form of warnings is in `warnings/`; for which values rules fail and pass is in
+`crates/judgement_rows/stdout`, and here it is said behind a file's name."""
 
 import json
 
 from records import LOW_VOLTS
 from row import Row
 from tool_rows import ADT_LISTING, COMPILED, NOT_THERE, read, unusable
+from warning_rows import read as read_warnings
 
 SAID = read("judgement_rows/stdout").splitlines(keepends=True)
 DEAD = read("judgement_rows/data/dead_rules.rules")
 
 
-def said_of(title):
-    """The lines that stand behind this one, up to the next title."""
+def outcomes_of(title):
+    """The lines that stand behind this one, up to the next title, but for warnings."""
     first = SAID.index(title + b"\n") + 1
     count = 0
     while b": " in SAID[first + count]:
         count += 1
-    return SAID[first : first + count]
+    return [line for line in SAID[first : first + count] if not line.startswith(b"warning: ")]
 
 
 def named(lines, summary):
@@ -30,20 +32,24 @@ def noted(lines):
     """The lines as JSON, an object a line."""
 
     def noted_line(line):
-        note = line.decode().rstrip("\n")
-        level = "warning" if note.startswith("warning: ") else "note"
-        members = {"level": level, "message": note.removeprefix("warning: "), "file": "rules", "others": []}
+        members = {"level": "note", "message": line.decode().rstrip("\n"), "file": "rules", "others": []}
         nothing = dict.fromkeys(["at", "code", "warning"])
         return json.dumps({**members, **nothing}, sort_keys=True, separators=(",", ":")) + "\n"
 
     return "".join(map(noted_line, lines)).encode()
 
 
-OF_DEAD = said_of(b"dead_rules.rules")
-WARNINGS = [line for line in OF_DEAD if line.startswith(b"warning: ")]
-OF_DEAD_RULES = b"7 rules, %d warnings\n" % len(WARNINGS)
+OUTCOMES = outcomes_of(b"dead_rules.rules")
+WARNED, OF_DEAD_RULES = read_warnings("rules_that_say_less_than_they_seem_to.said").replace(b"rules.txt:", b"rules:").rsplit(b"rules: ", 1)
+IN_JSON = read_warnings("rules_that_say_less_than_they_seem_to.json")
 SAMPLES_THE_FIRST = b"slots 1\n0 sample 0 0 age\n"
 ONE_RULE = b"1 rules, 0 warnings\n"
+UNSAMPLED = b"""rules:1:150: warning[never-sampled]: the schedule never samples `OTHER`
+  1 | ... 1001 "low volts" when V < 2400;rule OTHER active fails 1 sequence 8 event error 1002 "" when ...
+    |                                         ^^^^^ sample it, as rule 1, or leave it out
+
+rules: 2 rules, 1 warnings
+"""
 ENDS_EARLY = b"""rules:1:11: error[11]: expected `=`, found the end of the file
   1 | packet BUS
     |           ^ the file ends here
@@ -60,27 +66,26 @@ ROWS = [
         {"rules": LOW_VOLTS},
         output=named([b"LOW: fails for V = 0; passes for V = 2400\n"], ONE_RULE),
     ),
-    Row("rules that say less than they seem to", ["flight_tools", "check", "rules"], {"rules": DEAD}, output=named(WARNINGS, OF_DEAD_RULES)),
     Row(
         "all that is said of them, and warnings are faults",
         ["flight_tools", "check", "--strict", "--all", "rules"],
         {"rules": DEAD},
         status=1,
-        output=named(OF_DEAD, OF_DEAD_RULES),
+        output=WARNED + named(OUTCOMES, OF_DEAD_RULES),
     ),
-    Row("the warnings in JSON", ["flight_tools", "check", "--json", "rules"], {"rules": DEAD}, output=noted(WARNINGS)),
+    Row("the warnings in JSON", ["flight_tools", "check", "--json", "rules"], {"rules": DEAD}, output=IN_JSON),
     Row(
         "all that is said of them in JSON",
         ["flight_tools", "check", "--json", "--strict", "--all", "rules"],
         {"rules": DEAD},
         status=1,
-        output=noted(OF_DEAD),
+        output=IN_JSON + noted(OUTCOMES),
     ),
     Row(
         "a rule that the schedule never samples",
         ["flight_tools", "check", "--schedule", "schedule", "rules"],
         {"rules": LOW_VOLTS + b"rule OTHER active fails 1 sequence 8 event error 1002 \"\" when V > 9000;", "schedule": SAMPLES_THE_FIRST},
-        output=named([b"warning: OTHER: the schedule never samples it\n"], b"2 rules, 1 warnings\n"),
+        output=UNSAMPLED,
     ),
     Row(
         "a text that doesn't compile",

@@ -74,7 +74,6 @@ ROWS = [
         error=OF_UNFIT,
         after={"stream": Begins(b"\x01\x00\x00\x00\x64\x00\x00\x00\x00\x00\x10\x18\xA4")},
     ),
-    Row("an empty text", ["flight_tools", "check", "rules.txt"], {"rules.txt": b""}, output=b"rules.txt: 0 rules, 0 warnings\n"),
     Row(
         "texts behind one that doesn't compile",
         ["flight_tools", "check", "--strict", "rules.txt", "good", "rules.txt"],

@@ -7,13 +7,14 @@ ghost use Rattle.tool_commands.specs.Checked.{answer_of, counted};
 use crate::fault::Fault;
 use crate::files::{LONGEST_TABLE, LONGEST_TEXT, read, read_text};
 use crate::output::listed;
-use crate::telling::{alone, write_messages};
-use judgement_listing::{ListingError, Which, list_actionpoints, list_judgement, list_unsampled};
+use crate::telling::{alone, write_messages, write_warnings};
+use judgement_listing::{ListingError, Which, list_actionpoints, list_outcomes};
 use line_messages::{Refusal, read_schedule};
 use message_objects::note_line;
 use message_words::written;
 use rpn_compiler::{CompileError, compile};
 use rule_messages::messages;
+use rule_warnings::warnings;
 use std::alloc::Global;
 use std::fs::Files;
 use std::io::Write;
@@ -22,23 +23,12 @@ use tick_scheduler::Schedule;
 /// What `check` is asked for.
 #[derive(Clone, Copy)]
 pub struct Asked {
-    /// A line for each rule, and not for warnings alone.
+    /// A line for each rule that both fails and passes, and not warnings alone.
     pub is_all: bool,
     /// A warning is a fault.
     pub is_strict: bool,
     /// All is said in JSON, an object a line.
     pub is_json: bool,
-}
-
-impl Asked {
-    /// Which lines of the judgement are said.
-    fn which(self) -> Which {
-        if self.is_all {
-            Which::All
-        } else {
-            Which::Warnings
-        }
-    }
 }
 
 /// What is found of a rule text.
@@ -99,9 +89,6 @@ fn judgement_fault(name: &str, error: ListingError) -> Fault<'_>
     }
 }
 
-/// How a line begins that is a warning.
-const WARNING: &[u8] = b"warning: ";
-
 /// Writes a line as an object.
 fn write_note<'a, W: Write>(
     alloc: Global,
@@ -109,9 +96,8 @@ fn write_note<'a, W: Write>(
     line: &[u8],
     out: &mut W,
 ) -> Result<(), Fault<'a>> {
-    let warning = line.strip_prefix(WARNING);
-    let note = written(alloc, warning.unwrap_or(line))?;
-    let object = note_line(alloc, name, warning.is_some(), note.as_str())?;
+    let note = written(alloc, line)?;
+    let object = note_line(alloc, name, false, note.as_str())?;
     listed(out.write_all(object.as_bytes()))
 }
 
@@ -122,21 +108,17 @@ fn write_named<'a, W: Write>(name: &'a str, line: &[u8], out: &mut W) -> Result<
     listed(out.write_all(b"\n"))
 }
 
-/// Writes lines, each behind the name of its file or as an object, and answers how many of them are warnings.
+/// Writes lines, each behind the name of its file or as an object.
 fn write_lines<'a, W: Write>(
     alloc: Global,
     name: &'a str,
     lines: &[u8],
     is_json: bool,
     out: &mut W,
-) -> Result<usize, Fault<'a>> {
-    let mut warnings = 0usize;
+) -> Result<(), Fault<'a>> {
     for line in lines.split(|byte| *byte == b'\n') {
         if line.is_empty() {
             continue;
-        }
-        if line.starts_with(WARNING) {
-            warnings = warnings.saturating_add(1);
         }
         if is_json {
             write_note(alloc, name, line, out)?;
@@ -144,7 +126,20 @@ fn write_lines<'a, W: Write>(
             write_named(name, line, out)?;
         }
     }
-    Ok(warnings)
+    Ok(())
+}
+
+/// Writes for which values of their fields the rules of a text that compiles fail and pass.
+fn write_outcomes<'a, W: Write>(
+    alloc: Global,
+    name: &'a str,
+    text: &[u8],
+    is_json: bool,
+    out: &mut W,
+) -> Result<(), Fault<'a>> {
+    let mut lines = Vec::new(alloc);
+    list_outcomes(alloc, text, &mut lines).map_err(|error| judgement_fault(name, error))?;
+    write_lines(alloc, name, lines.as_slice(), is_json, out)
 }
 
 /// Writes what can be said of a rule text that compiles, with so many rules, and answers how many warnings these are.
@@ -157,21 +152,17 @@ fn judge<'a, W: Write>(
     asked: Asked,
     out: &mut W,
 ) -> Result<usize, Fault<'a>> {
-    let mut lines = Vec::new(alloc);
-    list_judgement(alloc, text, asked.which(), &mut lines).map_err(|error| judgement_fault(
-        name, error,
-    ))?;
-    if let Some(plan) = plan {
-        list_unsampled(alloc, text, plan, &mut lines).map_err(|error| judgement_fault(
-            name, error,
-        ))?;
+    let told = warnings(alloc, text, plan.as_ref())?;
+    write_warnings(alloc, name, text, told.as_slice(), asked.is_json, out)?;
+    if asked.is_all {
+        write_outcomes(alloc, name, text, asked.is_json, out)?;
     }
-    let warnings = write_lines(alloc, name, lines.as_slice(), asked.is_json, out)?;
+    let count = told.len();
     if !asked.is_json {
-        listed(writeln!(out, "{name}: {rules} rules, {warnings} warnings"))?;
+        listed(writeln!(out, "{name}: {rules} rules, {count} warnings"))?;
     }
     listed(out.flush())?;
-    Ok(warnings)
+    Ok(count)
 }
 
 /// Writes what there is to say of the rule text in a file, and answers what was found.
@@ -218,10 +209,9 @@ fn plan_in<'a, R: Files + AllocGlobal, W: Write>(
     }
 }
 
-/// Says of the schedule, where one is named, what is wrong with it, and of each rule text in these files whether it compiles; where it doesn't, what is wrong with it, and where it does, what can
-/// be said of its rules before any packet comes: a warning where a rule never fails or always does, where two say the same, where
-/// a comparison says nothing, or where the schedule never samples one; and of each rule, where all is asked for, for which values
-/// of its fields it fails and passes.
+/// Says of the schedule, where one is named, what is wrong with it, and of each rule text in these files whether it compiles; where it
+/// doesn't, what is wrong with it, and where it does, its warnings: what is declared and not used, and what can be said of its rules
+/// before any packet comes; and of each rule, where all is asked for, for which values of its fields it fails and passes.
 pub fn check<'a, R: Files + AllocGlobal, W: Write>(
     rt: &R,
     schedule: Option<&'a str>,

@@ -1,4 +1,4 @@
-//! What is said of texts that are refused.
+//! What is said of texts, and of those that are refused.
 
 ghost use Rattle.tool_commands.specs.Cause.{IsOfRefusal, IsToldFault};
 
@@ -6,7 +6,7 @@ use crate::fault::Fault;
 use crate::output::listed;
 use line_messages::{Refusal, script_message};
 use message_objects::message_line;
-use rule_messages::{Mark, Message, page_of};
+use rule_messages::{Mark, Message, page_of, warnings_page_of};
 use std::alloc::{AllocError, Global};
 use std::fmt::Display;
 use std::io::Write;
@@ -127,6 +127,23 @@ pub fn write_messages<'a, W: Write>(
         return write_objects(alloc, name, text, messages, out);
     }
     let page = page_of(alloc, name, text, messages)?;
+    listed(out.write_all(page.as_bytes()))?;
+    listed(out.flush())
+}
+
+/// Writes warnings of a text in a file of this name, as a page or each as an object.
+pub fn write_warnings<'a, W: Write>(
+    alloc: Global,
+    name: &'a str,
+    text: &[u8],
+    warnings: &[Message],
+    is_json: bool,
+    out: &mut W,
+) -> Result<(), Fault<'a>> {
+    if is_json {
+        return write_objects(alloc, name, text, warnings, out);
+    }
+    let page = warnings_page_of(alloc, name, text, warnings)?;
     listed(out.write_all(page.as_bytes()))?;
     listed(out.flush())
 }
