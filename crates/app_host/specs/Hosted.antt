@@ -1,7 +1,7 @@
 -- The host as contracts see it: its objects by what they mean, and its services.
 use Rattle.std.specs.Prelude.{ℕ, Bool, List, [], map, slice_index_or, Option, None, option_map}
 use Rattle.std.specs.Global.{Global}
-use Rattle.std.specs.declared.dyn_box.DynBox.{DynBox}
+use Rattle.std.specs.declared.boxed.Box.{Box}
 use Rattle.lc_model.specs.Kept.Summary.{Other}
 use Rattle.lc_model.specs.Kept.Executive.{Member, Executive}
 use Rattle.lc_model.specs.Kept.Stations as model
@@ -32,7 +32,7 @@ pub record Hosted : Type 0 where
   pub calls : ℕ
 
 -- a host by the meanings of its objects
-abbrev pub shown : {X : Type 0} {D : X → Type 0} → (DynBox X Global D → Object) → Host X D → Hosted
+abbrev pub shown : {B : Type 0} → (Box B Global → Object) → Host B → Hosted
 shown meaning h = record {
   stock = map meaning h.stock.items;
   seats = map (option_map meaning) h.seats;

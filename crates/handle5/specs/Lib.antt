@@ -1,0 +1,2 @@
+-- What a handle owns.
+pub mod Held
