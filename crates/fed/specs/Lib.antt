@@ -1,0 +1,3 @@
+-- What a handle owns.
+pub mod Held
+pub mod Ready

@@ -1,0 +1,7 @@
+//! Tries.
+#![tactic(auto)]
+
+mod handle;
+mod loose;
+
+pub use handle::{Fed, Handle, needlemauve_host_close, needlemauve_host_feed};
