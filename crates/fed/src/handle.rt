@@ -61,7 +61,7 @@ fn opened(handle: Handle, alloc: Global) -> Loose<Fed, Global>
     }
 }
 
-fn handle_of(fed: Box<Fed>) -> Handle
+pub(crate) fn handle_of(fed: Box<Fed>) -> Handle
     ensures { result.value ≡ Some fed.value }
 {
     closed_in(Loose::of(fed))
