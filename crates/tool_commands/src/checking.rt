@@ -7,7 +7,7 @@ ghost use Rattle.tool_commands.specs.Checked.{answer_of, counted};
 use crate::fault::Fault;
 use crate::files::{LONGEST_TABLE, LONGEST_TEXT, read, read_text};
 use crate::output::listed;
-use crate::telling::{alone, write_messages, write_warnings};
+use crate::telling::{MOST_WARNINGS, alone, write_messages, write_warnings};
 use judgement_listing::{ListingError, Which, list_actionpoints, list_outcomes};
 use line_messages::{Refusal, read_schedule};
 use message_objects::note_line;
@@ -142,6 +142,21 @@ fn write_outcomes<'a, W: Write>(
     write_lines(alloc, name, lines.as_slice(), is_json, out)
 }
 
+/// Writes how many rules a text has, and how many warnings.
+fn write_counts<'a, W: Write>(
+    name: &'a str,
+    rules: u16,
+    warnings: usize,
+    out: &mut W,
+) -> Result<(), Fault<'a>> {
+    let shown = if warnings > MOST_WARNINGS {
+        ", the first 100 shown"
+    } else {
+        ""
+    };
+    listed(writeln!(out, "{name}: {rules} rules, {warnings} warnings{shown}"))
+}
+
 /// Writes what can be said of a rule text that compiles, with so many rules, and answers how many warnings these are.
 fn judge<'a, W: Write>(
     alloc: Global,
@@ -157,12 +172,11 @@ fn judge<'a, W: Write>(
     if asked.is_all {
         write_outcomes(alloc, name, text, asked.is_json, out)?;
     }
-    let count = told.len();
     if !asked.is_json {
-        listed(writeln!(out, "{name}: {rules} rules, {count} warnings"))?;
+        write_counts(name, rules, told.len(), out)?;
     }
     listed(out.flush())?;
-    Ok(count)
+    Ok(told.len())
 }
 
 /// Writes what there is to say of the rule text in a file, and answers what was found.

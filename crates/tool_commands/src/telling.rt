@@ -131,7 +131,10 @@ pub fn write_messages<'a, W: Write>(
     listed(out.flush())
 }
 
-/// Writes warnings of a text in a file of this name, as a page or each as an object.
+/// The most warnings of a text that are written on a page. All are counted, and each is an object.
+pub const MOST_WARNINGS: usize = 100;
+
+/// Writes warnings of a text in a file of this name, the first hundred as a page, or each as an object.
 pub fn write_warnings<'a, W: Write>(
     alloc: Global,
     name: &'a str,
@@ -143,7 +146,8 @@ pub fn write_warnings<'a, W: Write>(
     if is_json {
         return write_objects(alloc, name, text, warnings, out);
     }
-    let page = warnings_page_of(alloc, name, text, warnings)?;
+    let shown = warnings.len().min(MOST_WARNINGS);
+    let page = warnings_page_of(alloc, name, text, &warnings[..shown])?;
     listed(out.write_all(page.as_bytes()))?;
     listed(out.flush())
 }
