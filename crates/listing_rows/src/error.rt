@@ -10,9 +10,9 @@ pub enum RowError {
     /// Out of memory.
     #[error("out of memory")]
     Memory,
-    /// The row can't be written.
+    /// The row can't be written, for an error of this kind.
     #[error("a write failed")]
-    Write,
+    Write(ErrorKind),
 }
 
 impl From<AllocError> for RowError {
@@ -29,10 +29,9 @@ impl<T: Drop> From<AllocFailed<T>> for RowError {
 
 impl From<io::Error> for RowError {
     fn from(error: io::Error) -> RowError {
-        if error.kind() == ErrorKind::OutOfMemory {
-            RowError::Memory
-        } else {
-            RowError::Write
+        match error.kind() {
+            ErrorKind::OutOfMemory => RowError::Memory,
+            kind => RowError::Write(kind),
         }
     }
 }

@@ -3,18 +3,16 @@
 use crate::fault::Fault;
 use crate::feed::feed_of;
 use crate::listing::ended_with;
-use crate::output::{listed, written_fault};
+use crate::output::{listed, output_fault};
 use crate::words::RowWords;
 use lc_model::packet::first_packet;
 use listing_rows::{
     Epoch, Form, PACKET_NAMES, RECORD_NAMES, RowError, write_names, write_packet, write_record,
 };
 use packet_listing::Line;
-use program_files::Noting;
 use std::alloc::Global;
-use std::cell::Cell;
 use std::fs::Files;
-use std::io::{ErrorKind, Write};
+use std::io::Write;
 use stream_script::{Front, front_of};
 
 /// How rows are written.
@@ -52,11 +50,12 @@ pub fn wanted<'a>(words: RowWords<'a>) -> Result<Option<Rows>, Fault<'a>> {
     }
 }
 
-/// The fault of a row that isn't written to standard output, which failed by this kind of error, if one was noted.
-fn row_fault(error: RowError, kind: Option<ErrorKind>) -> Fault<'static> {
-    match error {
-        RowError::Memory => Fault::Memory,
-        RowError::Write => written_fault(kind),
+/// What was written of rows to standard output, or why it wasn't taken, as `output_fault` says it.
+fn taken<T: Drop>(written: Result<T, RowError>) -> Result<T, Fault<'static>> {
+    match written {
+        Ok(written) => Ok(written),
+        Err(RowError::Memory) => Err(Fault::Memory),
+        Err(RowError::Write(kind)) => Err(output_fault(kind)),
     }
 }
 
@@ -116,29 +115,18 @@ pub fn packets<'a, R: Files + AllocGlobal, W: Write>(
     out: &mut W,
 ) -> Result<(), Fault<'a>> {
     let mut feed = feed_of(rt, file)?;
-    let kind = Cell::new(None);
-    let mut noted = Noting::new(&mut *out, &kind);
-    write_names(rt.alloc(), rows.form, &PACKET_NAMES, &mut noted).map_err(|error| row_fault(
-        error,
-        kind.get(),
-    ))?;
+    taken(write_names(rt.alloc(), rows.form, &PACKET_NAMES, out))?;
     let mut number = 0u64;
     for _ in 0..u64::MAX {
         let is_more = feed.read_on()?;
-        let (count, size) = write_packets(
-            rt.alloc(),
-            rows,
-            feed.held(),
-            number,
-            &mut noted,
-        ).map_err(|error| row_fault(error, kind.get()))?;
+        let (count, size) = taken(write_packets(rt.alloc(), rows, feed.held(), number, out))?;
         number = count;
         feed.let_go(size);
         if !is_more {
             break;
         }
     }
-    listed(noted.flush())?;
+    listed(out.flush())?;
     ended_with(feed.held().is_empty())
 }
 
@@ -150,28 +138,17 @@ pub fn records<'a, R: Files + AllocGlobal, W: Write>(
     out: &mut W,
 ) -> Result<(), Fault<'a>> {
     let mut feed = feed_of(rt, file)?;
-    let kind = Cell::new(None);
-    let mut noted = Noting::new(&mut *out, &kind);
-    write_names(rt.alloc(), rows.form, &RECORD_NAMES, &mut noted).map_err(|error| row_fault(
-        error,
-        kind.get(),
-    ))?;
+    taken(write_names(rt.alloc(), rows.form, &RECORD_NAMES, out))?;
     let mut number = 0u64;
     for _ in 0..u64::MAX {
         let is_more = feed.read_on()?;
-        let (count, size) = write_records(
-            rt.alloc(),
-            rows,
-            feed.held(),
-            number,
-            &mut noted,
-        ).map_err(|error| row_fault(error, kind.get()))?;
+        let (count, size) = taken(write_records(rt.alloc(), rows, feed.held(), number, out))?;
         number = count;
         feed.let_go(size);
         if !is_more || matches!(front_of(feed.held()), Front::NoRecord) {
             break;
         }
     }
-    listed(noted.flush())?;
+    listed(out.flush())?;
     ended_with(feed.held().is_empty())
 }
