@@ -60,11 +60,11 @@ pub fn obey<'a, R: Files + Eprint + AllocGlobal, I: Read + Drop, W: Write>(
         Plan::Said(text) => listing::said(&text, out),
         Plan::Table { file, watchpoints } => listing::table(rt, file, watchpoints, out),
         Plan::Stream { file, whole, rows } => match wanted(rows)? {
-            Some(rows) => rows::records(rt, file, rows, out),
+            Some(rows) => rows::records(rt, file, &rows, out),
             None => listing::stream(rt, file, whole, out),
         },
         Plan::Packets { file, rows } => match wanted(rows)? {
-            Some(rows) => rows::packets(rt, file, rows, out),
+            Some(rows) => rows::packets(rt, file, &rows, out),
             None => listing::packets(rt, file, out),
         },
         Plan::Scenario {

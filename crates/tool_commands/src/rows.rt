@@ -1,7 +1,7 @@
 //! Packets and records as rows, for other programs.
 
 use crate::fault::Fault;
-use crate::feed::feed_of;
+use crate::feed::{Feed, feed_of};
 use crate::listing::ended_with;
 use crate::output::{listed, output_fault};
 use crate::words::RowWords;
@@ -12,7 +12,7 @@ use listing_rows::{
 use packet_listing::Line;
 use std::alloc::Global;
 use std::fs::Files;
-use std::io::Write;
+use std::io::{Read, Write};
 use stream_script::{Front, front_of};
 
 /// How rows are written.
@@ -66,7 +66,7 @@ type Written = Result<(u64, usize), RowError>;
 /// they have.
 fn write_packets<W: Write>(
     alloc: Global,
-    rows: Rows,
+    rows: &Rows,
     packets: &[u8],
     before: u64,
     out: &mut W,
@@ -88,7 +88,7 @@ fn write_packets<W: Write>(
 /// they have.
 fn write_records<W: Write>(
     alloc: Global,
-    rows: Rows,
+    rows: &Rows,
     records: &[u8],
     before: u64,
     out: &mut W,
@@ -107,11 +107,17 @@ fn write_records<W: Write>(
     Ok((number, records.len().saturating_sub(rest.len())))
 }
 
+/// The end of rows, behind which nothing is left, or a part of a packet or of a record.
+fn end<'a, F: Read + Drop, W: Write>(feed: &Feed<'_, F>, out: &mut W) -> Result<(), Fault<'a>> {
+    listed(out.flush())?;
+    ended_with(feed.held().is_empty())
+}
+
 /// Writes a row for each packet of a file, piece by piece. Bytes behind the last whole packet have another status.
 pub fn packets<'a, R: Files + AllocGlobal, W: Write>(
     rt: &R,
     file: &'a str,
-    rows: Rows,
+    rows: &Rows,
     out: &mut W,
 ) -> Result<(), Fault<'a>> {
     let mut feed = feed_of(rt, file)?;
@@ -123,18 +129,17 @@ pub fn packets<'a, R: Files + AllocGlobal, W: Write>(
         number = count;
         feed.let_go(size);
         if !is_more {
-            break;
+            return end(&feed, out);
         }
     }
-    listed(out.flush())?;
-    ended_with(feed.held().is_empty())
+    Ok(())
 }
 
 /// Writes a row for each record of a stream, piece by piece. A stream that ends early has another status.
 pub fn records<'a, R: Files + AllocGlobal, W: Write>(
     rt: &R,
     file: &'a str,
-    rows: Rows,
+    rows: &Rows,
     out: &mut W,
 ) -> Result<(), Fault<'a>> {
     let mut feed = feed_of(rt, file)?;
@@ -146,9 +151,8 @@ pub fn records<'a, R: Files + AllocGlobal, W: Write>(
         number = count;
         feed.let_go(size);
         if !is_more || matches!(front_of(feed.held()), Front::NoRecord) {
-            break;
+            return end(&feed, out);
         }
     }
-    listed(out.flush())?;
-    ended_with(feed.held().is_empty())
+    Ok(())
 }
