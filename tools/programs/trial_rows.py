@@ -99,7 +99,7 @@ def trial(script):
 def told(lines, n, code, why, label=b""):
     """What is said of a line of a script, which is marked as a whole."""
     line = lines.split(b"\n")[n - 1]
-    mark = (b"^" * len(line) + b" " + label).rstrip()
+    mark = b"^" * len(line) + b" " + label
     return b"script:%d:1: error[%d]: %s\n  %d | %s\n    | %s\n\n1 error\n" % (n, code, why, n, line, mark)
 
 
