@@ -66,6 +66,7 @@ expect no sequence 8
 expect state LOW passive
 """
 
+HEAT = b"packet HEAT = mid 0x0884 length 16;\nfield WARM = HEAT u8 at 12;\n"
 TOCK = b"repeat 3 {\ntick\n}\ntock\n"
 
 ROWS = [
@@ -124,6 +125,13 @@ filter LC 1001 0xFFFF
     ),
     refused("a word behind a packet that is no field", b"BUS VOLTS\n", 1, NO_FIELD),
     refused("a field that no text declares", b"tick\nBUS VOLT=1\n", 2, b"no rule text declares that field"),
+    Row(
+        "a field of another packet",
+        SCENARIO,
+        {"rules": RULES + HEAT, "script": b"BUS WARM=1\n"},
+        status=1,
+        error=told(b"BUS WARM=1", 1, 169, b"the packet has no field of that name"),
+    ),
     refused("a value that is no number", b"BUS VOLTS=low\n", 1, NUMBER),
     refused("a ramp that stands still", b"ramp VOLTS 1 2 by 0 each 1\n", 1, NUMBER),
     refused("a ramp without its seconds", b"ramp VOLTS 1 2 by 1\n", 1, RAMP),
