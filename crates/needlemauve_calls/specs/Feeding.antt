@@ -27,15 +27,19 @@ host_in fed = feeding_of meaning_of fed.host
 abbrev pub IsFed : Fed → Type 0
 IsFed fed = IsReady (host_in fed)
 
--- it was made of these texts and this schedule's text, with this profile's stock and so much room, and nothing has come
-pub record IsMade (sources : List (List ℕ)) (schedule : List ℕ) (room : ℕ) (fed : Fed) : Type 0 where
-  pub slots : Schedule
-  pub said : schedule_in schedule ≡ Ok slots
+-- it was made of these texts and this schedule, with this profile's stock and so much room, and nothing has come
+pub record IsStocked (sources : List (List ℕ)) (slots : Schedule) (room : ℕ) (fed : Fed) : Type 0 where
   pub stock : List Object
   pub profile : IsOfProfile slots stock
   pub names : names_of stock ≡ own_names
   pub begun : HasBegun sources stock (host_in fed)
   pub room_is : length fed.room.items ≡ room
+
+-- with what this schedule's text says
+pub record IsMade (sources : List (List ℕ)) (schedule : List ℕ) (room : ℕ) (fed : Fed) : Type 0 where
+  pub slots : Schedule
+  pub said : schedule_in schedule ≡ Ok slots
+  pub stocked : IsStocked sources slots room fed
 
 -- a text doesn't compile, or there is no memory, told so
 pub record IsUnmade (sources : List (List ℕ)) (told : Refusal) : Type 0 where
@@ -57,16 +61,22 @@ abbrev pub code_of : Result (Option ℕ) Halt → ℕ
 code_of (Ok (Some total)) = 0
 code_of (Ok None) = none_held
 code_of (Err halt.NoRecord) = 141
-code_of (Err other) = 144
+code_of (Err (halt.Unsent sent)) = 144
+code_of (Err halt.Fault) = 144
+code_of (Err halt.Bound) = 144
 
--- what is taken of the bytes is held behind what was held, and the record in front is handled: what it leads to stands in the
--- output's first bytes, and a write fails only where the room is full
+-- the record in front is handled: what it leads to stands in the output's first bytes, and a write fails only where the room,
+-- of this size, is full
+pub record HandlesInto (old new : Feeding) (output : List ℕ) (size written : ℕ) (answer : Result (Option ℕ) Halt) : Type 0 where
+  pub full : Bool
+  pub one : HandlesOne old new unwritten (written_in output written full) answer
+  pub is_full : full ≡ true → written ≡ size
+
+-- what is taken of the bytes is held behind what was held, and then the record in front is handled
 pub record Feeds (bytes output : List ℕ) (old new : Fed) (told : Handled) : Type 0 where
   pub taken : told.taken ≡ length (taken_of (host_in old).held bytes)
   pub answer : Result (Option ℕ) Halt
-  pub full : Bool
-  pub one : HandlesOne (fed_with bytes (host_in old)) (host_in new) unwritten (written_in output told.written full) answer
-  pub is_full : full ≡ true → told.written ≡ length old.room.items
+  pub into : HandlesInto (fed_with bytes (host_in old)) (host_in new) output (length old.room.items) told.written answer
   pub code : told.code ≡ code_of answer
   pub ready : IsFed new
   pub room : length new.room.items ≡ length old.room.items
