@@ -18,3 +18,4 @@ mod Found
 mod Grown
 mod LaidSteps
 mod PlannedRules
+mod Evaluated
