@@ -19,3 +19,4 @@ mod Grown
 mod LaidSteps
 mod PlannedRules
 mod Evaluated
+mod FoundTruths

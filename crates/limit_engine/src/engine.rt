@@ -137,7 +137,11 @@ impl Engine {
         self.watchpoints.set(wdt);
         layout::lay_out_results(self.watchpoints.terms().len(), &mut self.watch);
         layout::lay_out_rules(adt, &mut self.entries, &mut self.points, &mut self.words);
-        self.plan.set(self.entries.as_slice(), self.words.as_slice(), self.watch.len());
+        self.plan.set(
+            self.entries.as_slice(),
+            self.words.as_slice(),
+            self.watch.len(),
+        );
     }
 
     /// How many rules there are: at most as many as a table has entries.
