@@ -1,5 +1,5 @@
 -- A host that is fed from C. This project's own.
-use Rattle.std.specs.Prelude.{◌≡◌, ◌⊎◌, ℕ, Bool, true, List, [], take, length, Option, Some, None, Result, Ok, Err}
+use Rattle.std.specs.Prelude.{◌≡◌, ℕ, Bool, true, List, [], take, length, Option, Some, None, Result, Ok, Err}
 use Rattle.lc_model.specs.Device.{Sink}
 use Rattle.lc_model.specs.Host.Schedule.{Schedule}
 use Rattle.lc_model.specs.Host.ScheduleText.{schedule_in}
@@ -80,3 +80,9 @@ pub record Feeds (bytes output : List ℕ) (old new : Fed) (told : Handled) : Ty
   pub code : told.code ≡ code_of answer
   pub ready : IsFed new
   pub room : length new.room.items ≡ length old.room.items
+
+-- what two handles hold, one behind the other
+abbrev pub AreFed : List ℕ → List ℕ → Handled → Option Fed → Option Fed → Type 0
+AreFed bytes output told None now = ⊥
+AreFed bytes output told (Some old) None = ⊥
+AreFed bytes output told (Some old) (Some new) = Feeds bytes output old new told

@@ -1,11 +1,10 @@
 //! A host that a program in C feeds, record by record.
 
 ghost use Rattle.std.specs.Prelude.{◌≡◌, ◌≢◌, ◌≤◌, ◌⊎◌, length, None, IfErr, IfOk, IsSomeAnd};
-ghost use Rattle.app_host.specs.Objects.{IfBoth};
 ghost use Rattle.flight_core.specs.Compiled.{IsNotCompiled, sources_of};
 ghost use Rattle.flight_core.specs.Feeding.{IsReady, feeding_of};
 ghost use Rattle.flight_stock.specs.Members.{meaning_of};
-ghost use Rattle.needlemauve_calls.specs.Feeding.{Feeds, HandlesInto, IsFed, IsMade, IsStocked, IsUnmade, code_of, too_small};
+ghost use Rattle.needlemauve_calls.specs.Feeding.{AreFed, Feeds, HandlesInto, IsFed, IsMade, IsStocked, IsUnmade, code_of, too_small};
 ghost use Rattle.needlemauve_calls.specs.Running.{IsNotRun, IsUnscheduled};
 ghost use Rattle.needlemauve_calls.specs.Texts.{texts_in};
 
@@ -223,8 +222,8 @@ pub fn feed_host(
     requires there { IsSomeAnd handle.old.value IsFed }
     ensures answered { result ≡ told.new.code }
     ensures ready { IsSomeAnd handle.new.value IsFed }
-    ensures fed { result ≢ too_small → IfBoth handle.old.value handle.new.value
-        (λ old new. Feeds bytes.now output.new old new told.new) }
+    ensures fed { result ≢ too_small →
+        AreFed bytes.now output.new told.new handle.old.value handle.new.value }
     ensures small { result ≡ too_small →
         (handle.new.value ≡ handle.old.value) × (output.new ≡ output.old) }
 {
