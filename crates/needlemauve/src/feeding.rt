@@ -1,6 +1,6 @@
 //! A host that is fed.
 
-ghost use Rattle.std.specs.Prelude.{◌≡◌, ◌≢◌, ◌⊎◌, None, IsSomeAnd};
+ghost use Rattle.std.specs.Prelude.{◌≡◌, ◌≢◌, ◌<◌, ◌⊎◌, length, None, IsSomeAnd};
 ghost use Rattle.needlemauve_calls.specs.Feeding.{AreFed, IsFed, IsMade, IsUnmade, too_small};
 ghost use Rattle.needlemauve_calls.specs.Running.{IsNotRun};
 ghost use Rattle.needlemauve_calls.specs.Texts.{texts_in};
@@ -48,6 +48,8 @@ pub extern "C" fn needlemauve_host_feed(
         AreFed bytes.now output.new told.new host.old.value host.new.value }
     ensures small { result ≡ too_small →
         (host.new.value ≡ host.old.value) × (output.new ≡ output.old) }
+    ensures smaller { result ≡ too_small → IsSomeAnd host.old.value
+        (λ fed. length output.old < length fed.room.items) }
 {
     feed_host(alloc, host, bytes, output, told)
 }

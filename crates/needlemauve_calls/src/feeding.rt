@@ -1,6 +1,6 @@
 //! A host that a program in C feeds, record by record.
 
-ghost use Rattle.std.specs.Prelude.{◌≡◌, ◌≢◌, ◌≤◌, ◌⊎◌, length, None, IfErr, IfOk, IsSomeAnd};
+ghost use Rattle.std.specs.Prelude.{◌≡◌, ◌≢◌, ◌<◌, ◌≤◌, ◌⊎◌, length, None, IfErr, IfOk, IsSomeAnd};
 ghost use Rattle.flight_core.specs.Compiled.{IsNotCompiled, sources_of};
 ghost use Rattle.flight_core.specs.Feeding.{IsReady, feeding_of};
 ghost use Rattle.flight_stock.specs.Members.{meaning_of};
@@ -226,6 +226,8 @@ pub fn feed_host(
         AreFed bytes.now output.new told.new handle.old.value handle.new.value }
     ensures small { result ≡ too_small →
         (handle.new.value ≡ handle.old.value) × (output.new ≡ output.old) }
+    ensures smaller { result ≡ too_small → IsSomeAnd handle.old.value
+        (λ fed. length output.old < length fed.room.items) }
 {
     let mut fed = taken(handle, alloc);
     if output.len() < fed.room.len() {
