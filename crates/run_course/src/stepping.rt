@@ -96,6 +96,7 @@ impl Stepping {
 
     /// The engine of the Limit Checker that runs, where one does.
     pub fn checker(&self) -> Option<&Engine>
+        requires { IsAtRest self.now }
         ensures { option_map (λ engine. engine.now) result ≡
             engine_among (host_in self.now).host.seats }
     {
