@@ -4,7 +4,7 @@ ghost use Rattle.std.specs.Prelude.{◌≡◌, ◌≤◌, length, IfOk, IfErr, O
 ghost use Rattle.std.specs.List.{position_or_len};
 ghost use Rattle.stream_script.specs.Part.{texts_of};
 ghost use Rattle.scenario_words.specs.Error.{IsRefused};
-ghost use Rattle.scenario_words.specs.Line.{all_assigned, assigned, assigned_by, field_assigned, is_equals, line_said, named_said, order_said, other_said, own_field, packet_said, plain_said, verb_said};
+ghost use Rattle.scenario_words.specs.Line.{all_assigned, assigned, assigned_by, field_assigned, is_equals, line_said, other_said, own_field, packet_said, plain_said, verb_said};
 
 use crate::error::{Fault, Reason};
 use crate::named::{Field, Rule, packet_place};

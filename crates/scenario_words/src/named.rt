@@ -1,8 +1,6 @@
 //! Packets, fields and rules by their names.
 
-ghost use Rattle.std.specs.Prelude.{◌≡◌, ◌<◌, bytes_eq, flat_map, length, unsigned_abs, IfOk, IfSome, Some, find, option_map};
-ghost use Rattle.std.specs.List.{position_from};
-ghost use Rattle.lc_model.specs.Packet.{count_end};
+ghost use Rattle.std.specs.Prelude.{◌≡◌, ◌<◌, bytes_eq, flat_map, length, IfOk, IfSome, Some, find, option_map};
 ghost use Rattle.rule_parser.specs.Syntax.{field_of, number_of, packet_of};
 ghost use Rattle.scenario_words.specs.Declarations as declared;
 ghost use Rattle.scenario_words.specs.Declarations.{field_declared, packet_declared};

@@ -1,7 +1,6 @@
 //! Commands in words: the Limit Checker's mode, the state of its rules, and filters of events.
 
-ghost use Rattle.std.specs.Prelude.{◌≡◌, ◌≤◌, bytes_eq, codes, length, IfOk, IfErr, Ok, Some};
-ghost use Rattle.lc_model.specs.Name.{app_name_size};
+ghost use Rattle.std.specs.Prelude.{◌≡◌, IfOk, IfErr, Ok, Some};
 ghost use Rattle.stream_script.specs.Part.{texts_of};
 ghost use Rattle.scenario_words.specs.Error.{IsRefused};
 ghost use Rattle.scenario_words.specs.Orders.{command_line, filter_line, filter_of, is_all, is_off, mode_line, rule_number, some_name, standing_number, state_line, state_of};

@@ -176,7 +176,8 @@ fn gone_on<'a>(
 ) -> Result<Going<'a>, Fault>
     requires { going.place < 2 ^ 63 }
     ensures said { IfOk result (λ after. gone_on going.entry
-        (line_said rules.now (going.entry.place + 1) (texts_of words.now) going.entry.said) ≡ Ok after) }
+        (line_said rules.now (going.entry.place + 1) (texts_of words.now) going.entry.said) ≡
+        Ok after) }
     ensures refused { IfErr result (IsRefused (gone_on going.entry
         (line_said rules.now (going.entry.place + 1) (texts_of words.now) going.entry.said))) }
 {
