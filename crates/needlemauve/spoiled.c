@@ -254,7 +254,7 @@ static void misuse(void)
 
 int main(int words, char **word)
 {
-  unsigned long inputs = words > 1 ? strtoul(word[1], NULL, 10) : 1000, code, kinds = 0;
+  unsigned long inputs = words > 1 ? strtoul(word[1], NULL, 10) : 1000, code, kinds = 0, answers = 0;
   begin();
   misuse();
   for (input = 1; input <= inputs; input++) {
@@ -267,8 +267,11 @@ int main(int words, char **word)
     else
       spoil_file();
   }
-  for (code = 0; code < 256; code++) kinds += answered[code] > 0;
-  printf("%lu spoiled inputs, %lu answers of %lu kinds, %lu of them 0\n", inputs, inputs, kinds, answered[0]);
+  for (code = 0; code < 256; code++) {
+    kinds += answered[code] > 0;
+    answers += answered[code];
+  }
+  printf("%lu spoiled inputs, %lu answers of %lu kinds, %lu of them 0\n", inputs, answers, kinds, answered[0]);
   free(wdt);
   free(adt);
   return 0;
