@@ -1,0 +1,152 @@
+// Plots of the fields that an opened lane's rules compare: values as steps, limits as lines, the failing side shaded.
+const HEIGHT = 92, EDGE = 8; // px
+
+// The parts of the run in which a text with this rule is in force, with what the rule says of the field there.
+function limitPartsOf(rule, field) {
+  return withEnds(run.tables).map(({ entry, from, to }) => ({ from, to, rule: ruleIn(entry[2], rule) }))
+    .filter(part => part.rule && fieldsOf(part.rule).includes(field))
+    .map(part => ({ ...part, limits: limitsOf(part.rule, field), ranges: failingRanges(part.rule, field) }));
+}
+
+// A field's entries with their ends. The last one lasts to the last packet.
+function stepsOf(field) {
+  const { values, last } = run.fields[field];
+  const end = last ? { record: last[0], time: last[1] } : END;
+  return withEnds(values, end).map(({ entry, from, to }) => ({
+    from, to, low: entry[2], high: entry.length > 3 ? entry[3] : entry[2], changes: entry.length > 3 ? entry[4] : 1,
+  }));
+}
+
+// The least and the greatest of what is to be seen, with some room.
+function boundsOf(steps, parts) {
+  const all = steps.flatMap(step => [step.low, step.high]).filter(value => value !== null)
+    .concat(parts.flatMap(part => part.limits.map(([, number]) => numberOf(number))));
+  const low = all.reduce((one, other) => Math.min(one, other), Infinity);
+  const high = all.reduce((one, other) => Math.max(one, other), -Infinity);
+  const room = (high - low) * 0.08 || 1;
+  return all.length ? [low - room, high + room] : [0, 1];
+}
+
+function makePlot(lane, field) {
+  const { name, values, packets } = run.fields[field];
+  const plot = { row: make('div', 'row plot'), track: make('div', 'track'), field, lane, parts: limitPartsOf(lane.rule, field) };
+  plot.steps = stepsOf(field);
+  [plot.low, plot.high] = boundsOf(plot.steps, plot.parts);
+  const label = make('div', 'name', name);
+  const known = plot.steps.flatMap(step => [step.low, step.high]).filter(value => value !== null);
+  const range = known.length ? [Math.min(...known), Math.max(...known)].map(value => valueText(field, value)).join(' to ') : 'no value';
+  label.append(make('div', '', `${range}; ${packets} packets`));
+  if (plot.parts.some(part => !isAlone(part.rule))) label.append(make('div', '', 'shade: this field’s part alone'));
+  plot.row.append(label, plot.track);
+  plot.track.tabIndex = 0;
+  plot.track.setAttribute('role', 'slider');
+  plot.track.setAttribute('aria-label', `${name}: ${values.length} values; arrows go from one to the next`);
+  listenToPlot(plot);
+  return plot;
+}
+
+const sharePixels = (place, width) => Math.max(-10, Math.min(width + 10, shareOf(place) * width));
+const heightOf = (plot, value) => EDGE + (plot.high - value) / (plot.high - plot.low) * (HEIGHT - 2 * EDGE);
+
+// The failing side and the limits, where a text with them is in force.
+function limitShapes(plot, width) {
+  return plot.parts.map(part => {
+    const [left, right] = [part.from, part.to].map(place => sharePixels(place, width));
+    const wide = Math.max(0, right - left);
+    const shades = part.ranges.map(([low, high]) => {
+      const top = high === Infinity ? 0 : heightOf(plot, high + 0.5);
+      const bottom = low === -Infinity ? HEIGHT : heightOf(plot, low - 0.5);
+      return `<rect class="shade" x="${left}" y="${top}" width="${wide}" height="${Math.max(1, bottom - top)}"/>`;
+    });
+    const lines = part.limits.map(([, number]) => `<path class="limit" d="M${left} ${heightOf(plot, numberOf(number))}h${wide}"/>`);
+    return shades.concat(lines).join('');
+  }).join('');
+}
+
+// The values: a line of steps, and a box from the least to the greatest where many are one entry.
+function valueShapes(plot, width) {
+  let line = '', boxes = '', dots = '', before = null;
+  for (const step of plot.steps) {
+    const [left, right] = [step.from, step.to].map(place => sharePixels(place, width));
+    if (right < 0 || left > width) continue;
+    if (step.low === null) { before = null; continue; }
+    const [top, bottom] = [heightOf(plot, step.high), heightOf(plot, step.low)];
+    line += before === null ? `M${left} ${bottom}` : `H${left}V${bottom}`;
+    if (step.changes > 1) boxes += `<rect class="between" x="${left}" y="${top}" width="${Math.max(1, right - left)}" height="${Math.max(1, bottom - top)}"/>`;
+    else dots += `M${left} ${bottom}h0`;
+    line += step.changes > 1 ? `M${right} ${bottom}` : `H${right}`;
+    before = step;
+  }
+  const few = dots.length < 6000;
+  return `${boxes}<path class="line" d="${line}"/>${few ? `<path class="dots" d="${dots}"/>` : ''}`;
+}
+
+// Labels of the limits at their lines. Those that would meet are one label.
+function limitLabels(plot, width) {
+  const labels = [];
+  for (const part of plot.parts) {
+    const [from, to] = [shareOf(part.from), shareOf(part.to)];
+    if (to < 0 || from > 1) continue;
+    for (const [operator, number] of part.limits) {
+      const text = `${operator} ${number}`;
+      const top = Math.max(0, Math.min(HEIGHT - 14, heightOf(plot, numberOf(number)) - 15));
+      addLabel(labels, { text, top, left: Math.max(0, from) * width + 3 }, width);
+    }
+  }
+  return labels.map(({ text, top, left }) => {
+    const label = make('div', 'limit_text', text);
+    label.style.top = top + 'px';
+    label.style.left = left / width * 100 + '%';
+    return label;
+  });
+}
+
+function addLabel(labels, label, width) {
+  const wide = widthOf(label.text, 11) + 10;
+  label.left = Math.max(0, Math.min(label.left, width - wide));
+  label.right = label.left + wide;
+  const met = labels.findIndex(other => Math.abs(other.top - label.top) < 15 && other.left < label.right && label.left < other.right);
+  if (met < 0) { labels.push(label); return; }
+  const [other] = labels.splice(met, 1);
+  const said = other.text.split(', ');
+  const text = said.includes(label.text) ? other.text : `${other.text}, ${label.text}`;
+  addLabel(labels, { text, top: other.top, left: Math.min(other.left, label.left) }, width);
+}
+
+// The samples that counted for the rule's requests, at the values that they met.
+function sampleMarks(plot) {
+  return plot.lane.items.filter(item => item.request).flatMap(({ request }) => {
+    const rule = ruleIn(request.text, request.rule);
+    const part = rule ? rule.comparisons.findIndex(([field]) => field === plot.field) : -1;
+    if (part < 0) return [];
+    return request.samples.map(([record, time, parts]) => ({ request, record, time, value: parts[part][0] }));
+  }).filter(sample => sample.value !== null && shareOf(sample) >= 0 && shareOf(sample) <= 1).map(sample => {
+    const value = valueText(plot.field, sample.value);
+    const name = `sample that counted for sequence ${sample.request.sequence}: ${run.fields[plot.field].name} ${value}, ${at(sample)}`;
+    const mark = makeButton('diamond', '', name, () => showRequest(sample.request));
+    mark.style.left = shareOf(sample) * 100 + '%';
+    mark.style.top = heightOf(plot, sample.value) + 'px';
+    mark.place = sample.record;
+    return mark;
+  });
+}
+
+function drawPlot(plot) {
+  const width = plot.track.clientWidth || 1;
+  const drawing = make('div', 'drawing', undefined, { 'aria-hidden': 'true' });
+  drawing.innerHTML = `<svg viewBox="0 0 ${width} ${HEIGHT}" preserveAspectRatio="none">${limitShapes(plot, width)}${valueShapes(plot, width)}</svg>`;
+  redraw(plot.track, [drawing, ...limitLabels(plot, width), ...sampleMarks(plot), ...readingOf(plot, width)]);
+}
+
+function openLane(lane, open) {
+  lane.name.setAttribute('aria-expanded', open);
+  if (!open && lane.plots) {
+    lane.plots.forEach(plot => plot.row.remove());
+    lane.plots = null;
+  }
+  if (!open || lane.plots) return;
+  const fields = [...new Set(rulesOf(lane.rule).flatMap(fieldsOf))];
+  lane.plots = fields.map(field => makePlot(lane, field));
+  lane.row.after(...lane.plots.map(plot => plot.row));
+  lane.plots.forEach(drawPlot);
+}
