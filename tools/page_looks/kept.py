@@ -10,6 +10,8 @@ class Pool:
     def make_room(self):
         while self.count > self.most:
             longest = max(self.lists, key=lambda each: len(each.entries))
+            if len(longest.entries) <= 2:
+                return
             self.count -= len(longest.entries)
             longest.halve()
             self.count += len(longest.entries)
@@ -34,7 +36,7 @@ class Changes:
         self.pool.make_room()
 
     def halve(self):
-        most = len(self.entries) // 2
+        most = max(2, len(self.entries) // 2)
         while len(self.entries) > most:
             self.width *= 2
             entries, self.entries = self.entries, []

@@ -2,10 +2,17 @@
 const HEIGHT = 92, EDGE = 8; // px
 
 // The parts of the run in which a text with this rule is in force, with what the rule says of the field there.
+// Parts in a row that say the same are one.
 function limitPartsOf(rule, field) {
-  return withEnds(run.tables).map(({ entry, from, to }) => ({ from, to, rule: ruleIn(entry[2], rule) }))
-    .filter(part => part.rule && fieldsOf(part.rule).includes(field))
-    .map(part => ({ ...part, limits: limitsOf(part.rule, field), ranges: failingRanges(part.rule, field) }));
+  const parts = [];
+  for (const { entry, from, to } of withEnds(run.tables)) {
+    const inForce = ruleIn(entry[2], rule);
+    if (!inForce || !fieldsOf(inForce).includes(field)) continue;
+    const last = parts.at(-1);
+    if (last && last.to === from && last.rule.condition === inForce.condition) last.to = to;
+    else parts.push({ from, to, rule: inForce, limits: limitsOf(inForce, field), ranges: failingRanges(inForce, field) });
+  }
+  return parts;
 }
 
 // A field's entries with their ends. The last one lasts to the last packet.
@@ -81,40 +88,43 @@ function valueShapes(plot, width) {
   return `${boxes}<path class="line" d="${line}"/>${few ? `<path class="dots" d="${dots}"/>` : ''}`;
 }
 
-// Labels of the limits at their lines. Those that would meet are one label.
-function limitLabels(plot, width) {
+// Labels of the limits at their lines, where they meet no mark. Those that would meet each other are one label.
+function limitLabels(plot, width, marks) {
   const labels = [];
   for (const part of plot.parts) {
-    const [from, to] = [shareOf(part.from), shareOf(part.to)];
-    if (to < 0 || from > 1) continue;
+    const [left, right] = [part.from, part.to].map(end => Math.max(0, Math.min(width, shareOf(end) * width)));
+    if (shareOf(part.to) < 0 || shareOf(part.from) > 1) continue;
     for (const [operator, number] of part.limits) {
-      const text = `${operator} ${number}`;
       const top = Math.max(0, Math.min(HEIGHT - 14, heightOf(plot, numberOf(number)) - 15));
-      addLabel(labels, { text, top, left: Math.max(0, from) * width + 3 }, width);
+      addLabel(labels, { texts: [`${operator} ${number}`], top, start: left, end: right }, width, marks);
     }
   }
-  return labels.map(({ text, top, left }) => {
-    const label = make('div', 'limit_text', text);
-    label.style.top = top + 'px';
-    label.style.left = left / width * 100 + '%';
-    return label;
+  return labels.map(label => {
+    const element = make('div', 'limit_text', label.texts.join(', '));
+    element.style.top = label.top + 'px';
+    element.style.left = label.left / width * 100 + '%';
+    return element;
   });
 }
 
-function addLabel(labels, label, width) {
-  const wide = widthOf(label.text, 11) + 10;
-  label.left = Math.max(0, Math.min(label.left, width - wide));
+// Puts a label as far left in its part as no mark is below it; one that it meets is joined with it.
+function addLabel(labels, label, width, marks) {
+  const wide = widthOf(label.texts.join(', '), 11) + 10;
+  const free = left => !marks.some(mark => mark.x > left - 10 && mark.x < left + wide + 8 && Math.abs(mark.y - label.top - 7) < 16);
+  const first = Math.max(0, Math.min(label.start + 3, width - wide));
+  label.left = first;
+  while (!free(label.left) && label.left + wide + 12 < label.end) label.left += 12;
+  if (!free(label.left)) label.left = first;
   label.right = label.left + wide;
   const met = labels.findIndex(other => Math.abs(other.top - label.top) < 15 && other.left < label.right && label.left < other.right);
   if (met < 0) { labels.push(label); return; }
   const [other] = labels.splice(met, 1);
-  const said = other.text.split(', ');
-  const text = said.includes(label.text) ? other.text : `${other.text}, ${label.text}`;
-  addLabel(labels, { text, top: other.top, left: Math.min(other.left, label.left) }, width);
+  const texts = [...new Set(other.texts.concat(label.texts))];
+  addLabel(labels, { texts, top: other.top, start: Math.min(other.start, label.start), end: Math.max(other.end, label.end) }, width, marks);
 }
 
 // The samples that counted for the rule's requests, at the values that they met.
-function sampleMarks(plot) {
+function sampleMarks(plot, width) {
   return plot.lane.items.filter(item => item.request).flatMap(({ request }) => {
     const rule = ruleIn(request.text, request.rule);
     const part = rule ? rule.comparisons.findIndex(([field]) => field === plot.field) : -1;
@@ -124,9 +134,9 @@ function sampleMarks(plot) {
     const value = valueText(plot.field, sample.value);
     const name = `sample that counted for sequence ${sample.request.sequence}: ${run.fields[plot.field].name} ${value}, ${at(sample)}`;
     const mark = makeButton('diamond', '', name, () => showRequest(sample.request));
+    Object.assign(mark, { place: sample.record, x: shareOf(sample) * width, y: heightOf(plot, sample.value) });
     mark.style.left = shareOf(sample) * 100 + '%';
-    mark.style.top = heightOf(plot, sample.value) + 'px';
-    mark.place = sample.record;
+    mark.style.top = mark.y + 'px';
     return mark;
   });
 }
@@ -135,7 +145,8 @@ function drawPlot(plot) {
   const width = plot.track.clientWidth || 1;
   const drawing = make('div', 'drawing', undefined, { 'aria-hidden': 'true' });
   drawing.innerHTML = `<svg viewBox="0 0 ${width} ${HEIGHT}" preserveAspectRatio="none">${limitShapes(plot, width)}${valueShapes(plot, width)}</svg>`;
-  redraw(plot.track, [drawing, ...limitLabels(plot, width), ...sampleMarks(plot), ...readingOf(plot, width)]);
+  const marks = sampleMarks(plot, width);
+  redraw(plot.track, [drawing, ...limitLabels(plot, width, marks), ...marks, ...readingOf(plot, width)]);
 }
 
 function openLane(lane, open) {
