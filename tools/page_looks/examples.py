@@ -126,13 +126,14 @@ def full():
     run = Course(fields, [rules], 2_000_000_000.5)
     run.started(0)
     packets = [[name for name in fields if fields[name]["packet"] == f"P{packet}"] for packet in range(4)]
-    for second in range(19_990):
+    for second in range(23_800):
         run.after(60.7)
         for packet, names in enumerate(packets):
             values = {name: -1_999_999_999 + (second * 7_919 + place * 104_729) % 1_500_000_007 for place, name in enumerate(names)}
             run.telemetry(f"P{packet}", **values)
-        run.tick()
-        if second % 9 == 0 and second < 9_000:
+        if second % 5 == 0:
+            run.tick()
+        if second % 45 == 0:
             run.adopted(0)
     return run.data()
 

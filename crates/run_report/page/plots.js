@@ -95,8 +95,7 @@ function limitLabels(plot, width, marks) {
     const [left, right] = [part.from, part.to].map(end => Math.max(0, Math.min(width, shareOf(end) * width)));
     if (shareOf(part.to) < 0 || shareOf(part.from) > 1) continue;
     for (const [operator, number] of part.limits) {
-      const top = Math.max(0, Math.min(HEIGHT - 14, heightOf(plot, numberOf(number)) - 15));
-      addLabel(labels, { texts: [`${operator} ${number}`], top, start: left, end: right }, width, marks);
+      addLabel(labels, { texts: [`${operator} ${number}`], line: heightOf(plot, numberOf(number)), start: left, end: right }, width, marks);
     }
   }
   return labels.map(label => {
@@ -107,20 +106,29 @@ function limitLabels(plot, width, marks) {
   });
 }
 
-// Puts a label as far left in its part as no mark is below it; one that it meets is joined with it.
+// A place for a label above its line, or below it, as far left in its part as no mark is there.
+function freePlace(label, wide, width, marks) {
+  const meets = (left, top) => marks.some(mark => mark.x > left - 10 && mark.x < left + wide + 8 && Math.abs(mark.y - top - 7) < 16);
+  const tops = [label.line - 15, label.line + 2].map(top => Math.max(0, Math.min(HEIGHT - 14, top)));
+  const first = Math.max(0, Math.min(label.start + 3, width - wide));
+  for (const top of tops) {
+    for (let left = first; left === first || left + wide < label.end; left += 12) {
+      if (!meets(left, top)) return { left, top };
+    }
+  }
+  return { left: first, top: tops[0] };
+}
+
+// A label that would meet another one is joined with it.
 function addLabel(labels, label, width, marks) {
   const wide = widthOf(label.texts.join(', '), 11) + 10;
-  const free = left => !marks.some(mark => mark.x > left - 10 && mark.x < left + wide + 8 && Math.abs(mark.y - label.top - 7) < 16);
-  const first = Math.max(0, Math.min(label.start + 3, width - wide));
-  label.left = first;
-  while (!free(label.left) && label.left + wide + 12 < label.end) label.left += 12;
-  if (!free(label.left)) label.left = first;
+  Object.assign(label, freePlace(label, wide, width, marks));
   label.right = label.left + wide;
   const met = labels.findIndex(other => Math.abs(other.top - label.top) < 15 && other.left < label.right && label.left < other.right);
   if (met < 0) { labels.push(label); return; }
   const [other] = labels.splice(met, 1);
   const texts = [...new Set(other.texts.concat(label.texts))];
-  addLabel(labels, { texts, top: other.top, start: Math.min(other.start, label.start), end: Math.max(other.end, label.end) }, width, marks);
+  addLabel(labels, { texts, line: other.line, start: Math.min(other.start, label.start), end: Math.max(other.end, label.end) }, width, marks);
 }
 
 // The samples that counted for the rule's requests, at the values that they met.
