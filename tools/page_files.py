@@ -1,6 +1,7 @@
 """The page of a run, put together from the files of crates/run_report/page."""
 
 import os
+import re
 
 TOP = os.path.dirname(os.path.dirname(os.path.abspath(__file__)))
 FOLDER = f"{TOP}/crates/run_report/page"
@@ -19,10 +20,15 @@ def shortened(text):
     return "".join(f"{line}\n" for line in lines if line and not line.startswith("//") and not (line.startswith("/*") and line.endswith("*/")))
 
 
+def style(text):
+    """Without the blanks that a style doesn't need: it has no text in which they count."""
+    return re.sub(r" ?([{};:,]) ?", r"\1", shortened(text)).replace("\n}", "}")
+
+
 def parts():
     """What stands in front of the data, and behind it."""
     page = read("page.html")
-    page = page.replace("{{style}}\n", shortened(read("page.css")))
+    page = page.replace("{{style}}\n", style(read("page.css")))
     page = page.replace("{{script}}\n", "".join(shortened(read(f"{name}.js")) for name in SCRIPTS))
     front, behind = page.split("{{run}}")
     return front, behind

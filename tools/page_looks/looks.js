@@ -59,7 +59,7 @@ looks.truth = () => {
   const faults = [];
   const worst = bits => RESULTS.findIndex(([bit]) => bits & bit);
   for (const lane of lanes) {
-    if (lane.row.hidden || !lane.track.querySelector('.cell')) continue;
+    if (lane.row.hidden || (others.includes(lane) && !lane.seen)) continue;
     const width = lane.track.clientWidth;
     const cells = [...lane.track.querySelectorAll('.cell')].map(cell => {
       const left = parseFloat(cell.style.left) / 100 * width;

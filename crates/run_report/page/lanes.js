@@ -67,7 +67,10 @@ function drawLane(lane) {
   if (lane.plots) lane.plots.forEach(drawPlot);
 }
 
-// Only lanes on the screen are drawn where the window moves, but on paper all are.
+// Lanes on the screen are drawn as soon as the window moves, the others when nothing else is to be done; on paper all at once.
+let others = [];
+let timer = 0;
+
 const onScreen = new IntersectionObserver(entries => {
   for (const { target, isIntersecting } of entries) {
     target.lane.seen = isIntersecting;
@@ -76,9 +79,17 @@ const onScreen = new IntersectionObserver(entries => {
 }, { rootMargin: '400px' });
 
 function drawLanes() {
-  for (const lane of lanes) {
-    if ((lane.seen || document.body.classList.contains('printing')) && !lane.row.hidden) drawLane(lane);
-  }
+  const all = document.body.classList.contains('printing');
+  const shown = lanes.filter(lane => !lane.row.hidden);
+  shown.filter(lane => lane.seen || all).forEach(drawLane);
+  others = all ? [] : shown.filter(lane => !lane.seen);
+  clearTimeout(timer);
+  timer = setTimeout(drawOthers, 200);
+}
+
+function drawOthers() {
+  others.splice(0, 8).forEach(drawLane);
+  if (others.length) timer = setTimeout(drawOthers, 20);
 }
 
 function makeLane(list, rule, items) {

@@ -112,7 +112,7 @@ function freePlace(label, wide, width, marks) {
   const tops = [label.line - 15, label.line + 2].map(top => Math.max(0, Math.min(HEIGHT - 14, top)));
   const first = Math.max(0, Math.min(label.start + 3, width - wide));
   for (const top of tops) {
-    for (let left = first; left === first || left + wide < label.end; left += 12) {
+    for (let left = first; left === first || left + wide <= label.end; left += 4) {
       if (!meets(left, top)) return { left, top };
     }
   }
