@@ -127,6 +127,7 @@ def spans_by_keys(look, most=5):
         look.expect(set(drawn) <= set(names), f"lane {lane}: the arrows don't come to {set(drawn) - set(names)}")
     if not look.ask("lanes.some(lane => lane.spans.length)"):
         return
+    beyond_the_window(look)
     look.do("byId('words').focus()")
     for _ in range(60):
         look.browser.key("Tab", 9)
@@ -134,6 +135,21 @@ def spans_by_keys(look, most=5):
             break
     else:
         look.fault("the tab key doesn't come to the lanes")
+
+
+def beyond_the_window(look):
+    """From the first tenth of the run the arrows come to its end."""
+    lane = look.ask("lanes.findIndex(lane => lane.spans.length && lane.spans.length < 60)")
+    if lane < 0:
+        return
+    look.do("const whole = wholeRun(); moveTo(whole[0], whole[0] + (whole[1] - whole[0]) / 10)")
+    look.do(f"lanes[{lane}].row.scrollIntoView({{block: 'center'}}); lanes[{lane}].track.querySelector('[tabindex=\"0\"]').focus()")
+    names = set()
+    for _ in range(150):
+        names.add(look.ask("document.activeElement.getAttribute('aria-label')"))
+        look.browser.key("ArrowRight", 39)
+    spans = look.ask(f"lanes[{lane}].spans.map(span => spanName({lane}, span))")
+    look.expect(set(spans) <= names, f"lane {lane}: the arrows don't come to {sorted(set(spans) - names)[:2]}")
 
 
 def filters(look):

@@ -24,7 +24,8 @@ function widthOf(text, size, weight = 400) {
   return pen.measureText(text).width;
 }
 
-// Within a track the arrows go from button to button, by their places; the track is one stop of the tab key.
+// Within a track the arrows go from button to button, by their places, and at the window's edge they move it.
+// The track is one stop of the tab key.
 function walkable(track) {
   track.addEventListener('keydown', event => {
     const step = { ArrowLeft: -1, ArrowRight: 1, Home: -Infinity, End: Infinity }[event.key];
@@ -33,6 +34,7 @@ function walkable(track) {
     if (step === undefined || now < 0) return;
     event.preventDefault();
     event.stopPropagation();
+    if (!buttons[now + step] && Number.isFinite(step)) pan(step / 2);
     const next = buttons[Math.max(0, Math.min(buttons.length - 1, now + step))];
     setStop(track, next);
     next.focus({ preventScroll: true });

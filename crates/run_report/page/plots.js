@@ -24,25 +24,31 @@ function stepsOf(field) {
   }));
 }
 
-// The least and the greatest of what is to be seen, with some room.
-function boundsOf(steps, parts) {
-  const all = steps.flatMap(step => [step.low, step.high]).filter(value => value !== null)
-    .concat(parts.flatMap(part => part.limits.map(([, number]) => numberOf(number))));
-  const low = all.reduce((one, other) => Math.min(one, other), Infinity);
-  const high = all.reduce((one, other) => Math.max(one, other), -Infinity);
+// The least and the greatest of the values in the window and of the limits, nearest first, as far as the values stay to be seen.
+function boundsOf(plot) {
+  const seen = each => shareOf(each.to) >= 0 && shareOf(each.from) <= 1;
+  const values = plot.steps.filter(seen).flatMap(step => [step.low, step.high]).filter(value => value !== null);
+  const limits = plot.parts.filter(seen).flatMap(part => part.limits.map(([, number]) => numberOf(number)));
+  let low = values.reduce((one, other) => Math.min(one, other), values[0] ?? limits[0] ?? 0);
+  let high = values.reduce((one, other) => Math.max(one, other), low);
+  plot.values = values.length ? [low, high].map(value => valueText(plot.field, value)).join(' to ') : 'no value';
+  const away = limit => Math.max(low - limit, limit - high, 0);
+  const most = Math.max(1, high - low, Math.min(...limits.map(away))) * 8;
+  for (const limit of limits) {
+    if (Math.max(high, limit) - Math.min(low, limit) > most) continue;
+    [low, high] = [Math.min(low, limit), Math.max(high, limit)];
+  }
   const room = (high - low) * 0.08 || 1;
-  return all.length ? [low - room, high + room] : [0, 1];
+  return [low - room, high + room];
 }
 
 function makePlot(lane, field) {
   const { name, values, packets } = run.fields[field];
   const plot = { row: make('div', 'row plot'), track: make('div', 'track'), field, lane, parts: limitPartsOf(lane.rule, field) };
   plot.steps = stepsOf(field);
-  [plot.low, plot.high] = boundsOf(plot.steps, plot.parts);
+  plot.told = make('div');
   const label = make('div', 'name', name);
-  const known = plot.steps.flatMap(step => [step.low, step.high]).filter(value => value !== null);
-  const range = known.length ? [Math.min(...known), Math.max(...known)].map(value => valueText(field, value)).join(' to ') : 'no value';
-  label.append(make('div', '', `${range}; ${packets} packets`));
+  label.append(plot.told, make('div', '', `${packets} packets`));
   if (plot.parts.some(part => !isAlone(part.rule))) label.append(make('div', '', 'shade: this field’s part alone'));
   plot.row.append(label, plot.track);
   plot.track.tabIndex = 0;
@@ -61,8 +67,9 @@ function limitShapes(plot, width) {
     const [left, right] = [part.from, part.to].map(place => sharePixels(place, width));
     const wide = Math.max(0, right - left);
     const shades = part.ranges.map(([low, high]) => {
-      const top = high === Infinity ? 0 : heightOf(plot, high + 0.5);
-      const bottom = low === -Infinity ? HEIGHT : heightOf(plot, low - 0.5);
+      const top = Math.max(0, heightOf(plot, high + 0.5));
+      const bottom = Math.min(HEIGHT, heightOf(plot, low - 0.5));
+      if (bottom < 0 || top > HEIGHT) return '';
       return `<rect class="shade" x="${left}" y="${top}" width="${wide}" height="${Math.max(1, bottom - top)}"/>`;
     });
     const lines = part.limits.map(([, number]) => `<path class="limit" d="M${left} ${heightOf(plot, numberOf(number))}h${wide}"/>`);
@@ -95,7 +102,9 @@ function limitLabels(plot, width, marks) {
     const [left, right] = [part.from, part.to].map(end => Math.max(0, Math.min(width, shareOf(end) * width)));
     if (shareOf(part.to) < 0 || shareOf(part.from) > 1) continue;
     for (const [operator, number] of part.limits) {
-      addLabel(labels, { texts: [`${operator} ${number}`], line: heightOf(plot, numberOf(number)), start: left, end: right }, width, marks);
+      const line = heightOf(plot, numberOf(number));
+      const beyond = line < 0 ? '↑ ' : line > HEIGHT ? '↓ ' : '';
+      addLabel(labels, { texts: [`${beyond}${operator} ${number}`], line, start: left, end: right }, width, marks);
     }
   }
   return labels.map(label => {
@@ -151,6 +160,8 @@ function sampleMarks(plot, width) {
 
 function drawPlot(plot) {
   const width = plot.track.clientWidth || 1;
+  [plot.low, plot.high] = boundsOf(plot);
+  plot.told.textContent = plot.values;
   const drawing = make('div', 'drawing', undefined, { 'aria-hidden': 'true' });
   drawing.innerHTML = `<svg viewBox="0 0 ${width} ${HEIGHT}" preserveAspectRatio="none">${limitShapes(plot, width)}${valueShapes(plot, width)}</svg>`;
   const marks = sampleMarks(plot, width);

@@ -4,8 +4,12 @@ const view = { unit: run.ordered ? 'start' : 'record', low: 0, high: 1 };
 const drawings = []; // what is drawn anew where the window moves
 let frame = 0;
 
-// A place on the axis: its record, or its seconds after the start.
-const positionOf = place => (view.unit === 'record' ? place.record : place.time / TICKS);
+// A place on the axis: its record, or its seconds after the start. What stands at the run's end stands up to the axis's end.
+function positionOf(place) {
+  if (place === END) return wholeRun()[1];
+  return view.unit === 'record' ? place.record : place.time / TICKS;
+}
+
 const shareOf = place => (positionOf(place) - view.low) / (view.high - view.low);
 
 // The whole run. Behind the last record there is some room, since what stands there begins there.
