@@ -1,8 +1,8 @@
 -- The box that left a seat.
 use Rattle.std.proofs.Common.{◌≡◌, refl, sym, ap, ◌∙◌, subst, ℕ, zero, suc, ◌<◌, List, [], ◌∷◌, length, map, get_or, arith, Option, Some, None, Result, Ok, Err}
-use Rattle.std.specs.Prelude.{IfSome, IsSomeAnd, option_map, slice_index_or}
+use Rattle.std.specs.Prelude.{IfSome, IsSomeAnd, slice_index_or}
 use Rattle.std.specs.Global.{Global}
-use Rattle.std.specs.declared.dyn_box.DynBox.{DynBox}
+use Rattle.std.specs.declared.boxed.Box.{Box}
 use Rattle.lc_model.specs.declared.record.Body.{Body}
 use Rattle.lc_model.specs.declared.record.Body.TheVariants as variant
 use Rattle.lc_model.specs.declared.record.Moment.{Moment}
@@ -14,7 +14,7 @@ use Rattle.lc_model.specs.Services.Tables.{TableService, file_put}
 use Rattle.app_host.specs.declared.services.Services.{Services}
 use Rattle.app_host.specs.Shared.{at_moment}
 use Rattle.app_host.specs.Object.{Object}
-use Rattle.app_host.specs.Hosted.{Hosted, object_at}
+use Rattle.app_host.specs.Hosted.{Hosted, object_at, object_in}
 use Rattle.app_host.specs.Objects.{MayRetire, HasRetired}
 use Rattle.app_host.specs.Obeyed.{events_by}
 use Rattle.app_host.specs.ObeyedTables.{tables_by}
@@ -70,33 +70,33 @@ module _ (Gone : ℕ → Type 0) where
 
 -- ---- a place
 
-module _ {X : Type 0} {D : X → Type 0} (meaning : DynBox X Global D → Object) (seats : List (Option (DynBox X Global D))) (before after : Services) (app : DynBox X Global D) where
-  box_at : (seat : ℕ) (place : Option (DynBox X Global D)) → slice_index_or seats seat None ≡ place → IsSomeAnd (option_map meaning place) (MayRetire seat before) →
-      IfSome (option_map meaning place) (λ (o : Object). HasRetired seat before after o (meaning app)) → IfSome place (λ (there : DynBox X Global D). app.vtable ≡ there.vtable) → BoxHasGone meaning seats before seat
+module _ {B : Type 0} (meaning : B → Object) (seats : List (Option (Box B Global))) (before after : Services) (app : Box B Global) where
+  box_at : (seat : ℕ) (place : Option (Box B Global)) → slice_index_or seats seat None ≡ place → IsSomeAnd (object_in meaning place) (MayRetire seat before) →
+      IfSome (object_in meaning place) (λ (o : Object). HasRetired seat before after o (meaning app.value)) → IfSome place (λ (there : Box B Global). (meaning app.value).called ≡ (meaning there.value).called) → BoxHasGone meaning seats before seat
   box_at seat None at there left same = absurd there
   box_at seat (Some box) at there left same = record {
     after = after;
     gone = app;
-    retired = subst (λ (p : Option (DynBox X Global D)). IsSomeAnd p (λ (x : DynBox X Global D). (app.vtable ≡ x.vtable) × HasRetired seat before after (meaning x) (meaning app))) (sym at) (same, left);
+    retired = subst (λ (p : Option (Box B Global)). IsSomeAnd p (λ (x : Box B Global). ((meaning app.value).called ≡ (meaning x.value).called) × HasRetired seat before after (meaning x.value) (meaning app.value))) (sym at) (same, left);
   }
 
-  same_place : (xs : List (Option (DynBox X Global D))) (i : ℕ) (x : Option (DynBox X Global D)) → i < length xs → get_or xs i None ≡ get_or xs i x
+  same_place : (xs : List (Option (Box B Global))) (i : ℕ) (x : Option (Box B Global)) → i < length xs → get_or xs i None ≡ get_or xs i x
   same_place [] i x less = absurd (omega arith)
   same_place (y ∷ xs) zero x less = refl
   same_place (y ∷ xs) (suc i) x less = same_place xs i x (omega arith)
 
-  pub box_there : (k seat : ℕ) (old : Option (DynBox X Global D)) → k ≡ seat → k < 8 → length seats ≡ 8 → IsSomeAnd (object_at seat (map (option_map meaning) seats)) (MayRetire seat before) →
-      IfSome (option_map meaning (get_or seats k old)) (λ (o : Object). HasRetired seat before after o (meaning app)) → IfSome (get_or seats k old) (λ (there : DynBox X Global D). app.vtable ≡ there.vtable) →
+  pub box_there : (k seat : ℕ) (old : Option (Box B Global)) → k ≡ seat → k < 8 → length seats ≡ 8 → IsSomeAnd (object_at seat (map (object_in meaning) seats)) (MayRetire seat before) →
+      IfSome (object_in meaning (get_or seats k old)) (λ (o : Object). HasRetired seat before after o (meaning app.value)) → IfSome (get_or seats k old) (λ (there : Box B Global). (meaning app.value).called ≡ (meaning there.value).called) →
       BoxHasGone meaning seats before seat
   box_there k seat old is less eight there left same =
       let inside : k < length seats = omega (arith, less, eight) in
       box_at seat (get_or seats k old) (ap (λ i. get_or seats i None) (sym is) ∙ same_place seats k old inside)
-      (subst (λ (p : Option Object). IsSomeAnd p (MayRetire seat before)) (ap (λ i. object_at i (map (option_map meaning) seats)) (sym is) ∙ shown_in (option_map meaning) seats k old None inside) there) left same
+      (subst (λ (p : Option Object). IsSomeAnd p (MayRetire seat before)) (ap (λ i. object_at i (map (object_in meaning) seats)) (sym is) ∙ shown_in (object_in meaning) seats k old None inside) there) left same
 
 -- ---- a step
 
-module _ {X : Type 0} {D : X → Type 0} (meaning : DynBox X Global D → Object) where
-  pub gone_then : (moment : Moment) (body : Body) (old begun : Hosted) (began : StepHasBegun moment old begun) (seats seats' : List (Option (DynBox X Global D))) → seats' ≡ seats →
+module _ {B : Type 0} (meaning : B → Object) where
+  pub gone_then : (moment : Moment) (body : Body) (old begun : Hosted) (began : StepHasBegun moment old begun) (seats seats' : List (Option (Box B Global))) → seats' ≡ seats →
       IfSome (response_to body begun).leaves (BoxHasGone meaning seats' begun.services) → IfSome (response_to body old).leaves (BoxHasGone meaning seats (at_moment moment old.services))
   gone_then moment body old begun began seats seats' same gone =
-      subst (λ (x : Response × List (Option (DynBox X Global D)) × Services). IfSome x.0.leaves (BoxHasGone meaning x.1 x.2)) (λ i. (begun_response moment body old begun began i, same i, began.services i)) gone
+      subst (λ (x : Response × List (Option (Box B Global)) × Services). IfSome x.0.leaves (BoxHasGone meaning x.1 x.2)) (λ i. (begun_response moment body old begun began i, same i, began.services i)) gone

@@ -1,7 +1,7 @@
 -- The host as contracts see it: its objects by what they mean, and its services.
 use Rattle.std.specs.Prelude.{ℕ, Bool, List, [], map, slice_index_or, Option, None, option_map}
 use Rattle.std.specs.Global.{Global}
-use Rattle.std.specs.declared.dyn_box.DynBox.{DynBox}
+use Rattle.std.specs.declared.boxed.Box.{Box}
 use Rattle.lc_model.specs.Kept.Summary.{Other}
 use Rattle.lc_model.specs.Kept.Executive.{Member, Executive}
 use Rattle.lc_model.specs.Kept.Stations as model
@@ -31,11 +31,18 @@ pub record Hosted : Type 0 where
   pub is_closed : Bool
   pub calls : ℕ
 
+-- what objects in boxes mean: of a list, and of a place that has one or none
+abbrev pub objects_in : {B : Type 0} → (B → Object) → List (Box B Global) → List Object
+objects_in meaning = map (λ (b : Box _ Global). meaning b.value)
+
+abbrev pub object_in : {B : Type 0} → (B → Object) → Option (Box B Global) → Option Object
+object_in meaning = option_map (λ (b : Box _ Global). meaning b.value)
+
 -- a host by the meanings of its objects
-abbrev pub shown : {X : Type 0} {D : X → Type 0} → (DynBox X Global D → Object) → Host X D → Hosted
+abbrev pub shown : {B : Type 0} → (B → Object) → Host B → Hosted
 shown meaning h = record {
-  stock = map meaning h.stock.items;
-  seats = map (option_map meaning) h.seats;
+  stock = objects_in meaning h.stock.items;
+  seats = map (object_in meaning) h.seats;
   services = h.services;
   is_closed = h.closed;
   calls = h.calls;

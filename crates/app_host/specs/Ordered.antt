@@ -1,8 +1,6 @@
 -- What an order to an application asks for and leaves.
 use Rattle.std.specs.Prelude.{◌≡◌, ◌⊎◌, ℕ, ◌*◌, ◌<◌, ◌≤◌, ⊤, true, false, List, [], length, take, ◌++◌, Option, Some, None, option_to_list, Result, Ok, Err, IfSome, IsSomeAnd, slice_set}
-use Rattle.std.specs.Global.{Global}
 use Rattle.std.specs.List.{concat}
-use Rattle.std.specs.declared.dyn_box.DynBox.{DynBox}
 use Rattle.std.specs.Io.KnownBytes.{Appends}
 use Rattle.lc_model.specs.declared.record.Moment.{Moment}
 use Rattle.lc_model.specs.Device.{Sink}
@@ -42,10 +40,10 @@ pub data Next : Type 0 where
   Same : (o : Object) (seat : ℕ) → Next
 
 -- by the meanings of its object
-abbrev pub next_of : {X : Type 0} {D : X → Type 0} → (DynBox X Global D → Object) → Successor X D → Next
+abbrev pub next_of : {B : Type 0} → (B → Object) → Successor B → Next
 next_of meaning successor.Nobody = Nobody
 next_of meaning (successor.Spare place seat) = Spare place seat
-next_of meaning (successor.Same app seat) = Same (meaning app) seat
+next_of meaning (successor.Same app seat) = Same (meaning app.value) seat
 
 -- an object that holds no seat may begin on this one, which is free: no seat has its name
 pub record MayBegin (seat : ℕ) (h : Hosted) (o : Object) : Type 0 where
@@ -168,14 +166,14 @@ pub record IsPrepared (party : Party) (wanted : Result (Written (List ℕ)) Refu
   pub exact : AreKnownIn party old → LeadsTo wanted new next
 
 -- one of the two, by the answer
-abbrev pub Prepares : {X : Type 0} {D : X → Type 0} → (DynBox X Global D → Object) →
-    Party → Result (Written (List ℕ)) Refusal → Hosted → Hosted → Result (Successor X D) HostError → Type 0
+abbrev pub Prepares : {B : Type 0} → (B → Object) →
+    Party → Result (Written (List ℕ)) Refusal → Hosted → Hosted → Result (Successor B) HostError → Type 0
 Prepares meaning party wanted old new (Ok next) = IsPrepared party wanted old new (next_of meaning next)
 Prepares meaning party wanted old new (Err error) = (wanted ≡ Err (refusal_of error)) × (new ≡ old)
 
 -- what prepares an order, of a command that may be refused for its code or its length, too
-abbrev pub PreparesFor : {X : Type 0} {D : X → Type 0} → (DynBox X Global D → Object) →
-    Party → Result (Written (List ℕ)) Refusal → Hosted → Hosted → Result (Successor X D) Refusal → Type 0
+abbrev pub PreparesFor : {B : Type 0} → (B → Object) →
+    Party → Result (Written (List ℕ)) Refusal → Hosted → Hosted → Result (Successor B) Refusal → Type 0
 PreparesFor meaning party wanted old new (Ok next) = IsPrepared party wanted old new (next_of meaning next)
 PreparesFor meaning party wanted old new (Err numbers) = (wanted ≡ Err numbers) × (new ≡ old)
 
@@ -202,14 +200,14 @@ pub record HasMadeWay (Gone : ℕ → Type 0) (wanted : Result Succession Refusa
   pub seats : new.seats ≡ seats_without succession.leaves old.seats
 
 -- one of the two, by the answer
-abbrev pub MakesWay : {X : Type 0} {D : X → Type 0} → (DynBox X Global D → Object) → (ℕ → Type 0) →
-    Result Succession Refusal → Hosted → Hosted → Result (Successor X D) HostError → Type 0
+abbrev pub MakesWay : {B : Type 0} → (B → Object) → (ℕ → Type 0) →
+    Result Succession Refusal → Hosted → Hosted → Result (Successor B) HostError → Type 0
 MakesWay meaning Gone wanted old new (Ok next) = HasMadeWay Gone wanted old new (next_of meaning next)
 MakesWay meaning Gone wanted old new (Err error) = (wanted ≡ Err (refusal_of error)) × (new ≡ old)
 
 -- what makes way for an order, of a command that may be refused for its code or its length, too
-abbrev pub MakesWayFor : {X : Type 0} {D : X → Type 0} → (DynBox X Global D → Object) → (ℕ → Type 0) →
-    Result Succession Refusal → Hosted → Hosted → Result (Successor X D) Refusal → Type 0
+abbrev pub MakesWayFor : {B : Type 0} → (B → Object) → (ℕ → Type 0) →
+    Result Succession Refusal → Hosted → Hosted → Result (Successor B) Refusal → Type 0
 MakesWayFor meaning Gone wanted old new (Ok next) = HasMadeWay Gone wanted old new (next_of meaning next)
 MakesWayFor meaning Gone wanted old new (Err numbers) = (wanted ≡ Err numbers) × (new ≡ old)
 

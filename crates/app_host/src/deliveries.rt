@@ -9,20 +9,22 @@ ghost use Rattle.app_host.specs.Load.{IsLight, load};
 ghost use Rattle.app_host.specs.Delivered.{HasDelivered};
 ghost use Rattle.app_host.specs.Writing.{IsFlushed, IsSent, most_sent};
 
+use crate::app::App;
 use crate::error::WriteFault;
 use crate::host::Host;
 use crate::places::give_at;
 use lc_model::{ByteSink, Seat, write_all};
 
-impl Host {
+impl<B: App> Host<B> {
     /// The object of a seat answers the first packet of its pipe. Condition: that is the least seat with a packet. Answers the
     /// next such seat.
     pub(crate) fn deliver(&mut self, seat: Seat) -> Option<Seat>
-        requires whole { IsWhole (shown meaning self.old) }
+        requires whole { IsWhole (shown B.meaning self.old) }
         requires light { IsLight (seen self.old.services.bus) }
         requires few { self.old.calls + load (seen self.old.services.bus) ≤ most_deliveries }
         requires ready { ready_seat (seen self.old.services.bus) ≡ Some seat }
-        ensures delivered { HasDelivered seat (shown meaning self.old) (shown meaning self.new) }
+        ensures delivered { HasDelivered seat
+            (shown B.meaning self.old) (shown B.meaning self.new) }
         ensures next { result ≡ ready_seat (seen self.new.services.bus) }
     {
         let size = self
@@ -49,11 +51,11 @@ impl Host {
     /// fails the host is closed. Most records leave nothing to be written, and are told so without a call.
     #[inline(always)]
     pub(crate) fn flush<W: ByteSink>(&mut self, out: &mut W, sent: u64) -> Result<u64, WriteFault>
-        requires seated { AreSeated (shown meaning self.old).seats
-            (shown meaning self.old).services }
+        requires seated { AreSeated (shown B.meaning self.old).seats
+            (shown B.meaning self.old).services }
         requires room { sent + length self.old.services.outgoing ≤ most_sent }
-        ensures flushed { IsFlushed (shown meaning self.old) (shown meaning self.new) }
-        ensures sent { IsSent sent (shown meaning self.old) (shown meaning self.new)
+        ensures flushed { IsFlushed (shown B.meaning self.old) (shown B.meaning self.new) }
+        ensures sent { IsSent sent (shown B.meaning self.old) (shown B.meaning self.new)
             (W.sink out.old) (W.sink out.new) result }
     {
         if self.services.outgoing.is_empty() {
@@ -65,11 +67,11 @@ impl Host {
     /// Writes what waits, be it nothing, behind so many bytes of this step, as `flush` says of it.
     #[inline(never)]
     fn write_waiting<W: ByteSink>(&mut self, out: &mut W, sent: u64) -> Result<u64, WriteFault>
-        requires seated { AreSeated (shown meaning self.old).seats
-            (shown meaning self.old).services }
+        requires seated { AreSeated (shown B.meaning self.old).seats
+            (shown B.meaning self.old).services }
         requires room { sent + length self.old.services.outgoing ≤ most_sent }
-        ensures flushed { IsFlushed (shown meaning self.old) (shown meaning self.new) }
-        ensures sent { IsSent sent (shown meaning self.old) (shown meaning self.new)
+        ensures flushed { IsFlushed (shown B.meaning self.old) (shown B.meaning self.new) }
+        ensures sent { IsSent sent (shown B.meaning self.old) (shown B.meaning self.new)
             (W.sink out.old) (W.sink out.new) result }
     {
         // For the proof: tables and files are within their bounds, each under a name of its own.

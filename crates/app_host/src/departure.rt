@@ -10,14 +10,14 @@ use crate::host::Host;
 use crate::places::retire_at;
 use lc_model::Seat;
 
-impl Host {
+impl<B: App> Host<B> {
     /// The object of a seat retires, if there is one, and is handed on.
-    pub(crate) fn vacate(&mut self, seat: Seat) -> Option<Box<dyn App>>
-        requires seated { AreSeated (shown meaning self.old).seats
-            (shown meaning self.old).services }
+    pub(crate) fn vacate(&mut self, seat: Seat) -> Option<Box<B>>
+        requires seated { AreSeated (shown B.meaning self.old).seats
+            (shown B.meaning self.old).services }
         requires idle { self.old.services.outgoing ≡ [] }
-        ensures vacated { HasVacated seat (shown meaning self.old) (shown meaning self.new) }
-        ensures retired { IfSome (object_at seat (shown meaning self.old).seats)
+        ensures vacated { HasVacated seat (shown B.meaning self.old) (shown B.meaning self.new) }
+        ensures retired { IfSome (object_at seat (shown B.meaning self.old).seats)
             (WasRetired seat) }
     {
         // For the proof: tables and files are within their bounds, each under a name of its own.
@@ -30,11 +30,11 @@ impl Host {
 
     /// All that run give their seats back by `retire`, seat by seat, and are handed on; what they ask for then is let go. Nothing
     /// runs any more, and nothing is registered: no pipe, subscription, sender of events and table. What is in stock stays.
-    fn retire_all(&mut self) -> [Option<Box<dyn App>>; Seat::COUNT]
-        requires whole { IsWhole (shown meaning self.old) }
-        ensures closed { HasClosed (shown meaning self.old) (shown meaning self.new) }
+    fn retire_all(&mut self) -> [Option<Box<B>>; Seat::COUNT]
+        requires whole { IsWhole (shown B.meaning self.old) }
+        ensures closed { HasClosed (shown B.meaning self.old) (shown B.meaning self.new) }
     {
-        let mut retired: [Option<Box<dyn App>>; Seat::COUNT] = [
+        let mut retired: [Option<Box<B>>; Seat::COUNT] = [
             None, None, None, None, None, None, None, None,
         ];
         for index in 0..8u8 {
@@ -47,20 +47,20 @@ impl Host {
 
     /// All that run retire, seat by seat, and then all objects are dropped.
     pub fn close(mut self)
-        requires whole { IsWhole (shown meaning self) }
+        requires whole { IsWhole (shown B.meaning self) }
     {
         let _retired = self.retire_all();
     }
 
     /// What waits to be written is let go.
     fn let_go(&mut self)
-        requires seated { AreSeated (shown meaning self.old).seats
-            (shown meaning self.old).services }
-        ensures seated { AreSeated (shown meaning self.new).seats
-            (shown meaning self.new).services }
+        requires seated { AreSeated (shown B.meaning self.old).seats
+            (shown B.meaning self.old).services }
+        ensures seated { AreSeated (shown B.meaning self.new).seats
+            (shown B.meaning self.new).services }
         ensures idle { self.new.services.outgoing ≡ [] }
-        ensures stock { (shown meaning self.new).stock ≡ (shown meaning self.old).stock }
-        ensures seats { (shown meaning self.new).seats ≡ (shown meaning self.old).seats }
+        ensures stock { (shown B.meaning self.new).stock ≡ (shown B.meaning self.old).stock }
+        ensures seats { (shown B.meaning self.new).seats ≡ (shown B.meaning self.old).seats }
     {
         // For the proof: tables and files are within their bounds, each under a name of its own.
         self.services.tables.is_service();

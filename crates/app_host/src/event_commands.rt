@@ -11,6 +11,7 @@ ghost use Rattle.app_host.specs.Told.{ObeysEvents};
 ghost use Rattle.app_host.specs.Response.{obeying_events, RespondsCounted};
 ghost use Rattle.app_host.specs.Obeyed.{obeyed_by, set_filter_by, reset_by, set_types_by, events_by};
 
+use crate::app::App;
 use crate::error::WriteFault;
 use crate::host::Host;
 use crate::numbers::{Numbers, of_events};
@@ -84,23 +85,24 @@ pub(crate) fn obey(events: &mut Events, packet: &[u8]) -> Result<(), Numbers>
     }
 }
 
-impl Host {
+impl<B: App> Host<B> {
     /// A command to the event services is obeyed or refused, and `HOST` tells which.
     pub(crate) fn obey_events<W: ByteSink>(
         &mut self,
         packet: &[u8],
         out: &mut W,
     ) -> Result<u64, WriteFault>
-        requires whole { IsWhole (shown meaning self.old) }
-        requires quiet { IsQuiet (shown meaning self.old) }
+        requires whole { IsWhole (shown B.meaning self.old) }
+        requires quiet { IsQuiet (shown B.meaning self.old) }
         requires none_yet { self.old.calls ≡ 0 }
         requires headers { command_header_size ≤ length packet.now }
-        ensures handled { ObeysEvents packet.now (shown meaning self.old) (shown meaning self.new)
+        ensures handled { ObeysEvents packet.now
+            (shown B.meaning self.old) (shown B.meaning self.new)
             (W.sink out.old) (W.sink out.new) result }
         ensures own { RespondsCounted self.old.services.moment
-            (obeying_events packet.now (shown meaning self.old)
+            (obeying_events packet.now (shown B.meaning self.old)
             (events_by (event_command (function_code packet.now) (payload packet.now))
-            self.old.services.events)) (shown meaning self.old) (shown meaning self.new)
+            self.old.services.events)) (shown B.meaning self.old) (shown B.meaning self.new)
             (W.sink out.old).gained (W.sink out.new).gained result }
     {
         // For the proof: tables and files are within their bounds, each under a name of its own.

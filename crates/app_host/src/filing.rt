@@ -8,13 +8,14 @@ ghost use Rattle.app_host.specs.Whole.{IsWhole, IsQuiet};
 ghost use Rattle.app_host.specs.Told.{Files};
 ghost use Rattle.app_host.specs.Response.{filing, RespondsCounted};
 
+use crate::app::App;
 use crate::error::WriteFault;
 use crate::host::Host;
 use crate::numbers::of_tables;
 use crate::texts;
 use lc_model::{ByteSink, EventKind};
 
-impl Host {
+impl<B: App> Host<B> {
     /// A file is stored, or refused. Condition: a name of at most 40 bytes.
     pub(crate) fn store_file<W: ByteSink>(
         &mut self,
@@ -22,15 +23,17 @@ impl Host {
         bytes: &[u8],
         out: &mut W,
     ) -> Result<u64, WriteFault>
-        requires whole { IsWhole (shown meaning self.old) }
-        requires quiet { IsQuiet (shown meaning self.old) }
+        requires whole { IsWhole (shown B.meaning self.old) }
+        requires quiet { IsQuiet (shown B.meaning self.old) }
         requires none_yet { self.old.calls ≡ 0 }
         requires short { length name.now ≤ name_size }
-        ensures handled { Files name.now bytes.now (shown meaning self.old) (shown meaning self.new)
+        ensures handled { Files name.now bytes.now
+            (shown B.meaning self.old) (shown B.meaning self.new)
             (W.sink out.old) (W.sink out.new) result }
         ensures own { RespondsCounted self.old.services.moment
-            (filing (shown meaning self.old) (file_put name.now bytes.now self.old.services.tables))
-            (shown meaning self.old) (shown meaning self.new) (W.sink out.old).gained
+            (filing (shown B.meaning self.old)
+            (file_put name.now bytes.now self.old.services.tables))
+            (shown B.meaning self.old) (shown B.meaning self.new) (W.sink out.old).gained
             (W.sink out.new).gained result }
     {
         // For the proof: tables and files are within their bounds, each under a name of its own.

@@ -1,11 +1,11 @@
 //! The executive.
 
-ghost use Rattle.std.specs.Prelude.{◌≡◌, map, is_some, count_by, IfOk, IfErr, false};
+ghost use Rattle.std.specs.Prelude.{◌≡◌, map, is_some, count_by, option_map, IfOk, IfErr, false};
 ghost use Rattle.lc_model.specs.Kept.Executive as model;
 ghost use Rattle.lc_model.specs.Kept.Executive.{is_called};
 ghost use Rattle.lc_model.specs.Kept.Stations.{first_host};
 ghost use Rattle.app_host.specs.declared.error.HostError.TheVariants.{Memory};
-ghost use Rattle.app_host.specs.Hosted.{Object, shown, member_of, in_numbers};
+ghost use Rattle.app_host.specs.Hosted.{Object, object_at, shown, member_of, in_numbers, objects_in};
 ghost use Rattle.app_host.specs.Whole.{AreSpares, IsWhole, IsQuiet};
 
 use crate::app::App;
@@ -18,9 +18,9 @@ use std::alloc::Global;
 
 /// The host: applications in stock and on eight seats, and what they share.
 #[derive(Drop)]
-pub struct Host {
-    pub(crate) stock: Vec<Box<dyn App>>,
-    pub(crate) seats: [Option<Box<dyn App>>; Seat::COUNT],
+pub struct Host<B: App> {
+    pub(crate) stock: Vec<Box<B>>,
+    pub(crate) seats: [Option<Box<B>>; Seat::COUNT],
     pub(crate) services: Services,
     /// The packet that is delivered, in front, and what was there before behind it: a delivery clears nothing.
     pub(crate) packet: [u8; PACKET_SIZE],
@@ -30,19 +30,16 @@ pub struct Host {
     pub(crate) calls: u32,
 }
 
-impl Host {
+impl<B: App> Host<B> {
     /// A host that runs nothing; these are its spares. It takes all the memory there will ever be; out of memory is the only
     /// error, and gives the stock back. Condition: no object holds a seat.
-    pub fn new(
-        alloc: Global,
-        stock: Vec<Box<dyn App>>,
-    ) -> Result<Host, (HostError, Vec<Box<dyn App>>)>
-        requires spares { AreSpares (map meaning stock.items) }
-        ensures whole { IfOk result (λ host. IsWhole (shown meaning host)) }
-        ensures quiet { IfOk result (λ host. IsQuiet (shown meaning host)) }
+    pub fn new(alloc: Global, stock: Vec<Box<B>>) -> Result<Host<B>, (HostError, Vec<Box<B>>)>
+        requires spares { AreSpares (objects_in B.meaning stock.items) }
+        ensures whole { IfOk result (λ host. IsWhole (shown B.meaning host)) }
+        ensures quiet { IfOk result (λ host. IsQuiet (shown B.meaning host)) }
         ensures first { IfOk result
-            (λ host. in_numbers (shown meaning host) ≡
-            first_host (map member_of (map meaning stock.items))) }
+            (λ host. in_numbers (shown B.meaning host) ≡
+            first_host (map member_of (objects_in B.meaning stock.items))) }
         ensures stock_back { IfErr result (λ refused. refused.1 ≡ stock) }
         ensures memory { IfErr result (λ refused. refused.0 ≡ Memory) }
     {
@@ -62,7 +59,8 @@ impl Host {
     /// Whether an application of the name runs.
     pub fn running(&self, name: &[u8]) -> bool
         ensures { result ≡
-            is_some (model.seat_of name.now (in_numbers (shown meaning self.now)).executive.seats) }
+            is_some (model.seat_of name.now
+            (in_numbers (shown B.meaning self.now)).executive.seats) }
     {
         seat_of(&self.seats, name).is_some()
     }
@@ -70,14 +68,32 @@ impl Host {
     /// How many spares of the name there are.
     pub fn spares(&self, name: &[u8]) -> usize
         ensures { result ≡ count_by (is_called name.now)
-            (in_numbers (shown meaning self.now)).executive.stock }
+            (in_numbers (shown B.meaning self.now)).executive.stock }
     {
         spares_of(self.stock.as_slice(), name)
     }
 
+    /// The application on a seat, where there is one.
+    pub fn application(&self, seat: Seat) -> Option<&B>
+        ensures { option_map (λ app. B.meaning app.now) result ≡
+            object_at seat (shown B.meaning self.now).seats }
+    {
+        match &self.seats[seat.index()] {
+            Some(app) => Some(&**app),
+            None => None,
+        }
+    }
+
+    /// Whether a write has failed: then it takes no record any more.
+    pub fn is_closed(&self) -> bool
+        ensures { result ≡ (shown B.meaning self.now).is_closed }
+    {
+        self.closed
+    }
+
     /// The calls of `on_packet` in the last `step` that began on an open host; 0 before the first.
     pub fn calls(&self) -> u32
-        ensures { result ≡ (in_numbers (shown meaning self.now)).calls }
+        ensures { result ≡ (in_numbers (shown B.meaning self.now)).calls }
     {
         self.calls
     }

@@ -4,7 +4,7 @@ ghost use Rattle.std.specs.Prelude.{◌≡◌, ◌<◌, count_by, is_none, lengt
 ghost use Rattle.std.specs.List.{position_from};
 ghost use Rattle.lc_model.specs.Kept.Executive.{is_called, is_seated};
 ghost use Rattle.app_host.specs.Calls.{IsObject};
-ghost use Rattle.app_host.specs.Hosted.{Object, object_at, spare_in, member_of};
+ghost use Rattle.app_host.specs.Hosted.{Object, object_at, spare_in, member_of, objects_in, object_in};
 ghost use Rattle.app_host.specs.Objects.{IfBoth, MayStartOn, HasStarted, MayAnswer, HasAnswered, MayRetire, HasRetired};
 
 use crate::app::App;
@@ -13,9 +13,10 @@ use crate::services::Services;
 use lc_model::Seat;
 
 /// The object takes a free seat.
-pub(crate) fn start(app: &mut Box<dyn App>, seat: Seat, services: &mut Services)
-    requires { MayStartOn seat services.old (meaning app.old) }
-    ensures { HasStarted seat services.old services.new (meaning app.old) (meaning app.new) }
+pub(crate) fn start<B: App>(app: &mut Box<B>, seat: Seat, services: &mut Services)
+    requires { MayStartOn seat services.old (B.meaning app.old.value) }
+    ensures { HasStarted seat services.old services.new (B.meaning app.old.value)
+        (B.meaning app.new.value) }
 {
     // For the proof: an object stays at home on its seat, whatever packets it has.
     objects_are_at_home();
@@ -23,10 +24,10 @@ pub(crate) fn start(app: &mut Box<dyn App>, seat: Seat, services: &mut Services)
 }
 
 /// The object of a seat answers a packet.
-pub(crate) fn give(app: &mut Box<dyn App>, seat: Seat, services: &mut Services, packet: &[u8])
-    requires { MayAnswer seat packet.now services.old (meaning app.old) }
-    ensures { HasAnswered seat packet.now services.old services.new (meaning app.old)
-        (meaning app.new) }
+pub(crate) fn give<B: App>(app: &mut Box<B>, seat: Seat, services: &mut Services, packet: &[u8])
+    requires { MayAnswer seat packet.now services.old (B.meaning app.old.value) }
+    ensures { HasAnswered seat packet.now services.old services.new (B.meaning app.old.value)
+        (B.meaning app.new.value) }
 {
     // For the proof: an object stays at home on its seat, whatever packets it has.
     objects_are_at_home();
@@ -34,26 +35,26 @@ pub(crate) fn give(app: &mut Box<dyn App>, seat: Seat, services: &mut Services, 
 }
 
 /// The object of a seat gives it back.
-pub(crate) fn retire(app: &mut Box<dyn App>, seat: Seat, services: &mut Services)
-    requires { MayRetire seat services.old (meaning app.old) }
-    ensures retired { HasRetired seat services.old services.new (meaning app.old)
-        (meaning app.new) }
-    ensures same { app.new.vtable ≡ app.old.vtable }
+pub(crate) fn retire<B: App>(app: &mut Box<B>, seat: Seat, services: &mut Services)
+    requires { MayRetire seat services.old (B.meaning app.old.value) }
+    ensures retired { HasRetired seat services.old services.new (B.meaning app.old.value)
+        (B.meaning app.new.value) }
+    ensures same { (B.meaning app.new.value).called ≡ (B.meaning app.old.value).called }
 {
     app.retire(services);
 }
 
 /// Whether the object goes by the name.
-fn is_called(app: &Box<dyn App>, name: &[u8]) -> bool
-    ensures called { result ≡ is_called name.now (member_of (meaning app.now)) }
-    ensures kind { IsObject (meaning app.now).state (meaning app.now).called }
+fn is_called<B: App>(app: &Box<B>, name: &[u8]) -> bool
+    ensures called { result ≡ is_called name.now (member_of (B.meaning app.now.value)) }
+    ensures kind { IsObject (B.meaning app.now.value).state (B.meaning app.now.value).called }
 {
     name == app.name()
 }
 
 /// Whether there is an object that goes by the name.
-fn is_seated(place: &Option<Box<dyn App>>, name: &[u8]) -> bool
-    ensures { result ≡ is_seated name.now (option_map member_of (option_map meaning place.now)) }
+fn is_seated<B: App>(place: &Option<Box<B>>, name: &[u8]) -> bool
+    ensures { result ≡ is_seated name.now (option_map member_of (object_in B.meaning place.now)) }
 {
     match place {
         Some(app) => is_called(app, name),
@@ -62,8 +63,8 @@ fn is_seated(place: &Option<Box<dyn App>>, name: &[u8]) -> bool
 }
 
 /// Whether there is no object.
-fn is_free(place: &Option<Box<dyn App>>) -> bool
-    ensures { result ≡ is_none (option_map member_of (option_map meaning place.now)) }
+fn is_free<B: App>(place: &Option<Box<B>>) -> bool
+    ensures { result ≡ is_none (option_map member_of (object_in B.meaning place.now)) }
 {
     match place {
         Some(_) => false,
@@ -72,12 +73,12 @@ fn is_free(place: &Option<Box<dyn App>>) -> bool
 }
 
 /// The first spare of a name.
-pub(crate) fn spare_of(stock: &[Box<dyn App>], name: &[u8]) -> Option<usize>
+pub(crate) fn spare_of<B: App>(stock: &[Box<B>], name: &[u8]) -> Option<usize>
     ensures first { result ≡ position_from (λ o. is_called name.now (member_of o)) 0
-        (map meaning stock.now) }
+        (objects_in B.meaning stock.now) }
     ensures kind { IfSome result
-        (λ i. IsObject (spare_in (map meaning stock.now) i).state
-        (spare_in (map meaning stock.now) i).called) }
+        (λ i. IsObject (spare_in (objects_in B.meaning stock.now) i).state
+        (spare_in (objects_in B.meaning stock.now) i).called) }
 {
     for (i, app) in stock.iter().enumerate() {
         if is_called(app, name) {
@@ -88,8 +89,9 @@ pub(crate) fn spare_of(stock: &[Box<dyn App>], name: &[u8]) -> Option<usize>
 }
 
 /// How many spares have a name.
-pub(crate) fn spares_of(stock: &[Box<dyn App>], name: &[u8]) -> usize
-    ensures { result ≡ count_by (λ o. is_called name.now (member_of o)) (map meaning stock.now) }
+pub(crate) fn spares_of<B: App>(stock: &[Box<B>], name: &[u8]) -> usize
+    ensures { result ≡ count_by (λ o. is_called name.now (member_of o))
+        (objects_in B.meaning stock.now) }
 {
     let mut count = 0;
     for app in stock {
@@ -101,9 +103,9 @@ pub(crate) fn spares_of(stock: &[Box<dyn App>], name: &[u8]) -> usize
 }
 
 /// The seat of a name.
-pub(crate) fn seat_of(seats: &[Option<Box<dyn App>>], name: &[u8]) -> Option<usize>
+pub(crate) fn seat_of<B: App>(seats: &[Option<Box<B>>], name: &[u8]) -> Option<usize>
     ensures { result ≡ position_from (λ o. is_seated name.now (option_map member_of o)) 0
-        (map (option_map meaning) seats.now) }
+        (map (object_in B.meaning) seats.now) }
 {
     for (k, place) in seats.iter().enumerate() {
         if is_seated(place, name) {
@@ -114,9 +116,9 @@ pub(crate) fn seat_of(seats: &[Option<Box<dyn App>>], name: &[u8]) -> Option<usi
 }
 
 /// The least free seat.
-pub(crate) fn free_seat(seats: &[Option<Box<dyn App>>]) -> Option<usize>
+pub(crate) fn free_seat<B: App>(seats: &[Option<Box<B>>]) -> Option<usize>
     ensures { result ≡ position_from (λ o. is_none (option_map member_of o)) 0
-        (map (option_map meaning) seats.now) }
+        (map (object_in B.meaning) seats.now) }
 {
     for (k, place) in seats.iter().enumerate() {
         if is_free(place) {

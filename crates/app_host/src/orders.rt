@@ -16,6 +16,7 @@ ghost use Rattle.app_host.specs.Party.{ordered, party_by};
 ghost use Rattle.app_host.specs.Response.{obeying_orders, RespondsCounted};
 ghost use Rattle.app_host.specs.Ordered.{order_of, named_by, outcome_of, Prepares, MakesWay, PreparesFor, MakesWayFor, MayFollow, ComesIn, Enters, next_of, ObeysOrders};
 
+use crate::app::App;
 use crate::error::{HostError, WriteFault};
 use crate::host::Host;
 use crate::numbers::{Numbers, of_host};
@@ -76,24 +77,24 @@ fn seat_numbered(number: Option<usize>) -> Option<Seat>
     }
 }
 
-impl Host {
+impl<B: App> Host<B> {
     /// The seat of an application that runs.
     fn runs_at(&self, name: &[u8]) -> Option<Seat>
-        requires seated { AreSeated (shown meaning self.now).seats
-            (shown meaning self.now).services }
+        requires seated { AreSeated (shown B.meaning self.now).seats
+            (shown B.meaning self.now).services }
         ensures kept { result ≡
-            kept.seat_of name.now (executive_in (shown meaning self.now)).seats }
-        ensures own { result ≡ seat_in name.now (roster_of (shown meaning self.now)) }
+            kept.seat_of name.now (executive_in (shown B.meaning self.now)).seats }
+        ensures own { result ≡ seat_in name.now (roster_of (shown B.meaning self.now)) }
     {
         seat_numbered(seat_of(&self.seats, name))
     }
 
     /// The least free seat.
     fn free(&self) -> Option<Seat>
-        requires seated { AreSeated (shown meaning self.now).seats
-            (shown meaning self.now).services }
-        ensures kept { result ≡ kept.free_seat (executive_in (shown meaning self.now)).seats }
-        ensures own { result ≡ free_in (roster_of (shown meaning self.now)) }
+        requires seated { AreSeated (shown B.meaning self.now).seats
+            (shown B.meaning self.now).services }
+        ensures kept { result ≡ kept.free_seat (executive_in (shown B.meaning self.now)).seats }
+        ensures own { result ≡ free_in (roster_of (shown B.meaning self.now)) }
     {
         seat_numbered(free_seat(&self.seats))
     }
@@ -101,22 +102,22 @@ impl Host {
     /// The first spare of a name.
     fn first_spare(&self, name: &[u8]) -> Option<usize>
         ensures kept { result ≡
-            kept.spare_of name.now (executive_in (shown meaning self.now)).stock }
-        ensures own { result ≡ first_spare_in name.now (roster_of (shown meaning self.now)) }
+            kept.spare_of name.now (executive_in (shown B.meaning self.now)).stock }
+        ensures own { result ≡ first_spare_in name.now (roster_of (shown B.meaning self.now)) }
     {
         spare_of(self.stock.as_slice(), name)
     }
 
     /// The first spare of a name is to take the least free seat. It is refused where an application of the name runs, where
     /// there is no spare, and where no seat is free, in this order.
-    fn prepare_start(&self, name: &[u8]) -> Result<Successor, HostError>
-        requires whole { IsWhole (shown meaning self.now) }
-        ensures prepared { Prepares meaning (ordered Start name.now)
-            (outcome_of Start name.now (shown meaning self.now)) (shown meaning self.now)
-            (shown meaning self.now) result }
-        ensures own { MakesWay meaning (BoxHasGone meaning self.now.seats self.now.services)
-            (ordered_by Start name.now (roster_of (shown meaning self.now)))
-            (shown meaning self.now) (shown meaning self.now) result }
+    fn prepare_start(&self, name: &[u8]) -> Result<Successor<B>, HostError>
+        requires whole { IsWhole (shown B.meaning self.now) }
+        ensures prepared { Prepares B.meaning (ordered Start name.now)
+            (outcome_of Start name.now (shown B.meaning self.now)) (shown B.meaning self.now)
+            (shown B.meaning self.now) result }
+        ensures own { MakesWay B.meaning (BoxHasGone B.meaning self.now.seats self.now.services)
+            (ordered_by Start name.now (roster_of (shown B.meaning self.now)))
+            (shown B.meaning self.now) (shown B.meaning self.now) result }
     {
         if self.runs_at(name).is_some() {
             return Err(HostError::AlreadyRunning);
@@ -131,14 +132,15 @@ impl Host {
     }
 
     /// The application of the name gives its seat back and is dropped. It is refused where none runs.
-    fn prepare_stop(&mut self, name: &[u8]) -> Result<Successor, HostError>
-        requires whole { IsWhole (shown meaning self.old) }
-        ensures prepared { Prepares meaning (ordered Stop name.now)
-            (outcome_of Stop name.now (shown meaning self.old)) (shown meaning self.old)
-            (shown meaning self.new) result }
-        ensures own { MakesWay meaning (BoxHasGone meaning self.old.seats self.old.services)
-            (ordered_by Stop name.now (roster_of (shown meaning self.old))) (shown meaning self.old)
-            (shown meaning self.new) result }
+    fn prepare_stop(&mut self, name: &[u8]) -> Result<Successor<B>, HostError>
+        requires whole { IsWhole (shown B.meaning self.old) }
+        ensures prepared { Prepares B.meaning (ordered Stop name.now)
+            (outcome_of Stop name.now (shown B.meaning self.old)) (shown B.meaning self.old)
+            (shown B.meaning self.new) result }
+        ensures own { MakesWay B.meaning (BoxHasGone B.meaning self.old.seats self.old.services)
+            (ordered_by Stop name.now (roster_of (shown B.meaning self.old)))
+            (shown B.meaning self.old)
+            (shown B.meaning self.new) result }
     {
         match self.runs_at(name) {
             None => Err(HostError::NoSuchApp),
@@ -150,14 +152,14 @@ impl Host {
     }
 
     /// The application of the name gives its seat back, and is to take it again. It is refused where none runs.
-    fn prepare_restart(&mut self, name: &[u8]) -> Result<Successor, HostError>
-        requires whole { IsWhole (shown meaning self.old) }
-        ensures prepared { Prepares meaning (ordered Restart name.now)
-            (outcome_of Restart name.now (shown meaning self.old)) (shown meaning self.old)
-            (shown meaning self.new) result }
-        ensures own { MakesWay meaning (BoxHasGone meaning self.old.seats self.old.services)
-            (ordered_by Restart name.now (roster_of (shown meaning self.old)))
-            (shown meaning self.old) (shown meaning self.new) result }
+    fn prepare_restart(&mut self, name: &[u8]) -> Result<Successor<B>, HostError>
+        requires whole { IsWhole (shown B.meaning self.old) }
+        ensures prepared { Prepares B.meaning (ordered Restart name.now)
+            (outcome_of Restart name.now (shown B.meaning self.old)) (shown B.meaning self.old)
+            (shown B.meaning self.new) result }
+        ensures own { MakesWay B.meaning (BoxHasGone B.meaning self.old.seats self.old.services)
+            (ordered_by Restart name.now (roster_of (shown B.meaning self.old)))
+            (shown B.meaning self.old) (shown B.meaning self.new) result }
     {
         match self.runs_at(name) {
             None => Err(HostError::NoSuchApp),
@@ -167,14 +169,14 @@ impl Host {
 
     /// The application of the name gives its seat back and is dropped; the first spare of the name is to take the seat. It is
     /// refused where none runs, and then where there is no spare.
-    fn prepare_reload(&mut self, name: &[u8]) -> Result<Successor, HostError>
-        requires whole { IsWhole (shown meaning self.old) }
-        ensures prepared { Prepares meaning (ordered Reload name.now)
-            (outcome_of Reload name.now (shown meaning self.old)) (shown meaning self.old)
-            (shown meaning self.new) result }
-        ensures own { MakesWay meaning (BoxHasGone meaning self.old.seats self.old.services)
-            (ordered_by Reload name.now (roster_of (shown meaning self.old)))
-            (shown meaning self.old) (shown meaning self.new) result }
+    fn prepare_reload(&mut self, name: &[u8]) -> Result<Successor<B>, HostError>
+        requires whole { IsWhole (shown B.meaning self.old) }
+        ensures prepared { Prepares B.meaning (ordered Reload name.now)
+            (outcome_of Reload name.now (shown B.meaning self.old)) (shown B.meaning self.old)
+            (shown B.meaning self.new) result }
+        ensures own { MakesWay B.meaning (BoxHasGone B.meaning self.old.seats self.old.services)
+            (ordered_by Reload name.now (roster_of (shown B.meaning self.old)))
+            (shown B.meaning self.old) (shown B.meaning self.new) result }
     {
         let Some(seat) = self.runs_at(name) else {
             return Err(HostError::NoSuchApp);
@@ -189,14 +191,15 @@ impl Host {
     }
 
     /// The order is begun: who is to leave a seat has left it. Answers who takes it next, or why the order is refused.
-    fn prepare(&mut self, order: Order, name: &[u8]) -> Result<Successor, HostError>
-        requires whole { IsWhole (shown meaning self.old) }
-        ensures prepared { Prepares meaning (ordered (order_of order) name.now)
-            (outcome_of (order_of order) name.now (shown meaning self.old)) (shown meaning self.old)
-            (shown meaning self.new) result }
-        ensures own { MakesWay meaning (BoxHasGone meaning self.old.seats self.old.services)
-            (ordered_by (order_of order) name.now (roster_of (shown meaning self.old)))
-            (shown meaning self.old) (shown meaning self.new) result }
+    fn prepare(&mut self, order: Order, name: &[u8]) -> Result<Successor<B>, HostError>
+        requires whole { IsWhole (shown B.meaning self.old) }
+        ensures prepared { Prepares B.meaning (ordered (order_of order) name.now)
+            (outcome_of (order_of order) name.now (shown B.meaning self.old))
+            (shown B.meaning self.old)
+            (shown B.meaning self.new) result }
+        ensures own { MakesWay B.meaning (BoxHasGone B.meaning self.old.seats self.old.services)
+            (ordered_by (order_of order) name.now (roster_of (shown B.meaning self.old)))
+            (shown B.meaning self.old) (shown B.meaning self.new) result }
     {
         match order {
             Order::Start => self.prepare_start(name),
@@ -207,17 +210,18 @@ impl Host {
     }
 
     /// Prepares the order of a command, which may be refused as none.
-    fn take_order(&mut self, packet: &[u8]) -> Result<Successor, Numbers>
-        requires whole { IsWhole (shown meaning self.old) }
+    fn take_order(&mut self, packet: &[u8]) -> Result<Successor<B>, Numbers>
+        requires whole { IsWhole (shown B.meaning self.old) }
         requires headers { command_header_size ≤ length packet.now }
-        ensures prepared { PreparesFor meaning
+        ensures prepared { PreparesFor B.meaning
             (party_by (app_command (function_code packet.now) (payload packet.now)))
             (executive_service_now on_board self.old.services.moment packet.now
-            (executive_in (shown meaning self.old))) (shown meaning self.old)
-            (shown meaning self.new) result }
-        ensures own { MakesWayFor meaning (BoxHasGone meaning self.old.seats self.old.services)
-            (succession_by packet.now (roster_of (shown meaning self.old))) (shown meaning self.old)
-            (shown meaning self.new) result }
+            (executive_in (shown B.meaning self.old))) (shown B.meaning self.old)
+            (shown B.meaning self.new) result }
+        ensures own { MakesWayFor B.meaning (BoxHasGone B.meaning self.old.seats self.old.services)
+            (succession_by packet.now (roster_of (shown B.meaning self.old)))
+            (shown B.meaning self.old)
+            (shown B.meaning self.new) result }
     {
         let (order, name) = read_order(packet)?;
         match self.prepare(order, name) {
@@ -227,16 +231,16 @@ impl Host {
     }
 
     /// What waits is written, the next one takes its seat, and what it asks for is written. Answers how many bytes these are.
-    fn come_in<W: ByteSink>(&mut self, next: Successor, out: &mut W) -> Result<u64, WriteFault>
-        requires seated { AreSeated (shown meaning self.old).seats
-            (shown meaning self.old).services }
-        requires spares { AreSpares (shown meaning self.old).stock }
+    fn come_in<W: ByteSink>(&mut self, next: Successor<B>, out: &mut W) -> Result<u64, WriteFault>
+        requires seated { AreSeated (shown B.meaning self.old).seats
+            (shown B.meaning self.old).services }
+        requires spares { AreSpares (shown B.meaning self.old).stock }
         requires fits { length self.old.services.outgoing ≤ outgoing_room }
-        requires may { MayFollow (shown meaning self.old) (next_of meaning next) }
-        ensures comes { ComesIn (next_of meaning next) (shown meaning self.old)
-            (shown meaning self.new) (W.sink out.old) (W.sink out.new) result }
-        ensures own { Enters (next_of meaning next) (shown meaning self.old)
-            (shown meaning self.new) (W.sink out.old).gained (W.sink out.new).gained result }
+        requires may { MayFollow (shown B.meaning self.old) (next_of B.meaning next) }
+        ensures comes { ComesIn (next_of B.meaning next) (shown B.meaning self.old)
+            (shown B.meaning self.new) (W.sink out.old) (W.sink out.new) result }
+        ensures own { Enters (next_of B.meaning next) (shown B.meaning self.old)
+            (shown B.meaning self.new) (W.sink out.old).gained (W.sink out.new).gained result }
     {
         let sent = self.flush(out, 0)?;
         self.bring_in(next);
@@ -251,21 +255,22 @@ impl Host {
         packet: &[u8],
         out: &mut W,
     ) -> Result<u64, WriteFault>
-        requires whole { IsWhole (shown meaning self.old) }
-        requires quiet { IsQuiet (shown meaning self.old) }
+        requires whole { IsWhole (shown B.meaning self.old) }
+        requires quiet { IsQuiet (shown B.meaning self.old) }
         requires none_yet { self.old.calls ≡ 0 }
         requires headers { command_header_size ≤ length packet.now }
-        ensures handled { ObeysOrders packet.now (shown meaning self.old) (shown meaning self.new)
+        ensures handled { ObeysOrders packet.now
+            (shown B.meaning self.old) (shown B.meaning self.new)
             (W.sink out.old) (W.sink out.new) result }
         ensures own { RespondsCounted self.old.services.moment
-            (obeying_orders packet.now (shown meaning self.old)
-            (succession_by packet.now (roster_of (shown meaning self.old))))
-            (shown meaning self.old) (shown meaning self.new) (W.sink out.old).gained
+            (obeying_orders packet.now (shown B.meaning self.old)
+            (succession_by packet.now (roster_of (shown B.meaning self.old))))
+            (shown B.meaning self.old) (shown B.meaning self.new) (W.sink out.old).gained
             (W.sink out.new).gained result }
         ensures gone { IfSome
-            (obeying_orders packet.now (shown meaning self.old)
-            (succession_by packet.now (roster_of (shown meaning self.old)))).leaves
-            (BoxHasGone meaning self.old.seats self.old.services) }
+            (obeying_orders packet.now (shown B.meaning self.old)
+            (succession_by packet.now (roster_of (shown B.meaning self.old)))).leaves
+            (BoxHasGone B.meaning self.old.seats self.old.services) }
     {
         match self.take_order(packet) {
             Ok(next) => {

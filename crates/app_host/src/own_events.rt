@@ -8,20 +8,21 @@ ghost use Rattle.app_host.specs.Whole.{AreSeated, IsWhole, IsQuiet};
 ghost use Rattle.app_host.specs.Told.{HasTold, TellsAlone};
 ghost use Rattle.app_host.specs.Response.{only_telling, RespondsCounted};
 
+use crate::app::App;
 use crate::error::WriteFault;
 use crate::host::Host;
 use crate::texts;
 use event_service::EventText;
 use lc_model::{ByteSink, EventKind};
 
-impl Host {
+impl<B: App> Host<B> {
     /// `HOST` asks for an event; where it is sent its packet waits to be written.
     pub(crate) fn tell(&mut self, id: u16, kind: EventKind, text: &EventText)
-        requires seated { AreSeated (shown meaning self.old).seats
-            (shown meaning self.old).services }
+        requires seated { AreSeated (shown B.meaning self.old).seats
+            (shown B.meaning self.old).services }
         requires idle { self.old.services.outgoing ≡ [] }
-        ensures { HasTold (Event host_name id kind text.now) (shown meaning self.old)
-            (shown meaning self.new) }
+        ensures { HasTold (Event host_name id kind text.now) (shown B.meaning self.old)
+            (shown B.meaning self.new) }
     {
         // For the proof: tables and files are within their bounds, each under a name of its own.
         self.services.tables.is_service();
@@ -36,14 +37,14 @@ impl Host {
         text: &EventText,
         out: &mut W,
     ) -> Result<u64, WriteFault>
-        requires whole { IsWhole (shown meaning self.old) }
-        requires quiet { IsQuiet (shown meaning self.old) }
+        requires whole { IsWhole (shown B.meaning self.old) }
+        requires quiet { IsQuiet (shown B.meaning self.old) }
         requires none_yet { self.old.calls ≡ 0 }
-        ensures handled { TellsAlone (Event host_name id kind text.now) (shown meaning self.old)
-            (shown meaning self.new) (W.sink out.old) (W.sink out.new) result }
+        ensures handled { TellsAlone (Event host_name id kind text.now) (shown B.meaning self.old)
+            (shown B.meaning self.new) (W.sink out.old) (W.sink out.new) result }
         ensures own { RespondsCounted self.old.services.moment
-            (only_telling (Event host_name id kind text.now) (shown meaning self.old))
-            (shown meaning self.old) (shown meaning self.new) (W.sink out.old).gained
+            (only_telling (Event host_name id kind text.now) (shown B.meaning self.old))
+            (shown B.meaning self.old) (shown B.meaning self.new) (W.sink out.old).gained
             (W.sink out.new).gained result }
     {
         self.tell(id, kind, text);
@@ -56,14 +57,14 @@ impl Host {
         reason: u8,
         out: &mut W,
     ) -> Result<u64, WriteFault>
-        requires whole { IsWhole (shown meaning self.old) }
-        requires quiet { IsQuiet (shown meaning self.old) }
+        requires whole { IsWhole (shown B.meaning self.old) }
+        requires quiet { IsQuiet (shown B.meaning self.old) }
         requires none_yet { self.old.calls ≡ 0 }
-        ensures handled { TellsAlone (bad_packet reason) (shown meaning self.old)
-            (shown meaning self.new) (W.sink out.old) (W.sink out.new) result }
+        ensures handled { TellsAlone (bad_packet reason) (shown B.meaning self.old)
+            (shown B.meaning self.new) (W.sink out.old) (W.sink out.new) result }
         ensures own { RespondsCounted self.old.services.moment
-            (only_telling (bad_packet reason) (shown meaning self.old)) (shown meaning self.old)
-            (shown meaning self.new) (W.sink out.old).gained (W.sink out.new).gained result }
+            (only_telling (bad_packet reason) (shown B.meaning self.old)) (shown B.meaning self.old)
+            (shown B.meaning self.new) (W.sink out.old).gained (W.sink out.new).gained result }
     {
         let text = texts::bad_packet(u16::from(reason));
         self.tell_alone(1, EventKind::Error, &text, out)

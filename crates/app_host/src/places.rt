@@ -1,8 +1,8 @@
 //! One call of the object of a seat.
 
-ghost use Rattle.std.specs.Prelude.{◌≡◌, ◌<◌, map, option_map, slice_set, IfSome, None};
+ghost use Rattle.std.specs.Prelude.{◌≡◌, ◌<◌, map, slice_set, IfSome, None};
 ghost use Rattle.lc_model.specs.Kept.Executive.{seat_count};
-ghost use Rattle.app_host.specs.Hosted.{Object, object_at};
+ghost use Rattle.app_host.specs.Hosted.{Object, object_at, object_in};
 ghost use Rattle.app_host.specs.Left.{LeftBy};
 ghost use Rattle.app_host.specs.Objects.{IfBoth, MayAnswer, HasAnswered, MayRetire, HasRetired};
 
@@ -12,9 +12,9 @@ use crate::services::Services;
 use lc_model::Seat;
 
 /// The object of a place answers a packet.
-fn give_in(place: &mut Option<Box<dyn App>>, seat: Seat, services: &mut Services, packet: &[u8])
-    requires { IfSome (option_map meaning place.old) (MayAnswer seat packet.now services.old) }
-    ensures { IfBoth (option_map meaning place.old) (option_map meaning place.new)
+fn give_in<B: App>(place: &mut Option<Box<B>>, seat: Seat, services: &mut Services, packet: &[u8])
+    requires { IfSome (object_in B.meaning place.old) (MayAnswer seat packet.now services.old) }
+    ensures { IfBoth (object_in B.meaning place.old) (object_in B.meaning place.new)
         (HasAnswered seat packet.now services.old services.new) }
 {
     if let Some(app) = place {
@@ -23,34 +23,34 @@ fn give_in(place: &mut Option<Box<dyn App>>, seat: Seat, services: &mut Services
 }
 
 /// The object of a seat answers a packet.
-pub(crate) fn give_at(
-    seats: &mut [Option<Box<dyn App>>; Seat::COUNT],
+pub(crate) fn give_at<B: App>(
+    seats: &mut [Option<Box<B>>; Seat::COUNT],
     seat: Seat,
     services: &mut Services,
     packet: &[u8],
 )
-    requires { IfSome (object_at seat (map (option_map meaning) seats.old))
+    requires { IfSome (object_at seat (map (object_in B.meaning) seats.old))
         (MayAnswer seat packet.now services.old) }
-    ensures answered { IfBoth (object_at seat (map (option_map meaning) seats.old))
-        (object_at seat (map (option_map meaning) seats.new))
+    ensures answered { IfBoth (object_at seat (map (object_in B.meaning) seats.old))
+        (object_at seat (map (object_in B.meaning) seats.new))
         (HasAnswered seat packet.now services.old services.new) }
-    ensures others { map (option_map meaning) seats.new ≡
-        slice_set (map (option_map meaning) seats.old) seat
-        (object_at seat (map (option_map meaning) seats.new)) }
+    ensures others { map (object_in B.meaning) seats.new ≡
+        slice_set (map (object_in B.meaning) seats.old) seat
+        (object_at seat (map (object_in B.meaning) seats.new)) }
 {
     give_in(&mut seats[seat.index()], seat, services, packet);
 }
 
 /// The object of a place gives its seat back, if there is one, and is handed on.
-fn retire_in(
-    place: &mut Option<Box<dyn App>>,
+fn retire_in<B: App>(
+    place: &mut Option<Box<B>>,
     seat: Seat,
     services: &mut Services,
-) -> Option<Box<dyn App>>
-    requires { IfSome (option_map meaning place.old) (MayRetire seat services.old) }
+) -> Option<Box<B>>
+    requires { IfSome (object_in B.meaning place.old) (MayRetire seat services.old) }
     ensures gone { place.new ≡ None }
-    ensures left { LeftBy seat services.old services.new (option_map meaning place.old) }
-    ensures retired { IfBoth (option_map meaning place.old) (option_map meaning result)
+    ensures left { LeftBy seat services.old services.new (object_in B.meaning place.old) }
+    ensures retired { IfBoth (object_in B.meaning place.old) (object_in B.meaning result)
         (HasRetired seat services.old services.new) }
 {
     let mut app = place.take()?;
@@ -59,20 +59,20 @@ fn retire_in(
 }
 
 /// The object of a seat gives it back, if there is one, and is handed on.
-pub(crate) fn retire_at(
-    seats: &mut [Option<Box<dyn App>>; Seat::COUNT],
+pub(crate) fn retire_at<B: App>(
+    seats: &mut [Option<Box<B>>; Seat::COUNT],
     seat: Seat,
     services: &mut Services,
-) -> Option<Box<dyn App>>
-    requires { IfSome (object_at seat (map (option_map meaning) seats.old))
+) -> Option<Box<B>>
+    requires { IfSome (object_at seat (map (object_in B.meaning) seats.old))
         (MayRetire seat services.old) }
-    ensures gone { map (option_map meaning) seats.new ≡
-        slice_set (map (option_map meaning) seats.old) seat None }
+    ensures gone { map (object_in B.meaning) seats.new ≡
+        slice_set (map (object_in B.meaning) seats.old) seat None }
     ensures below { seat < seat_count }
     ensures left { LeftBy seat services.old services.new
-        (object_at seat (map (option_map meaning) seats.old)) }
-    ensures retired { IfBoth (object_at seat (map (option_map meaning) seats.old))
-        (option_map meaning result) (HasRetired seat services.old services.new) }
+        (object_at seat (map (object_in B.meaning) seats.old)) }
+    ensures retired { IfBoth (object_at seat (map (object_in B.meaning) seats.old))
+        (object_in B.meaning result) (HasRetired seat services.old services.new) }
 {
     retire_in(&mut seats[seat.index()], seat, services)
 }

@@ -12,6 +12,7 @@ ghost use Rattle.app_host.specs.HandedOver.{with_packet};
 ghost use Rattle.app_host.specs.Writing.{PassesOn};
 ghost use Rattle.app_host.specs.Response.{passing_on, RespondsCounted};
 
+use crate::app::App;
 use crate::error::WriteFault;
 use crate::host::Host;
 use crate::places::give_at;
@@ -20,18 +21,18 @@ use lc_model::{ByteSink, Seat};
 /// A tick: a command to 0x18C0 without payload, of code 0.
 const TICK: [u8; 8] = [0x18, 0xC0, 0xC0, 0, 0, 1, 0, 0xE6];
 
-impl Host {
+impl<B: App> Host<B> {
     /// The object of a seat answers this packet, without the bus. Conditions: no packet waits, and that seat alone hears this one.
     /// Answers the next seat with a packet.
     fn hand_over(&mut self, seat: Seat, packet: &[u8]) -> Option<Seat>
-        requires whole { IsWhole (shown meaning self.old) }
-        requires quiet { IsQuiet (shown meaning self.old) }
+        requires whole { IsWhole (shown B.meaning self.old) }
+        requires quiet { IsQuiet (shown B.meaning self.old) }
         requires none_yet { self.old.calls ≡ 0 }
         requires good { header_fault packet.now ≡ None }
         requires only { only_hearer packet.now self.old.services.bus ≡ Some seat }
         requires eight { length self.old.services.bus ≡ seat_count }
-        ensures delivered { HasDelivered seat (with_packet packet.now (shown meaning self.old))
-            (shown meaning self.new) }
+        ensures delivered { HasDelivered seat (with_packet packet.now (shown B.meaning self.old))
+            (shown B.meaning self.new) }
         ensures next { result ≡ ready_seat (seen self.new.services.bus) }
     {
         // For the proof: tables and files are within their bounds, each under a name of its own.
@@ -51,15 +52,15 @@ impl Host {
         packet: &[u8],
         out: &mut W,
     ) -> Result<u64, WriteFault>
-        requires whole { IsWhole (shown meaning self.old) }
-        requires quiet { IsQuiet (shown meaning self.old) }
+        requires whole { IsWhole (shown B.meaning self.old) }
+        requires quiet { IsQuiet (shown B.meaning self.old) }
         requires none_yet { self.old.calls ≡ 0 }
         requires good { header_fault packet.now ≡ None }
-        ensures handled { PassesOn packet.now (shown meaning self.old) (shown meaning self.new)
+        ensures handled { PassesOn packet.now (shown B.meaning self.old) (shown B.meaning self.new)
             (W.sink out.old) (W.sink out.new) result }
         ensures own { RespondsCounted self.old.services.moment
-            (passing_on packet.now (shown meaning self.old))
-            (shown meaning self.old) (shown meaning self.new) (W.sink out.old).gained
+            (passing_on packet.now (shown B.meaning self.old))
+            (shown B.meaning self.old) (shown B.meaning self.new) (W.sink out.old).gained
             (W.sink out.new).gained result }
     {
         // For the proof: tables and files are within their bounds, each under a name of its own.
@@ -85,14 +86,14 @@ impl Host {
 
     /// A tick is published, and all packets are delivered.
     pub(crate) fn tick<W: ByteSink>(&mut self, out: &mut W) -> Result<u64, WriteFault>
-        requires whole { IsWhole (shown meaning self.old) }
-        requires quiet { IsQuiet (shown meaning self.old) }
+        requires whole { IsWhole (shown B.meaning self.old) }
+        requires quiet { IsQuiet (shown B.meaning self.old) }
         requires none_yet { self.old.calls ≡ 0 }
-        ensures handled { PassesOn tick_packet (shown meaning self.old) (shown meaning self.new)
+        ensures handled { PassesOn tick_packet (shown B.meaning self.old) (shown B.meaning self.new)
             (W.sink out.old) (W.sink out.new) result }
         ensures own { RespondsCounted self.old.services.moment
-            (passing_on tick_packet (shown meaning self.old))
-            (shown meaning self.old) (shown meaning self.new) (W.sink out.old).gained
+            (passing_on tick_packet (shown B.meaning self.old))
+            (shown B.meaning self.old) (shown B.meaning self.new) (W.sink out.old).gained
             (W.sink out.new).gained result }
     {
         self.pass_on(&TICK, out)

@@ -10,33 +10,34 @@ ghost use Rattle.app_host.specs.Whole.{IsWhole, IsQuiet};
 ghost use Rattle.app_host.specs.Response.{response_to, response_to_packet, routed_to, Responds, RespondsCounted};
 ghost use Rattle.app_host.specs.Step.{input_by, IsNamed, StepHasBegun, HandlesInput, IsBetween, IsTurnedAway, Steps, Counts, without_count};
 
+use crate::app::App;
 use crate::error::WriteFault;
 use crate::host::Host;
 use lc_model::packet::{message_id, stream_fault};
 use lc_model::{Body, ByteSink, Moment, Record, mids};
 
-impl Host {
+impl<B: App> Host<B> {
     /// Handles a record, and writes what it leads to: the output of each call of an application behind that call, and each
     /// event of `HOST`. Where a write fails, `sent` is how many bytes of this step the writer took; what was done before that
     /// write stands, and the host is closed. A closed host answers `sent: 0` and does nothing. It asks for no memory.
     /// Condition: a file's name has at most 40 bytes.
     pub fn step<W: ByteSink>(&mut self, entry: &Record<'_>, out: &mut W) -> Result<(), WriteFault>
-        requires between { IsBetween (shown meaning self.old) }
+        requires between { IsBetween (shown B.meaning self.old) }
         requires named { IsNamed entry.now.body }
-        ensures between { IsBetween (shown meaning self.new) }
-        ensures closed { (shown meaning self.old).is_closed ≡ true →
-            IsTurnedAway (shown meaning self.old) (shown meaning self.new) (W.sink out.old)
+        ensures between { IsBetween (shown B.meaning self.new) }
+        ensures closed { (shown B.meaning self.old).is_closed ≡ true →
+            IsTurnedAway (shown B.meaning self.old) (shown B.meaning self.new) (W.sink out.old)
             (W.sink out.new) result }
-        ensures open { (shown meaning self.old).is_closed ≡ false →
-            Steps entry.now.moment (input_by entry.now.body) (shown meaning self.old)
-            (shown meaning self.new) (W.sink out.old) (W.sink out.new) result }
-        ensures own { (shown meaning self.old).is_closed ≡ false →
-            Responds entry.now.moment (response_to entry.now.body (shown meaning self.old))
-            (shown meaning self.old) (shown meaning self.new) (W.sink out.old).gained
+        ensures open { (shown B.meaning self.old).is_closed ≡ false →
+            Steps entry.now.moment (input_by entry.now.body) (shown B.meaning self.old)
+            (shown B.meaning self.new) (W.sink out.old) (W.sink out.new) result }
+        ensures own { (shown B.meaning self.old).is_closed ≡ false →
+            Responds entry.now.moment (response_to entry.now.body (shown B.meaning self.old))
+            (shown B.meaning self.old) (shown B.meaning self.new) (W.sink out.old).gained
             (W.sink out.new).gained result }
-        ensures gone { (shown meaning self.old).is_closed ≡ false →
-            IfSome (response_to entry.now.body (shown meaning self.old)).leaves
-            (BoxHasGone meaning self.old.seats
+        ensures gone { (shown B.meaning self.old).is_closed ≡ false →
+            IfSome (response_to entry.now.body (shown B.meaning self.old)).leaves
+            (BoxHasGone B.meaning self.old.seats
             (at_moment entry.now.moment self.old.services)) }
     {
         match self.step_counted(entry, out) {
@@ -51,28 +52,28 @@ impl Host {
         entry: &Record<'_>,
         out: &mut W,
     ) -> Result<u64, WriteFault>
-        requires between { IsBetween (shown meaning self.old) }
+        requires between { IsBetween (shown B.meaning self.old) }
         requires named { IsNamed entry.now.body }
-        ensures between { IsBetween (shown meaning self.new) }
-        ensures closed { (shown meaning self.old).is_closed ≡ true →
-            IsTurnedAway (shown meaning self.old) (shown meaning self.new) (W.sink out.old)
+        ensures between { IsBetween (shown B.meaning self.new) }
+        ensures closed { (shown B.meaning self.old).is_closed ≡ true →
+            IsTurnedAway (shown B.meaning self.old) (shown B.meaning self.new) (W.sink out.old)
             (W.sink out.new) (without_count result) }
-        ensures open { (shown meaning self.old).is_closed ≡ false →
-            Steps entry.now.moment (input_by entry.now.body) (shown meaning self.old)
-            (shown meaning self.new) (W.sink out.old) (W.sink out.new) (without_count result) }
-        ensures own { (shown meaning self.old).is_closed ≡ false →
-            Responds entry.now.moment (response_to entry.now.body (shown meaning self.old))
-            (shown meaning self.old) (shown meaning self.new) (W.sink out.old).gained
+        ensures open { (shown B.meaning self.old).is_closed ≡ false →
+            Steps entry.now.moment (input_by entry.now.body) (shown B.meaning self.old)
+            (shown B.meaning self.new) (W.sink out.old) (W.sink out.new) (without_count result) }
+        ensures own { (shown B.meaning self.old).is_closed ≡ false →
+            Responds entry.now.moment (response_to entry.now.body (shown B.meaning self.old))
+            (shown B.meaning self.old) (shown B.meaning self.new) (W.sink out.old).gained
             (W.sink out.new).gained result }
-        ensures counted { (shown meaning self.old).is_closed ≡ false →
-            RespondsCounted entry.now.moment (response_to entry.now.body (shown meaning self.old))
-            (shown meaning self.old) (shown meaning self.new) (W.sink out.old).gained
+        ensures counted { (shown B.meaning self.old).is_closed ≡ false →
+            RespondsCounted entry.now.moment (response_to entry.now.body (shown B.meaning self.old))
+            (shown B.meaning self.old) (shown B.meaning self.new) (W.sink out.old).gained
             (W.sink out.new).gained result }
-        ensures count { (shown meaning self.old).is_closed ≡ false →
-            Counts entry.now.moment (input_by entry.now.body) (shown meaning self.old) result }
-        ensures gone { (shown meaning self.old).is_closed ≡ false →
-            IfSome (response_to entry.now.body (shown meaning self.old)).leaves
-            (BoxHasGone meaning self.old.seats
+        ensures count { (shown B.meaning self.old).is_closed ≡ false →
+            Counts entry.now.moment (input_by entry.now.body) (shown B.meaning self.old) result }
+        ensures gone { (shown B.meaning self.old).is_closed ≡ false →
+            IfSome (response_to entry.now.body (shown B.meaning self.old)).leaves
+            (BoxHasGone B.meaning self.old.seats
             (at_moment entry.now.moment self.old.services)) }
     {
         if self.closed {
@@ -84,8 +85,8 @@ impl Host {
 
     /// A step begins, at this moment: no call was made in it.
     fn begin_step(&mut self, moment: Moment)
-        requires whole { IsWhole (shown meaning self.old) }
-        ensures begun { StepHasBegun moment (shown meaning self.old) (shown meaning self.new) }
+        requires whole { IsWhole (shown B.meaning self.old) }
+        ensures begun { StepHasBegun moment (shown B.meaning self.old) (shown B.meaning self.new) }
         ensures boxes { self.new.seats ≡ self.old.seats }
     {
         // For the proof: tables and files are within their bounds, each under a name of its own.
@@ -96,17 +97,17 @@ impl Host {
 
     /// What a record brings is handled.
     fn handle<W: ByteSink>(&mut self, body: &Body<'_>, out: &mut W) -> Result<u64, WriteFault>
-        requires whole { IsWhole (shown meaning self.old) }
-        requires quiet { IsQuiet (shown meaning self.old) }
+        requires whole { IsWhole (shown B.meaning self.old) }
+        requires quiet { IsQuiet (shown B.meaning self.old) }
         requires none_yet { self.old.calls ≡ 0 }
         requires named { IsNamed body.now }
-        ensures handled { HandlesInput (input_by body.now) (shown meaning self.old)
-            (shown meaning self.new) (W.sink out.old) (W.sink out.new) result }
+        ensures handled { HandlesInput (input_by body.now) (shown B.meaning self.old)
+            (shown B.meaning self.new) (W.sink out.old) (W.sink out.new) result }
         ensures own { RespondsCounted self.old.services.moment
-            (response_to body.now (shown meaning self.old)) (shown meaning self.old)
-            (shown meaning self.new) (W.sink out.old).gained (W.sink out.new).gained result }
-        ensures gone { IfSome (response_to body.now (shown meaning self.old)).leaves
-            (BoxHasGone meaning self.old.seats self.old.services) }
+            (response_to body.now (shown B.meaning self.old)) (shown B.meaning self.old)
+            (shown B.meaning self.new) (W.sink out.old).gained (W.sink out.new).gained result }
+        ensures gone { IfSome (response_to body.now (shown B.meaning self.old)).leaves
+            (BoxHasGone B.meaning self.old.seats self.old.services) }
     {
         match *body {
             Body::Packet(bytes) => self.take_packet(bytes, out),
@@ -117,16 +118,16 @@ impl Host {
 
     /// A packet is refused, obeyed as a command to a service, or passed on to the applications.
     fn take_packet<W: ByteSink>(&mut self, packet: &[u8], out: &mut W) -> Result<u64, WriteFault>
-        requires whole { IsWhole (shown meaning self.old) }
-        requires quiet { IsQuiet (shown meaning self.old) }
+        requires whole { IsWhole (shown B.meaning self.old) }
+        requires quiet { IsQuiet (shown B.meaning self.old) }
         requires none_yet { self.old.calls ≡ 0 }
-        ensures handled { HandlesInput (Packet packet.now) (shown meaning self.old)
-            (shown meaning self.new) (W.sink out.old) (W.sink out.new) result }
+        ensures handled { HandlesInput (Packet packet.now) (shown B.meaning self.old)
+            (shown B.meaning self.new) (W.sink out.old) (W.sink out.new) result }
         ensures own { RespondsCounted self.old.services.moment
-            (response_to_packet packet.now (shown meaning self.old)) (shown meaning self.old)
-            (shown meaning self.new) (W.sink out.old).gained (W.sink out.new).gained result }
-        ensures gone { IfSome (response_to_packet packet.now (shown meaning self.old)).leaves
-            (BoxHasGone meaning self.old.seats self.old.services) }
+            (response_to_packet packet.now (shown B.meaning self.old)) (shown B.meaning self.old)
+            (shown B.meaning self.new) (W.sink out.old).gained (W.sink out.new).gained result }
+        ensures gone { IfSome (response_to_packet packet.now (shown B.meaning self.old)).leaves
+            (BoxHasGone B.meaning self.old.seats self.old.services) }
     {
         match stream_fault(packet) {
             Some(reason) => self.refuse_packet(reason, out),
@@ -136,18 +137,18 @@ impl Host {
 
     /// A packet is obeyed as a command to a service, or passed on to the applications. Condition: a stream may bring it.
     fn route<W: ByteSink>(&mut self, packet: &[u8], out: &mut W) -> Result<u64, WriteFault>
-        requires whole { IsWhole (shown meaning self.old) }
-        requires quiet { IsQuiet (shown meaning self.old) }
+        requires whole { IsWhole (shown B.meaning self.old) }
+        requires quiet { IsQuiet (shown B.meaning self.old) }
         requires none_yet { self.old.calls ≡ 0 }
         requires good { stream_fault packet.now ≡ None }
         requires headers { command_header_size ≤ length packet.now }
-        ensures handled { HandlesInput (Packet packet.now) (shown meaning self.old)
-            (shown meaning self.new) (W.sink out.old) (W.sink out.new) result }
+        ensures handled { HandlesInput (Packet packet.now) (shown B.meaning self.old)
+            (shown B.meaning self.new) (W.sink out.old) (W.sink out.new) result }
         ensures own { RespondsCounted self.old.services.moment
-            (routed_to packet.now (shown meaning self.old)) (shown meaning self.old)
-            (shown meaning self.new) (W.sink out.old).gained (W.sink out.new).gained result }
-        ensures gone { IfSome (routed_to packet.now (shown meaning self.old)).leaves
-            (BoxHasGone meaning self.old.seats self.old.services) }
+            (routed_to packet.now (shown B.meaning self.old)) (shown B.meaning self.old)
+            (shown B.meaning self.new) (W.sink out.old).gained (W.sink out.new).gained result }
+        ensures gone { IfSome (routed_to packet.now (shown B.meaning self.old)).leaves
+            (BoxHasGone B.meaning self.old.seats self.old.services) }
     {
         match message_id(packet) {
             mids::EVENT_SERVICES => self.obey_events(packet, out),

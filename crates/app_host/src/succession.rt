@@ -1,9 +1,9 @@
 //! Objects that give their seats back, and those that take them next.
 
-ghost use Rattle.std.specs.Prelude.{◌≡◌, map, option_map, slice_set, IfSome, IsSomeAnd, IsSome, None, []};
+ghost use Rattle.std.specs.Prelude.{◌≡◌, map, slice_set, IfSome, IsSomeAnd, IsSome, None, []};
 ghost use Rattle.app_host.specs.Calls.{IsObject};
 ghost use Rattle.app_host.specs.Boxes.{BoxHasGone};
-ghost use Rattle.app_host.specs.Hosted.{Object, object_at, shown};
+ghost use Rattle.app_host.specs.Hosted.{Object, object_at, shown, object_in};
 ghost use Rattle.app_host.specs.Objects.{MayStartOn, HasStarted, MayRetire, HasRetired};
 ghost use Rattle.app_host.specs.Whole.{AreSeated, AreSpares};
 ghost use Rattle.app_host.specs.Ordered.{MayBegin, MayFollow, ObjectHasBegun, HasFollowed, HasWithdrawn, next_of};
@@ -16,32 +16,29 @@ use lc_model::Seat;
 
 /// Who takes a seat next.
 #[derive(Drop)]
-pub(crate) enum Successor {
+pub(crate) enum Successor<B: App> {
     Nobody,
     /// The spare at a place of the stock.
     Spare(usize, Seat),
     /// An object that gave the seat back.
-    Same(Box<dyn App>, Seat),
+    Same(Box<B>, Seat),
 }
 
 /// What every object is.
-fn is_object(app: &Box<dyn App>)
-    ensures { IsObject (meaning app.now).state (meaning app.now).called }
+fn is_object<B: App>(app: &Box<B>)
+    ensures { IsObject (B.meaning app.now.value).state (B.meaning app.now.value).called }
 {
     app.name();
 }
 
 /// The object of a place gives its seat back. Condition: there is one.
-fn withdraw_in(
-    place: &mut Option<Box<dyn App>>,
-    seat: Seat,
-    services: &mut Services,
-) -> Box<dyn App>
-    requires { IsSomeAnd (option_map meaning place.old) (MayRetire seat services.old) }
+fn withdraw_in<B: App>(place: &mut Option<Box<B>>, seat: Seat, services: &mut Services) -> Box<B>
+    requires { IsSomeAnd (object_in B.meaning place.old) (MayRetire seat services.old) }
     ensures gone { place.new ≡ None }
-    ensures left { IfSome (option_map meaning place.old)
-        (λ o. HasRetired seat services.old services.new o (meaning result)) }
-    ensures same { IfSome place.old (λ there. result.vtable ≡ there.vtable) }
+    ensures left { IfSome (object_in B.meaning place.old)
+        (λ o. HasRetired seat services.old services.new o (B.meaning result.value)) }
+    ensures same { IfSome place.old
+        (λ there. (B.meaning result.value).called ≡ (B.meaning there.value).called) }
 {
     let mut app = place.take().unwrap();
     retire(&mut app, seat, services);
@@ -49,32 +46,27 @@ fn withdraw_in(
 }
 
 /// The object of a seat gives it back. Condition: there is one.
-fn withdraw_at(
-    seats: &mut [Option<Box<dyn App>>; Seat::COUNT],
+fn withdraw_at<B: App>(
+    seats: &mut [Option<Box<B>>; Seat::COUNT],
     seat: Seat,
     services: &mut Services,
-) -> Box<dyn App>
-    requires { IsSomeAnd (object_at seat (map (option_map meaning) seats.old))
+) -> Box<B>
+    requires { IsSomeAnd (object_at seat (map (object_in B.meaning) seats.old))
         (MayRetire seat services.old) }
-    ensures gone { map (option_map meaning) seats.new ≡
-        slice_set (map (option_map meaning) seats.old) seat None }
-    ensures left { IfSome (object_at seat (map (option_map meaning) seats.old))
-        (λ o. HasRetired seat services.old services.new o (meaning result)) }
-    ensures boxes { BoxHasGone meaning seats.old services.old seat }
+    ensures gone { map (object_in B.meaning) seats.new ≡
+        slice_set (map (object_in B.meaning) seats.old) seat None }
+    ensures left { IfSome (object_at seat (map (object_in B.meaning) seats.old))
+        (λ o. HasRetired seat services.old services.new o (B.meaning result.value)) }
+    ensures boxes { BoxHasGone B.meaning seats.old services.old seat }
 {
     withdraw_in(&mut seats[seat.index()], seat, services)
 }
 
 /// An object starts, and is at a place from then on.
-fn begin_in(
-    place: &mut Option<Box<dyn App>>,
-    seat: Seat,
-    services: &mut Services,
-    app: Box<dyn App>,
-)
-    requires { MayStartOn seat services.old (meaning app) }
-    ensures { IsSomeAnd (option_map meaning place.new)
-        (HasStarted seat services.old services.new (meaning app)) }
+fn begin_in<B: App>(place: &mut Option<Box<B>>, seat: Seat, services: &mut Services, app: Box<B>)
+    requires { MayStartOn seat services.old (B.meaning app.value) }
+    ensures { IsSomeAnd (object_in B.meaning place.new)
+        (HasStarted seat services.old services.new (B.meaning app.value)) }
 {
     let mut app = app;
     start(&mut app, seat, services);
@@ -82,32 +74,32 @@ fn begin_in(
 }
 
 /// An object starts on a seat.
-fn begin_at(
-    seats: &mut [Option<Box<dyn App>>; Seat::COUNT],
+fn begin_at<B: App>(
+    seats: &mut [Option<Box<B>>; Seat::COUNT],
     seat: Seat,
     services: &mut Services,
-    app: Box<dyn App>,
+    app: Box<B>,
 )
-    requires { MayStartOn seat services.old (meaning app) }
-    ensures started { IsSomeAnd (object_at seat (map (option_map meaning) seats.new))
-        (HasStarted seat services.old services.new (meaning app)) }
-    ensures others { map (option_map meaning) seats.new ≡
-        slice_set (map (option_map meaning) seats.old) seat
-        (object_at seat (map (option_map meaning) seats.new)) }
+    requires { MayStartOn seat services.old (B.meaning app.value) }
+    ensures started { IsSomeAnd (object_at seat (map (object_in B.meaning) seats.new))
+        (HasStarted seat services.old services.new (B.meaning app.value)) }
+    ensures others { map (object_in B.meaning) seats.new ≡
+        slice_set (map (object_in B.meaning) seats.old) seat
+        (object_at seat (map (object_in B.meaning) seats.new)) }
 {
     begin_in(&mut seats[seat.index()], seat, services, app);
 }
 
-impl Host {
+impl<B: App> Host<B> {
     /// The object of a seat gives it back. Condition: there is one.
-    pub(crate) fn withdraw(&mut self, seat: Seat) -> Box<dyn App>
-        requires seated { AreSeated (shown meaning self.old).seats
-            (shown meaning self.old).services }
+    pub(crate) fn withdraw(&mut self, seat: Seat) -> Box<B>
+        requires seated { AreSeated (shown B.meaning self.old).seats
+            (shown B.meaning self.old).services }
         requires idle { self.old.services.outgoing ≡ [] }
-        requires there { IsSome (object_at seat (shown meaning self.old).seats) }
-        ensures withdrawn { HasWithdrawn seat (shown meaning self.old) (shown meaning self.new)
-            (meaning result) }
-        ensures boxes { BoxHasGone meaning self.old.seats self.old.services seat }
+        requires there { IsSome (object_at seat (shown B.meaning self.old).seats) }
+        ensures withdrawn { HasWithdrawn seat (shown B.meaning self.old) (shown B.meaning self.new)
+            (B.meaning result.value) }
+        ensures boxes { BoxHasGone B.meaning self.old.seats self.old.services seat }
     {
         // For the proof: tables and files are within their bounds, each under a name of its own.
         self.services.tables.is_service();
@@ -118,13 +110,13 @@ impl Host {
     }
 
     /// An object begins on a seat that is free. Conditions: it holds no seat, and no seat has its name.
-    fn begin(&mut self, seat: Seat, app: Box<dyn App>)
-        requires seated { AreSeated (shown meaning self.old).seats
-            (shown meaning self.old).services }
+    fn begin(&mut self, seat: Seat, app: Box<B>)
+        requires seated { AreSeated (shown B.meaning self.old).seats
+            (shown B.meaning self.old).services }
         requires idle { self.old.services.outgoing ≡ [] }
-        requires may { MayBegin seat (shown meaning self.old) (meaning app) }
-        ensures { ObjectHasBegun seat (meaning app) (shown meaning self.old)
-            (shown meaning self.new) }
+        requires may { MayBegin seat (shown B.meaning self.old) (B.meaning app.value) }
+        ensures { ObjectHasBegun seat (B.meaning app.value) (shown B.meaning self.old)
+            (shown B.meaning self.new) }
     {
         // For the proof: the object is of the kind that goes by its name, and tables and files are within their bounds, each
         // under a name of its own.
@@ -136,14 +128,14 @@ impl Host {
     }
 
     /// The next one takes its seat; a spare leaves the stock for it.
-    pub(crate) fn bring_in(&mut self, next: Successor)
-        requires seated { AreSeated (shown meaning self.old).seats
-            (shown meaning self.old).services }
-        requires spares { AreSpares (shown meaning self.old).stock }
+    pub(crate) fn bring_in(&mut self, next: Successor<B>)
+        requires seated { AreSeated (shown B.meaning self.old).seats
+            (shown B.meaning self.old).services }
+        requires spares { AreSpares (shown B.meaning self.old).stock }
         requires idle { self.old.services.outgoing ≡ [] }
-        requires may { MayFollow (shown meaning self.old) (next_of meaning next) }
-        ensures { HasFollowed (next_of meaning next) (shown meaning self.old)
-            (shown meaning self.new) }
+        requires may { MayFollow (shown B.meaning self.old) (next_of B.meaning next) }
+        ensures { HasFollowed (next_of B.meaning next) (shown B.meaning self.old)
+            (shown B.meaning self.new) }
     {
         match next {
             Successor::Nobody => {}

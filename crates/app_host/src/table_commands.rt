@@ -12,6 +12,7 @@ ghost use Rattle.app_host.specs.Response.{obeying_tables, RespondsCounted};
 ghost use Rattle.app_host.specs.Obeyed.{obeyed_by};
 ghost use Rattle.app_host.specs.ObeyedTables.{tables_by};
 
+use crate::app::App;
 use crate::error::WriteFault;
 use crate::host::Host;
 use crate::numbers::{Numbers, of_tables};
@@ -102,23 +103,24 @@ pub(crate) fn obey(tables: &mut Tables, packet: &[u8]) -> Result<(), Numbers>
     }
 }
 
-impl Host {
+impl<B: App> Host<B> {
     /// A command to the table services is obeyed or refused, and `HOST` tells which.
     pub(crate) fn obey_tables<W: ByteSink>(
         &mut self,
         packet: &[u8],
         out: &mut W,
     ) -> Result<u64, WriteFault>
-        requires whole { IsWhole (shown meaning self.old) }
-        requires quiet { IsQuiet (shown meaning self.old) }
+        requires whole { IsWhole (shown B.meaning self.old) }
+        requires quiet { IsQuiet (shown B.meaning self.old) }
         requires none_yet { self.old.calls ≡ 0 }
         requires headers { command_header_size ≤ length packet.now }
-        ensures handled { ObeysTables packet.now (shown meaning self.old) (shown meaning self.new)
+        ensures handled { ObeysTables packet.now
+            (shown B.meaning self.old) (shown B.meaning self.new)
             (W.sink out.old) (W.sink out.new) result }
         ensures own { RespondsCounted self.old.services.moment
-            (obeying_tables packet.now (shown meaning self.old)
+            (obeying_tables packet.now (shown B.meaning self.old)
             (tables_by (table_command (function_code packet.now) (payload packet.now))
-            self.old.services.tables)) (shown meaning self.old) (shown meaning self.new)
+            self.old.services.tables)) (shown B.meaning self.old) (shown B.meaning self.new)
             (W.sink out.old).gained (W.sink out.new).gained result }
     {
         // For the proof: what a table command does goes by the names of tables, and tables and files are within their bounds,

@@ -1,12 +1,12 @@
 //! An application of this profile beside one of any other kind, in stock or on a seat.
 
-ghost use Rattle.std.specs.Prelude.{◌≡◌, ◌∷◌, [], false, map, IfOk, None, OnOk, Some};
+ghost use Rattle.std.specs.Prelude.{◌≡◌, ◌∷◌, [], false, IfOk, None, OnOk, Some};
 ghost use Rattle.std.specs.Io.KnownBytes.{Appends};
 ghost use Rattle.lc_model.specs.Name.{counter_name};
 ghost use Rattle.lc_model.specs.Packet.{counter_mid};
 ghost use Rattle.lc_model.specs.Kept.Summary.{CounterState};
 ghost use Rattle.app_host.specs.Delivered.{executive_in};
-ghost use Rattle.app_host.specs.Hosted.{member_of, shown};
+ghost use Rattle.app_host.specs.Hosted.{member_of, objects_in, shown};
 ghost use Rattle.app_host.specs.Step.{IsBetween};
 ghost use Rattle.app_host.specs.Party.{AreKnownHearers, IsKnownSpare};
 ghost use Rattle.app_host.specs.Whole.{AreKnown, AreSpares};
@@ -32,18 +32,19 @@ const START: &[u8] = &[
 const COUNT: &[u8] = &[0x18, 0xC1, 0xC0, 0, 0, 1, 1, 0];
 
 /// The first spare that a counter is, and one of any kind behind it. Condition: they hold no seats.
-fn stock_of(
+fn stock_of<B: App>(
     alloc: Global,
-    counter: Box<dyn App>,
-    other: Box<dyn App>,
-) -> Result<Vec<Box<dyn App>>, AllocError>
-    requires counter { (meaning counter).seat ≡ None }
-    requires other { (meaning other).seat ≡ None }
-    ensures spares { IfOk result (λ stock. AreSpares (map meaning stock.items)) }
+    counter: Box<B>,
+    other: Box<B>,
+) -> Result<Vec<Box<B>>, AllocError>
+    requires counter { (B.meaning counter.value).seat ≡ None }
+    requires other { (B.meaning other.value).seat ≡ None }
+    ensures spares { IfOk result (λ stock. AreSpares (objects_in B.meaning stock.items)) }
     ensures items { IfOk result
-        (λ stock. map meaning stock.items ≡ meaning counter ∷ meaning other ∷ []) }
+        (λ stock. objects_in B.meaning stock.items ≡
+        B.meaning counter.value ∷ B.meaning other.value ∷ []) }
 {
-    let mut stock: Vec<Box<dyn App>> = Vec::new(alloc);
+    let mut stock: Vec<Box<B>> = Vec::new(alloc);
     stock.push(counter)?;
     stock.push(other)?;
     Ok(stock)
@@ -51,16 +52,16 @@ fn stock_of(
 
 /// The host gives a command to the counter. What is written is what that calls for in the host in numbers, whatever other
 /// applications are on its seats. Condition: those that hear the command are of this profile.
-pub fn counts_among<W: ByteSink>(host: &mut Host, out: &mut W) -> Result<(), WriteFault>
+pub fn counts_among<B: App, W: ByteSink>(host: &mut Host<B>, out: &mut W) -> Result<(), WriteFault>
     requires between { IsBetween
-        (shown (λ b. (⟦<dyn App as App>⟧ b.vtable).meaning b.value) host.old) }
-    requires open { (shown (λ b. (⟦<dyn App as App>⟧ b.vtable).meaning b.value)
+        (shown B.meaning host.old) }
+    requires open { (shown B.meaning
         host.old).is_closed ≡ false }
     requires hearers { AreKnownHearers
-        (shown (λ b. (⟦<dyn App as App>⟧ b.vtable).meaning b.value) host.old) counter_mid }
+        (shown B.meaning host.old) counter_mid }
     ensures between { IsBetween
-        (shown (λ b. (⟦<dyn App as App>⟧ b.vtable).meaning b.value) host.new) }
-    ensures written { let seen = shown (λ b. (⟦<dyn App as App>⟧ b.vtable).meaning b.value) in
+        (shown B.meaning host.new) }
+    ensures written { let seen = shown B.meaning in
         OnOk result (Appends (W.sink out.old).gained (W.sink out.new).gained
         (counted_from (executive_in (seen host.old)))) }
 {
@@ -73,18 +74,18 @@ pub fn counts_among<W: ByteSink>(host: &mut Host, out: &mut W) -> Result<(), Wri
 
 /// The host starts the counter and gives it a command. What is written is what both records call for in the host in numbers.
 /// Conditions: the objects on the seats are of this profile, and so is the first spare that goes by the counter's name.
-fn count<W: ByteSink>(host: &mut Host, out: &mut W) -> Result<(), WriteFault>
+fn count<B: App, W: ByteSink>(host: &mut Host<B>, out: &mut W) -> Result<(), WriteFault>
     requires between { IsBetween
-        (shown (λ b. (⟦<dyn App as App>⟧ b.vtable).meaning b.value) host.old) }
-    requires open { (shown (λ b. (⟦<dyn App as App>⟧ b.vtable).meaning b.value)
+        (shown B.meaning host.old) }
+    requires open { (shown B.meaning
         host.old).is_closed ≡ false }
     requires known { AreKnown
-        (shown (λ b. (⟦<dyn App as App>⟧ b.vtable).meaning b.value) host.old) }
+        (shown B.meaning host.old) }
     requires spare { IsKnownSpare (Some counter_name)
-        (shown (λ b. (⟦<dyn App as App>⟧ b.vtable).meaning b.value) host.old).stock }
+        (shown B.meaning host.old).stock }
     ensures between { IsBetween
-        (shown (λ b. (⟦<dyn App as App>⟧ b.vtable).meaning b.value) host.new) }
-    ensures written { let seen = shown (λ b. (⟦<dyn App as App>⟧ b.vtable).meaning b.value) in
+        (shown B.meaning host.new) }
+    ensures written { let seen = shown B.meaning in
         OnOk result (Appends (W.sink out.old).gained (W.sink out.new).gained
         (written_from (executive_in (seen host.old)))) }
 {
@@ -99,20 +100,20 @@ fn count<W: ByteSink>(host: &mut Host, out: &mut W) -> Result<(), WriteFault>
 /// A host with a counter and an application of any kind in stock starts the counter, gives it a command, and is closed. It writes
 /// exactly what both records call for in the host in numbers, whatever the other application is: that one stays in stock. Out of
 /// memory is the outer error.
-pub fn counts_beside<W: ByteSink>(
+pub fn counts_beside<B: App, W: ByteSink>(
     alloc: Global,
-    counter: Box<dyn App>,
-    other: Box<dyn App>,
+    counter: Box<B>,
+    other: Box<B>,
     out: &mut W,
 ) -> Result<Result<(), WriteFault>, AllocError>
-    requires named { (meaning counter).called ≡ counter_name }
-    requires counts { (meaning counter).state ≡ CounterState 0 }
-    requires counter { (meaning counter).seat ≡ None }
-    requires other { (meaning other).seat ≡ None }
+    requires named { (B.meaning counter.value).called ≡ counter_name }
+    requires counts { (B.meaning counter.value).state ≡ CounterState 0 }
+    requires counter { (B.meaning counter.value).seat ≡ None }
+    requires other { (B.meaning other.value).seat ≡ None }
     ensures { IfOk result
         (λ answer. OnOk answer
         (Appends (W.sink out.old).gained (W.sink out.new).gained
-        (written_beside (member_of (meaning other))))) }
+        (written_beside (member_of (B.meaning other.value))))) }
 {
     let stock = stock_of(alloc, counter, other)?;
     match Host::new(alloc, stock) {

@@ -1,7 +1,7 @@
 //! A host of the tests and its records.
 
-ghost use Rattle.std.specs.Prelude.{◌≡◌, map, IfOk};
-ghost use Rattle.app_host.specs.Hosted.{shown};
+ghost use Rattle.std.specs.Prelude.{◌≡◌, IfOk};
+ghost use Rattle.app_host.specs.Hosted.{shown, objects_in};
 ghost use Rattle.app_host.specs.Whole.{AreSpares};
 ghost use Rattle.app_host.specs.Step.{IsNamed, IsBetween};
 
@@ -16,30 +16,31 @@ const NOW: Moment = Moment {
 };
 
 /// A host with these spares. On an error they come back. Condition: none of them holds a seat.
-pub fn begin(
-    alloc: Global,
-    stock: Vec<Box<dyn App>>,
-) -> Result<Host, (HostError, Vec<Box<dyn App>>)>
-    requires { AreSpares (map meaning stock.items) }
-    ensures { IfOk result (λ host. IsBetween (shown meaning host)) }
+pub fn begin<B: App>(alloc: Global, stock: Vec<Box<B>>) -> Result<Host<B>, (HostError, Vec<Box<B>>)>
+    requires { AreSpares (objects_in B.meaning stock.items) }
+    ensures { IfOk result (λ host. IsBetween (shown B.meaning host)) }
 {
     Host::new(alloc, stock)
 }
 
 /// The host handles a record. Condition: a file's name has at most 40 bytes.
-pub fn step<W: ByteSink>(host: &mut Host, body: Body<'_>, out: &mut W) -> Result<(), WriteFault>
+pub fn step<B: App, W: ByteSink>(
+    host: &mut Host<B>,
+    body: Body<'_>,
+    out: &mut W,
+) -> Result<(), WriteFault>
     requires between { IsBetween
-        (shown (λ b. (⟦<dyn App as App>⟧ b.vtable).meaning b.value) host.old) }
+        (shown B.meaning host.old) }
     requires named { IsNamed body }
     ensures between { IsBetween
-        (shown (λ b. (⟦<dyn App as App>⟧ b.vtable).meaning b.value) host.new) }
+        (shown B.meaning host.new) }
 {
     host.step(&Record { moment: NOW, body }, out)
 }
 
 /// All that run retire, and all objects are dropped.
-pub fn end(host: Host)
-    requires { IsBetween (shown (λ b. (⟦<dyn App as App>⟧ b.vtable).meaning b.value) host) }
+pub fn end<B: App>(host: Host<B>)
+    requires { IsBetween (shown B.meaning host) }
 {
     host.close();
 }

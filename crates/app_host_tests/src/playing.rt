@@ -1,7 +1,7 @@
 //! A host plays a script.
 
-ghost use Rattle.std.specs.Prelude.{◌≡◌, map, OnOk, None};
-ghost use Rattle.app_host.specs.Hosted.{shown};
+ghost use Rattle.std.specs.Prelude.{◌≡◌, OnOk, None};
+ghost use Rattle.app_host.specs.Hosted.{shown, objects_in};
 ghost use Rattle.app_host.specs.Whole.{AreSpares};
 ghost use Rattle.app_host.specs.Step.{IsBetween};
 
@@ -31,9 +31,13 @@ fn order(code: u8, name: &[u8]) -> [u8; 28] {
 }
 
 /// The host handles a record.
-fn give<W: ByteSink>(host: &mut Host, given: Given<'_>, out: &mut W) -> Result<(), WriteFault>
-    requires { IsBetween (shown (λ b. (⟦<dyn App as App>⟧ b.vtable).meaning b.value) host.old) }
-    ensures { IsBetween (shown (λ b. (⟦<dyn App as App>⟧ b.vtable).meaning b.value) host.new) }
+fn give<B: App, W: ByteSink>(
+    host: &mut Host<B>,
+    given: Given<'_>,
+    out: &mut W,
+) -> Result<(), WriteFault>
+    requires { IsBetween (shown B.meaning host.old) }
+    ensures { IsBetween (shown B.meaning host.new) }
 {
     match given {
         Given::Tick => step(host, Body::Tick, out),
@@ -46,9 +50,9 @@ fn give<W: ByteSink>(host: &mut Host, given: Given<'_>, out: &mut W) -> Result<(
 }
 
 /// Whether a record leads to exactly this.
-fn writes(host: &mut Host, given: Given<'_>, expected: &[Said<'_>]) -> bool
-    requires { IsBetween (shown (λ b. (⟦<dyn App as App>⟧ b.vtable).meaning b.value) host.old) }
-    ensures { IsBetween (shown (λ b. (⟦<dyn App as App>⟧ b.vtable).meaning b.value) host.new) }
+fn writes<B: App>(host: &mut Host<B>, given: Given<'_>, expected: &[Said<'_>]) -> bool
+    requires { IsBetween (shown B.meaning host.old) }
+    ensures { IsBetween (shown B.meaning host.new) }
 {
     let mut room = [0; ROOM];
     let mut out = Limited::new(&mut room, ROOM);
@@ -57,9 +61,9 @@ fn writes(host: &mut Host, given: Given<'_>, expected: &[Said<'_>]) -> bool
 }
 
 /// Whether a write fails behind so many bytes, and these are written.
-fn is_cut(host: &mut Host, given: Given<'_>, limit: usize) -> bool
-    requires { IsBetween (shown (λ b. (⟦<dyn App as App>⟧ b.vtable).meaning b.value) host.old) }
-    ensures { IsBetween (shown (λ b. (⟦<dyn App as App>⟧ b.vtable).meaning b.value) host.new) }
+fn is_cut<B: App>(host: &mut Host<B>, given: Given<'_>, limit: usize) -> bool
+    requires { IsBetween (shown B.meaning host.old) }
+    ensures { IsBetween (shown B.meaning host.new) }
 {
     let mut room = [0; ROOM];
     let mut out = Limited::new(&mut room, limit.min(ROOM));
@@ -69,9 +73,9 @@ fn is_cut(host: &mut Host, given: Given<'_>, limit: usize) -> bool
 }
 
 /// Whether a line holds: what a record leads to, or what is asked.
-fn holds(host: &mut Host, tally: &Tally, line: Line<'_>) -> bool
-    requires { IsBetween (shown (λ b. (⟦<dyn App as App>⟧ b.vtable).meaning b.value) host.old) }
-    ensures { IsBetween (shown (λ b. (⟦<dyn App as App>⟧ b.vtable).meaning b.value) host.new) }
+fn holds<B: App>(host: &mut Host<B>, tally: &Tally, line: Line<'_>) -> bool
+    requires { IsBetween (shown B.meaning host.old) }
+    ensures { IsBetween (shown B.meaning host.new) }
 {
     match line {
         Line::Step(given, expected) => writes(host, given, expected),
@@ -83,9 +87,9 @@ fn holds(host: &mut Host, tally: &Tally, line: Line<'_>) -> bool
 }
 
 /// The lines one after the other: the number of the first that does not hold, or none.
-fn follow(host: &mut Host, tally: &Tally, script: &[Line<'_>]) -> Option<usize>
-    requires { IsBetween (shown (λ b. (⟦<dyn App as App>⟧ b.vtable).meaning b.value) host.old) }
-    ensures { IsBetween (shown (λ b. (⟦<dyn App as App>⟧ b.vtable).meaning b.value) host.new) }
+fn follow<B: App>(host: &mut Host<B>, tally: &Tally, script: &[Line<'_>]) -> Option<usize>
+    requires { IsBetween (shown B.meaning host.old) }
+    ensures { IsBetween (shown B.meaning host.new) }
 {
     for (number, line) in script.iter().enumerate() {
         if !holds(host, tally, *line) {
@@ -96,10 +100,10 @@ fn follow(host: &mut Host, tally: &Tally, script: &[Line<'_>]) -> Option<usize>
 }
 
 /// One spare more. Condition: it holds no seat.
-fn add(stock: &mut Vec<Box<dyn App>>, app: Box<dyn App>) -> Result<(), AllocError>
-    requires spares { AreSpares (map meaning stock.old.items) }
-    requires spare { (meaning app).seat ≡ None }
-    ensures { OnOk result (AreSpares (map meaning stock.new.items)) }
+fn add<B: App>(stock: &mut Vec<Box<B>>, app: Box<B>) -> Result<(), AllocError>
+    requires spares { AreSpares (objects_in B.meaning stock.old.items) }
+    requires spare { (B.meaning app.value).seat ≡ None }
+    ensures { OnOk result (AreSpares (objects_in B.meaning stock.new.items)) }
 {
     stock.push(app)?;
     Ok(())
@@ -108,13 +112,13 @@ fn add(stock: &mut Vec<Box<dyn App>>, app: Box<dyn App>) -> Result<(), AllocErro
 /// A host with this stock plays the script, and is closed. The number of the first line that does not hold; 0, where want of
 /// memory took one of the stock; the number of lines, where an object was not dropped once, one that started was not retired as
 /// often, or the close dropped one before another had retired; else none. Out of memory is the only error.
-fn perform(
+fn perform<B: App>(
     alloc: Global,
-    stock: Vec<Box<dyn App>>,
+    stock: Vec<Box<B>>,
     tally: &Tally,
     script: &[Line<'_>],
 ) -> Result<Option<usize>, AllocError>
-    requires { AreSpares (map meaning stock.items) }
+    requires { AreSpares (objects_in B.meaning stock.items) }
 {
     let spares = stock.len();
     let mut host = match begin(alloc, stock) {
@@ -138,20 +142,23 @@ pub fn plays(
     script: &[Line<'_>],
 ) -> Result<Option<usize>, AllocError> {
     let tally = Tally::new(alloc)?;
-    let mut stock: Vec<Box<dyn App>> = Vec::new(alloc);
+    let mut stock: Vec<Box<Box<dyn App>>> = Vec::new(alloc);
     for spare in spares {
         match *spare {
             Spare::Counting => {
                 let counting = Tracked::new(Counter::new(), tally.share()?);
-                add(&mut stock, Box::new(alloc, counting)?)?;
+                let app: Box<dyn App> = Box::new(alloc, counting)?;
+                add(&mut stock, Box::new(alloc, app)?)?;
             }
             Spare::Publishing(number) => {
                 let publishing = Tracked::new(Named::new(number), tally.share()?);
-                add(&mut stock, Box::new(alloc, publishing)?)?;
+                let app: Box<dyn App> = Box::new(alloc, publishing)?;
+                add(&mut stock, Box::new(alloc, app)?)?;
             }
             Spare::Speaking(number) => {
                 let speaking = Tracked::new(Speaking::new(number), tally.share()?);
-                add(&mut stock, Box::new(alloc, speaking)?)?;
+                let app: Box<dyn App> = Box::new(alloc, speaking)?;
+                add(&mut stock, Box::new(alloc, app)?)?;
             }
         }
     }

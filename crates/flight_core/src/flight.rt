@@ -42,11 +42,11 @@ fn stopped(halt: Halt, report: Report, held: usize) -> RunError
 
 /// Handles all records of the source: all whole ones of a piece before the next read. Before each read, and before the answer,
 /// all output is with the device behind the sink.
-pub(crate) fn fly<R: ByteSource, T: ByteSink, O: Outlet<T>>(
+pub(crate) fn fly<R: ByteSource, T: ByteSink, O: Outlet<T>, B: App>(
     records: &mut Records,
     room: &mut [u8],
     pairs: &[TablePair],
-    host: &mut Host,
+    host: &mut Host<B>,
     reader: &mut R,
     out: &mut T,
     most: u64,
@@ -54,9 +54,9 @@ pub(crate) fn fly<R: ByteSource, T: ByteSink, O: Outlet<T>>(
     requires nothing { records.old ≡ nothing_held (length pairs.now) }
     requires room { length room.old ≡ PIECE }
     requires files { AreWhole pairs.now }
-    requires between { let seen = shown (λ b. (⟦<dyn App as App>⟧ b.vtable).meaning b.value) in
+    requires between { let seen = shown B.meaning in
         IsBetween (seen host.old) }
-    requires open { let seen = shown (λ b. (⟦<dyn App as App>⟧ b.vtable).meaning b.value) in
+    requires open { let seen = shown B.meaning in
         (seen host.old).is_closed ≡ false }
     requires unread { (R.source reader.old).reads ≡ 0 }
     requires readable { (R.source reader.old).failed ≡ false }
@@ -64,15 +64,15 @@ pub(crate) fn fly<R: ByteSource, T: ByteSink, O: Outlet<T>>(
     requires empty { O.held out.old ≡ [] }
     requires had { O.Had (O.device out.old).gained }
     requires most { most ≤ MOST_READS }
-    ensures outcome { let seen = shown (λ b. (⟦<dyn App as App>⟧ b.vtable).meaning b.value) in
+    ensures outcome { let seen = shown B.meaning in
         FliesSo pairs.now most (seen host.old)
         (devices (R.source reader.old) (R.source reader.new) (O.device out.old)
         (O.device out.new)) result }
-    ensures reasons { let seen = shown (λ b. (⟦<dyn App as App>⟧ b.vtable).meaning b.value) in
+    ensures reasons { let seen = shown B.meaning in
         IsForItsReason (length pairs.now) (meanings_of pairs.now) (seen host.old) most
         (devices (R.source reader.old) (R.source reader.new) (O.device out.old) (O.device out.new))
         (ending_of result) }
-    ensures between { let seen = shown (λ b. (⟦<dyn App as App>⟧ b.vtable).meaning b.value) in
+    ensures between { let seen = shown B.meaning in
         IsBetween (seen host.new) }
     ensures begun { RunHasBegun result }
     ensures bounded { (R.source reader.new).reads ≤ most }

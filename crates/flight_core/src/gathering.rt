@@ -1,7 +1,8 @@
 //! A whole run whose output is gathered for its device.
 
-ghost use Rattle.std.specs.Prelude.{◌≡◌, ◌≤◌, false, [], map, vec_capacity};
+ghost use Rattle.std.specs.Prelude.{◌≡◌, ◌≤◌, false, [], vec_capacity};
 ghost use Rattle.lc_model.specs.Host.Outcome.{devices};
+ghost use Rattle.app_host.specs.Hosted.{objects_in};
 ghost use Rattle.app_host.specs.Whole.{AreSpares};
 ghost use Rattle.flight_core.specs.Promises.{Promises};
 ghost use Rattle.flight_core.specs.Run.{IsOfProfile, mission_of};
@@ -18,23 +19,23 @@ use std::marker::Brand;
 use tick_scheduler::Schedule;
 
 /// Runs with this buffer, which is empty and has room for a piece.
-fn gather<R: ByteSource, W: ByteSink, S: Outset>(
+fn gather<R: ByteSource, W: ByteSink, S: Outset, B: App>(
     alloc: Global,
     texts: &[&[u8]],
     schedule: &Schedule,
-    stock: Vec<Box<dyn App>>,
+    stock: Vec<Box<B>>,
     reader: &mut R,
     device: W,
     held: Vec<u8>,
 ) -> (Result<Report, RunError>, W)
-    requires spares { AreSpares (map meaning stock.items) }
+    requires spares { AreSpares (objects_in B.meaning stock.items) }
     requires unread { (R.source reader.old).reads ≡ 0 }
     requires readable { (R.source reader.old).failed ≡ false }
     requires writable { (W.sink device).failed ≡ false }
     requires empty { held.items ≡ [] }
     requires room { MOST_GATHERED ≤ vec_capacity held }
     requires had { S.had ≡ (W.sink device).gained }
-    ensures promises { let objects = map meaning stock.items in
+    ensures promises { let objects = objects_in B.meaning stock.items in
         let mission = mission_of texts.now schedule.now objects MOST_READS in
         let before_and_after = devices (R.source reader.old) (R.source reader.new) (W.sink device)
         (W.sink result.1) in
@@ -43,7 +44,7 @@ fn gather<R: ByteSource, W: ByteSink, S: Outset>(
     // For the proof: each promise follows from how the run ends.
     runs_keep_their_promises();
     let mut out: Gathered<W, S> = Gathered::new(device, held);
-    let answer = begin::<R, Gathered<W, S>, Gathering>(
+    let answer = begin::<R, Gathered<W, S>, Gathering, B>(
         alloc, texts, schedule, stock, reader, &mut out, MOST_READS,
     );
     (answer, out.into_device())
@@ -56,21 +57,21 @@ fn gather<R: ByteSource, W: ByteSink, S: Outset>(
 /// Conditions: nothing in stock holds a seat; nothing was read or failed yet.
 ///
 /// Errors: those of `run`, where `Write` comes before every other.
-pub fn run_gathered<R: ByteSource, W: ByteSink>(
+pub fn run_gathered<R: ByteSource, W: ByteSink, B: App>(
     alloc: Global,
     texts: &[&[u8]],
     schedule: &Schedule,
-    stock: Vec<Box<dyn App>>,
+    stock: Vec<Box<B>>,
     reader: &mut R,
     device: W,
 ) -> (Result<Report, RunError>, W)
-    requires spares { AreSpares (map meaning stock.items) }
+    requires spares { AreSpares (objects_in B.meaning stock.items) }
     requires unread { (R.source reader.old).reads ≡ 0 }
     requires readable { (R.source reader.old).failed ≡ false }
     requires writable { (W.sink device).failed ≡ false }
 
     // All that a run promises, of the device itself: the fields of `Promises` and of `PromisesOfProfile`.
-    ensures promises { let objects = map meaning stock.items in
+    ensures promises { let objects = objects_in B.meaning stock.items in
         let mission = mission_of texts.now schedule.now objects MOST_READS in
         let before_and_after = devices (R.source reader.old) (R.source reader.new) (W.sink device)
         (W.sink result.1) in
@@ -79,7 +80,7 @@ pub fn run_gathered<R: ByteSource, W: ByteSink>(
     // For the proof: each promise follows from how the run ends.
     runs_keep_their_promises();
     match Vec::with_capacity(alloc, MOST_GATHERED) {
-        Ok(held) => gather::<R, W, Brand>(alloc, texts, schedule, stock, reader, device, held),
+        Ok(held) => gather::<R, W, Brand, B>(alloc, texts, schedule, stock, reader, device, held),
         Err(_) => (Err(RunError::Memory), device),
     }
 }

@@ -2,7 +2,7 @@
 
 /// Why a run goes no further.
 #[derive(Clone, Copy, Debug, PartialEq, Eq)]
-pub(crate) enum Halt {
+pub enum Halt {
     /// What stands next is no record.
     NoRecord,
     /// A read failed.

@@ -14,22 +14,22 @@ use lc_model::ByteSink;
 use rpn_compiler::TablePair;
 
 /// Handles the next record, where a whole one is held, and answers how many bytes were written.
-pub(crate) fn handle_next<W: ByteSink>(
+pub fn handle_next<W: ByteSink, B: App>(
     records: &mut Records,
     pairs: &[TablePair],
-    host: &mut Host,
+    host: &mut Host<B>,
     writer: &mut W,
 ) -> Result<Option<u64>, Halt>
     requires texts { records.old.texts ≡ length pairs.now }
     requires files { AreWhole pairs.now }
-    requires between { let seen = shown (λ b. (⟦<dyn App as App>⟧ b.vtable).meaning b.value) in
+    requires between { let seen = shown B.meaning in
         IsBetween (seen host.old) }
-    requires open { let seen = shown (λ b. (⟦<dyn App as App>⟧ b.vtable).meaning b.value) in
+    requires open { let seen = shown B.meaning in
         (seen host.old).is_closed ≡ false }
-    ensures next { let seen = shown (λ b. (⟦<dyn App as App>⟧ b.vtable).meaning b.value) in
+    ensures next { let seen = shown B.meaning in
         HandlesNext (meanings_of pairs.now) records.old records.new (seen host.old) (seen host.new)
         (W.sink writer.old) (W.sink writer.new) result }
-    ensures between { let seen = shown (λ b. (⟦<dyn App as App>⟧ b.vtable).meaning b.value) in
+    ensures between { let seen = shown B.meaning in
         IsBetween (seen host.new) }
 {
     match records.next() {

@@ -22,5 +22,7 @@ mod window;
 pub use error::{Report, RunError};
 pub use found::Found;
 pub use gathering::run_gathered;
+pub use halt::Halt;
+pub use handling::handle_next;
 pub use records::Records;
 pub use running::{run, run_within};

@@ -1,8 +1,9 @@
 //! A whole run: from rule texts and a stream of records to the packets that the host writes.
 
-ghost use Rattle.std.specs.Prelude.{◌≡◌, ◌≤◌, false, [], length, map, IfErr};
+ghost use Rattle.std.specs.Prelude.{◌≡◌, ◌≤◌, false, [], length, IfErr};
 ghost use Rattle.lc_model.specs.Host.Outcome.{devices};
 ghost use Rattle.lc_model.specs.Host.Promise.{IsRun};
+ghost use Rattle.app_host.specs.Hosted.{objects_in};
 ghost use Rattle.app_host.specs.Whole.{AreSpares};
 ghost use Rattle.flight_core.specs.Brought.{AreWhole};
 ghost use Rattle.flight_core.specs.Compiled.{NamesTheNumber, sources_of};
@@ -27,27 +28,28 @@ use std::alloc::Global;
 use tick_scheduler::Schedule;
 
 /// Takes all memory, and then handles all records, with these files in the places of halves.
-fn run_compiled<R: ByteSource, T: ByteSink, O: Outlet<T>>(
+fn run_compiled<R: ByteSource, T: ByteSink, O: Outlet<T>, B: App>(
     alloc: Global,
     pairs: &[TablePair],
-    stock: Vec<Box<dyn App>>,
+    stock: Vec<Box<B>>,
     reader: &mut R,
     out: &mut T,
     reads: u64,
 ) -> Result<Report, RunError>
     requires files { AreWhole pairs.now }
-    requires spares { AreSpares (map meaning stock.items) }
+    requires spares { AreSpares (objects_in B.meaning stock.items) }
     requires unread { (R.source reader.old).reads ≡ 0 }
     requires readable { (R.source reader.old).failed ≡ false }
     requires writable { (O.device out.old).failed ≡ false }
     requires empty { O.held out.old ≡ [] }
     requires had { O.Had (O.device out.old).gained }
     requires most { reads ≤ MOST_READS }
-    ensures run { AreOfProfile (map meaning stock.items) →
-        RunsSo pairs.now (members_of (map meaning stock.items)) (length pairs.now) reads
+    ensures run { AreOfProfile (objects_in B.meaning stock.items) →
+        RunsSo pairs.now (members_of (objects_in B.meaning stock.items)) (length pairs.now) reads
         (devices (R.source reader.old) (R.source reader.new) (O.device out.old)
         (O.device out.new)) result }
-    ensures reasons { RunsForItsReason pairs.now (members_of (map meaning stock.items)) reads
+    ensures reasons { RunsForItsReason pairs.now
+        (members_of (objects_in B.meaning stock.items)) reads
         (devices (R.source reader.old) (R.source reader.new) (O.device out.old) (O.device out.new))
         (ending_of result) }
     ensures judged { RefusesNone
@@ -59,7 +61,7 @@ fn run_compiled<R: ByteSource, T: ByteSink, O: Outlet<T>>(
     let mut room = vec![in alloc; 0; PIECE]?;
     match Host::new(alloc, stock) {
         Ok(mut host) => {
-            let result = fly::<R, T, O>(
+            let result = fly::<R, T, O, B>(
                 &mut records,
                 room.as_mut_slice(),
                 pairs,
@@ -76,23 +78,23 @@ fn run_compiled<R: ByteSource, T: ByteSink, O: Outlet<T>>(
 }
 
 /// Runs as `run` does, with at most so many reads, 2^32 at most.
-pub fn run_within<R: ByteSource, W: ByteSink>(
+pub fn run_within<R: ByteSource, W: ByteSink, B: App>(
     alloc: Global,
     texts: &[&[u8]],
     schedule: &Schedule,
-    stock: Vec<Box<dyn App>>,
+    stock: Vec<Box<B>>,
     reader: &mut R,
     writer: &mut W,
     reads: u64,
 ) -> Result<Report, RunError>
-    requires spares { AreSpares (map meaning stock.items) }
+    requires spares { AreSpares (objects_in B.meaning stock.items) }
     requires unread { (R.source reader.old).reads ≡ 0 }
     requires readable { (R.source reader.old).failed ≡ false }
     requires writable { (W.sink writer.old).failed ≡ false }
     requires most { reads ≤ MOST_READS }
 
     // All that a run promises: the fields of `Promises` and of `PromisesOfProfile`, each with its comment there.
-    ensures promises { let objects = map meaning stock.items in
+    ensures promises { let objects = objects_in B.meaning stock.items in
         let mission = mission_of texts.now schedule.now objects reads in
         let before_and_after = devices (R.source reader.old) (R.source reader.new)
         (W.sink writer.old) (W.sink writer.new) in
@@ -100,28 +102,28 @@ pub fn run_within<R: ByteSource, W: ByteSink>(
 {
     // For the proof: each promise follows from how the run ends.
     runs_keep_their_promises();
-    begin::<R, W, AtOnce>(alloc, texts, schedule, stock, reader, writer, reads)
+    begin::<R, W, AtOnce, B>(alloc, texts, schedule, stock, reader, writer, reads)
 }
 
 /// Compiles the texts, and runs.
-pub(crate) fn begin<R: ByteSource, T: ByteSink, O: Outlet<T>>(
+pub(crate) fn begin<R: ByteSource, T: ByteSink, O: Outlet<T>, B: App>(
     alloc: Global,
     texts: &[&[u8]],
     schedule: &Schedule,
-    stock: Vec<Box<dyn App>>,
+    stock: Vec<Box<B>>,
     reader: &mut R,
     out: &mut T,
     reads: u64,
 ) -> Result<Report, RunError>
-    requires spares { AreSpares (map meaning stock.items) }
+    requires spares { AreSpares (objects_in B.meaning stock.items) }
     requires unread { (R.source reader.old).reads ≡ 0 }
     requires readable { (R.source reader.old).failed ≡ false }
     requires writable { (O.device out.old).failed ≡ false }
     requires empty { O.held out.old ≡ [] }
     requires had { O.Had (O.device out.old).gained }
     requires most { reads ≤ MOST_READS }
-    ensures run { IsOfProfile schedule.now (map meaning stock.items) →
-        IsRun (mission_of texts.now schedule.now (map meaning stock.items) reads)
+    ensures run { IsOfProfile schedule.now (objects_in B.meaning stock.items) →
+        IsRun (mission_of texts.now schedule.now (objects_in B.meaning stock.items) reads)
         (devices (R.source reader.old) (R.source reader.new) (O.device out.old)
         (O.device out.new)) (ending_of result) }
     ensures refuses { RefusesUnfitAlone (sources_of texts.now)
@@ -129,7 +131,7 @@ pub(crate) fn begin<R: ByteSource, T: ByteSink, O: Outlet<T>>(
         (O.device out.new)) (ending_of result) }
     ensures named { IfErr result (NamesTheNumber (sources_of texts.now)) }
     ensures reasons { AnswersForItsReason
-        (mission_of texts.now schedule.now (map meaning stock.items) reads)
+        (mission_of texts.now schedule.now (objects_in B.meaning stock.items) reads)
         (devices (R.source reader.old) (R.source reader.new) (O.device out.old) (O.device out.new))
         (ending_of result) }
     ensures bounded { (R.source reader.new).reads ≤ reads }
@@ -139,7 +141,7 @@ pub(crate) fn begin<R: ByteSource, T: ByteSink, O: Outlet<T>>(
     // For the proof: the schedule is one that a text can say.
     let _slots = schedule.len();
     match compile_all(alloc, texts) {
-        Ok(pairs) => run_compiled::<R, T, O>(alloc, pairs.as_slice(), stock, reader, out, reads),
+        Ok(pairs) => run_compiled::<R, T, O, B>(alloc, pairs.as_slice(), stock, reader, out, reads),
         Err(error) => Err(error),
     }
 }
@@ -156,21 +158,21 @@ pub(crate) fn begin<R: ByteSource, T: ByteSink, O: Outlet<T>>(
 /// Errors: `Compile` with the first text that does not compile, numbered from 0, and `Memory`, both before the first read;
 /// then `BadRecord` and `Truncated` with the record's number from 1, `Read`, `Write` with the bytes of the run that the writer
 /// took, `ReadBound`.
-pub fn run<R: ByteSource, W: ByteSink>(
+pub fn run<R: ByteSource, W: ByteSink, B: App>(
     alloc: Global,
     texts: &[&[u8]],
     schedule: &Schedule,
-    stock: Vec<Box<dyn App>>,
+    stock: Vec<Box<B>>,
     reader: &mut R,
     writer: &mut W,
 ) -> Result<Report, RunError>
-    requires spares { AreSpares (map meaning stock.items) }
+    requires spares { AreSpares (objects_in B.meaning stock.items) }
     requires unread { (R.source reader.old).reads ≡ 0 }
     requires readable { (R.source reader.old).failed ≡ false }
     requires writable { (W.sink writer.old).failed ≡ false }
 
     // All that a run promises: the fields of `Promises` and of `PromisesOfProfile`, each with its comment there.
-    ensures promises { let objects = map meaning stock.items in
+    ensures promises { let objects = objects_in B.meaning stock.items in
         let mission = mission_of texts.now schedule.now objects MOST_READS in
         let before_and_after = devices (R.source reader.old) (R.source reader.new)
         (W.sink writer.old) (W.sink writer.new) in

@@ -6,7 +6,6 @@ ghost use Rattle.flight_run.specs.Dispatch.{IsStored};
 
 use crate::done::Done;
 use crate::fault::Fault;
-use app_host::App;
 use flight_core::run;
 use lc_model::{Limited, Pieces};
 use limit_checker::LimitChecker;
@@ -41,7 +40,7 @@ pub fn run_stored(alloc: Global) -> Result<Done, Fault<'static>>
     ensures { IfOk result IsStored }
 {
     let schedule = parse_schedule(alloc, SCHEDULE)?;
-    let mut stock: Vec<Box<dyn App>> = Vec::new(alloc);
+    let mut stock: Vec<Box<LimitChecker>> = Vec::new(alloc);
     stock.push(Box::new(alloc, LimitChecker::new(alloc)?)?)?;
     let mut room = [0; ROOM];
     let mut reader = Pieces::new(STREAM, 8_192);

@@ -1,2 +1,3 @@
 -- What the contracts of the stock cite.
 pub mod Stock
+pub mod Members

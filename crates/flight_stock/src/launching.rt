@@ -5,8 +5,8 @@ ghost use Rattle.lc_model.specs.Host.Outcome.{devices};
 ghost use Rattle.flight_core.specs.Promises.{Promises};
 ghost use Rattle.flight_stock.specs.Stock.{own_mission};
 
+use crate::members::Member;
 use crate::stock::add;
-use app_host::App;
 use command_counter::Counter;
 use flight_core::laws::runs_keep_their_promises;
 use flight_core::{Report, RunError, run_gathered};
@@ -36,22 +36,22 @@ fn run_with_stock<R: ByteSource, W: ByteSink + Drop>(
     ensures unread { OnErr result (R.source reader.new ≡ R.source reader.old) }
     ensures untouched { OnErr result (place.new ≡ place.old) }
 {
-    let mut stock: Vec<Box<dyn App>> = Vec::new(alloc);
-    let first = Box::new(alloc, LimitChecker::new(alloc)?)?;
+    let mut stock: Vec<Box<Member>> = Vec::new(alloc);
+    let first = Box::new(alloc, Member::Checker(LimitChecker::new(alloc)?))?;
     add(&mut stock, schedule, b"LC", first)?;
-    let second = Box::new(alloc, LimitChecker::new(alloc)?)?;
+    let second = Box::new(alloc, Member::Checker(LimitChecker::new(alloc)?))?;
     add(&mut stock, schedule, b"LC", second)?;
-    let third = Box::new(alloc, LimitChecker::new(alloc)?)?;
+    let third = Box::new(alloc, Member::Checker(LimitChecker::new(alloc)?))?;
     add(&mut stock, schedule, b"LC", third)?;
-    let fourth = Box::new(alloc, LimitChecker::new(alloc)?)?;
+    let fourth = Box::new(alloc, Member::Checker(LimitChecker::new(alloc)?))?;
     add(&mut stock, schedule, b"LC", fourth)?;
-    let scheduler = Box::new(alloc, Scheduler::new(alloc, schedule)?)?;
+    let scheduler = Box::new(alloc, Member::Scheduler(Scheduler::new(alloc, schedule)?))?;
     add(&mut stock, schedule, b"SCH", scheduler)?;
-    let other_scheduler = Box::new(alloc, Scheduler::new(alloc, schedule)?)?;
+    let other_scheduler = Box::new(alloc, Member::Scheduler(Scheduler::new(alloc, schedule)?))?;
     add(&mut stock, schedule, b"SCH", other_scheduler)?;
-    let counter = Box::new(alloc, Counter::new())?;
+    let counter = Box::new(alloc, Member::Counter(Counter::new()))?;
     add(&mut stock, schedule, b"COUNTER", counter)?;
-    let other_counter = Box::new(alloc, Counter::new())?;
+    let other_counter = Box::new(alloc, Member::Counter(Counter::new()))?;
     add(&mut stock, schedule, b"COUNTER", other_counter)?;
     match place.take() {
         Some(device) => {

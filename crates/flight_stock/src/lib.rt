@@ -2,7 +2,9 @@
 #![tactic(auto)]
 
 mod launching;
+mod members;
 mod stock;
 
 pub use launching::launch;
+pub use members::Member;
 pub use stock::add;

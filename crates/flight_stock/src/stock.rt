@@ -1,10 +1,10 @@
 //! Spares of a run.
 
-ghost use Rattle.std.specs.Prelude.{◌≡◌, ◌++◌, ◌∷◌, [], map, None, OnOk};
+ghost use Rattle.std.specs.Prelude.{◌≡◌, ◌++◌, ◌∷◌, [], None, OnOk};
 ghost use Rattle.lc_model.specs.Tables.HalvesAndBytes.{as_bytes};
 ghost use Rattle.lc_model.specs.Tables.InForce.{layouts};
 ghost use Rattle.host_laws.specs.Keeping.{IsSpare};
-ghost use Rattle.app_host.specs.Hosted.{member_of};
+ghost use Rattle.app_host.specs.Hosted.{member_of, objects_in};
 ghost use Rattle.app_host.specs.Whole.{AreSpares};
 ghost use Rattle.flight_core.specs.Run.{IsOfProfile};
 ghost use Rattle.flight_stock.specs.Stock.{names_of};
@@ -15,21 +15,23 @@ use tick_scheduler::Schedule;
 
 /// One spare more, under this name. Conditions: that is its name, it holds no seat, and it is of this profile with this
 /// schedule; and so are those that are there. Out of memory is the only error.
-pub fn add(
-    stock: &mut Vec<Box<dyn App>>,
+pub fn add<B: App>(
+    stock: &mut Vec<Box<B>>,
     schedule: &Schedule,
     name: &[u8],
-    app: Box<dyn App>,
+    app: Box<B>,
 ) -> Result<(), AllocError>
-    requires spares { AreSpares (map meaning stock.old.items) }
-    requires profile { IsOfProfile schedule.now (map meaning stock.old.items) }
-    requires free { (meaning app).seat ≡ None }
-    requires named { (meaning app).called ≡ name.now }
-    requires kind { IsSpare (as_bytes layouts) schedule.now (member_of (meaning app)) }
-    ensures spares { OnOk result (AreSpares (map meaning stock.new.items)) }
-    ensures profile { OnOk result (IsOfProfile schedule.now (map meaning stock.new.items)) }
+    requires spares { AreSpares (objects_in B.meaning stock.old.items) }
+    requires profile { IsOfProfile schedule.now (objects_in B.meaning stock.old.items) }
+    requires free { (B.meaning app.value).seat ≡ None }
+    requires named { (B.meaning app.value).called ≡ name.now }
+    requires kind { IsSpare (as_bytes layouts) schedule.now (member_of (B.meaning app.value)) }
+    ensures spares { OnOk result (AreSpares (objects_in B.meaning stock.new.items)) }
+    ensures profile { OnOk result
+        (IsOfProfile schedule.now (objects_in B.meaning stock.new.items)) }
     ensures names { OnOk result
-        (names_of (map meaning stock.new.items) ≡ names_of (map meaning stock.old.items) ++
+        (names_of (objects_in B.meaning stock.new.items) ≡ names_of
+        (objects_in B.meaning stock.old.items) ++
         name.now ∷ []) }
 {
     stock.push(app)?;

@@ -1,7 +1,7 @@
 //! A host that is made by hand, and handles one record after the other.
 
-ghost use Rattle.std.specs.Prelude.{map, IfOk};
-ghost use Rattle.app_host.specs.Hosted.{shown};
+ghost use Rattle.std.specs.Prelude.{IfOk};
+ghost use Rattle.app_host.specs.Hosted.{shown, objects_in};
 ghost use Rattle.app_host.specs.Step.{IsBetween};
 ghost use Rattle.app_host.specs.Whole.{AreSpares};
 
@@ -16,10 +16,10 @@ const NOW: Moment = Moment {
 };
 
 /// The host, with this stock. Out of memory is the only error.
-pub fn begin(alloc: Global, stock: Vec<Box<dyn App>>) -> Result<Host, AllocError>
-    requires { AreSpares (map meaning stock.items) }
+pub fn begin<B: App>(alloc: Global, stock: Vec<Box<B>>) -> Result<Host<B>, AllocError>
+    requires { AreSpares (objects_in B.meaning stock.items) }
     ensures { IfOk result
-        (λ host. IsBetween (shown (λ b. (⟦<dyn App as App>⟧ b.vtable).meaning b.value) host)) }
+        (λ host. IsBetween (shown B.meaning host)) }
 {
     match Host::new(alloc, stock) {
         Ok(host) => Ok(host),
@@ -29,9 +29,13 @@ pub fn begin(alloc: Global, stock: Vec<Box<dyn App>>) -> Result<Host, AllocError
 
 /// The host handles a record: how many calls of `on_packet` that took, and how many bytes are written by then, or `None` where a
 /// write failed. Of a file's name the first 40 bytes count.
-pub fn handle(host: &mut Host, body: Body<'_>, out: &mut Limited<'_>) -> Option<(u32, usize)>
-    requires { IsBetween (shown (λ b. (⟦<dyn App as App>⟧ b.vtable).meaning b.value) host.old) }
-    ensures { IsBetween (shown (λ b. (⟦<dyn App as App>⟧ b.vtable).meaning b.value) host.new) }
+pub fn handle<B: App>(
+    host: &mut Host<B>,
+    body: Body<'_>,
+    out: &mut Limited<'_>,
+) -> Option<(u32, usize)>
+    requires { IsBetween (shown B.meaning host.old) }
+    ensures { IsBetween (shown B.meaning host.new) }
 {
     let body = match body {
         Body::Packet(bytes) => Body::Packet(bytes),

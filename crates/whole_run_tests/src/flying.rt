@@ -2,10 +2,9 @@
 
 ghost use Rattle.std.specs.Prelude.{◌≡◌, false};
 
-use app_host::App;
 use command_counter::Counter;
 use flight_core::{Report, RunError, run, run_within};
-use flight_stock::add;
+use flight_stock::{Member, add};
 use lc_model::{Limited, Pieces};
 use limit_checker::LimitChecker;
 use std::alloc::{AllocError, Global};
@@ -40,14 +39,14 @@ pub fn run_texts(
     requires readable { source.old.failed ≡ false }
     requires writable { sink.old.failed ≡ false }
 {
-    let mut stock: Vec<Box<dyn App>> = Vec::new(alloc);
-    let checker = Box::new(alloc, LimitChecker::new(alloc)?)?;
+    let mut stock: Vec<Box<Member>> = Vec::new(alloc);
+    let checker = Box::new(alloc, Member::Checker(LimitChecker::new(alloc)?))?;
     add(&mut stock, schedule, b"LC", checker)?;
-    let spare = Box::new(alloc, LimitChecker::new(alloc)?)?;
+    let spare = Box::new(alloc, Member::Checker(LimitChecker::new(alloc)?))?;
     add(&mut stock, schedule, b"LC", spare)?;
-    let scheduler = Box::new(alloc, Scheduler::new(alloc, schedule)?)?;
+    let scheduler = Box::new(alloc, Member::Scheduler(Scheduler::new(alloc, schedule)?))?;
     add(&mut stock, schedule, b"SCH", scheduler)?;
-    let counter = Box::new(alloc, Counter::new())?;
+    let counter = Box::new(alloc, Member::Counter(Counter::new()))?;
     add(&mut stock, schedule, b"COUNTER", counter)?;
     Ok(match reads {
         Some(most) => { run_within(alloc, texts, schedule, stock, source, sink, u64::from(most)) }

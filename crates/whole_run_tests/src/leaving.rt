@@ -68,7 +68,7 @@ pub fn retirements_of(
     requires writable { sink.old.failed ≡ false }
 {
     let retirements = Rc::new(alloc, Cell::new(0))?;
-    let mut stock: Vec<Box<dyn App>> = Vec::new(alloc);
+    let mut stock: Vec<Box<Watched>> = Vec::new(alloc);
     let counter = Box::new(alloc, Watched::new(retirements.clone()?))?;
     add(&mut stock, schedule, b"COUNTER", counter)?;
     let answer = run_within(alloc, &[], schedule, stock, source, sink, u64::from(reads));

@@ -4,7 +4,6 @@ ghost use Rattle.std.specs.Prelude.{◌≡◌, None, false};
 
 use crate::low_volts::LOW_VOLTS;
 use crate::two_failures::{NO_ENTRIES, STREAM};
-use app_host::App;
 use flight_core::{Report, RunError, run_gathered};
 use flight_stock::add;
 use lc_model::{ByteSink, ByteSource, DeviceFault};
@@ -86,7 +85,7 @@ fn look<'a>(
 ) -> Result<(Result<Report, RunError>, Counting<'a>), AllocError>
     requires unread { source.old.reads ≡ 0 }
 {
-    let mut stock: Vec<Box<dyn App>> = Vec::new(alloc);
+    let mut stock: Vec<Box<LimitChecker>> = Vec::new(alloc);
     let checker = Box::new(alloc, LimitChecker::new(alloc)?)?;
     add(&mut stock, schedule, b"LC", checker)?;
     Ok(run_gathered(alloc, &[LOW_VOLTS], schedule, stock, source, sink))

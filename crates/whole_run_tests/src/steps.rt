@@ -2,8 +2,8 @@
 
 use crate::by_hand::{begin, handle};
 use crate::low_volts::LOW_VOLTS;
-use app_host::{App, Services};
-use flight_stock::add;
+use app_host::Services;
+use flight_stock::{Member, add};
 use lc_model::{Body, Limited};
 use limit_checker::LimitChecker;
 use rpn_compiler::{TablePair, compile};
@@ -34,10 +34,10 @@ fn play(
     pair: &TablePair,
     out: &mut Limited<'_>,
 ) -> Result<[Option<(u32, usize)>; 8], AllocError> {
-    let mut stock: Vec<Box<dyn App>> = Vec::new(alloc);
-    let checker = Box::new(alloc, LimitChecker::new(alloc)?)?;
+    let mut stock: Vec<Box<Member>> = Vec::new(alloc);
+    let checker = Box::new(alloc, Member::Checker(LimitChecker::new(alloc)?))?;
     add(&mut stock, schedule, b"LC", checker)?;
-    let scheduler = Box::new(alloc, Scheduler::new(alloc, schedule)?)?;
+    let scheduler = Box::new(alloc, Member::Scheduler(Scheduler::new(alloc, schedule)?))?;
     add(&mut stock, schedule, b"SCH", scheduler)?;
     let mut host = begin(alloc, stock)?;
     let file = |name, bytes| Body::File { name, bytes };

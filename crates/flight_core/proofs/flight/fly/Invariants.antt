@@ -10,9 +10,9 @@ invariant-loop-total g l = record {
   room : length l.room ≡ 8192;
   bounded : (g.R.ByteSource.source l.reader).reads ≤ l.most;
   far : SoFar (length l.pairs) (meanings_of l.pairs)
-      (shown (λ b. (goal.App-dyn g (b.vtable, b.value)).meaning b.value) l.initial.host)
+      (shown g.B.App.meaning l.initial.host)
       (g.R.ByteSource.source l.initial.reader) (g.O.Outlet.device l.initial.out)
-      (shown (λ b. (goal.App-dyn g (b.vtable, b.value)).meaning b.value) l.host)
+      (shown g.B.App.meaning l.host)
       (g.R.ByteSource.source l.reader) (g.T.ByteSink.sink l.out) l.records l.report.records l.report.bytes;
 }
 

@@ -1,3 +1,4 @@
+use Rattle.std.proofs.Common.{rules, arith}
 use Rattle.flight_core.proofs.Fitting.{begun}
 use Rattle.flight_core.proofs.Outset.{runs_so}
 use Rattle.flight_core.proofs.Reasons.{runs_for}
@@ -11,3 +12,9 @@ returns-in-Ok-clause-judged g c = begun _ _ c.fly-result.ensures.begun
 
 pub returns-in-Ok-clause-reasons : goal.returns-in-Ok-clause-reasons
 returns-in-Ok-clause-reasons g c = runs_for _ _ _ _ _ c.in-Ok.ensures.first _ c.fly-result.ensures.reasons
+
+pub fly-result-requires : goal.fly-result-requires
+fly-result-requires g c = (
+  omega arith,
+  (search rules, (search rules, (c.requires.files, (record { whole = c.in-Ok.ensures.whole; quiet = λ is. c.in-Ok.ensures.quiet }, (search rules, (c.requires.unread, (c.requires.readable, (c.requires.writable, (c.requires.empty, (c.requires.had, c.requires.most)))))))))),
+)

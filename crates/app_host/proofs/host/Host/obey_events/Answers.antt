@@ -1,4 +1,4 @@
-use Rattle.std.proofs.Common.{refl, ap, ◌∙◌}
+use Rattle.std.proofs.Common.{refl, ap, ◌∙◌, arith, rules}
 use Rattle.std.specs.Prelude.{Some, option_map}
 use Rattle.lc_model.specs.Command.{event_command_in}
 use Rattle.lc_model.specs.Events.Request.{event_services, command_done, command_refused}
@@ -10,17 +10,27 @@ use Rattle.lc_model.proofs.Services.SenderLaws.{commands_by_name}
 use Rattle.lc_model.proofs.Services.TableNames.{tables_are_found}
 use Rattle.app_host.proofs.host.Host.obey_events.Goals as goal
 
-pub tell_alone-requires-clause-whole : goal.tell_alone-requires-clause-whole
-tell_alone-requires-clause-whole g c =
+pub tell_alone-requires : goal.tell_alone-requires
+tell_alone-requires g c = (
+  omega arith,
+  (
     whole_obeyed tables_are_found commands_by_name _ _ c.args.packet.now c.requires.whole c.is_service.ensures
-    (record { stock = refl; seats = refl; is_closed = refl; bus = refl; tables = refl; counts = refl; moment = refl; outgoing = refl })
-    (names_stay (event_command_in c.args.packet.now) c.args.self.now.services.events c.obey.new.events c.in-Ok.ensures.answer)
+        (record { stock = refl; seats = refl; is_closed = refl; bus = refl; tables = refl; counts = refl; moment = refl; outgoing = refl })
+        (names_stay (event_command_in c.args.packet.now) c.args.self.now.services.events c.obey.new.events c.in-Ok.ensures.answer),
+    (search rules, search rules),
+  ),
+)
 
-pub tell_alone-requires-in-Err-clause-whole : goal.tell_alone-requires-in-Err-clause-whole
-tell_alone-requires-in-Err-clause-whole g c =
+pub tell_alone-requires-in-Err : goal.tell_alone-requires-in-Err
+tell_alone-requires-in-Err g c = (
+  omega arith,
+  (
     whole_obeyed tables_are_found commands_by_name _ _ c.args.packet.now c.requires.whole c.is_service.ensures
-    (record { stock = refl; seats = refl; is_closed = refl; bus = refl; tables = refl; counts = refl; moment = refl; outgoing = refl })
-    (record { sent = ap (λ (x : EventService). x.sent) c.in-Err.ensures.refused; names = λ seat. ap (λ (x : EventService). option_map name_of (sender_at (Some seat) x)) c.in-Err.ensures.refused })
+        (record { stock = refl; seats = refl; is_closed = refl; bus = refl; tables = refl; counts = refl; moment = refl; outgoing = refl })
+        (record { sent = ap (λ (x : EventService). x.sent) c.in-Err.ensures.refused; names = λ seat. ap (λ (x : EventService). option_map name_of (sender_at (Some seat) x)) c.in-Err.ensures.refused }),
+    (search rules, search rules),
+  ),
+)
 
 pub returns-in-Ok-clause-handled : goal.returns-in-Ok-clause-handled
 returns-in-Ok-clause-handled g c =

@@ -56,13 +56,13 @@ returns-in-Err-clause-own g c =
     (c.command_refused-text.ensures ∙ ap (command_refused executive_services) c.as_slice.ensures.numbers) _ _ c.tell_alone.result c.tell_alone.ensures.own
 
 pub returns-in_err-sent-in-Ok-clause-gone : goal.returns-in_err-sent-in-Ok-clause-gone
-returns-in_err-sent-in-Ok-clause-gone g c = left_obeyed _ c.args.packet.now (shown (λ b. (goal.App-dyn g (b.vtable, b.value)).meaning b.value) c.args.self.now) _ c.in-Ok.ensures.own.succession c.in-Ok.ensures.own.is c.in-Ok.ensures.own.box
+returns-in_err-sent-in-Ok-clause-gone g c = left_obeyed _ c.args.packet.now (shown g.B.App.meaning c.args.self.now) _ c.in-Ok.ensures.own.succession c.in-Ok.ensures.own.is c.in-Ok.ensures.own.box
 
 pub returns-in_err-total-in-Ok-clause-gone : goal.returns-in_err-total-in-Ok-clause-gone
-returns-in_err-total-in-Ok-clause-gone g c = left_obeyed _ c.args.packet.now (shown (λ b. (goal.App-dyn g (b.vtable, b.value)).meaning b.value) c.args.self.now) _ c.in-Ok.ensures.own.succession c.in-Ok.ensures.own.is c.in-Ok.ensures.own.box
+returns-in_err-total-in-Ok-clause-gone g c = left_obeyed _ c.args.packet.now (shown g.B.App.meaning c.args.self.now) _ c.in-Ok.ensures.own.succession c.in-Ok.ensures.own.is c.in-Ok.ensures.own.box
 
 pub returns-in_ok-total-in-Ok-clause-gone : goal.returns-in_ok-total-in-Ok-clause-gone
-returns-in_ok-total-in-Ok-clause-gone g c = left_obeyed _ c.args.packet.now (shown (λ b. (goal.App-dyn g (b.vtable, b.value)).meaning b.value) c.args.self.now) _ c.in-Ok.ensures.own.succession c.in-Ok.ensures.own.is c.in-Ok.ensures.own.box
+returns-in_ok-total-in-Ok-clause-gone g c = left_obeyed _ c.args.packet.now (shown g.B.App.meaning c.args.self.now) _ c.in-Ok.ensures.own.succession c.in-Ok.ensures.own.is c.in-Ok.ensures.own.box
 
 pub returns-in-Err-clause-gone : goal.returns-in-Err-clause-gone
-returns-in-Err-clause-gone g c = none_left _ c.args.packet.now (shown (λ b. (goal.App-dyn g (b.vtable, b.value)).meaning b.value) c.args.self.now) _ c.in-Err.numbers c.in-Err.ensures.own.0
+returns-in-Err-clause-gone g c = none_left _ c.args.packet.now (shown g.B.App.meaning c.args.self.now) _ c.in-Err.numbers c.in-Err.ensures.own.0

@@ -1,4 +1,4 @@
-use Rattle.std.proofs.Common.{refl, ap, ◌∙◌}
+use Rattle.std.proofs.Common.{refl, ap, ◌∙◌, arith, rules}
 use Rattle.lc_model.specs.Command.{table_command_in}
 use Rattle.lc_model.specs.Events.Request.{table_services, command_done, command_refused}
 use Rattle.app_host.proofs.TablesObeyed.{kept_by, whole_obeyed, whole_refused, is_obeyed, is_not_obeyed}
@@ -6,17 +6,27 @@ use Rattle.app_host.proofs.Responding.{tables_obeyed, tables_refused}
 use Rattle.lc_model.proofs.Services.TableNames.{changing_tables, tables_are_found}
 use Rattle.app_host.proofs.host.Host.obey_tables.Goals as goal
 
-pub tell_alone-requires-clause-whole : goal.tell_alone-requires-clause-whole
-tell_alone-requires-clause-whole g c =
+pub tell_alone-requires : goal.tell_alone-requires
+tell_alone-requires g c = (
+  omega arith,
+  (
     whole_obeyed _ _ c.requires.whole (record { stock = refl; seats = refl; is_closed = refl; bus = refl; events = refl; counts = refl; moment = refl; outgoing = refl })
-    tables_are_found changing_tables c.is_service.ensures
-    (kept_by c.table_commands_go_by_names.ensures.forms (table_command_in c.args.packet.now) c.args.self.now.services.tables c.obey-obeyed.new.tables
-    c.in-Ok.ensures.answer)
+        tables_are_found changing_tables c.is_service.ensures
+        (kept_by c.table_commands_go_by_names.ensures.forms (table_command_in c.args.packet.now) c.args.self.now.services.tables c.obey-obeyed.new.tables
+        c.in-Ok.ensures.answer),
+    (search rules, search rules),
+  ),
+)
 
-pub tell_alone-requires-in-Err-clause-whole : goal.tell_alone-requires-in-Err-clause-whole
-tell_alone-requires-in-Err-clause-whole g c =
+pub tell_alone-requires-in-Err : goal.tell_alone-requires-in-Err
+tell_alone-requires-in-Err g c = (
+  omega arith,
+  (
     whole_refused _ _ c.requires.whole (record { stock = refl; seats = refl; is_closed = refl; bus = refl; events = refl; counts = refl; moment = refl; outgoing = refl })
-    tables_are_found c.is_service.ensures c.in-Err.ensures.refused
+        tables_are_found c.is_service.ensures c.in-Err.ensures.refused,
+    (search rules, search rules),
+  ),
+)
 
 pub returns-in-Ok-clause-handled : goal.returns-in-Ok-clause-handled
 returns-in-Ok-clause-handled g c =

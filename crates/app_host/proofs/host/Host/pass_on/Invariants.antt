@@ -12,9 +12,9 @@ abbrev pub invariant-loop-next : goal.invariant-loop-next
 invariant-loop-next g l = record {
   first : Hosted;
   offered : IsOffered l.packet
-      (shown (λ b. (goal.App-dyn g (b.vtable, b.value)).meaning b.value) l.fn.self) first;
+      (shown g.B.App.meaning l.fn.self) first;
   far : Draining first
-      (shown (λ b. (goal.App-dyn g (b.vtable, b.value)).meaning b.value) l.self)
+      (shown g.B.App.meaning l.self)
       l.sent (g.W.ByteSink.sink l.fn.out) (g.W.ByteSink.sink l.out);
   next : l.next ≡ ready_seat (seen l.self.services.bus);
 }

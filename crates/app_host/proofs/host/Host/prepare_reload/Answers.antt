@@ -1,9 +1,13 @@
+use Rattle.std.proofs.Common.{arith, rules}
 use Rattle.app_host.proofs.Prepared.{is_there, reload_ready}
 use Rattle.app_host.proofs.MadeWay.{reload_made}
 use Rattle.app_host.proofs.host.Host.prepare_reload.Goals as goal
 
-pub withdraw-requires-clause-there : goal.withdraw-requires-clause-there
-withdraw-requires-clause-there g c = is_there _ c.args.name.now c.requires.whole _ c.in-Some.seat c.runs_at.ensures.kept c.in-Some.is
+pub withdraw-requires : goal.withdraw-requires
+withdraw-requires g c = (
+  omega arith,
+  (c.requires.whole.seated, (c.requires.whole.idle, is_there _ c.args.name.now c.requires.whole _ c.in-Some.seat c.runs_at.ensures.kept c.in-Some.is)),
+)
 
 pub returns-in-Some-first_spare-clause-prepared : goal.returns-in-Some-first_spare-clause-prepared
 returns-in-Some-first_spare-clause-prepared g c =

@@ -1,10 +1,13 @@
-use Rattle.std.proofs.Common.{sym, ◌∙◌}
+use Rattle.std.proofs.Common.{sym, ◌∙◌, arith, rules}
 use Rattle.app_host.proofs.Prepared.{runs_there, is_there, restart_ready}
 use Rattle.app_host.proofs.MadeWay.{restarted}
 use Rattle.app_host.proofs.host.Host.prepare_restart.Goals as goal
 
-pub withdraw-requires-clause-there : goal.withdraw-requires-clause-there
-withdraw-requires-clause-there g c = is_there _ c.args.name.now c.requires.whole _ c.in-Some.seat c.runs_at.ensures.kept c.in-Some.is
+pub withdraw-requires : goal.withdraw-requires
+withdraw-requires g c = (
+  omega arith,
+  (c.requires.whole.seated, (c.requires.whole.idle, is_there _ c.args.name.now c.requires.whole _ c.in-Some.seat c.runs_at.ensures.kept c.in-Some.is)),
+)
 
 pub returns-in-Some-clause-prepared : goal.returns-in-Some-clause-prepared
 returns-in-Some-clause-prepared g c = restart_ready _ c.args.name.now c.requires.whole _ c.runs_at.ensures.kept c.in-Some.seat c.in-Some.is _ _ c.withdraw.ensures.withdrawn

@@ -1,9 +1,13 @@
+use Rattle.std.proofs.Common.{arith, rules}
 use Rattle.app_host.proofs.Prepared.{is_there, stop_ready}
 use Rattle.app_host.proofs.MadeWay.{stop_made}
 use Rattle.app_host.proofs.host.Host.prepare_stop.Goals as goal
 
-pub withdraw-requires-clause-there : goal.withdraw-requires-clause-there
-withdraw-requires-clause-there g c = is_there _ c.args.name.now c.requires.whole _ c.in-Some.seat c.runs_at.ensures.kept c.in-Some.is
+pub withdraw-requires : goal.withdraw-requires
+withdraw-requires g c = (
+  omega arith,
+  (c.requires.whole.seated, (c.requires.whole.idle, is_there _ c.args.name.now c.requires.whole _ c.in-Some.seat c.runs_at.ensures.kept c.in-Some.is)),
+)
 
 pub returns-in-Some-clause-prepared : goal.returns-in-Some-clause-prepared
 returns-in-Some-clause-prepared g c = stop_ready _ c.args.name.now c.requires.whole _ c.runs_at.ensures.kept c.in-Some.seat c.in-Some.is _ _ c.withdraw.ensures.withdrawn

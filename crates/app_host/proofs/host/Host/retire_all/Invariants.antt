@@ -7,7 +7,7 @@ use Rattle.app_host.proofs.host.Host.retire_all.Given as goal
 abbrev pub invariant-loop-index : goal.invariant-loop-index
 invariant-loop-index g l = record {
   below : EmptyBelow l.index
-      (shown (λ b. (goal.App-dyn g (b.vtable, b.value)).meaning b.value) l.initial.self)
-      (shown (λ b. (goal.App-dyn g (b.vtable, b.value)).meaning b.value) l.self);
+      (shown g.B.App.meaning l.initial.self)
+      (shown g.B.App.meaning l.self);
   idle : l.self.services.outgoing ≡ [];
 }

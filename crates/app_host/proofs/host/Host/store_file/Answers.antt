@@ -1,4 +1,4 @@
-use Rattle.std.proofs.Common.{refl, ap, ◌∙◌}
+use Rattle.std.proofs.Common.{refl, ap, ◌∙◌, arith, rules}
 use Rattle.lc_model.specs.Services.Tables.{TableService}
 use Rattle.lc_model.specs.Events.Request.{file_refused}
 use Rattle.tbl_service.specs.Error.{refusal_of}
@@ -7,17 +7,27 @@ use Rattle.app_host.proofs.Responding.{file_kept, file_turned_away}
 use Rattle.lc_model.proofs.Services.TableNames.{storing_files, tables_are_found}
 use Rattle.app_host.proofs.host.Host.store_file.Goals as goal
 
-pub tell_alone-requires-clause-whole : goal.tell_alone-requires-clause-whole
-tell_alone-requires-clause-whole g c =
+pub tell_alone-requires : goal.tell_alone-requires
+tell_alone-requires g c = (
+  omega arith,
+  (
     whole_filed tables_are_found storing_files _ _ c.args.name.now c.args.bytes.now c.requires.whole c.requires.quiet c.is_service.ensures
-    c.is_service-2.ensures (record { stock = refl; seats = refl; is_closed = refl; bus = refl; events = refl; counts = refl; moment = refl; outgoing = refl })
-    (places_stay c.args.name.now c.args.bytes.now c.args.self.now.services.tables c.put_file-stored.new.self c.in-Ok.ensures.answer)
+        c.is_service-2.ensures (record { stock = refl; seats = refl; is_closed = refl; bus = refl; events = refl; counts = refl; moment = refl; outgoing = refl })
+        (places_stay c.args.name.now c.args.bytes.now c.args.self.now.services.tables c.put_file-stored.new.self c.in-Ok.ensures.answer),
+    (search rules, search rules),
+  ),
+)
 
-pub tell_alone-requires-in-Err-clause-whole : goal.tell_alone-requires-in-Err-clause-whole
-tell_alone-requires-in-Err-clause-whole g c =
+pub tell_alone-requires-in-Err : goal.tell_alone-requires-in-Err
+tell_alone-requires-in-Err g c = (
+  omega arith,
+  (
     whole_filed tables_are_found storing_files _ _ c.args.name.now c.args.bytes.now c.requires.whole c.requires.quiet c.is_service.ensures
-    c.is_service-2.ensures (record { stock = refl; seats = refl; is_closed = refl; bus = refl; events = refl; counts = refl; moment = refl; outgoing = refl })
-    (ap (λ (t : TableService). t.places) c.in-Err.ensures.refused)
+        c.is_service-2.ensures (record { stock = refl; seats = refl; is_closed = refl; bus = refl; events = refl; counts = refl; moment = refl; outgoing = refl })
+        (ap (λ (t : TableService). t.places) c.in-Err.ensures.refused),
+    (search rules, search rules),
+  ),
+)
 
 pub returns-in-Ok-clause-handled : goal.returns-in-Ok-clause-handled
 returns-in-Ok-clause-handled g c =

@@ -13,4 +13,4 @@ pub returns-in-Some-clause-own : goal.returns-in-Some-clause-own
 returns-in-Some-clause-own g c = turned_away _ _ _ _ _ c.refuse_packet.result c.args.packet.now c.in-Some.reason (sym c.in-Some.ensures.fault) c.refuse_packet.ensures.own
 
 pub returns-in-Some-clause-gone : goal.returns-in-Some-clause-gone
-returns-in-Some-clause-gone g c = boxes.turned_away _ c.args.packet.now (shown (λ b. (goal.App-dyn g (b.vtable, b.value)).meaning b.value) c.args.self.now) c.in-Some.reason (sym c.in-Some.ensures.fault)
+returns-in-Some-clause-gone g c = boxes.turned_away _ c.args.packet.now (shown g.B.App.meaning c.args.self.now) c.in-Some.reason (sym c.in-Some.ensures.fault)

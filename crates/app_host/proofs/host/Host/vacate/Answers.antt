@@ -1,11 +1,14 @@
-use Rattle.std.proofs.Common.{refl}
+use Rattle.std.proofs.Common.{refl, arith, rules}
 use Rattle.app_host.proofs.Closed.{was_retired}
 use Rattle.app_host.proofs.Departed.{may_retire, has_vacated}
 use Rattle.lc_model.proofs.Services.TableNames.{tables_are_found}
 use Rattle.app_host.proofs.host.Host.vacate.Goals as goal
 
 pub retire_at-retired-requires : goal.retire_at-retired-requires
-retire_at-retired-requires g c = may_retire c.args.seat _ _ c.requires.idle (c.requires.seated.running c.args.seat)
+retire_at-retired-requires g c = (
+  omega arith,
+  may_retire c.args.seat _ _ c.requires.idle (c.requires.seated.running c.args.seat),
+)
 
 pub returns-clause-vacated : goal.returns-clause-vacated
 returns-clause-vacated g c =

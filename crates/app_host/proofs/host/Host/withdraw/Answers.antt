@@ -1,10 +1,13 @@
-use Rattle.std.proofs.Common.{rules, refl}
+use Rattle.std.proofs.Common.{rules, refl, arith}
 use Rattle.app_host.proofs.Withdrawn.{may_withdraw, has_withdrawn}
 use Rattle.lc_model.proofs.Services.TableNames.{tables_are_found}
 use Rattle.app_host.proofs.host.Host.withdraw.Goals as goal
 
 pub withdraw_at-app-requires : goal.withdraw_at-app-requires
-withdraw_at-app-requires g c = may_withdraw c.args.seat _ _ c.requires.idle (c.requires.seated.running c.args.seat) c.requires.there
+withdraw_at-app-requires g c = (
+  omega arith,
+  may_withdraw c.args.seat _ _ c.requires.idle (c.requires.seated.running c.args.seat) c.requires.there,
+)
 
 pub returns-clause-withdrawn : goal.returns-clause-withdrawn
 returns-clause-withdrawn g c =

@@ -1,0 +1,53 @@
+//! An application of this profile, as one type.
+
+use app_host::{App, Services};
+use command_counter::Counter;
+use lc_model::Seat;
+use limit_checker::LimitChecker;
+use tick_scheduler::Scheduler;
+
+/// An application of this profile.
+#[derive(Drop)]
+pub enum Member {
+    Checker(LimitChecker),
+    Scheduler(Scheduler),
+    Counter(Counter),
+}
+
+impl App for Member {
+    ghost use Rattle.flight_stock.specs.Members.{meaning_of};
+
+    ghost meaning = { meaning_of };
+
+    fn name(&self) -> &[u8] {
+        match self {
+            Member::Checker(app) => app.name(),
+            Member::Scheduler(app) => app.name(),
+            Member::Counter(app) => app.name(),
+        }
+    }
+
+    fn start(&mut self, seat: Seat, services: &mut Services) {
+        match self {
+            Member::Checker(app) => app.start(seat, services),
+            Member::Scheduler(app) => app.start(seat, services),
+            Member::Counter(app) => app.start(seat, services),
+        }
+    }
+
+    fn on_packet(&mut self, services: &mut Services, packet: &[u8]) {
+        match self {
+            Member::Checker(app) => app.on_packet(services, packet),
+            Member::Scheduler(app) => app.on_packet(services, packet),
+            Member::Counter(app) => app.on_packet(services, packet),
+        }
+    }
+
+    fn retire(&mut self, services: &mut Services) {
+        match self {
+            Member::Checker(app) => app.retire(services),
+            Member::Scheduler(app) => app.retire(services),
+            Member::Counter(app) => app.retire(services),
+        }
+    }
+}
