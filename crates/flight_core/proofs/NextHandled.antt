@@ -119,3 +119,13 @@ module _ (pairs : List TablePair) (held after : Held) (f : Found) (given : Given
     };
     gains = responds.gains;
   }
+
+-- whatever comes, as many texts stay as there were
+texts_by : (held : Held) (there : Front) → (after_by held there).texts ≡ held.texts
+texts_by held (Record entry rest) = refl
+texts_by held NoRecord = refl
+texts_by held EndOfStream = refl
+texts_by held CutRecord = refl
+
+pub texts_stay : (held after : Held) → after ≡ after_next held → after.texts ≡ held.texts
+texts_stay held after goes = ap (λ (h : Held). h.texts) goes ∙ texts_by held (front_of held)

@@ -14,6 +14,7 @@ pub mod Steps
 pub mod Going
 pub mod Flight
 pub mod Run
+pub mod Feeding
 pub mod Failures
 pub mod Fitting
 pub mod Asides

@@ -54,26 +54,22 @@ pub(crate) fn fly<R: ByteSource, T: ByteSink, O: Outlet<T>, B: App>(
     requires nothing { records.old ≡ nothing_held (length pairs.now) }
     requires room { length room.old ≡ PIECE }
     requires files { AreWhole pairs.now }
-    requires between { let seen = shown B.meaning in
-        IsBetween (seen host.old) }
-    requires open { let seen = shown B.meaning in
-        (seen host.old).is_closed ≡ false }
+    requires between { IsBetween (shown B.meaning host.old) }
+    requires open { (shown B.meaning host.old).is_closed ≡ false }
     requires unread { (R.source reader.old).reads ≡ 0 }
     requires readable { (R.source reader.old).failed ≡ false }
     requires writable { (O.device out.old).failed ≡ false }
     requires empty { O.held out.old ≡ [] }
     requires had { O.Had (O.device out.old).gained }
     requires most { most ≤ MOST_READS }
-    ensures outcome { let seen = shown B.meaning in
-        FliesSo pairs.now most (seen host.old)
+    ensures outcome { FliesSo pairs.now most (shown B.meaning host.old)
         (devices (R.source reader.old) (R.source reader.new) (O.device out.old)
         (O.device out.new)) result }
-    ensures reasons { let seen = shown B.meaning in
-        IsForItsReason (length pairs.now) (meanings_of pairs.now) (seen host.old) most
+    ensures reasons { IsForItsReason (length pairs.now) (meanings_of pairs.now)
+        (shown B.meaning host.old) most
         (devices (R.source reader.old) (R.source reader.new) (O.device out.old) (O.device out.new))
         (ending_of result) }
-    ensures between { let seen = shown B.meaning in
-        IsBetween (seen host.new) }
+    ensures between { IsBetween (shown B.meaning host.new) }
     ensures begun { RunHasBegun result }
     ensures bounded { (R.source reader.new).reads ≤ most }
 {

@@ -14,7 +14,7 @@ use lc_model::ByteSink;
 use rpn_compiler::TablePair;
 
 /// Handles the next record, where a whole one is held, and answers how many bytes were written.
-pub fn handle_next<W: ByteSink, B: App>(
+pub(crate) fn handle_next<W: ByteSink, B: App>(
     records: &mut Records,
     pairs: &[TablePair],
     host: &mut Host<B>,
@@ -22,15 +22,13 @@ pub fn handle_next<W: ByteSink, B: App>(
 ) -> Result<Option<u64>, Halt>
     requires texts { records.old.texts ≡ length pairs.now }
     requires files { AreWhole pairs.now }
-    requires between { let seen = shown B.meaning in
-        IsBetween (seen host.old) }
-    requires open { let seen = shown B.meaning in
-        (seen host.old).is_closed ≡ false }
-    ensures next { let seen = shown B.meaning in
-        HandlesNext (meanings_of pairs.now) records.old records.new (seen host.old) (seen host.new)
-        (W.sink writer.old) (W.sink writer.new) result }
-    ensures between { let seen = shown B.meaning in
-        IsBetween (seen host.new) }
+    requires between { IsBetween (shown B.meaning host.old) }
+    requires open { (shown B.meaning host.old).is_closed ≡ false }
+    ensures next { HandlesNext (meanings_of pairs.now) records.old records.new
+        (shown B.meaning host.old)
+        (shown B.meaning host.new) (W.sink writer.old) (W.sink writer.new) result }
+    ensures between { IsBetween (shown B.meaning host.new) }
+    ensures texts { records.new.texts ≡ records.old.texts }
 {
     match records.next() {
         None => Ok(None),

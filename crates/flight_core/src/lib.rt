@@ -4,6 +4,7 @@
 mod bringing;
 mod compiling;
 mod error;
+mod feeding;
 mod flight;
 mod found;
 mod front;
@@ -20,9 +21,9 @@ mod settling;
 mod window;
 
 pub use error::{Report, RunError};
+pub use feeding::FedHost;
 pub use found::Found;
 pub use gathering::run_gathered;
 pub use halt::Halt;
-pub use handling::handle_next;
 pub use records::Records;
 pub use running::{run, run_within};

@@ -26,21 +26,20 @@ pub eight : {B : Type 0} (f : B → Object) (l₀ l₁ l₂ l₃ l₄ l₅ l₆ 
     names_of (map f l₃) ≡ names_of (map f l₂) ++ c ∷ [] → names_of (map f l₄) ≡ names_of (map f l₃) ++ d ∷ [] →
     names_of (map f l₅) ≡ names_of (map f l₄) ++ e ∷ [] → names_of (map f l₆) ≡ names_of (map f l₅) ++ f' ∷ [] →
     names_of (map f l₇) ≡ names_of (map f l₆) ++ g ∷ [] → names_of (map f l₈) ≡ names_of (map f l₇) ++ h ∷ [] →
-    map (λ (member : Member). member.called) (members_of (map f l₈)) ≡ a ∷ b ∷ c ∷ d ∷ e ∷ f' ∷ g ∷ h ∷ []
+    names_of (map f l₈) ≡ a ∷ b ∷ c ∷ d ∷ e ∷ f' ∷ g ∷ h ∷ []
 eight f l₀ l₁ l₂ l₃ l₄ l₅ l₆ l₇ l₈ a b c d e f' g h e₀ e₁ e₂ e₃ e₄ e₅ e₆ e₇ e₈ =
     let four = e₄ ∙ ap (λ xs. xs ++ d ∷ []) (e₃ ∙ ap (λ xs. xs ++ c ∷ []) (e₂ ∙ ap (λ xs. xs ++ b ∷ []) (e₁ ∙ ap (λ items. names_of (map f items) ++ a ∷ []) e₀))) in
-    called_so (map f l₈)
-    ∙ e₈ ∙ ap (λ xs. xs ++ h ∷ []) (e₇ ∙ ap (λ xs. xs ++ g ∷ []) (e₆ ∙ ap (λ xs. xs ++ f' ∷ []) (e₅ ∙ ap (λ xs. xs ++ e ∷ []) four)))
+    e₈ ∙ ap (λ xs. xs ++ h ∷ []) (e₇ ∙ ap (λ xs. xs ++ g ∷ []) (e₆ ∙ ap (λ xs. xs ++ f' ∷ []) (e₅ ∙ ap (λ xs. xs ++ e ∷ []) four)))
 
 -- a mission with a stock of these names
 abbrev mission_with : List (Bor (List ℕ)) → Schedule → List Name → Mission
 mission_with texts schedule stock = record { edition = edition; sources = sources_of texts; schedule = schedule; stock = stock; most_reads = most_reads }
 
 -- a run of this profile's stock with these names promises all that one of its own does
-pub keeps : {OfProfile : Type 0} → OfProfile → (texts : List (Bor (List ℕ))) (schedule : Schedule) (stock : List Name) (d : Devices) (result : Result Report RunError) →
-    stock ≡ own_names → Promises OfProfile (mission_with texts schedule stock) d result → Promises ⊤ (own_mission texts schedule) d result
+pub keeps : {OfProfile : Type 0} → OfProfile → (texts : List (Bor (List ℕ))) (schedule : Schedule) (stock : List Object) (d : Devices) (result : Result Report RunError) →
+    names_of stock ≡ own_names → Promises OfProfile (mission_with texts schedule (map (λ (member : Member). member.called) (members_of stock))) d result → Promises ⊤ (own_mission texts schedule) d result
 keeps {OfProfile} is texts schedule stock d result same promises =
-    let own = subst (λ names. Promises OfProfile (mission_with texts schedule names) d result) same promises in
+    let own = subst (λ names. Promises OfProfile (mission_with texts schedule names) d result) (called_so stock ∙ same) promises in
     record { profile = λ nothing. own.profile is; refuses = own.refuses; named = own.named; reasons = own.reasons; bounded = own.bounded }
 
 -- what is so of the device that was there

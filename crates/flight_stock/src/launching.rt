@@ -5,18 +5,15 @@ ghost use Rattle.lc_model.specs.Host.Outcome.{devices};
 ghost use Rattle.flight_core.specs.Promises.{Promises};
 ghost use Rattle.flight_stock.specs.Stock.{own_mission};
 
-use crate::members::Member;
-use crate::stock::add;
-use command_counter::Counter;
+use crate::stock::own_stock;
 use flight_core::laws::runs_keep_their_promises;
 use flight_core::{Report, RunError, run_gathered};
 use lc_model::{ByteSink, ByteSource};
-use limit_checker::LimitChecker;
 use std::alloc::{AllocError, Global};
-use tick_scheduler::{Schedule, Scheduler};
+use tick_scheduler::Schedule;
 
-/// Puts eight spares into stock, and runs with the device, which is put back. Out of memory for the spares is the outer error,
-/// before anything is read.
+/// Runs with this profile's stock and the device, which is put back. Out of memory for the stock is the outer error, before
+/// anything is read.
 fn run_with_stock<R: ByteSource, W: ByteSink + Drop>(
     alloc: Global,
     texts: &[&[u8]],
@@ -36,23 +33,7 @@ fn run_with_stock<R: ByteSource, W: ByteSink + Drop>(
     ensures unread { OnErr result (R.source reader.new ≡ R.source reader.old) }
     ensures untouched { OnErr result (place.new ≡ place.old) }
 {
-    let mut stock: Vec<Box<Member>> = Vec::new(alloc);
-    let first = Box::new(alloc, Member::Checker(LimitChecker::new(alloc)?))?;
-    add(&mut stock, schedule, b"LC", first)?;
-    let second = Box::new(alloc, Member::Checker(LimitChecker::new(alloc)?))?;
-    add(&mut stock, schedule, b"LC", second)?;
-    let third = Box::new(alloc, Member::Checker(LimitChecker::new(alloc)?))?;
-    add(&mut stock, schedule, b"LC", third)?;
-    let fourth = Box::new(alloc, Member::Checker(LimitChecker::new(alloc)?))?;
-    add(&mut stock, schedule, b"LC", fourth)?;
-    let scheduler = Box::new(alloc, Member::Scheduler(Scheduler::new(alloc, schedule)?))?;
-    add(&mut stock, schedule, b"SCH", scheduler)?;
-    let other_scheduler = Box::new(alloc, Member::Scheduler(Scheduler::new(alloc, schedule)?))?;
-    add(&mut stock, schedule, b"SCH", other_scheduler)?;
-    let counter = Box::new(alloc, Member::Counter(Counter::new()))?;
-    add(&mut stock, schedule, b"COUNTER", counter)?;
-    let other_counter = Box::new(alloc, Member::Counter(Counter::new()))?;
-    add(&mut stock, schedule, b"COUNTER", other_counter)?;
+    let stock = own_stock(alloc, schedule)?;
     match place.take() {
         Some(device) => {
             let (answer, device) = run_gathered(alloc, texts, schedule, stock, reader, device);

@@ -7,4 +7,4 @@ mod stock;
 
 pub use launching::launch;
 pub use members::Member;
-pub use stock::add;
+pub use stock::{add, own_stock};

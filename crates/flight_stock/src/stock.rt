@@ -1,17 +1,21 @@
 //! Spares of a run.
 
-ghost use Rattle.std.specs.Prelude.{◌≡◌, ◌++◌, ◌∷◌, [], None, OnOk};
+ghost use Rattle.std.specs.Prelude.{◌≡◌, ◌++◌, ◌∷◌, [], None, IfOk, OnOk};
 ghost use Rattle.lc_model.specs.Tables.HalvesAndBytes.{as_bytes};
 ghost use Rattle.lc_model.specs.Tables.InForce.{layouts};
 ghost use Rattle.host_laws.specs.Keeping.{IsSpare};
 ghost use Rattle.app_host.specs.Hosted.{member_of, objects_in};
 ghost use Rattle.app_host.specs.Whole.{AreSpares};
 ghost use Rattle.flight_core.specs.Run.{IsOfProfile};
-ghost use Rattle.flight_stock.specs.Stock.{names_of};
+ghost use Rattle.flight_stock.specs.Members.{meaning_of};
+ghost use Rattle.flight_stock.specs.Stock.{names_of, own_names};
 
+use crate::members::Member;
 use app_host::App;
-use std::alloc::AllocError;
-use tick_scheduler::Schedule;
+use command_counter::Counter;
+use limit_checker::LimitChecker;
+use std::alloc::{AllocError, Global};
+use tick_scheduler::{Schedule, Scheduler};
 
 /// One spare more, under this name. Conditions: that is its name, it holds no seat, and it is of this profile with this
 /// schedule; and so are those that are there. Out of memory is the only error.
@@ -36,4 +40,33 @@ pub fn add<B: App>(
 {
     stock.push(app)?;
     Ok(())
+}
+
+/// The stock of this profile: four Limit Checkers, two schedulers with this schedule, and two counters. Out of memory is the only
+/// error.
+pub fn own_stock(alloc: Global, schedule: &Schedule) -> Result<Vec<Box<Member>>, AllocError>
+    ensures spares { IfOk result (λ stock. AreSpares (objects_in meaning_of stock.items)) }
+    ensures profile { IfOk result
+        (λ stock. IsOfProfile schedule.now (objects_in meaning_of stock.items)) }
+    ensures names { IfOk result
+        (λ stock. names_of (objects_in meaning_of stock.items) ≡ own_names) }
+{
+    let mut stock: Vec<Box<Member>> = Vec::new(alloc);
+    let first = Box::new(alloc, Member::Checker(LimitChecker::new(alloc)?))?;
+    add(&mut stock, schedule, b"LC", first)?;
+    let second = Box::new(alloc, Member::Checker(LimitChecker::new(alloc)?))?;
+    add(&mut stock, schedule, b"LC", second)?;
+    let third = Box::new(alloc, Member::Checker(LimitChecker::new(alloc)?))?;
+    add(&mut stock, schedule, b"LC", third)?;
+    let fourth = Box::new(alloc, Member::Checker(LimitChecker::new(alloc)?))?;
+    add(&mut stock, schedule, b"LC", fourth)?;
+    let scheduler = Box::new(alloc, Member::Scheduler(Scheduler::new(alloc, schedule)?))?;
+    add(&mut stock, schedule, b"SCH", scheduler)?;
+    let other_scheduler = Box::new(alloc, Member::Scheduler(Scheduler::new(alloc, schedule)?))?;
+    add(&mut stock, schedule, b"SCH", other_scheduler)?;
+    let counter = Box::new(alloc, Member::Counter(Counter::new()))?;
+    add(&mut stock, schedule, b"COUNTER", counter)?;
+    let other_counter = Box::new(alloc, Member::Counter(Counter::new()))?;
+    add(&mut stock, schedule, b"COUNTER", other_counter)?;
+    Ok(stock)
 }

@@ -108,6 +108,13 @@ impl Point {
         self.last
     }
 
+    /// How many of the newest results in a row are failures, up to 65,535.
+    pub(crate) fn run(&self) -> u16
+        ensures { result ≡ self.now.past.run }
+    {
+        self.run
+    }
+
     pub(crate) fn set(&mut self, state: ApMode)
         ensures { self.new ≡ record self.old { state = state } }
     {

@@ -208,6 +208,15 @@ impl Engine {
         }
     }
 
+    /// How many of the newest results in a row of the rule with this number are failures, up to 65,535.
+    pub fn fails_in_a_row(&self, index: usize) -> u16
+        requires { index < length self.now.points }
+        ensures { option_map (λ point. point.past.run) (slice_get self.now.points index) ≡
+            Some result }
+    {
+        self.points[index].run()
+    }
+
     /// A packet of telemetry: all watchpoints of its message id are found anew. Answers whether the field of one of them is
     /// not in the packet. A disabled Limit Checker sees nothing.
     pub fn telemetry(&mut self, packet: &[u8]) -> bool

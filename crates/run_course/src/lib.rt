@@ -7,6 +7,7 @@ mod framing;
 mod moment;
 mod probe;
 mod standing;
+mod stepping;
 mod steps;
 
 pub use course::{Course, Ending, Entry, run_over};
@@ -15,3 +16,4 @@ pub use framing::{ends_of, moment_of, record_in};
 pub use moment::Seconds;
 pub use probe::{Plan, standing_behind};
 pub use standing::{Standing, result_in, result_word, state_in, state_word};
+pub use stepping::{Handled, Stepping};

@@ -1,0 +1,127 @@
+//! A host that is fed: its stream comes in pieces, as the caller has them, and each call handles one record.
+
+ghost use Rattle.std.specs.Prelude.{◌≡◌, false, true, length, IfErr, IfOk};
+ghost use Rattle.app_host.specs.Hosted.{objects_in, shown};
+ghost use Rattle.app_host.specs.Whole.{AreSpares};
+ghost use Rattle.flight_core.specs.Compiled.{IsNotCompiled, sources_of};
+ghost use Rattle.flight_core.specs.Feeding.{HandlesOne, HasBegun, IsReady, fed_by, fed_with, feeding_of};
+ghost use Rattle.flight_core.specs.Records.{taken_of};
+
+use crate::compiling::compile_all;
+use crate::error::RunError;
+use crate::halt::Halt;
+use crate::handling::handle_next;
+use crate::records::Records;
+use app_host::{App, Host};
+use lc_model::ByteSink;
+use rpn_compiler::TablePair;
+use std::alloc::Global;
+
+/// A host, what is held of its stream, and the files of its rule texts. Contracts see it as these three (`Feeding`).
+#[derive(Drop)]
+pub struct FedHost<B: App> {
+    host: Host<B>,
+    records: Records,
+    pairs: Vec<TablePair>,
+}
+
+impl<B: App> FedHost<B> {
+    /// Compiles the rule texts, and makes a host with these applications in stock, to which nothing has come. It takes all the
+    /// memory there will ever be. Condition: none of them holds a seat.
+    ///
+    /// Errors: `Compile` with the first text that does not compile, numbered from 0, and `Memory`.
+    pub fn new(alloc: Global, texts: &[&[u8]], stock: Vec<Box<B>>) -> Result<FedHost<B>, RunError>
+        requires { AreSpares (objects_in B.meaning stock.items) }
+        ensures begun { IfOk result (λ fed. HasBegun (sources_of texts.now)
+            (objects_in B.meaning stock.items) (feeding_of B.meaning fed)) }
+        ensures ready { IfOk result (λ fed. IsReady (feeding_of B.meaning fed)) }
+        ensures refused { IfErr result (IsNotCompiled (sources_of texts.now)) }
+    {
+        let pairs = compile_all(alloc, texts)?;
+        let records = Records::new(alloc, pairs.len())?;
+        match Host::new(alloc, stock) {
+            Ok(host) => Ok(FedHost {
+                host,
+                records,
+                pairs,
+            }),
+            Err(_) => Err(RunError::Memory),
+        }
+    }
+
+    /// Takes a piece of the stream behind what is held, as much of it as leaves at most 73,739 bytes held, which are a longest
+    /// record and a piece of 8,192 bytes; and answers how much. Behind what is no record it takes nothing.
+    pub fn feed(&mut self, piece: &[u8]) -> usize
+        requires ready { IsReady (feeding_of B.meaning self.old) }
+        ensures ready { IsReady (feeding_of B.meaning self.new) }
+        ensures taken { result ≡ length (taken_of (feeding_of B.meaning self.old).held piece.now) }
+        ensures fed { feeding_of B.meaning self.new ≡
+            fed_with piece.now (feeding_of B.meaning self.old) }
+    {
+        self.records.feed(piece)
+    }
+
+    /// Handles the next record, where a whole one is held, and answers how many bytes it led to, which are written; none where
+    /// no whole record is held. Where a write fails the host is closed, and handles none from then on.
+    ///
+    /// Errors: `NoRecord`, where what comes next is none, now and at each further call; `Unsent` with the bytes that were
+    /// written before a write failed, and with 0 where the host was closed before.
+    pub fn handle<W: ByteSink>(&mut self, writer: &mut W) -> Result<Option<u64>, Halt>
+        requires ready { IsReady (feeding_of B.meaning self.old) }
+        ensures ready { IsReady (feeding_of B.meaning self.new) }
+        ensures one { HandlesOne (feeding_of B.meaning self.old) (feeding_of B.meaning self.new)
+            (W.sink writer.old) (W.sink writer.new) result }
+    {
+        handle_one(
+            &mut self.records,
+            self.pairs.as_slice(),
+            &mut self.host,
+            writer,
+        )
+    }
+
+    /// How many bytes are held.
+    pub fn held(&self) -> usize
+        ensures { result ≡ length (feeding_of B.meaning self.now).held.bytes }
+    {
+        self.records.held()
+    }
+
+    /// The host, as it stands behind the records so far.
+    pub fn host(&self) -> &Host<B>
+        ensures { shown B.meaning result.now ≡ (feeding_of B.meaning self.now).host }
+    {
+        &self.host
+    }
+
+    /// All that run retire, and all applications are dropped.
+    pub fn close(self)
+        requires { IsReady (feeding_of B.meaning self) }
+    {
+        let FedHost {
+            host,
+            records: _,
+            pairs: _,
+        } = self;
+        host.close();
+    }
+}
+
+/// Handles the next record, where a whole one is held and the host isn't closed.
+fn handle_one<W: ByteSink, B: App>(
+    records: &mut Records,
+    pairs: &[TablePair],
+    host: &mut Host<B>,
+    writer: &mut W,
+) -> Result<Option<u64>, Halt>
+    requires ready { IsReady (fed_by (shown B.meaning host.old) records.old pairs.now) }
+    ensures ready { IsReady (fed_by (shown B.meaning host.new) records.new pairs.now) }
+    ensures one { HandlesOne (fed_by (shown B.meaning host.old) records.old pairs.now)
+        (fed_by (shown B.meaning host.new) records.new pairs.now) (W.sink writer.old)
+        (W.sink writer.new) result }
+{
+    if host.is_closed() {
+        return Err(Halt::Unsent(0));
+    }
+    handle_next(records, pairs, host, writer)
+}
