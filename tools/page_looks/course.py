@@ -142,8 +142,9 @@ class Course:
         if standing.state in ["disabled", "off"] or self.mode == "disabled":
             return
         rule = self.texts[self.text][number]
-        parts = [self.part(*comparison) for comparison in rule.condition.comparisons]
-        truth = rule.condition.truth([part[4] for part in parts])
+        met = [self.part(*comparison) for comparison in rule.condition.comparisons]
+        parts = [part for part, _ in met]
+        truth = rule.condition.truth([truth for _, truth in met])
         result = {"true": "fail", "false": "pass"}.get(truth, truth)
         turned = {result, standing.result} == {"fail", "pass"}
         standing.result = result
@@ -162,13 +163,13 @@ class Course:
             self.request(number, rule, standing)
 
     def part(self, name, operator, number):
-        """A comparison: the value that it met, its record and time, its agings, and what the comparison was."""
+        """A comparison: the value that it met, its record and time, and what it makes of it; and its truth in the sample."""
         if name not in self.met:
-            return [None, None, None, None, "stale"]
+            return [None, None, None, "stale"], "stale"
         record, time, value, agings = self.met[name]
         stale = self.fields[name]["stale"]
-        verdict = "stale" if stale and agings >= stale else "error" if value is None else compared(value, operator, number)
-        return [value, record, time, agings, verdict]
+        verdict = "error" if value is None else compared(value, operator, number)
+        return [value, record, time, verdict], "stale" if stale and agings >= stale else verdict
 
     def request(self, number, rule, standing):
         self.figures["packets"] += 1

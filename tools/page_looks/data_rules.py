@@ -114,11 +114,12 @@ class Data:
         parts = 0
         for request in run["requests"]:
             self.members("request", request)
-            rule = run["texts"][request["text"]]["rules"][request["rule"]] if request["text"] is not None else None
+            known = request["text"] is not None and request["rule"] is not None
+            rule = run["texts"][request["text"]]["rules"][request["rule"]] if known else None
             for record, _, met in request["samples"]:
                 parts += len(met)
                 self.expect(record <= request["record"] and len(met) == len(rule["comparisons"]), f"samples of packet {request['packet']}")
-            self.expect(len(request["samples"]) in (0, min(6, request["counted"])), f"packet {request['packet']} has {len(request['samples'])} samples")
+            self.expect(len(request["samples"]) <= min(6, request["counted"]), f"packet {request['packet']} has {len(request['samples'])} samples")
         self.expect(parts <= MOST_PARTS, f"{parts} parts")
         self.places([[each["record"], each["time"]] for each in run["requests"]], "requests")
         self.places([event[1:3] for event in run["events"]], "events")

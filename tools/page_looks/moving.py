@@ -139,7 +139,7 @@ def spans_by_keys(look, most=5):
 
 def beyond_the_window(look):
     """From the first tenth of the run the arrows come to its end."""
-    lane = look.ask("lanes.findIndex(lane => lane.spans.length && lane.spans.length < 60)")
+    lane = look.ask("run.figures.records > 1000 ? -1 : lanes.findIndex(lane => lane.spans.length && lane.spans.length < 60)")
     if lane < 0:
         return
     look.do("const whole = wholeRun(); moveTo(whole[0], whole[0] + (whole[1] - whole[0]) / 10)")

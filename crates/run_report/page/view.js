@@ -32,8 +32,9 @@ function moveTo(low, high) {
   const [first, last] = wholeRun();
   const least = Math.min(last - first, view.unit === 'record' ? 4 : 16 / TICKS);
   const size = Math.min(last - first, Math.max(least, high - low));
-  view.low = Math.max(first, Math.min(last - size, low));
-  view.high = view.low + size;
+  const isWhole = size === last - first;
+  view.low = isWhole ? first : Math.max(first, Math.min(last - size, low));
+  view.high = isWhole ? last : view.low + size;
   drawSoon();
 }
 

@@ -17,9 +17,9 @@ function partsTable(rule, [, time, parts]) {
   const head = make('tr');
   head.append(make('th', '', 'comparison'), make('th', 'number', 'value'), make('th', '', 'its age'), make('th', '', 'holds'));
   table.append(head);
-  parts.forEach(([value, record, since, agings, verdict], index) => {
+  parts.forEach(([value, record, since, verdict], index) => {
     const [field, operator, number] = rule.comparisons[index];
-    const age = record === null ? 'no packet came' : `${decimal(time - since)} s, ${agings} agings, record ${record}`;
+    const age = record === null ? 'no packet came' : `${decimal(time - since)} s, record ${record}`;
     const holds = { true: '✔ true', false: '✘ false' }[verdict] ?? verdict;
     const row = make('tr');
     row.append(make('td', '', `${run.fields[field].name} ${operator} ${number}`),
