@@ -1,5 +1,8 @@
 //! Lists of changes, each of which is reduced by columns of records where all together are too many (page/DATA.md).
 
+ghost use Rattle.std.specs.Prelude.{◌≡◌, int_le, IsTrue};
+ghost use Rattle.run_report.specs.declared.changes.Kind.TheVariants.{Bounds};
+
 use std::alloc::{AllocError, Global};
 
 /// What the two numbers of an entry are: bits of results and of states, or the least and the greatest of values.
@@ -20,11 +23,32 @@ pub struct Entry {
     pub changes: u64,
 }
 
-/// Two entries in a row as one, which begins where the first does.
-pub fn joined(kind: Kind, one: Entry, other: Entry) -> Entry {
+fn lesser(one: i64, other: i64) -> i64
+    ensures one { IsTrue (int_le result one) }
+    ensures other { IsTrue (int_le result other) }
+{
+    if one <= other { one } else { other }
+}
+
+fn greater(one: i64, other: i64) -> i64
+    ensures one { IsTrue (int_le one result) }
+    ensures other { IsTrue (int_le other result) }
+{
+    if one <= other { other } else { one }
+}
+
+/// Two entries in a row as one, which begins where the first does, and of bounds is as wide as both.
+pub fn joined(kind: Kind, one: Entry, other: Entry) -> Entry
+    ensures record { result.record ≡ one.record }
+    ensures time { result.time ≡ one.time }
+    ensures low { kind ≡ Bounds → IsTrue (int_le result.low one.low) }
+    ensures low_of_other { kind ≡ Bounds → IsTrue (int_le result.low other.low) }
+    ensures high { kind ≡ Bounds → IsTrue (int_le one.high result.high) }
+    ensures high_of_other { kind ≡ Bounds → IsTrue (int_le other.high result.high) }
+{
     let (low, high) = match kind {
         Kind::Bits => (one.low | other.low, one.high | other.high),
-        Kind::Bounds => (one.low.min(other.low), one.high.max(other.high)),
+        Kind::Bounds => (lesser(one.low, other.low), greater(one.high, other.high)),
     };
     Entry {
         record: one.record,
