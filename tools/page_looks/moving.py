@@ -144,6 +144,7 @@ def beyond_the_window(look):
         return
     look.do("const whole = wholeRun(); moveTo(whole[0], whole[0] + (whole[1] - whole[0]) / 10)")
     look.do(f"lanes[{lane}].row.scrollIntoView({{block: 'center'}}); lanes[{lane}].track.querySelector('[tabindex=\"0\"]').focus()")
+    look.browser.key("Home", 36)
     names = set()
     for _ in range(150):
         names.add(look.ask("document.activeElement.getAttribute('aria-label')"))

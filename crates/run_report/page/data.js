@@ -26,7 +26,7 @@ const nameIn = (text, number) => ruleIn(text, number)?.name ?? nameOf(number);
 
 const textName = text => {
   const file = run.files.filter(each => each.role === 'rules')[text];
-  return file ? `text ${text} (${file.name})` : `text ${text}`;
+  return file ? `text ${text} (${file.name.split('/').at(-1)})` : `text ${text}`;
 };
 
 // A list of entries, each with where it ends: at the next one, and the last one at the run's end.

@@ -115,7 +115,7 @@ function limitLabels(plot, width, marks) {
   });
 }
 
-// A place for a label above its line, or below it, as far left in its part as no mark is there.
+// A place for a label above its line, or below it, as far left in its part as no mark is there; none where there is no room.
 function freePlace(label, wide, width, marks) {
   const meets = (left, top) => marks.some(mark => mark.x > left - 10 && mark.x < left + wide + 8 && Math.abs(mark.y - top - 7) < 16);
   const tops = [label.line - 15, label.line + 2].map(top => Math.max(0, Math.min(HEIGHT - 14, top)));
@@ -125,13 +125,15 @@ function freePlace(label, wide, width, marks) {
       if (!meets(left, top)) return { left, top };
     }
   }
-  return { left: first, top: tops[0] };
+  return null;
 }
 
 // A label that would meet another one is joined with it.
 function addLabel(labels, label, width, marks) {
   const wide = widthOf(label.texts.join(', '), 11) + 10;
-  Object.assign(label, freePlace(label, wide, width, marks));
+  const free = freePlace(label, wide, width, marks);
+  if (!free) return;
+  Object.assign(label, free);
   label.right = label.left + wide;
   const met = labels.findIndex(other => Math.abs(other.top - label.top) < 15 && other.left < label.right && label.left < other.right);
   if (met < 0) { labels.push(label); return; }

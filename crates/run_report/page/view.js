@@ -32,7 +32,7 @@ function moveTo(low, high) {
   const [first, last] = wholeRun();
   const least = Math.min(last - first, view.unit === 'record' ? 4 : 16 / TICKS);
   const size = Math.min(last - first, Math.max(least, high - low));
-  const isWhole = size === last - first;
+  const isWhole = size > (last - first) * 0.999999; // sums of fractions are a little off
   view.low = isWhole ? first : Math.max(first, Math.min(last - size, low));
   view.high = isWhole ? last : view.low + size;
   drawSoon();

@@ -22,7 +22,7 @@ return names.length ? names.join(' / ') : `rule ${number}`;
 const nameIn = (text, number) => ruleIn(text, number)?.name ?? nameOf(number);
 const textName = text => {
 const file = run.files.filter(each => each.role === 'rules')[text];
-return file ? `text ${text} (${file.name})` : `text ${text}`;
+return file ? `text ${text} (${file.name.split('/').at(-1)})` : `text ${text}`;
 };
 function withEnds(list, end = END) {
 return list.map((entry, index) => ({
@@ -161,7 +161,7 @@ function moveTo(low, high) {
 const [first, last] = wholeRun();
 const least = Math.min(last - first, view.unit === 'record' ? 4 : 16 / TICKS);
 const size = Math.min(last - first, Math.max(least, high - low));
-const isWhole = size === last - first;
+const isWhole = size > (last - first) * 0.999999; // sums of fractions are a little off
 view.low = isWhole ? first : Math.max(first, Math.min(last - size, low));
 view.high = isWhole ? last : view.low + size;
 drawSoon();

@@ -292,11 +292,13 @@ for (let left = first; left === first || left + wide <= label.end; left += 4) {
 if (!meets(left, top)) return { left, top };
 }
 }
-return { left: first, top: tops[0] };
+return null;
 }
 function addLabel(labels, label, width, marks) {
 const wide = widthOf(label.texts.join(', '), 11) + 10;
-Object.assign(label, freePlace(label, wide, width, marks));
+const free = freePlace(label, wide, width, marks);
+if (!free) return;
+Object.assign(label, free);
 label.right = label.left + wide;
 const met = labels.findIndex(other => Math.abs(other.top - label.top) < 15 && other.left < label.right && label.left < other.right);
 if (met < 0) { labels.push(label); return; }
@@ -379,6 +381,4 @@ if (!step || event.target !== plot.track) return;
 event.preventDefault();
 event.stopPropagation();
 const first = plot.steps.findIndex(each => shareOf(each.from) >= 0);
-const next = plot.read === undefined ? first : plot.read + step;
-if (!plot.steps[next]) return;
 "#;

@@ -1,7 +1,9 @@
 //! The page behind its data, part 2. Written by tools/page_constants.
 
 /// The page behind its data, part 2.
-pub const TEXT: &str = r#"bring(plot.steps[next].from);
+pub const TEXT: &str = r#"const next = plot.read === undefined ? first : plot.read + step;
+if (!plot.steps[next]) return;
+bring(plot.steps[next].from);
 read(plot, next);
 }
 function listenToPlot(plot) {

@@ -1,10 +1,11 @@
 //! From a stream to its page.
 
 use crate::account::{Account, Behind};
+use crate::brought::{Brought, read_record};
 use crate::data::put_data;
 use crate::error::ReportError;
 use crate::json::put;
-use crate::place::{Stand, result_bit, state_bit, ticks};
+use crate::place::{Place, Stand, result_bit, state_bit, ticks};
 use crate::progress::Progress;
 use crate::texts::Source;
 use crate::{page_front, page_script_0, page_script_1, page_script_2};
@@ -66,6 +67,12 @@ fn look(stepping: &Stepping, behind: &mut Behind) -> Result<(), AllocError> {
     Ok(())
 }
 
+/// Whether a record leaves each rule as it stood: telemetry over which nothing was written. The first record doesn't count.
+fn is_quiet(record: &[u8], written: &[u8], place: Place) -> bool {
+    let is_telemetry = matches!(read_record(record), Brought::Telemetry(_));
+    is_telemetry && written.is_empty() && place.record > 1
+}
+
 /// A record that was handled.
 fn tell_record(
     account: &mut Account<'_>,
@@ -74,6 +81,9 @@ fn tell_record(
     behind: &mut Behind,
 ) -> Result<(), AllocError> {
     let place = account.come(record, ticks(moment_of(record)))?;
+    if is_quiet(record, stepping.written(), place) {
+        return Ok(());
+    }
     look(stepping, behind)?;
     account.sample(place, behind)?;
     account.write(stepping.written(), place, behind)?;
