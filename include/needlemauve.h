@@ -1,4 +1,5 @@
-/* Needlemauve for C: table files are judged, rule texts are compiled, and a host runs from memory to memory.
+/* Needlemauve for C: table files are judged, rule texts are compiled, a host runs from memory to memory, and one is fed record by
+ * record.
  *
  * Archives. `libneedlemauve_board.a` has needlemauve_validate alone: it asks for no memory, calls nothing outside itself, and
  * goes on board as it is. `libneedlemauve.a` has the other calls. They take memory by the three functions of
@@ -6,9 +7,10 @@
  * your own into it. They also call memcpy, memmove and memset.
  *
  * Who owns what. All memory that a call is given stays the caller's. A call reads and writes it while it runs and keeps no
- * pointer to it afterwards; what it took by memory.c it has given back when it answers. There is no state between calls:
- * calls may run in several threads at the same time, each with arguments of its own (where memory.c's functions may). None may
- * be made from a signal handler.
+ * pointer to it afterwards; what it took by memory.c it has given back when it answers. There is one exception: a host that was
+ * made holds memory of its own, all of which needlemauve_host_new takes and needlemauve_host_close gives back; feeding takes
+ * none. There is no other state between calls: calls may run in several threads at the same time, each with arguments of its own
+ * (where memory.c's functions may), and one host in one thread at a time. None may be made from a signal handler.
  *
  * What a call wants. Bytes may lie anywhere; lengths and the structures below lie as their types are aligned. What a call
  * writes to (`told`, `wdt`, `adt`, `output`) overlaps nothing else that the call is given. Bytes of length 0 may be NULL.
@@ -40,6 +42,10 @@ extern "C" {
 
 /* Answers of every call. 0: done. Below 250: the refusals of docs/RULES.md and docs/FORMATS.md, by their numbers. */
 #define NEEDLEMAUVE_DONE 0u
+#define NEEDLEMAUVE_HAS_HOST 247u  /* the handle holds a host already */
+#define NEEDLEMAUVE_NO_HOST 248u   /* the handle holds no host */
+#define NEEDLEMAUVE_SMALL 249u     /* the output is smaller than the host's room */
+#define NEEDLEMAUVE_MORE 250u      /* no whole record is held: feed more */
 #define NEEDLEMAUVE_NO_TABLE 251u  /* no table has that number */
 #define NEEDLEMAUVE_LENGTHS 252u   /* the lengths of texts do not add up to their bytes */
 #define NEEDLEMAUVE_TOO_LONG 253u  /* a length is above PTRDIFF_MAX */
@@ -89,6 +95,26 @@ struct needlemauve_outcome {
   struct needlemauve_sentence sentence;
 };
 
+/* A host, or nothing. It begins as NEEDLEMAUVE_NOTHING_YET, and only the calls below change it; it is not copied, since a copy
+ * would be of the same host. */
+struct needlemauve_host {
+  void *at;
+};
+#define NEEDLEMAUVE_NOTHING_YET {NULL}
+
+/* Why a host isn't made, as of a run. */
+struct needlemauve_made {
+  struct needlemauve_refusal refusal;
+  struct needlemauve_sentence sentence;
+};
+
+/* What came of a call that feeds a host: how many of the bytes were taken, and how many bytes of the output were written. */
+struct needlemauve_handled {
+  uint32_t code;
+  uint64_t taken;
+  uint64_t written;
+};
+
 /* Judges a table file as the host does on board, and answers told->code. */
 uint32_t needlemauve_validate(uint32_t kind, const uint8_t *file, size_t length, struct needlemauve_verdict *told);
 
@@ -105,6 +131,26 @@ uint32_t needlemauve_compile(const uint8_t *text, size_t length, uint8_t wdt[NEE
 uint32_t needlemauve_run(const uint8_t *texts, size_t size, const size_t *lengths, size_t count, const uint8_t *schedule,
                          size_t schedule_length, const uint8_t *stream, size_t stream_length, uint8_t *output, size_t room,
                          struct needlemauve_outcome *told);
+
+/* Makes a host of rule texts (as of a run), with the same stock, to which nothing has come, and answers told->refusal.code: 0, or
+ * why it isn't made. `room` is how many bytes one record may lead to: an event has 168, a sequence request 12, so that 65,536 hold
+ * a sample of 176 rules that each request a sequence and tell two events. A record that leads to more closes the host (144). All
+ * memory is taken here. */
+uint32_t needlemauve_host_new(const uint8_t *texts, size_t size, const size_t *lengths, size_t count, const uint8_t *schedule,
+                              size_t schedule_length, size_t room, struct needlemauve_host *host,
+                              struct needlemauve_made *told);
+
+/* Takes bytes of the stream, as they come, and handles one record, in the time of that record; answers told->code. The first
+ * told->taken bytes were taken, to be held behind those that are (73,739 at most are held); what the record leads to are the first
+ * told->written bytes of the output, which has `size` bytes, no fewer than the host's room. 0: a record was handled, and another
+ * may be held: call again, with the bytes that weren't taken, or with none. NEEDLEMAUVE_MORE: no whole record is held. 141: what
+ * comes next is no record, and nothing behind it is handled. 144: the record leads to more than the room takes; the host handles
+ * no record any more. */
+uint32_t needlemauve_host_feed(struct needlemauve_host *host, const uint8_t *bytes, size_t length, uint8_t *output, size_t size,
+                               struct needlemauve_handled *told);
+
+/* Closes a host: all applications retire, and all its memory is given back. The handle holds nothing afterwards. */
+void needlemauve_host_close(struct needlemauve_host *host);
 
 /* ---- what the archives can't see: NULL, and lengths that no object has */
 
@@ -170,10 +216,53 @@ static inline uint32_t needlemauve_run_tested(const uint8_t *texts, size_t size,
   return code;
 }
 
+static inline uint32_t needlemauve_host_new_tested(const uint8_t *texts, size_t size, const size_t *lengths, size_t count,
+                                                   const uint8_t *schedule, size_t schedule_length, size_t room,
+                                                   struct needlemauve_host *host, struct needlemauve_made *told)
+{
+  uint32_t code = needlemauve_misused(texts, size);
+  if (told == NULL) return NEEDLEMAUVE_NULL;
+  if (code == NEEDLEMAUVE_DONE && count > PTRDIFF_MAX / sizeof *lengths) code = NEEDLEMAUVE_TOO_LONG;
+  if (code == NEEDLEMAUVE_DONE) code = needlemauve_misused(lengths, count);
+  if (code == NEEDLEMAUVE_DONE) code = needlemauve_misused(schedule, schedule_length);
+  if (code == NEEDLEMAUVE_DONE && room > PTRDIFF_MAX) code = NEEDLEMAUVE_TOO_LONG;
+  if (code == NEEDLEMAUVE_DONE && host == NULL) code = NEEDLEMAUVE_NULL;
+  if (code == NEEDLEMAUVE_DONE && host->at != NULL) code = NEEDLEMAUVE_HAS_HOST;
+  if (code == NEEDLEMAUVE_DONE)
+    return needlemauve_host_new(texts, size, lengths, count, schedule, schedule_length, room, host, told);
+  needlemauve_tell(code, NEEDLEMAUVE_NOT_RUN, &told->refusal);
+  told->sentence.length = 0;
+  told->sentence.bytes[0] = 0;
+  return code;
+}
+
+static inline uint32_t needlemauve_host_feed_tested(struct needlemauve_host *host, const uint8_t *bytes, size_t length,
+                                                    uint8_t *output, size_t size, struct needlemauve_handled *told)
+{
+  uint32_t code = needlemauve_misused(bytes, length);
+  if (told == NULL) return NEEDLEMAUVE_NULL;
+  if (code == NEEDLEMAUVE_DONE) code = needlemauve_misused(output, size);
+  if (code == NEEDLEMAUVE_DONE && host == NULL) code = NEEDLEMAUVE_NULL;
+  if (code == NEEDLEMAUVE_DONE && host->at == NULL) code = NEEDLEMAUVE_NO_HOST;
+  if (code == NEEDLEMAUVE_DONE) return needlemauve_host_feed(host, bytes, length, output, size, told);
+  told->code = code;
+  told->taken = 0;
+  told->written = 0;
+  return code;
+}
+
+static inline void needlemauve_host_close_tested(struct needlemauve_host *host)
+{
+  if (host != NULL && host->at != NULL) needlemauve_host_close(host);
+}
+
 /* C calls the tested functions by the names above; other languages find the archives' own under these names. */
 #define needlemauve_validate needlemauve_validate_tested
 #define needlemauve_compile needlemauve_compile_tested
 #define needlemauve_run needlemauve_run_tested
+#define needlemauve_host_new needlemauve_host_new_tested
+#define needlemauve_host_feed needlemauve_host_feed_tested
+#define needlemauve_host_close needlemauve_host_close_tested
 
 #ifdef __cplusplus
 }

@@ -20,7 +20,7 @@ struct needlemauve_block rattle_alloc(size_t size, size_t alignment);
 struct needlemauve_block rattle_realloc(void *at, size_t kept, size_t size, size_t alignment);
 void rattle_dealloc(void *at);
 
-static size_t held, most, asked;
+static size_t held, kept, most, asked;
 
 static struct needlemauve_block block_of(size_t *at, size_t size)
 {
@@ -88,6 +88,36 @@ static void *run(void *result)
   return result;
 }
 
+static struct needlemauve_host host = NEEDLEMAUVE_NOTHING_YET;
+
+static void *make(void *result)
+{
+  struct needlemauve_made told;
+  *(uint32_t *)result = needlemauve_host_new(text, length, &length, 1, (const uint8_t *)schedule, sizeof schedule - 1,
+                                             sizeof output, &host, &told);
+  return result;
+}
+
+/* All records, one a call. */
+static void *feed(void *result)
+{
+  struct needlemauve_handled told;
+  size_t at = 0;
+  do {
+    *(uint32_t *)result = needlemauve_host_feed(&host, stream + at, sizeof stream - at, output, sizeof output, &told);
+    at += (size_t)told.taken;
+  } while (told.code == 0);
+  if (told.code == NEEDLEMAUVE_MORE) *(uint32_t *)result = 0;
+  return result;
+}
+
+static void *close_it(void *result)
+{
+  needlemauve_host_close(&host);
+  *(uint32_t *)result = 0;
+  return result;
+}
+
 /* Calls on a stack of its own, and answers how much of it was touched. */
 static size_t stack_of(void *(*call)(void *), uint32_t *answer)
 {
@@ -97,7 +127,9 @@ static size_t stack_of(void *(*call)(void *), uint32_t *answer)
   pthread_t thread;
   if (stack == NULL && posix_memalign((void **)&stack, 4096, STACK) != 0) exit(99);
   memset(stack, FILLED, STACK);
-  held = most = asked = 0;
+  kept = held;
+  most = held;
+  asked = 0;
   if (pthread_attr_init(&attributes) != 0 || pthread_attr_setstack(&attributes, stack, STACK) != 0) exit(99);
   if (pthread_create(&thread, &attributes, call, answer) != 0 || pthread_join(thread, NULL) != 0) exit(99);
   while (untouched < STACK && stack[untouched] == FILLED) untouched++;
@@ -118,7 +150,7 @@ int main(int words, char **word)
   static const struct {
     const char *name;
     void *(*call)(void *);
-  } calls[] = {{"compile", compile}, {"validate", validate}, {"run", run}};
+  } calls[] = {{"compile", compile}, {"validate", validate}, {"run", run}, {"host_new", make}, {"host_feed", feed}, {"host_close", close_it}};
   size_t empty, touched, n;
   uint32_t answer = 0;
   FILE *file = words > 1 ? fopen(word[1], "rb") : NULL;
@@ -131,8 +163,8 @@ int main(int words, char **word)
   for (n = 0; n < sizeof calls / sizeof calls[0]; n++) {
     touched = stack_of(calls[n].call, &answer);
     printf("%s: answer %u, stack %zu bytes, memory %zu bytes at once, asked for %zu times\n", calls[n].name, (unsigned)answer,
-           touched - empty, most, asked);
-    if (answer != 0 || held != 0) return 2;
+           touched - empty, most - kept, asked);
+    if (answer != 0 || (host.at == NULL && held != 0)) return 2;
   }
   return fclose(file);
 }

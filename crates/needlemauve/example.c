@@ -1,5 +1,6 @@
-/* Compiles the low-volts rule, judges its two files, and runs it over two samples with too low a voltage: the Limit Checker asks
- * for command sequence 7 at the second one. Prints what came of each call, and answers 0 where all is as it should be.
+/* Compiles the low-volts rule, judges its two files, runs it over two samples with too low a voltage, and feeds the same records
+ * to a host, one after the other: the Limit Checker asks for command sequence 7 at the second sample. Prints what came of each
+ * call, and answers 0 where all is as it should be.
  *
  * cc -std=c99 -Iinclude crates/needlemauve/example.c crates/needlemauve/memory.c libneedlemauve.a libneedlemauve_board.a */
 #include "needlemauve.h"
@@ -23,7 +24,7 @@ static const uint8_t start[28] = {0x18, 0x06, 0xC0, 0, 0, 21, 1, 0, 'L', 'C'};
 static const uint8_t request[12] = {0x18, 0xA9, 0xC0, 0x00, 0x00, 0x05, 0x04, 0x88, 0x00, 0x07, 0x00, 0x00};
 
 static uint8_t wdt[NEEDLEMAUVE_WDT], adt[NEEDLEMAUVE_ADT];
-static uint8_t stream[1024], output[1024];
+static uint8_t stream[1024], output[2048];
 static size_t stream_length;
 
 /* One record more: its kind, the second 100, and its body. */
@@ -104,10 +105,37 @@ static int runs(void)
   return told.ending.code == 0 && told.ending.at == 7 && told.written == 852 && at != 0;
 }
 
+/* The same records, fed in pieces of nine bytes to a host that goes on as long as its program does: what comes of them is what
+ * came of the run. */
+static int is_fed(size_t written)
+{
+  static uint8_t given[sizeof output];
+  const size_t lengths[1] = {sizeof rules - 1};
+  struct needlemauve_host host = NEEDLEMAUVE_NOTHING_YET;
+  struct needlemauve_made made;
+  struct needlemauve_handled told;
+  size_t at = 0, sent = 0, records = 0, piece;
+
+  if (needlemauve_host_new((const uint8_t *)rules, sizeof rules - 1, lengths, 1, (const uint8_t *)schedule, sizeof schedule - 1,
+                           sizeof given / 2, &host, &made) != 0)
+    return 0;
+  do {
+    piece = stream_length - at < 9 ? stream_length - at : 9;
+    if (sizeof given - sent < sizeof given / 2) break;
+    if (needlemauve_host_feed(&host, stream + at, piece, given + sent, sizeof given - sent, &told) == 0) records++;
+    at += (size_t)told.taken;
+    sent += (size_t)told.written;
+  } while (told.code == 0 || (told.code == NEEDLEMAUVE_MORE && at < stream_length));
+  needlemauve_host_close(&host);
+  printf("fed: %u records, %u bytes\n", (unsigned)records, (unsigned)sent);
+  return records == 7 && sent == written && memcmp(given, output, written) == 0 && host.at == NULL;
+}
+
 int main(void)
 {
   if (!compiles()) return 1;
   if (!judges()) return 2;
   if (!runs()) return 3;
+  if (!is_fed(852)) return 4;
   return 0;
 }

@@ -144,6 +144,45 @@ static void spoil_run(void)
   free(output);
 }
 
+/* A host is made of spoiled texts, and where it is made it is fed with spoiled records in pieces of any length, into an output
+ * that is now and then too small. */
+static void spoil_host(void)
+{
+  size_t size = sizeof rules - 1, plan_length = sizeof schedule - 1, records_length = stream_length, at = 0, n;
+  size_t room = number_below(3) == 0 ? number_below(512) : 2048;
+  uint8_t *texts = spoiled(rules, &size, number_below(3)), *plan = spoiled(schedule, &plan_length, number_below(2));
+  uint8_t *records = spoiled(stream, &records_length, 4), *output;
+  struct needlemauve_host host = NEEDLEMAUVE_NOTHING_YET;
+  struct needlemauve_made made;
+  struct needlemauve_handled told;
+  uint32_t code = needlemauve_host_new(texts, size, &size, 1, plan, plan_length, room, &host, &made);
+  CHECK(61, code == made.refusal.code && is_sentence(&made.sentence) && (code == 0) == (host.at != NULL));
+  CHECK(62, code == 0 || is_refusal_of_text(code) || (code >= 131 && code <= 133));
+  CHECK(63, code != 0 || needlemauve_host_new(texts, size, &size, 1, plan, plan_length, room, &host, &made) ==
+                             NEEDLEMAUVE_HAS_HOST);
+  answered[code] += 1;
+  for (n = 0; code == 0 && n < 200; n++) {
+    size_t piece = number_below((uint32_t)(records_length - at) + 1);
+    size_t given = number_below(20) == 0 ? number_below((uint32_t)room + 1) : room;
+    output = filled(given + 8);
+    needlemauve_host_feed(&host, records + at, piece, output, given, &told);
+    CHECK(64, (told.code == NEEDLEMAUVE_SMALL) == (given < room));
+    CHECK(65, told.taken <= piece && told.written <= given && is_filled(output + told.written, given + 8 - (size_t)told.written));
+    CHECK(66, told.code == 0 || told.code == 141 || told.code == 144 || told.code == NEEDLEMAUVE_SMALL ||
+                  told.code == NEEDLEMAUVE_MORE);
+    CHECK(67, told.code == 0 || told.code == 144 || told.written == 0);
+    answered[told.code] += 1;
+    at += (size_t)told.taken;
+    free(output);
+    if (told.code == 141 || (told.code == NEEDLEMAUVE_MORE && at == records_length)) break;
+  }
+  needlemauve_host_close(&host);
+  CHECK(68, host.at == NULL && needlemauve_host_feed(&host, records, 0, NULL, 0, &told) == NEEDLEMAUVE_NO_HOST);
+  free(texts);
+  free(plan);
+  free(records);
+}
+
 static void record(uint8_t kind, const uint8_t *body, uint8_t length)
 {
   const uint8_t header[11] = {kind, 0, 0, 0, 100, 0, 0, 0, 0, 0, length};
@@ -197,6 +236,18 @@ static void misuse(void)
   CHECK(56, told.ending.of == NEEDLEMAUVE_NOT_RUN && told.written == 0);
   CHECK(57, needlemauve_run(text, one, &one, SIZE_MAX / 8, plan, 8, stream, 9, room, 8, &told) == NEEDLEMAUVE_TOO_LONG);
   CHECK(58, needlemauve_run(text, one, &one, 1, plan, 8, NULL, 0, NULL, 0, &told) == 0 && is_filled(room, sizeof room));
+  {
+    struct needlemauve_host host = NEEDLEMAUVE_NOTHING_YET;
+    struct needlemauve_made made;
+    struct needlemauve_handled handled;
+    CHECK(71, needlemauve_host_new(NULL, one, &one, 1, plan, 8, 8, &host, &made) == NEEDLEMAUVE_NULL);
+    CHECK(72, needlemauve_host_new(text, one, &one, 1, plan, 8, SIZE_MAX, &host, &made) == NEEDLEMAUVE_TOO_LONG);
+    CHECK(73, needlemauve_host_new(text, one, &one, 1, plan, 8, 8, NULL, &made) == NEEDLEMAUVE_NULL);
+    CHECK(74, needlemauve_host_new(text, one, &one, 1, plan, 8, 8, &host, NULL) == NEEDLEMAUVE_NULL && host.at == NULL);
+    CHECK(75, needlemauve_host_feed(NULL, stream, 1, room, 8, &handled) == NEEDLEMAUVE_NULL);
+    CHECK(76, needlemauve_host_feed(&host, stream, 1, room, 8, NULL) == NEEDLEMAUVE_NULL);
+    needlemauve_host_close(NULL);
+  }
   free(first);
   free(second);
 }
@@ -207,7 +258,9 @@ int main(int words, char **word)
   begin();
   misuse();
   for (input = 1; input <= inputs; input++) {
-    if (input % 10 == 0)
+    if (input % 20 == 10)
+      spoil_host();
+    else if (input % 10 == 0)
       spoil_run();
     else if (input % 5 == 1)
       spoil_text();

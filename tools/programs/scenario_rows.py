@@ -40,6 +40,7 @@ def refused(title, lines, line, why):
 
 NO_FIELD = b"behind a packet's name stand its fields as `FIELD=VALUE`"
 NUMBER = b"a number is missing or out of range"
+OUTSIDE = b"the value is outside the type of the field"
 RAMP = b"a ramp is `ramp FIELD FROM TO by STEP each SECONDS`, with `tick` behind it where ticks are wanted"
 STATE = b"a state is `active`, `passive`, `disabled` or `off`, behind a rule's name or `all`, which can't be off"
 REPEAT = b"lines are repeated by `repeat NUMBER {` before them and `}` behind them"
@@ -133,6 +134,8 @@ filter LC 1001 0xFFFF
         error=told(b"BUS WARM=1", 1, 169, b"the packet has no field of that name"),
     ),
     refused("a value that is no number", b"BUS VOLTS=low\n", 1, NUMBER),
+    refused("a value outside its type, in repeated lines", b"repeat 2 {\nBUS VOLTS=65536\n}\n", 2, OUTSIDE),
+    refused("a ramp that leaves its type", b"ramp DEGREES 0 -40000 by 20000 each 1\n", 1, OUTSIDE),
     refused("a ramp that stands still", b"ramp VOLTS 1 2 by 0 each 1\n", 1, NUMBER),
     refused("a ramp without its seconds", b"ramp VOLTS 1 2 by 1\n", 1, RAMP),
     refused("a ramp of no field", b"ramp VOLT 1 2 by 1 each 1\n", 1, b"no rule text declares that field"),

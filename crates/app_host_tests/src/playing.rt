@@ -12,10 +12,13 @@ use crate::script::{Given, Line, Said, Spare};
 use crate::speaking::Speaking;
 use crate::tally::Tally;
 use crate::tracked::Tracked;
-use app_host::{App, Host, WriteFault};
+use app_host::{App, Host, OneOf, WriteFault};
 use command_counter::Counter;
 use lc_model::{Body, ByteSink, Limited};
 use std::alloc::{AllocError, Global};
+
+/// An application of a script: the counter, one that publishes, or one that speaks.
+type Playing = OneOf<Tracked<Counter>, OneOf<Tracked<Named>, Tracked<Speaking>>>;
 
 /// The most bytes that a record leads to.
 const ROOM: usize = 2_048;
@@ -142,25 +145,20 @@ pub fn plays(
     script: &[Line<'_>],
 ) -> Result<Option<usize>, AllocError> {
     let tally = Tally::new(alloc)?;
-    let mut stock: Vec<Box<Box<dyn App>>> = Vec::new(alloc);
+    let mut stock: Vec<Box<Playing>> = Vec::new(alloc);
     for spare in spares {
-        match *spare {
-            Spare::Counting => {
-                let counting = Tracked::new(Counter::new(), tally.share()?);
-                let app: Box<dyn App> = Box::new(alloc, counting)?;
-                add(&mut stock, Box::new(alloc, app)?)?;
-            }
-            Spare::Publishing(number) => {
-                let publishing = Tracked::new(Named::new(number), tally.share()?);
-                let app: Box<dyn App> = Box::new(alloc, publishing)?;
-                add(&mut stock, Box::new(alloc, app)?)?;
-            }
-            Spare::Speaking(number) => {
-                let speaking = Tracked::new(Speaking::new(number), tally.share()?);
-                let app: Box<dyn App> = Box::new(alloc, speaking)?;
-                add(&mut stock, Box::new(alloc, app)?)?;
-            }
-        }
+        let app = match *spare {
+            Spare::Counting => OneOf::First(Tracked::new(Counter::new(), tally.share()?)),
+            Spare::Publishing(number) => OneOf::Second(OneOf::First(Tracked::new(
+                Named::new(number),
+                tally.share()?,
+            ))),
+            Spare::Speaking(number) => OneOf::Second(OneOf::Second(Tracked::new(
+                Speaking::new(number),
+                tally.share()?,
+            ))),
+        };
+        add(&mut stock, Box::new(alloc, app)?)?;
     }
     perform(alloc, stock, &tally, script)
 }

@@ -13,4 +13,10 @@ mod SampledRules
 mod CountedWords
 mod Whole
 mod Noting
-mod Packing
+mod Meanings
+mod Found
+mod Grown
+mod LaidSteps
+mod PlannedRules
+mod Evaluated
+mod FoundTruths

@@ -1,9 +1,13 @@
 -- The entries of the actionpoint table.
-use Rattle.std.specs.Prelude.{ℕ, ◌+◌, ◌≤◌, List, length, slice_range, unwrap_or, pos}
+use Rattle.std.specs.Prelude.{◌≡◌, ℕ, ◌+◌, ◌≤◌, List, length, slice_range, option_map, Some, unwrap_or, pos}
 use Rattle.lc_model.specs.declared.field.Term.{Term}
 use Rattle.lc_model.specs.declared.field.FieldType.TheVariants.{U8}
 use Rattle.lc_model.specs.declared.field.CmpOp.TheVariants.{Less}
+use Rattle.lc_model.specs.declared.truth.Truth.{Truth}
 use Rattle.lc_model.specs.Condition.{Condition, Watch}
+use Rattle.lc_model.specs.LimitChecker.Watch.{truth_by}
+use Rattle.lc_model.specs.Kept.Summary.{WatchResult}
+use Rattle.lc_model.specs.Kept.Next.{truth_in}
 use Rattle.lc_model.specs.Rule.{Actionpoint}
 use Rattle.lc_model.specs.Tables.Spelled.{spelled_condition}
 use Rattle.table_validator.specs.Sound.{IsSoundEquation}
@@ -37,6 +41,10 @@ condition_in terms words entry = unwrap_or (spelled_condition terms (words_of wo
 -- the rule that the entry is
 abbrev pub rule_in : List Term → List ℕ → Entry → Actionpoint
 rule_in terms words entry = rule_with entry (condition_in terms words entry)
+
+-- by the watchpoints' results the condition that the entry's words spell has this truth
+abbrev pub HasTruth : List Term → List ℕ → List WatchResult → Entry → Truth → Type 0
+HasTruth terms words watch entry truth = option_map (truth_by (truth_in terms watch)) (spelled_condition terms (words_of words entry)) ≡ Some truth
 
 -- the entry's words lie among the words, and can be run
 pub record IsRunnable (terms : List Term) (words : List ℕ) (entry : Entry) : Type 0 where

@@ -13,4 +13,5 @@ pub mod Shared
 pub mod Entry
 pub mod Layout
 pub mod Tables
-pub mod Packed
+pub mod Steps
+pub mod Plan

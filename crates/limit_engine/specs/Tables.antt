@@ -8,6 +8,9 @@ use Rattle.lc_model.specs.Kept.Summary.{WatchResult, Tally, LcOwn}
 use Rattle.lc_model.specs.Tables.Image.{WideActionpoints, words_in}
 use Rattle.limit_engine.specs.declared.actionpoint.Entry.{Entry}
 use Rattle.limit_engine.specs.Entry.{rule_in, IsRunnable}
+use Rattle.lc_model.specs.declared.command.SampleRequest.{SampleRequest}
+use Rattle.limit_engine.specs.Plan.{AreEvaluated, IsPlanned, Planned}
+use Rattle.limit_engine.specs.Running.{truths_of}
 use Rattle.limit_engine.specs.Shared.{AreShared}
 
 -- the object in numbers, with what it tells of its own work
@@ -30,6 +33,12 @@ pub record AreTables (terms : List Term) (watch : List WatchResult) (entries : L
   pub counted : length points ≡ length entries
   pub shared : AreShared terms watch
   pub runnable : All (IsRunnable terms words) entries
+
+-- the tables, with the truth of each rule that a request takes
+pub record AreFound (request : SampleRequest) (terms : List Term) (watch : List WatchResult) (entries : List Entry) (points : List (Point Tally)) (words : List ℕ) (plan : Planned) : Type 0 where
+  pub tables : AreTables terms watch entries points words
+  pub planned : IsPlanned (length terms) words entries plan.steps plan.roots
+  pub evaluated : AreEvaluated request (truths_of watch) words entries plan.roots plan.places
 
 -- the words of the most rules of the most words, and the message ids that a search among the most ids compares
 abbrev pub most_steps : ℕ

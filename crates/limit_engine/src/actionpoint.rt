@@ -8,7 +8,7 @@ ghost use Rattle.lc_model.specs.LimitChecker.Steps.{is_sampled as is_on, is_perm
 ghost use Rattle.lc_model.specs.LimitChecker.Watch.{result_of_truth as result_of};
 ghost use Rattle.lc_model.specs.Kept.Next.{by_counts, is_last, counted_if as one_more_if, tally_after, next_on_failure, next_turn_reports};
 ghost use Rattle.limit_engine.specs.Reactions.{turn_requests, failure_requests, requests_of};
-ghost use Rattle.limit_engine.specs.Sampling.{point_with};
+ghost use Rattle.limit_engine.specs.Sampling.{is_quiet, noted, point_with};
 ghost use Rattle.limit_engine.specs.Entry.{rule_with};
 
 use crate::reaction::{Failure, Reactions, Turn};
@@ -167,6 +167,13 @@ impl Point {
             requests_of (rule_with rule.now c) n result ≡
             (point_with (rule_with rule.now c) n mode outcome self.old).1 }
     {
+        if self.counts_nothing(rule.fails, outcome) {
+            self.note(outcome);
+            return Reactions {
+                turn: None,
+                failure: None,
+            };
+        }
         let before = self.last;
         self.count(rule.fails, outcome);
         let turn = self.turn(rule, before, outcome);
@@ -180,6 +187,21 @@ impl Point {
             turn,
             failure: self.fail(rule, mode),
         }
+    }
+
+    /// No failure and no turn: most samples are so.
+    fn counts_nothing(&self, fails: u16, outcome: ApResult) -> bool
+        ensures { result ≡ is_quiet fails outcome self.now.past.last }
+    {
+        0 < fails && !is_same(ApResult::Fail, outcome) && !was(ApResult::Fail, self.last)
+    }
+
+    /// The newest result, which is no failure.
+    fn note(&mut self, outcome: ApResult)
+        ensures { self.new ≡ noted outcome self.old }
+    {
+        self.run = 0;
+        self.last = Some(outcome);
     }
 
     /// The turn that is reported of the newest result, with the counts up to it.

@@ -18,6 +18,7 @@ ghost use Rattle.limit_engine.specs.Tables.{most_probes, most_steps};
 
 use crate::actionpoint::{Entry, Point};
 use crate::groups::Watchpoints;
+use crate::plan::Plan;
 use crate::reaction::Asked;
 use crate::states::{self, StateRefusal};
 use crate::watchpoint::{self, WatchResult};
@@ -43,16 +44,18 @@ pub struct Engine {
     entries: Vec<Entry>,
     points: Vec<Point>,
     words: Vec<u16>,
+    plan: Plan,
     /// The words that the last sample evaluated, and the comparisons of the last packet's message id.
     steps: usize,
     probes: usize,
 }
 
 impl Model for Engine {
-    ghost use Rattle.std.specs.Prelude.{vec_capacity};
+    ghost use Rattle.std.specs.Prelude.{length, vec_capacity};
     ghost use Rattle.std.specs.Coded.{codes};
     ghost use Rattle.lc_model.specs.Condition.Coding.{coded_condition};
     ghost use Rattle.lc_model.specs.Kept.Summary.{LcOwn};
+    ghost use Rattle.limit_engine.specs.Plan.{IsPlanned};
     ghost use Rattle.limit_engine.specs.Tables.{own_of, AreTables, HasRoom, IsFewEffort};
 
     ghost Value = { LcOwn };
@@ -66,7 +69,9 @@ impl Model for Engine {
         s.words.items
         × HasRoom (vec_capacity s.watch) (vec_capacity s.entries) (vec_capacity s.points)
         (vec_capacity s.words)
-        × IsFewEffort s.steps s.probes };
+        × IsFewEffort s.steps s.probes
+        × IsPlanned (length s.watchpoints) s.words.items s.entries.items s.plan.steps
+        s.plan.roots };
 }
 
 /// How a rule stands: its state, and its last result, if it was sampled.
@@ -98,6 +103,7 @@ impl Engine {
             entries: Vec::with_capacity(alloc, TABLE_ENTRIES)?,
             points: Vec::with_capacity(alloc, TABLE_ENTRIES)?,
             words: Vec::with_capacity(alloc, TABLE_WORDS)?,
+            plan: Plan::new(alloc)?,
             steps: 0,
             probes: 0,
         })
@@ -113,6 +119,7 @@ impl Engine {
         self.entries.clear();
         self.points.clear();
         self.words.clear();
+        self.plan.clear();
         self.steps = 0;
         self.probes = 0;
     }
@@ -130,6 +137,11 @@ impl Engine {
         self.watchpoints.set(wdt);
         layout::lay_out_results(self.watchpoints.terms().len(), &mut self.watch);
         layout::lay_out_rules(adt, &mut self.entries, &mut self.points, &mut self.words);
+        self.plan.set(
+            self.entries.as_slice(),
+            self.words.as_slice(),
+            self.watch.len(),
+        );
     }
 
     /// How many rules there are: at most as many as a table has entries.
@@ -249,12 +261,12 @@ impl Engine {
             self.steps = 0;
             return;
         }
+        self.plan.evaluate(request, self.watch.as_slice());
         self.steps = sampling::sample_rules(
             request,
             self.mode,
             self.entries.as_slice(),
-            self.words.as_slice(),
-            self.watch.as_slice(),
+            &self.plan,
             self.points.as_mut_slice(),
             asked,
         );

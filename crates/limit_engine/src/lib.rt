@@ -4,15 +4,17 @@
 
 mod actionpoint;
 mod engine;
-mod equation;
 mod field;
 mod groups;
 mod ids;
 mod layout;
 mod operands;
+mod plan;
+mod planning;
 mod reaction;
 mod sampling;
 mod states;
+mod step;
 mod watchpoint;
 
 pub use engine::{Engine, RuleEvent, Standing};

@@ -8,39 +8,28 @@ ghost use Rattle.lc_model.specs.Kept.Effort.{sampled_words};
 ghost use Rattle.lc_model.specs.Kept.Next.{by_counts};
 ghost use Rattle.lc_model.specs.LimitChecker.Steps.{sampled_point, sampled_points};
 ghost use Rattle.lc_model.specs.Tables.Image.{words_in, WideActionpoints};
-ghost use Rattle.limit_engine.specs.Entry.{IsRunnable, rule_in};
+ghost use Rattle.lc_model.specs.Kept.Summary.{WatchResult as ResultIn};
+ghost use Rattle.limit_engine.specs.Entry.{HasTruth, rule_in};
 ghost use Rattle.limit_engine.specs.Reactions.{requests_in, requests_of, AreInOrder};
-ghost use Rattle.limit_engine.specs.Shared.{AreShared};
-ghost use Rattle.limit_engine.specs.Tables.{AreTables};
+ghost use Rattle.limit_engine.specs.Tables.{AreFound};
 
 use crate::actionpoint::{Entry, Point, result_of_truth};
-use crate::equation;
+use crate::plan::Plan;
 use crate::reaction::{Asked, Reactions};
-use crate::watchpoint::WatchResult;
-use lc_model::{LcMode, SampleRequest, TABLE_ENTRIES};
+use lc_model::{LcMode, SampleRequest, TABLE_ENTRIES, Truth};
 
-/// Samples a rule whose words can be run.
-fn sample_rule(
-    entry: &Entry,
-    words: &[u16],
-    watch: &[WatchResult],
-    mode: LcMode,
-    point: &mut Point,
-) -> Reactions
-    requires few { length watch.now ≤ TABLE_ENTRIES }
-    requires runnable { (terms : List Term) × (length terms ≡ length watch.now) ×
-        IsRunnable terms words.now entry.now }
-    ensures point { (terms : List Term) (n : ℕ) → length terms ≡ length watch.now →
-        AreShared terms watch.now
-        → point.new ≡ (sampled_point by_counts terms mode watch.now n
-        (rule_in terms words.now entry.now) point.old).0 }
-    ensures requests { (terms : List Term) (n : ℕ) → length terms ≡ length watch.now →
-        AreShared terms watch.now
-        → requests_of (rule_in terms words.now entry.now) n result ≡
-        (sampled_point by_counts terms mode watch.now n (rule_in terms words.now entry.now)
+/// Samples a rule whose condition was found to be this.
+fn sample_rule(entry: &Entry, truth: Truth, mode: LcMode, point: &mut Point) -> Reactions
+    ensures point { (terms : List Term) (words : List ℕ) (watch : List ResultIn) (n : ℕ) →
+        HasTruth terms words watch entry.now truth
+        → point.new ≡ (sampled_point by_counts terms mode watch n
+        (rule_in terms words entry.now) point.old).0 }
+    ensures requests { (terms : List Term) (words : List ℕ) (watch : List ResultIn) (n : ℕ) →
+        HasTruth terms words watch entry.now truth
+        → requests_of (rule_in terms words entry.now) n result ≡
+        (sampled_point by_counts terms mode watch n (rule_in terms words entry.now)
         point.old).1 }
 {
-    let truth = equation::evaluate(&words[entry.start..entry.end], watch);
     point.sample(entry, mode, result_of_truth(truth))
 }
 
@@ -61,32 +50,32 @@ fn note(asked: &mut Vec<Asked>, rule: u16, reactions: Reactions)
     }
 }
 
-/// Samples the rules that the request takes, those that are disabled or off aside, in order. Answers how many words it
-/// evaluated, EQUAL included.
+/// Samples the rules that the request takes, those that are disabled or off aside, in order, by what the plan found. Answers
+/// how many words that evaluated, EQUAL included.
 pub(crate) fn sample_rules(
     request: &SampleRequest,
     mode: LcMode,
     entries: &[Entry],
-    words: &[u16],
-    watch: &[WatchResult],
+    plan: &Plan,
     points: &mut [Point],
     asked: &mut Vec<Asked>,
 ) -> usize
-    requires tables { (terms : List Term) ×
-        AreTables terms watch.now entries.now points.old words.now }
+    requires tables { (terms : List Term) × (words : List ℕ) × (watch : List ResultIn) ×
+        AreFound request.now terms watch entries.now points.old words plan.now }
     requires none { asked.old.items ≡ [] }
     requires room { TABLE_ENTRIES ≤ vec_capacity asked.old }
-    ensures points { (terms : List Term) →
-        AreTables terms watch.now entries.now points.old words.now
-        → points.new ≡ (sampled_points by_counts request.now terms mode watch.now 0
-        (map (rule_in terms words.now) entries.now) points.old).0 }
-    ensures requests { (terms : List Term) →
-        AreTables terms watch.now entries.now points.old words.now
-        → requests_in (map (rule_in terms words.now) entries.now) asked.new.items
-        ≡ (sampled_points by_counts request.now terms mode watch.now 0
-        (map (rule_in terms words.now) entries.now) points.old).1 }
-    ensures steps { (terms : List Term) → AreTables terms watch.now entries.now points.old words.now
-        → result ≡ sampled_words request.now 0 (map (rule_in terms words.now) entries.now)
+    ensures points { (terms : List Term) (words : List ℕ) (watch : List ResultIn) →
+        AreFound request.now terms watch entries.now points.old words plan.now
+        → points.new ≡ (sampled_points by_counts request.now terms mode watch 0
+        (map (rule_in terms words) entries.now) points.old).0 }
+    ensures requests { (terms : List Term) (words : List ℕ) (watch : List ResultIn) →
+        AreFound request.now terms watch entries.now points.old words plan.now
+        → requests_in (map (rule_in terms words) entries.now) asked.new.items
+        ≡ (sampled_points by_counts request.now terms mode watch 0
+        (map (rule_in terms words) entries.now) points.old).1 }
+    ensures steps { (terms : List Term) (words : List ℕ) (watch : List ResultIn) →
+        AreFound request.now terms watch entries.now points.old words plan.now
+        → result ≡ sampled_words request.now 0 (map (rule_in terms words) entries.now)
         points.old }
     ensures few { result ≤ words_in WideActionpoints * length entries.now }
     ensures order { AreInOrder 0 (length entries.now) asked.new.items }
@@ -96,7 +85,8 @@ pub(crate) fn sample_rules(
     for (rule, entry) in entries.iter().enumerate() {
         if request.takes(rule) && points[rule].is_sampled() {
             steps += entry.end - entry.start + 1;
-            let reactions = sample_rule(entry, words, watch, mode, &mut points[rule]);
+            let truth = plan.truth(rule);
+            let reactions = sample_rule(entry, truth, mode, &mut points[rule]);
             note(asked, rule as u16, reactions);
         }
     }

@@ -1,9 +1,12 @@
-//! The library for C: rule texts are compiled into table files, and a host runs from memory to memory. Each call takes its
-//! memory by an allocator of the caller's program, and gives all of it back before it answers.
+//! The library for C: rule texts are compiled into table files, a host runs from memory to memory, and one is fed record by
+//! record. Each call takes its memory by an allocator of the caller's program, and gives it back before it answers; what a host
+//! holds it gives back as it is closed.
 #![tactic(auto)]
 
 mod compiling;
+mod feeding;
 mod running;
 
 pub use compiling::needlemauve_compile;
+pub use feeding::{needlemauve_host_close, needlemauve_host_feed, needlemauve_host_new};
 pub use running::needlemauve_run;

@@ -4,3 +4,4 @@ pub mod Memory
 pub mod NotRun
 pub mod Sentences
 pub mod Parted
+pub mod Values

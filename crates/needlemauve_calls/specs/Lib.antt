@@ -3,3 +3,5 @@ pub mod Refusing
 pub mod Compiling
 pub mod Running
 pub mod Texts
+pub mod Held
+pub mod Feeding

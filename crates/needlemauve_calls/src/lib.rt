@@ -4,6 +4,9 @@
 
 mod compiling;
 mod ending;
+mod feeding;
+mod handle;
+mod loose;
 mod refusal;
 mod room;
 mod running;
@@ -12,6 +15,8 @@ mod stream;
 mod texts;
 
 pub use compiling::{ADT, Compiled, WDT, compile_files};
+pub use feeding::{Handled, Made, close_host, feed_host, make_host};
+pub use handle::Handle;
 pub use refusal::Refusal;
 pub use running::{Run, run_texts};
 pub use sentence::Sentence;

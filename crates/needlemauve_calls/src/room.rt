@@ -1,23 +1,37 @@
 //! A caller's room as a sink, which fails only where it is full.
 
-ghost use Rattle.std.specs.Prelude.{◌≡◌, ◌<◌, ◌≤◌, true, false, length, take, Some, IfOk, OnErr};
+ghost use Rattle.std.specs.Prelude.{◌≡◌, ℕ, ◌<◌, ◌≤◌, true, false, length, take, Some, IfOk, OnErr};
 ghost use Rattle.lc_model.specs.Device.{WritesSome, WriteFails};
 
 use lc_model::{ByteSink, DeviceFault};
+use std::marker::{Brand, PhantomData};
 
-/// Takes bytes into a slice from its front on, and fails where there is no room left. It tells its bytes.
+/// How many bytes a room has, where that is known. No code reads it.
+pub(crate) trait Size {
+    ghost size: { ℕ };
+}
+
+impl Size for Brand {
+    ghost size = { 0 };
+}
+
+/// Takes bytes into a slice from its front on, and fails where there is no room left. It tells its bytes, and it has as many as
+/// its kind says, whatever it went through.
 #[derive(Drop)]
-pub(crate) struct Room<'a> {
+pub(crate) struct Room<'a, S: Size> {
     room: &'a mut [u8],
     taken: usize,
     failed: bool,
+    of: PhantomData<S>,
+    ghost size: { length room.now ≡ S.size },
     ghost within: { taken ≤ length room.now },
     ghost full: { failed ≡ true → taken ≡ length room.now },
 }
 
-impl<'a> Room<'a> {
+impl<'a, S: Size> Room<'a, S> {
     /// Nothing was taken yet.
-    pub(crate) fn new(room: &'a mut [u8]) -> Room<'a>
+    pub(crate) fn new(room: &'a mut [u8]) -> Room<'a, S>
+        requires { length room.old ≡ S.size }
         ensures room { result.room.now ≡ room.old }
         ensures taken { result.taken ≡ 0 }
         ensures failed { result.failed ≡ false }
@@ -26,26 +40,21 @@ impl<'a> Room<'a> {
             room,
             taken: 0,
             failed: false,
+            of: PhantomData,
         }
     }
 
     /// The bytes taken so far.
     pub(crate) fn bytes(&self) -> &[u8]
         ensures bytes { result.now ≡ take self.now.taken self.now.room.now }
-        ensures full { self.now.failed ≡ true → length result.now ≡ length self.now.room.now }
+        ensures few { length result.now ≤ S.size }
+        ensures full { self.now.failed ≡ true → length result.now ≡ S.size }
     {
         &self.room[..self.taken]
     }
-
-    /// How many there is room for in all.
-    pub(crate) fn size(&self) -> usize
-        ensures { result ≡ length self.now.room.now }
-    {
-        self.room.len()
-    }
 }
 
-impl<'a> ByteSink for Room<'a> {
+impl<'a, S: Size> ByteSink for Room<'a, S> {
     ghost sink = { λ it. record { gained = Some (take it.taken it.room.now); failed = it.failed } };
 
     fn write(&mut self, bytes: &[u8]) -> Result<usize, DeviceFault> {

@@ -7,13 +7,14 @@ ghost use Rattle.needlemauve_calls.specs.Texts.{texts_in};
 
 use crate::ending::{UNFIT, ending_in_numbers, no_schedule, not_run, said};
 use crate::refusal::{NO_MEMORY, Refusal};
-use crate::room::Room;
+use crate::room::{Room, Size};
 use crate::sentence::Sentence;
 use crate::stream::Stream;
 use crate::texts::{are_lengths, texts_in};
 use flight_core::{Report, RunError};
 use flight_stock::launch;
 use std::alloc::Global;
+use std::marker::Brand;
 use tick_scheduler::{Schedule, parse_schedule};
 
 /// What is told of a run: how it ended, how many bytes of the output were written, and a sentence for people.
@@ -23,6 +24,31 @@ pub struct Run {
     pub ending: Refusal,
     pub written: u64,
     pub sentence: Sentence,
+}
+
+/// Runs into a room, and copies what was written to the front of the output, which has as many bytes: how it ended, and how many
+/// bytes were written.
+fn run_into<S: Size>(
+    alloc: Global,
+    texts: &[&[u8]],
+    schedule: &Schedule,
+    stream: &[u8],
+    room: &mut [u8],
+    output: &mut [u8],
+) -> (Result<Report, RunError>, usize)
+    requires room { length room.old ≡ S.size }
+    requires output { length output.old ≡ S.size }
+    ensures run { RunsInMemory (sources_of texts.now) schedule.now stream.now output.new result.1
+        result.0 }
+    ensures within { result.1 ≤ length output.new }
+{
+    let mut reader = Stream::new(stream);
+    let writer = Room::<S>::new(room);
+    let (answer, writer) = launch(alloc, texts, schedule, &mut reader, writer);
+    let bytes = writer.bytes();
+    let written = bytes.len();
+    output[..written].copy_from_slice(bytes);
+    (answer, written)
 }
 
 /// Runs, and answers how it ended and how many bytes were written; none where there is no memory for what is written.
@@ -37,21 +63,12 @@ fn run_in_memory(
         stream.now output.new told.1 told.0) }
     ensures within { IfSome result (λ told. told.1 ≤ length output.new) }
 {
-    let mut reader = Stream::new(stream);
     let size = output.len();
     let Ok(mut room) = Vec::from_elem(alloc, 0u8, size) else {
         return None;
     };
-    let writer = Room::new(room.as_mut_slice());
-    let (answer, writer) = launch(alloc, texts, schedule, &mut reader, writer);
-    // Never so: a device's contract doesn't say that its room stays.
-    if writer.size() != output.len() {
-        return None;
-    }
-    let bytes = writer.bytes();
-    let written = bytes.len();
-    output[..written].copy_from_slice(bytes);
-    Some((answer, written))
+    let place = room.as_mut_slice();
+    Some(run_into::<Brand>(alloc, texts, schedule, stream, place, output))
 }
 
 /// What is told where nothing was run.

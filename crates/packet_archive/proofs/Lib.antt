@@ -3,3 +3,4 @@ mod Kept
 mod Pieces
 mod Stays
 mod Ticks
+mod Counting

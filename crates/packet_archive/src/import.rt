@@ -5,6 +5,7 @@ ghost use Rattle.lc_model.specs.Host.Stream.{max_body};
 ghost use Rattle.lc_model.specs.Packet.{primary_header_size};
 ghost use Rattle.packet_archive.specs.Clock.{moment_by, ticks_due, IsNextTick};
 ghost use Rattle.packet_archive.specs.Import.{kept_at, imported, next_step, passed, ticks, ticks_before};
+ghost use Rattle.packet_archive.specs.Tally.{tallied};
 
 use crate::choice::{Choice, Fate};
 use crate::clock::{Clock, Times, next_tick, ticks_due};
@@ -178,6 +179,8 @@ pub fn import_held<'a>(
         (λ end. end.0.now ≡ (imported asked.now clock.old bytes.now).left) }
     ensures met { IfOk result
         (λ end. end.1 ≡ (imported asked.now clock.old bytes.now).met) }
+    ensures counted { IfOk result
+        (λ _. tally.new ≡ tallied asked.now clock.old bytes.now tally.old) }
 {
     let mut left = bytes;
     for _ in 0..bytes.len() + 1 {

@@ -1,5 +1,8 @@
 //! What an import has met.
 
+ghost use Rattle.std.specs.Prelude.{◌≡◌};
+ghost use Rattle.packet_archive.specs.Tally.{bytes_noted, fault_noted, front_noted, left_out_noted, met_noted, noted, zeros_noted};
+
 use crate::choice::Fate;
 use crate::front::Front;
 use crate::import::Met;
@@ -51,7 +54,9 @@ impl Tally {
     }
 
     /// A packet with a fault more.
-    fn note_fault(&mut self, fault: u8) {
+    fn note_fault(&mut self, fault: u8)
+        ensures { self.new ≡ fault_noted fault self.old }
+    {
         let place = self.faulty;
         if place < NAMED as u64 {
             self.first[place as usize] = Some(Faulty {
@@ -62,23 +67,65 @@ impl Tally {
         self.faulty = self.faulty.saturating_add(1);
     }
 
-    /// What was met, which is behind then.
-    pub fn note(&mut self, met: Met) {
+    /// A packet that is left out.
+    fn note_left_out(&mut self, fate: Fate)
+        ensures { self.new ≡ left_out_noted fate self.old }
+    {
+        match fate {
+            Fate::Idle => self.idle = self.idle.saturating_add(1),
+            Fate::Faulty(fault) => self.note_fault(fault),
+            Fate::Kept | Fate::Other => self.other = self.other.saturating_add(1),
+        }
+    }
+
+    /// So many zero bytes.
+    fn note_zeros(&mut self, size: usize)
+        ensures { self.new ≡ zeros_noted size self.old }
+    {
+        self.first_zero = match self.first_zero {
+            Some(first) => Some(first),
+            None => Some(self.bytes),
+        };
+        self.zeros = self.zeros.saturating_add(size as u64);
+    }
+
+    /// No packet.
+    fn note_front(&mut self, front: Front)
+        ensures { self.new ≡ front_noted front self.old }
+    {
+        match front {
+            Front::Gap { size } => self.note_zeros(size),
+            Front::Over | Front::Cut | Front::Foreign | Front::Unmarked => {}
+            Front::Packet { .. } => {}
+        }
+    }
+
+    /// What was met.
+    fn note_met(&mut self, met: Met)
+        ensures { self.new ≡ met_noted met self.old }
+    {
         match met {
             Met::Taken(_) => self.taken = self.taken.saturating_add(1),
-            Met::LeftOut(_, Fate::Idle) => self.idle = self.idle.saturating_add(1),
-            Met::LeftOut(_, Fate::Faulty(fault)) => self.note_fault(fault),
-            Met::LeftOut(_, _) => self.other = self.other.saturating_add(1),
-            Met::Stands(Front::Gap { size }) => {
-                if self.first_zero.is_none() {
-                    self.first_zero = Some(self.bytes);
-                }
-                self.zeros = self.zeros.saturating_add(size as u64);
-            }
-            Met::Stands(_) | Met::Leap => {}
+            Met::LeftOut(_, fate) => self.note_left_out(fate),
+            Met::Stands(front) => self.note_front(front),
+            Met::Leap => {}
         }
-        if let Some(size) = met.passed() {
+    }
+
+    /// So many bytes are behind.
+    fn note_bytes(&mut self, size: Option<usize>)
+        ensures { self.new ≡ bytes_noted size self.old }
+    {
+        if let Some(size) = size {
             self.bytes = self.bytes.saturating_add(size as u64);
         }
+    }
+
+    /// What was met, which is behind then. Counts stop at 2^64 - 1.
+    pub fn note(&mut self, met: Met)
+        ensures { self.new ≡ noted met self.old }
+    {
+        self.note_met(met);
+        self.note_bytes(met.passed());
     }
 }

@@ -1,23 +1,18 @@
 //! A run that goes record by record, and lets be seen how the Limit Checker stands behind each.
 
+ghost use Rattle.std.specs.Prelude.{◌≡◌, ◌<◌, option_map, IfOk, Some};
+ghost use Rattle.app_host.specs.Hosted.{object_at};
+ghost use Rattle.flight_core.specs.Compiled.{sources_of};
+ghost use Rattle.run_course.specs.Stepping.{HasStepped, IsAtRest, engine_among, engine_of, host_in, written_by};
+
 use crate::error::CourseError;
+use crate::handled::Handled;
 use flight_core::{FedHost, Halt, RunError};
 use flight_stock::{Member, own_stock};
 use lc_model::{ByteSink, DeviceFault, Seat};
 use limit_engine::Engine;
 use std::alloc::Global;
 use tick_scheduler::Schedule;
-
-/// What became of the bytes of a record.
-#[derive(Clone, Copy, Debug, PartialEq, Eq)]
-pub enum Handled {
-    /// The record was handled.
-    Whole,
-    /// They are no record; nothing behind them is handled.
-    NoRecord,
-    /// They are not all bytes of a record.
-    Part,
-}
 
 /// What one record leads to, in memory. A write fails only for want of memory.
 #[derive(Drop)]
@@ -59,11 +54,9 @@ fn refused(error: RunError) -> CourseError {
 
 impl Stepping {
     /// Compiles the rule texts, and makes a host, to which nothing has come.
-    pub fn new(
-        alloc: Global,
-        texts: &[&[u8]],
-        schedule: &Schedule,
-    ) -> Result<Stepping, CourseError> {
+    pub fn new(alloc: Global, texts: &[&[u8]], schedule: &Schedule) -> Result<Stepping, CourseError>
+        ensures ready { IfOk result IsAtRest }
+    {
         let stock = own_stock(alloc, schedule)?;
         match FedHost::new(alloc, texts, stock) {
             Ok(fed) => Ok(Stepping {
@@ -78,7 +71,12 @@ impl Stepping {
     }
 
     /// Handles a record, of which these are the bytes. What it leads to is there until the next one comes.
-    pub fn step(&mut self, record: &[u8]) -> Result<Handled, CourseError> {
+    pub fn step(&mut self, record: &[u8]) -> Result<Handled, CourseError>
+        requires ready { IsAtRest self.old }
+        ensures ready { IsAtRest self.new }
+        ensures stepped { HasStepped record.now (host_in self.old) (host_in self.new)
+            (written_by self.new) result }
+    {
         self.written.bytes.clear();
         let _taken = self.fed.feed(record);
         match self.fed.handle(&mut self.written) {
@@ -90,26 +88,42 @@ impl Stepping {
     }
 
     /// The packets that the last record led to, one behind the other.
-    pub fn written(&self) -> &[u8] {
+    pub fn written(&self) -> &[u8]
+        ensures { result.now ≡ written_by self.now }
+    {
         self.written.bytes.as_slice()
     }
 
     /// The engine of the Limit Checker that runs, where one does.
-    pub fn checker(&self) -> Option<&Engine> {
+    pub fn checker(&self) -> Option<&Engine>
+        requires { IsAtRest self.now }
+        ensures { option_map (λ engine. engine.now) result ≡
+            engine_among (host_in self.now).host.seats }
+    {
         for number in 0..8u8 {
-            if let Some(Member::Checker(checker)) = self.application(number) {
-                return Some(checker.engine());
+            if let Some(engine) = self.engine_at(number) {
+                return Some(engine);
             }
         }
         None
     }
 
-    fn application(&self, number: u8) -> Option<&Member> {
-        self.fed.host().application(Seat::new(number))
+    /// The engine of the Limit Checker on this seat, where one is there.
+    fn engine_at(&self, number: u8) -> Option<&Engine>
+        requires { number < 8 }
+        ensures { option_map (λ engine. engine.now) result ≡
+            engine_of (object_at number (host_in self.now).host.seats) }
+    {
+        match self.fed.host().application(Seat::new(number)) {
+            Some(Member::Checker(checker)) => Some(checker.engine()),
+            _ => None,
+        }
     }
 
     /// All that run retire, and all applications are dropped.
-    pub fn close(self) {
+    pub fn close(self)
+        requires { IsAtRest self }
+    {
         let Stepping { fed, written: _ } = self;
         fed.close();
     }

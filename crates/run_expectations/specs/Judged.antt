@@ -1,10 +1,17 @@
 -- What is expected of a run, and whether that came. This project's own.
-use Rattle.std.specs.Prelude.{ℕ, ◌&&◌, ◌==◌, Bool, true, not, List, nat_le, Option, Some, None}
+use Rattle.std.specs.Prelude.{ℕ, ◌&&◌, ◌==◌, ◌/◌, ◌%◌, Bool, true, false, not, List, filter, nat_le, Option, Some, None}
 use Rattle.std.specs.List.{list_any}
+use Rattle.lc_model.specs.Codes.{result_code, state_code}
+use Rattle.lc_model.specs.declared.mode.ApMode.{ApMode}
+use Rattle.lc_model.specs.declared.mode.ApResult.{ApResult}
 use Rattle.run_expectations.specs.declared.expectation.Arrival.{Arrival}
 use Rattle.run_expectations.specs.declared.expectation.Span.{Span}
 use Rattle.run_expectations.specs.declared.expectation.What.{What}
 use Rattle.run_expectations.specs.declared.expectation.What.TheVariants.{Sequence, Event}
+use Rattle.run_expectations.specs.declared.verdict.Found.{Found}
+use Rattle.run_expectations.specs.declared.verdict.Found.TheVariants.{Stands}
+use Rattle.run_expectations.specs.declared.verdict.Judged.{Judged}
+use Rattle.run_expectations.specs.Expected.{Absent, Comes, Expected, LastResult, State, expected_of}
 
 -- the number that is asked for, or any where none is
 abbrev pub is_number : Option ℕ → ℕ → Bool
@@ -23,3 +30,28 @@ is_within span second = nat_le span.first second && nat_le second span.last
 -- some of this came within these seconds
 abbrev pub has_come : What → Span → List Arrival → Bool
 has_come what span came = list_any (λ one. is_what what one && is_within span one.second) came
+
+-- ---- whether an expectation is met, by what came and what was found of its rule
+
+-- the rule is in this state: the upper four bits of its byte in housekeeping
+abbrev pub is_in_state : ApMode → Found → Bool
+is_in_state state (Stands byte) = byte / 16 == state_code state
+is_in_state state found = false
+
+-- its last result is this one: the lower four bits
+abbrev pub has_result : Option ApResult → Found → Bool
+has_result last (Stands byte) = byte % 16 == result_code last
+has_result last found = false
+
+abbrev pub is_met : List Arrival → Found → Expected → Bool
+is_met came found (Comes coming) = has_come coming.what coming.span came
+is_met came found (Absent coming) = not (has_come coming.what coming.span came)
+is_met came found (State rule state) = is_in_state state found
+is_met came found (LastResult rule last) = has_result last found
+
+abbrev pub is_unmet : List Arrival → Judged → Bool
+is_unmet came judged = not (is_met came judged.found (expected_of judged.placed.expectation))
+
+-- those that aren't met, in order
+abbrev pub unmet_of : List Arrival → List Judged → List Judged
+unmet_of came judged = filter (is_unmet came) judged

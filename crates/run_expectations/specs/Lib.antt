@@ -1,1 +1,4 @@
+-- What the contracts of expectations cite.
+pub mod Expected
+pub mod Reading
 pub mod Judged

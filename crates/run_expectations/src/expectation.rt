@@ -21,13 +21,20 @@ pub struct Span {
     pub last: u32,
 }
 
+/// Something that may come, and within which seconds.
+#[derive(Clone, Copy, Debug, PartialEq, Eq)]
+pub struct Coming {
+    pub what: What,
+    pub span: Span,
+}
+
 /// What is said to come, or how a rule is said to stand.
 #[derive(Clone, Copy, Debug, PartialEq, Eq)]
 pub enum Expectation<'a> {
     /// Something comes within these seconds.
-    Comes(What, Span),
+    Comes(Coming),
     /// Nothing of it comes within them.
-    Absent(What, Span),
+    Absent(Coming),
     /// A rule is in this state, where the expectation stands in the script.
     State(&'a [u8], ApMode),
     /// A rule's last result is this one there.

@@ -7,10 +7,12 @@ mod fault;
 mod reading;
 mod telling;
 mod trial;
+mod verdict;
 mod words;
 
 pub use error::TrialError;
-pub use expectation::{Arrival, Expectation, Span, What, has_come};
+pub use expectation::{Arrival, Coming, Expectation, Span, What, has_come};
 pub use fault::Fault;
 pub use reading::{Placed, ReadError, read_expectations, silenced};
 pub use trial::{Tried, script_error_at, try_scenario};
+pub use verdict::{Found, Judged, unmet_of};

@@ -3,15 +3,21 @@
 //! A line whose first word is `expect` says nothing of the stream. For whoever reads the stream it is made a comment, byte for
 //! byte in its place, so that every line keeps its number.
 
+ghost use Rattle.std.specs.Prelude.{◌≡◌, ◌≤◌, ◌+◌, ◌++◌, ◌∷◌, ℕ, List, drop, length, map, option_map, Ok, Err, IfOk, IfErr, IsErr};
+ghost use Rattle.std.specs.List.{prefix_len};
+ghost use Rattle.stream_script.specs.Part.{is_blank, texts_of, words_of};
+ghost use Rattle.run_expectations.specs.Expected.{expected_of};
+ghost use Rattle.run_expectations.specs.Reading.{IsReadError, IsRefused, PlacedExpected, ReadFault, commented, expectations_in, is_expectation, line_expected, lines_expected, placed_of, silenced_in, silenced_line, with_expected};
+ghost use Rattle.run_expectations.specs.declared.reading.LineFault.TheVariants as line;
+ghost use Rattle.run_expectations.specs.declared.reading.ReadError.TheVariants as error;
+
 use crate::expectation::Expectation;
 use crate::fault::Fault;
-use crate::words::expectation;
+use crate::words::{expectation, is};
 use scenario_words::Plain;
-use std::alloc::{AllocError, AllocFailed, Global};
+use std::alloc::{AllocError, Global};
+use stream_script::{first_line, words};
 use thiserror::Error;
-
-/// The word that begins an expectation.
-const EXPECT: &[u8] = b"expect";
 
 /// Why the expectations of a script can't be read.
 #[derive(Clone, Copy, Debug, PartialEq, Eq, Error)]
@@ -38,13 +44,9 @@ impl ReadError {
 }
 
 impl From<AllocError> for ReadError {
-    fn from(_error: AllocError) -> ReadError {
-        ReadError::Memory
-    }
-}
+    ghost from_gives = { λ _ e. e ≡ error.Memory };
 
-impl<T: Drop> From<AllocFailed<T>> for ReadError {
-    fn from(_error: AllocFailed<T>) -> ReadError {
+    fn from(_error: AllocError) -> ReadError {
         ReadError::Memory
     }
 }
@@ -61,101 +63,219 @@ pub struct Placed<'a> {
     pub expectation: Expectation<'a>,
 }
 
-/// Space, tab and carriage return part words.
-fn is_blank(byte: u8) -> bool {
-    byte == b' ' || byte == b'\t' || byte == b'\r'
+/// Why a line adds nothing to the expectations.
+#[derive(Clone, Copy)]
+pub(crate) enum LineFault {
+    Says(Fault),
+    Memory,
 }
 
-/// The line in front, and what follows its line feed, where it has one.
-fn first_line(text: &[u8]) -> (&[u8], Option<&[u8]>) {
-    let size = text.iter().take_while(|byte| **byte != b'\n').count();
-    let (line, rest) = text.split_at(size);
-    match rest {
-        [] => (line, None),
-        [_, behind @ ..] => (line, Some(behind)),
+impl From<AllocError> for LineFault {
+    ghost from_gives = { λ _ e. e ≡ line.Memory };
+
+    fn from(_error: AllocError) -> LineFault {
+        LineFault::Memory
     }
 }
 
-/// The words of a line.
-fn words_of(alloc: Global, line: &[u8]) -> Result<Vec<&[u8]>, AllocError> {
-    let mut words = Vec::new(alloc);
-    for part in line.split(|byte| is_blank(*byte)) {
-        if !part.is_empty() {
-            words.push(part)?;
+impl From<Fault> for LineFault {
+    ghost from_gives = { λ fault e. e ≡ line.Says fault };
+
+    fn from(fault: Fault) -> LineFault {
+        LineFault::Says(fault)
+    }
+}
+
+/// Whether a line with these words is an expectation.
+fn is_expectation(words: &[&[u8]]) -> bool
+    ensures { result ≡ is_expectation (texts_of words.now) }
+{
+    match words {
+        [] => false,
+        [word, ..] => is(word, b"expect"),
+    }
+}
+
+/// What a line with these words expects, where its first word is `expect`.
+fn words_expected<'a>(words: &[&'a [u8]]) -> Result<Option<Expectation<'a>>, Fault>
+    ensures said { IfOk result (λ found. line_expected (texts_of words.now) ≡
+        Ok (option_map expected_of found)) }
+    ensures refused { IfErr result (λ fault. line_expected (texts_of words.now) ≡ Err fault) }
+{
+    match words {
+        [] => Ok(None),
+        [word, others @ ..] => {
+            if !is(word, b"expect") {
+                return Ok(None);
+            }
+            let expectation = expectation(others)?;
+            Ok(Some(expectation))
         }
     }
-    Ok(words)
 }
 
-/// How many blanks stand in front of a line.
-fn indent(line: &[u8]) -> usize {
-    line.iter().take_while(|byte| is_blank(**byte)).count()
+/// What a line expects, where its first word is `expect`.
+fn line_expected<'a>(alloc: Global, line: &'a [u8]) -> Result<Option<Expectation<'a>>, LineFault>
+    ensures said { IfOk result (λ found. line_expected (words_of line.now) ≡
+        Ok (option_map expected_of found)) }
+    ensures refused { IfErr result (IsRefused (line_expected (words_of line.now))) }
+{
+    let words = words(alloc, line)?;
+    Ok(words_expected(words.as_slice())?)
 }
 
-/// The expectation of a line with this number, where its first word is `expect`.
-fn expected<'a>(
-    alloc: Global,
-    line: &'a [u8],
+/// Those so far, and that of a line with this number, where there is one.
+fn with_expected<'a>(
+    found: Vec<Placed<'a>>,
     n: usize,
     at: usize,
-) -> Result<Option<Placed<'a>>, ReadError> {
-    let words = words_of(alloc, line)?;
-    let Some((first, rest)) = words.as_slice().split_first() else {
-        return Ok(None);
-    };
-    if *first != EXPECT {
-        return Ok(None);
-    }
-    match expectation(rest) {
-        Ok(expectation) => Ok(Some(Placed {
+    line: &'a [u8],
+    expectation: Option<Expectation<'a>>,
+) -> Result<Vec<Placed<'a>>, AllocError>
+    ensures { IfOk result (λ after. map placed_of after.items ≡
+        with_expected (map placed_of found.entry.items) n at
+        (option_map expected_of expectation.entry)) }
+{
+    let mut found = found;
+    match expectation {
+        None => {}
+        Some(expectation) => found.push(Placed {
             n,
             at,
             line: line.trim_ascii(),
             expectation,
-        })),
-        Err(fault) => Err(ReadError::Line { n, fault }),
+        })?,
+    }
+    Ok(found)
+}
+
+/// Those so far with what a line adds, or its fault with the line's number.
+fn read_line<'a>(
+    alloc: Global,
+    found: Vec<Placed<'a>>,
+    n: usize,
+    at: usize,
+    line: &'a [u8],
+) -> Result<Vec<Placed<'a>>, ReadError>
+    ensures said { IfOk result (λ after. (lines : List (List ℕ)) →
+        lines_expected (map placed_of found.entry.items) n at (line.now ∷ lines) ≡
+        lines_expected (map placed_of after.items) (n + 1) (at + length line.now + 1) lines) }
+    ensures refused { IfErr result (λ error. (lines : List (List ℕ)) →
+        IsReadError (lines_expected (map placed_of found.entry.items) n at (line.now ∷ lines))
+        error) }
+{
+    match line_expected(alloc, line) {
+        Ok(expectation) => Ok(with_expected(found, n, at, line, expectation)?),
+        Err(LineFault::Says(fault)) => Err(ReadError::Line { n, fault }),
+        Err(LineFault::Memory) => Err(ReadError::Memory),
     }
 }
 
-/// The expectations of a script, in order.
-///
-/// Errors, of which the least line's is answered: `Line` with what is wrong; `Memory`.
-pub fn read_expectations<'a>(
-    alloc: Global,
-    script: &'a [u8],
-) -> Result<Vec<Placed<'a>>, ReadError> {
+/// What all lines expect.
+fn read_lines(alloc: Global, script: &[u8]) -> Result<Vec<Placed<'_>>, ReadError>
+    ensures said { IfOk result
+        (λ found. expectations_in script.now ≡ Ok (map placed_of found.items)) }
+    ensures refused { IfErr result (IsReadError (expectations_in script.now)) }
+{
     let mut found = Vec::new(alloc);
     let mut left = Some(script);
-    let mut n = 0usize;
-    let mut at = 0usize;
-    for _ in 0..script.len().saturating_add(1) {
-        let Some(text) = left else {
-            break;
-        };
+    let mut n = 0;
+    let mut at = 0;
+    while let Some(text) = left {
         let (line, rest) = first_line(text);
-        n = n.saturating_add(1);
-        if let Some(placed) = expected(alloc, line, n, at)? {
-            found.push(placed)?;
+        n += 1;
+        match read_line(alloc, found, n, at, line) {
+            Ok(after) => found = after,
+            Err(error) => return Err(error),
         }
-        at = at.saturating_add(line.len()).saturating_add(1);
+        at += line.len() + 1;
         left = rest;
     }
     Ok(found)
 }
 
-/// A script whose expectations are comments: of each the first letter is `#`. Out of memory is the only error.
-pub fn silenced(
-    alloc: Global,
-    script: &[u8],
-    expectations: &[Placed<'_>],
-) -> Result<Vec<u8>, AllocError> {
-    let mut text = Vec::from_slice(alloc, script)?;
-    for placed in expectations {
-        let line = script.get(placed.at..).unwrap_or(&[]);
-        let place = placed.at.saturating_add(indent(line));
-        if let Some(byte) = text.get_mut(place) {
-            *byte = b'#';
-        }
+/// The expectations of a script, in order.
+///
+/// Errors, of which the least line's is answered: `Line` with what is wrong; `Memory` only where they find no room.
+pub fn read_expectations<'a>(alloc: Global, script: &'a [u8]) -> Result<Vec<Placed<'a>>, ReadError>
+    ensures said { IfOk result
+        (λ found. expectations_in script.now ≡ Ok (map placed_of found.items)) }
+    ensures refused { IfErr result (IsReadError (expectations_in script.now)) }
+    ensures accepts { (found : List PlacedExpected) → expectations_in script.now ≡ Ok found →
+        IfErr result (λ e. e ≡ error.Memory) }
+    ensures refuses { (fault : ReadFault) → expectations_in script.now ≡ Err fault →
+        IsErr result }
+{
+    match read_lines(alloc, script) {
+        Ok(found) => Ok(found),
+        Err(error) => Err(error),
     }
+}
+
+/// How many blanks stand in front of a line.
+fn indent(line: &[u8]) -> usize
+    ensures place { result ≡ prefix_len is_blank line.now }
+    ensures inside { result ≤ length line.now }
+{
+    line.iter().take_while(|byte| is_blank(**byte)).count()
+}
+
+/// Space, tab and carriage return part words.
+fn is_blank(byte: u8) -> bool
+    ensures { result ≡ is_blank byte }
+{
+    byte == b' ' || byte == b'\t' || byte == b'\r'
+}
+
+/// What stands behind the first byte.
+fn behind_first(bytes: &[u8]) -> &[u8]
+    ensures { result.now ≡ drop 1 bytes.now }
+{
+    match bytes {
+        [] => bytes,
+        [_, behind @ ..] => behind,
+    }
+}
+
+/// A text with a line behind it, as a comment.
+fn with_comment(text: Vec<u8>, line: &[u8]) -> Result<Vec<u8>, AllocError>
+    ensures { IfOk result (λ after. after.items ≡ text.items ++ commented line.now) }
+{
+    let mut text = text;
+    let (blanks, rest) = line.split_at(indent(line));
+    text.extend_from_slice(blanks)?;
+    text.push(b'#')?;
+    text.extend_from_slice(behind_first(rest))?;
     Ok(text)
+}
+
+/// A text with a line behind it, which is a comment where it is an expectation.
+fn with_line(alloc: Global, text: Vec<u8>, line: &[u8]) -> Result<Vec<u8>, AllocError>
+    ensures { IfOk result (λ after. after.items ≡ text.items ++ silenced_line line.now) }
+{
+    let words = words(alloc, line)?;
+    if is_expectation(words.as_slice()) {
+        return with_comment(text, line);
+    }
+    let mut text = text;
+    text.extend_from_slice(line)?;
+    Ok(text)
+}
+
+/// A script whose expectations are comments: of each the first letter is `#`. All else stays. Out of memory is the only error.
+pub fn silenced(alloc: Global, script: &[u8]) -> Result<Vec<u8>, AllocError>
+    ensures { IfOk result (λ quiet. quiet.items ≡ silenced_in script.now) }
+{
+    let mut quiet = Vec::new(alloc);
+    let mut left = Some(script);
+    while let Some(text) = left {
+        let (line, rest) = first_line(text);
+        quiet = with_line(alloc, quiet, line)?;
+        if rest.is_none() {
+            return Ok(quiet);
+        }
+        quiet.push(b'\n')?;
+        left = rest;
+    }
+    Ok(quiet)
 }

@@ -1,22 +1,12 @@
 //! Why an expectation isn't met: what came in its place.
 
 use crate::expectation::{Arrival, Span, What};
+use crate::verdict::Found;
 use run_course::{result_in, result_word, state_in, state_word};
 use std::fmt::{self, Display, Formatter, Write};
 
 /// Of what came so many are told, at most.
 const TOLD: usize = 3;
-
-/// What was found of a rule.
-#[derive(Clone, Copy)]
-pub enum Found {
-    /// No text has a rule of that name, or the tables in force have no rule of its number.
-    NoRule,
-    /// The Limit Checker doesn't run.
-    Stopped,
-    /// The rule's byte in housekeeping.
-    Stands(u8),
-}
 
 /// Why an expectation isn't met.
 #[derive(Clone, Copy)]

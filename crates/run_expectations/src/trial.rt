@@ -1,15 +1,14 @@
 //! A run of a script, and whether what it expects has come.
 
 use crate::error::TrialError;
-use crate::expectation::{Arrival, Expectation, Span, What, has_come};
+use crate::expectation::{Arrival, Coming, Expectation};
 use crate::reading::{Placed, read_expectations, silenced};
-use crate::telling::{Found, Unmet};
-use lc_model::{ApMode, ApResult};
+use crate::telling::Unmet;
+use crate::verdict::{Found, Judged, unmet_of};
 use packet_listing::{Sent, list_packets};
 use rule_lexer::{TokenKind, lex};
 use run_course::{
-    Course, Ending, Entry, Plan, Standing, ends_of, moment_of, record_in, result_in, run_over,
-    standing_behind, state_in,
+    Course, Ending, Entry, Plan, Standing, ends_of, moment_of, record_in, run_over, standing_behind,
 };
 use scenario_words::{Plain, declared_in, plain_script};
 use std::alloc::{AllocError, Global};
@@ -139,69 +138,44 @@ impl Trial<'_> {
         }
     }
 
-    /// Why a rule isn't in this state, where it isn't.
-    fn state(
-        &self,
-        name: &[u8],
-        state: ApMode,
-        at: usize,
-    ) -> Result<Option<Unmet<'_>>, TrialError> {
-        let found = self.byte_at(name, at)?;
-        let is_met = matches!(found, Found::Stands(byte) if state_in(byte) == state);
-        Ok(if is_met {
-            None
-        } else {
-            Some(Unmet::State(found))
-        })
-    }
-
-    /// Why a rule's last result isn't this one, where it isn't.
-    fn result(
-        &self,
-        name: &[u8],
-        last: Option<ApResult>,
-        at: usize,
-    ) -> Result<Option<Unmet<'_>>, TrialError> {
-        let found = self.byte_at(name, at)?;
-        let is_met = matches!(found, Found::Stands(byte) if result_in(byte) == last);
-        Ok(if is_met {
-            None
-        } else {
-            Some(Unmet::Result(found))
-        })
-    }
-
-    /// Why nothing of this came within these seconds, where nothing did.
-    fn comes(&self, what: What, span: Span) -> Option<Unmet<'_>> {
-        if has_come(what, span, self.arrivals) {
-            return None;
-        }
-        Some(Unmet::Missing {
-            what,
-            span,
-            arrivals: self.arrivals,
-        })
-    }
-
-    /// What of this came within these seconds, where something did.
-    fn absent(&self, what: What, span: Span) -> Option<Unmet<'_>> {
-        if !has_come(what, span, self.arrivals) {
-            return None;
-        }
-        Some(Unmet::Came {
-            what,
-            span,
-            arrivals: self.arrivals,
-        })
-    }
-
-    /// Why an expectation isn't met, where it isn't.
-    fn unmet(&self, placed: Placed<'_>) -> Result<Option<Unmet<'_>>, TrialError> {
+    /// What is found of the rule that an expectation names.
+    fn found(&self, placed: &Placed<'_>) -> Result<Found, TrialError> {
         match placed.expectation {
-            Expectation::Comes(what, span) => Ok(self.comes(what, span)),
-            Expectation::Absent(what, span) => Ok(self.absent(what, span)),
-            Expectation::State(name, state) => self.state(name, state, placed.at),
-            Expectation::Result(name, last) => self.result(name, last, placed.at),
+            Expectation::Comes(_) | Expectation::Absent(_) => Ok(Found::NoRule),
+            Expectation::State(name, _) | Expectation::Result(name, _) => {
+                self.byte_at(name, placed.at)
+            }
+        }
+    }
+
+    /// The expectations, each with what is found of its rule.
+    fn judged<'p>(&self, expectations: &[Placed<'p>]) -> Result<Vec<Judged<'p>>, TrialError> {
+        let mut judged = Vec::new(self.alloc);
+        for placed in expectations {
+            judged.push(Judged {
+                placed: *placed,
+                found: self.found(placed)?,
+            })?;
+        }
+        Ok(judged)
+    }
+
+    /// Why an expectation isn't met that isn't.
+    fn why(&self, judged: &Judged<'_>) -> Unmet<'_> {
+        let arrivals = self.arrivals;
+        match judged.placed.expectation {
+            Expectation::Comes(Coming { what, span }) => Unmet::Missing {
+                what,
+                span,
+                arrivals,
+            },
+            Expectation::Absent(Coming { what, span }) => Unmet::Came {
+                what,
+                span,
+                arrivals,
+            },
+            Expectation::State(_, _) => Unmet::State(judged.found),
+            Expectation::Result(_, _) => Unmet::Result(judged.found),
         }
     }
 
@@ -212,16 +186,15 @@ impl Trial<'_> {
         expectations: &[Placed<'_>],
         out: &mut W,
     ) -> Result<u64, TrialError> {
-        let mut count = 0u64;
-        for placed in expectations {
-            if let Some(unmet) = self.unmet(*placed)? {
-                write!(out, "{name}:{}: not met: ", self.plain.line(placed.n))?;
-                out.write_all(placed.line)?;
-                writeln!(out, ": {unmet}")?;
-                count = count.saturating_add(1);
-            }
+        let judged = self.judged(expectations)?;
+        let unmet = unmet_of(self.alloc, self.arrivals, judged.as_slice())?;
+        for one in &unmet {
+            let why = self.why(one);
+            write!(out, "{name}:{}: not met: ", self.plain.line(one.placed.n))?;
+            out.write_all(one.placed.line)?;
+            writeln!(out, ": {why}")?;
         }
-        Ok(count)
+        Ok(unmet.len() as u64)
     }
 }
 
@@ -255,7 +228,7 @@ pub fn try_scenario<W: Write>(
     let expectations = read_expectations(alloc, plain.text.as_slice()).map_err(
         |error| TrialError::from(error.at(&plain)),
     )?;
-    let quiet = silenced(alloc, plain.text.as_slice(), expectations.as_slice())?;
+    let quiet = silenced(alloc, plain.text.as_slice())?;
     let stream = read_script(alloc, quiet.as_slice()).map_err(|error| TrialError::from(
         script_error_at(&plain, error),
     ))?;

@@ -1,66 +1,62 @@
 //! Expectations from the words behind `expect`.
 
-use crate::expectation::{Expectation, Span, What};
+ghost use Rattle.std.specs.Prelude.{◌≡◌, bytes_eq, Ok, Err, IfOk, IfErr};
+ghost use Rattle.stream_script.specs.Part.{texts_of};
+ghost use Rattle.run_expectations.specs.Expected.{coming_in, coming_of, expected_in, expected_of, is_numeral, narrowed, narrowed_to, number_in, numbered, result_in, result_named, some_number, span_in, state_in, state_named, until, what_of, within};
+
+use crate::expectation::{Coming, Expectation, Span, What};
 use crate::fault::Fault;
 use lc_model::{ApMode, ApResult};
-
-/// The most digits of a number.
-const MOST_DIGITS: usize = 10;
+use stream_script::decimal_number;
 
 /// The number that a word's decimal digits write, up to the most.
-fn number(most: u32, word: &[u8]) -> Option<u32> {
-    if word.is_empty() || word.len() > MOST_DIGITS {
-        return None;
-    }
-    let mut number = 0u64;
-    for byte in word {
-        if !byte.is_ascii_digit() {
-            return None;
-        }
-        number = number
-            .saturating_mul(10)
-            .saturating_add(u64::from(byte - b'0'));
-    }
-    match u32::try_from(number) {
-        Ok(number) if number <= most => Some(number),
+fn number_in(most: u32, word: &[u8]) -> Option<u32>
+    ensures { result ≡ number_in most word.now }
+{
+    match decimal_number(word) {
+        Some(number) if number <= u64::from(most) => Some(number as u32),
         _ => None,
     }
 }
 
 /// Whether a word is this one.
-fn is(word: &[u8], other: &[u8]) -> bool {
+pub(crate) fn is(word: &[u8], other: &[u8]) -> bool
+    ensures { result ≡ bytes_eq word.now other.now }
+{
     word == other
 }
 
 /// Whether a word begins as a number does.
-fn is_numeral(word: &[u8]) -> bool {
+fn is_numeral(word: &[u8]) -> bool
+    ensures { result ≡ is_numeral word.now }
+{
     match word {
         [first, ..] => first.is_ascii_digit(),
         [] => false,
     }
 }
 
-/// The number in front of words, where one is there, and the words behind it.
-fn optional<'w, 'a>(words: &'w [&'a [u8]]) -> Result<(Option<u16>, &'w [&'a [u8]]), Fault> {
-    match words {
-        [first, rest @ ..] if is_numeral(first) => match number(65_535, first) {
-            Some(number) => Ok((u16::try_from(number).ok(), rest)),
-            None => Err(Fault::BadNumber),
-        },
-        _ => Ok((None, words)),
+/// The seconds before one, which isn't 0.
+fn until(span: Span, second: u32) -> Result<Span, Fault>
+    ensures { result ≡ until span second }
+{
+    if second == 0 {
+        return Err(Fault::BadSecond);
     }
+    Ok(Span {
+        first: span.first,
+        last: second - 1,
+    })
 }
 
-/// Seconds with what two words more say of them.
-fn narrowed(span: Span, word: &[u8], second: &[u8]) -> Result<Span, Fault> {
-    let Span { first, last } = span;
-    let Some(second) = number(u32::MAX, second) else {
-        return Err(Fault::BadSecond);
-    };
+/// Seconds that a word narrows.
+fn narrowed_to(span: Span, word: &[u8], second: u32) -> Result<Span, Fault>
+    ensures { result ≡ narrowed_to span word.now second }
+{
     if is(word, b"from") {
         return Ok(Span {
             first: second,
-            last,
+            last: span.last,
         });
     }
     if is(word, b"at") {
@@ -71,59 +67,129 @@ fn narrowed(span: Span, word: &[u8], second: &[u8]) -> Result<Span, Fault> {
     }
     if is(word, b"by") {
         return Ok(Span {
-            first,
+            first: span.first,
             last: second,
         });
     }
-    if !is(word, b"until") {
-        return Err(Fault::NoSpan);
+    if is(word, b"until") {
+        return until(span, second);
     }
-    match second.checked_sub(1) {
-        Some(last) => Ok(Span { first, last }),
+    Err(Fault::NoSpan)
+}
+
+/// Seconds with what two words more say of them.
+fn narrowed(span: Span, word: &[u8], second: &[u8]) -> Result<Span, Fault>
+    ensures { result ≡ narrowed span word.now second.now }
+{
+    match number_in(u32::MAX, second) {
+        Some(second) => narrowed_to(span, word, second),
         None => Err(Fault::BadSecond),
     }
 }
 
-/// The seconds that words tell.
-fn span(words: &[&[u8]]) -> Result<Span, Fault> {
-    let mut span = Span {
-        first: 0,
-        last: u32::MAX,
-    };
-    let mut rest = words;
-    for _ in 0..words.len() {
-        match rest {
-            [] => break,
-            [word, second, behind @ ..] => {
-                span = narrowed(span, word, second)?;
-                rest = behind;
-            }
-            [_] => return Err(Fault::NoSpan),
-        }
+/// The seconds that are left of some, as words tell them.
+fn span_in(all: Span, words: &[&[u8]]) -> Result<Span, Fault>
+    ensures set { IfOk result (λ span. span_in all (texts_of words.now) ≡ Ok span) }
+    ensures refused { IfErr result (λ fault. span_in all (texts_of words.now) ≡ Err fault) }
+{
+    let mut span = all;
+    let mut left = words;
+    while let [word, second, others @ ..] = left {
+        span = narrowed(span, word, second)?;
+        left = others;
+    }
+    if !left.is_empty() {
+        return Err(Fault::NoSpan);
     }
     Ok(span)
 }
 
-/// What may come, and within which seconds.
-fn coming(words: &[&[u8]]) -> Result<(What, Span), Fault> {
-    let [first, rest @ ..] = words else {
-        return Err(Fault::NoWhat);
-    };
-    let is_sequence = is(first, b"sequence");
-    if !is_sequence && !is(first, b"event") {
-        return Err(Fault::NoWhat);
-    }
-    let (number, rest) = optional(rest)?;
-    let what = if is_sequence {
+/// A request for a sequence or an event, by its number, or any.
+fn what_of(is_sequence: bool, number: Option<u16>) -> What
+    ensures { result ≡ what_of is_sequence number }
+{
+    if is_sequence {
         What::Sequence(number)
     } else {
         What::Event(number)
+    }
+}
+
+/// This, within the seconds that words tell.
+fn within(what: What, words: &[&[u8]]) -> Result<Coming, Fault>
+    ensures said { IfOk result (λ coming. within what (texts_of words.now) ≡ Ok coming) }
+    ensures refused { IfErr result (λ fault. within what (texts_of words.now) ≡ Err fault) }
+{
+    let all = Span {
+        first: 0,
+        last: u32::MAX,
     };
-    Ok((what, span(rest)?))
+    let span = span_in(all, words)?;
+    Ok(Coming { what, span })
+}
+
+/// The number of a request or of an event.
+fn number_of(word: &[u8]) -> Result<u16, Fault>
+    ensures { result ≡ some_number (number_in 65535 word.now) }
+{
+    match number_in(65_535, word) {
+        Some(number) => Ok(number as u16),
+        None => Err(Fault::BadNumber),
+    }
+}
+
+/// A request or an event of this number, within the seconds that words tell.
+fn numbered(is_sequence: bool, number: &[u8], words: &[&[u8]]) -> Result<Coming, Fault>
+    ensures said { IfOk result
+        (λ coming. numbered is_sequence number.now (texts_of words.now) ≡ Ok coming) }
+    ensures refused { IfErr result
+        (λ fault. numbered is_sequence number.now (texts_of words.now) ≡ Err fault) }
+{
+    let number = number_of(number)?;
+    within(what_of(is_sequence, Some(number)), words)
+}
+
+/// The same, where a number may stand in front.
+fn coming_of(is_sequence: bool, words: &[&[u8]]) -> Result<Coming, Fault>
+    ensures said { IfOk result
+        (λ coming. coming_of is_sequence (texts_of words.now) ≡ Ok coming) }
+    ensures refused { IfErr result
+        (λ fault. coming_of is_sequence (texts_of words.now) ≡ Err fault) }
+{
+    match words {
+        [] => within(what_of(is_sequence, None), words),
+        [word, others @ ..] => {
+            if is_numeral(word) {
+                return numbered(is_sequence, word, others);
+            }
+            within(what_of(is_sequence, None), words)
+        }
+    }
+}
+
+/// What may come, and within which seconds.
+fn coming_in(words: &[&[u8]]) -> Result<Coming, Fault>
+    ensures said { IfOk result (λ coming. coming_in (texts_of words.now) ≡ Ok coming) }
+    ensures refused { IfErr result (λ fault. coming_in (texts_of words.now) ≡ Err fault) }
+{
+    match words {
+        [] => Err(Fault::NoWhat),
+        [word, others @ ..] => {
+            if is(word, b"sequence") {
+                return coming_of(true, others);
+            }
+            if is(word, b"event") {
+                return coming_of(false, others);
+            }
+            Err(Fault::NoWhat)
+        }
+    }
 }
 
 /// The state that a word names.
-fn state_named(word: &[u8]) -> Option<ApMode> {
+fn state_named(word: &[u8]) -> Option<ApMode>
+    ensures { result ≡ state_named word.now }
+{
     if is(word, b"active") {
         return Some(ApMode::Active);
     }
@@ -140,7 +206,9 @@ fn state_named(word: &[u8]) -> Option<ApMode> {
 }
 
 /// The result that a word names: none before the first sample.
-fn result_named(word: &[u8]) -> Option<Option<ApResult>> {
+fn result_named(word: &[u8]) -> Option<Option<ApResult>>
+    ensures { result ≡ result_named word.now }
+{
     if is(word, b"none") {
         return Some(None);
     }
@@ -160,42 +228,58 @@ fn result_named(word: &[u8]) -> Option<Option<ApResult>> {
 }
 
 /// A rule's state.
-fn state<'a>(words: &[&'a [u8]]) -> Result<Expectation<'a>, Fault> {
+fn state_in<'a>(words: &[&'a [u8]]) -> Result<Expectation<'a>, Fault>
+    ensures said { IfOk result
+        (λ expectation. state_in (texts_of words.now) ≡ Ok (expected_of expectation)) }
+    ensures refused { IfErr result (λ fault. state_in (texts_of words.now) ≡ Err fault) }
+{
     match words {
-        [name, word] => match state_named(word) {
-            Some(state) => Ok(Expectation::State(name, state)),
+        [rule, word] => match state_named(word) {
+            Some(state) => Ok(Expectation::State(rule, state)),
             None => Err(Fault::NoState),
         },
-        _ => Err(Fault::NoState),
+        [] | [_] => Err(Fault::NoState),
+        [_, _, _, ..] => Err(Fault::NoState),
     }
 }
 
 /// A rule's last result.
-fn result<'a>(words: &[&'a [u8]]) -> Result<Expectation<'a>, Fault> {
+fn result_in<'a>(words: &[&'a [u8]]) -> Result<Expectation<'a>, Fault>
+    ensures said { IfOk result
+        (λ expectation. result_in (texts_of words.now) ≡ Ok (expected_of expectation)) }
+    ensures refused { IfErr result (λ fault. result_in (texts_of words.now) ≡ Err fault) }
+{
     match words {
-        [name, word] => match result_named(word) {
-            Some(last) => Ok(Expectation::Result(name, last)),
+        [rule, word] => match result_named(word) {
+            Some(last) => Ok(Expectation::Result(rule, last)),
             None => Err(Fault::NoResult),
         },
-        _ => Err(Fault::NoResult),
+        [] | [_] => Err(Fault::NoResult),
+        [_, _, _, ..] => Err(Fault::NoResult),
     }
 }
 
 /// What the words behind `expect` say.
-pub fn expectation<'a>(words: &[&'a [u8]]) -> Result<Expectation<'a>, Fault> {
-    let [first, rest @ ..] = words else {
-        return Err(Fault::NoWhat);
-    };
-    if is(first, b"state") {
-        return state(rest);
+pub(crate) fn expectation<'a>(words: &[&'a [u8]]) -> Result<Expectation<'a>, Fault>
+    ensures said { IfOk result
+        (λ expectation. expected_in (texts_of words.now) ≡ Ok (expected_of expectation)) }
+    ensures refused { IfErr result (λ fault. expected_in (texts_of words.now) ≡ Err fault) }
+{
+    match words {
+        [] => Err(Fault::NoWhat),
+        [word, others @ ..] => {
+            if is(word, b"state") {
+                return state_in(others);
+            }
+            if is(word, b"result") {
+                return result_in(others);
+            }
+            if is(word, b"no") {
+                let coming = coming_in(others)?;
+                return Ok(Expectation::Absent(coming));
+            }
+            let coming = coming_in(words)?;
+            Ok(Expectation::Comes(coming))
+        }
     }
-    if is(first, b"result") {
-        return result(rest);
-    }
-    if is(first, b"no") {
-        let (what, span) = coming(rest)?;
-        return Ok(Expectation::Absent(what, span));
-    }
-    let (what, span) = coming(words)?;
-    Ok(Expectation::Comes(what, span))
 }

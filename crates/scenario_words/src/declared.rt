@@ -1,69 +1,153 @@
 //! What rule texts declare.
 
-use rule_lexer::lex;
-use rule_parser::{FieldItem, Item, PacketItem, parse};
-use std::alloc::{AllocError, Global};
+ghost use Rattle.std.specs.Prelude.{◌≡◌, ◌<◌, ◌≤◌, ◌+◌, ◌^◌, IfOk};
+ghost use Rattle.stream_script.specs.Part.{texts_of};
+ghost use Rattle.rule_parser.specs.Syntax.{item_of, items_of};
+ghost use Rattle.scenario_words.specs.Declarations.{AreDeclared, IsDeclared, next_behind, nothing_declared, with_item, with_items};
 
-/// The packets, fields and rules of rule texts that compile, those of the first text first.
+use crate::named::{Field, Packet, Rule};
+use rule_lexer::lex;
+use rule_parser::{Item, parse};
+use std::alloc::{AllocError, Global};
+use std::marker::Model;
+
+/// The packets, fields and rules of rule texts that compile, those of the first text first. Contracts see all (`Declarations`).
 #[derive(Drop)]
 pub struct Declared<'a> {
-    pub(crate) packets: Vec<PacketItem<'a>>,
-    pub(crate) fields: Vec<FieldItem<'a>>,
-    /// The name of each rule and its number in its text.
-    pub(crate) rules: Vec<(&'a [u8], u16)>,
+    packets: Vec<Packet<'a>>,
+    fields: Vec<Field<'a>>,
+    rules: Vec<Rule<'a>>,
 }
 
-/// Adds what a text declares. Out of memory is the only error of a text that compiles.
-fn add<'a>(alloc: Global, declared: &mut Declared<'a>, text: &'a [u8]) -> Result<(), AllocError> {
+impl<'a> Model for Declared<'a> {
+    ghost use Rattle.scenario_words.specs.Declarations.{Declarations};
+
+    ghost Value = { Declarations };
+
+    ghost view = { λ d. record {
+      packets = d.packets.items;
+      fields = d.fields.items;
+      rules = d.rules.items;
+    } };
+}
+
+impl<'a> Declared<'a> {
+    /// Nothing.
+    fn new(alloc: Global) -> Declared<'a>
+        ensures { result ≡ nothing_declared }
+    {
+        Declared {
+            packets: Vec::new(alloc),
+            fields: Vec::new(alloc),
+            rules: Vec::new(alloc),
+        }
+    }
+
+    pub(crate) fn packets(&self) -> &[Packet<'a>]
+        ensures { result.now ≡ self.now.packets }
+    {
+        self.packets.as_slice()
+    }
+
+    pub(crate) fn fields(&self) -> &[Field<'a>]
+        ensures { result.now ≡ self.now.fields }
+    {
+        self.fields.as_slice()
+    }
+
+    pub(crate) fn rules(&self) -> &[Rule<'a>]
+        ensures { result.now ≡ self.now.rules }
+    {
+        self.rules.as_slice()
+    }
+
+    /// What is declared with an item, where the next rule of its text has this number.
+    fn with_item(self, next: usize, item: &Item<'a>) -> Result<Declared<'a>, AllocError>
+        ensures { IfOk result (λ after. after ≡ with_item next (item_of item.now) self.entry) }
+    {
+        let Declared {
+            mut packets,
+            mut fields,
+            mut rules,
+        } = self;
+        match item {
+            Item::Packet(item) => {
+                let Some(packet) = Packet::declared(item) else {
+                    return Err(AllocError);
+                };
+                packets.push(packet)?;
+            }
+            Item::Field(item) => {
+                let Some(field) = Field::declared(item) else {
+                    return Err(AllocError);
+                };
+                fields.push(field)?;
+            }
+            Item::Rule(item) => {
+                if next > 65_535 {
+                    return Err(AllocError);
+                }
+                rules.push(Rule::new(item.name.text, next as u16))?;
+            }
+        }
+        Ok(Declared {
+            packets,
+            fields,
+            rules,
+        })
+    }
+}
+
+/// The number of the next rule behind an item.
+fn next_behind(item: &Item<'_>, next: usize) -> usize
+    requires { next < 2 ^ 63 }
+    ensures next { result ≡ next_behind (item_of item.now) next }
+    ensures one_more { result ≤ next + 1 }
+{
+    match item {
+        Item::Rule(_) => next + 1,
+        Item::Packet(_) | Item::Field(_) => next,
+    }
+}
+
+/// What is declared with the items of a text.
+fn with_items<'a>(start: Declared<'a>, items: &[Item<'a>]) -> Result<Declared<'a>, AllocError>
+    ensures { IfOk result (λ after. after ≡ with_items 0 (items_of items.now) start.entry) }
+{
+    let mut declared = start;
+    let mut next = 0;
+    for item in items {
+        declared = declared.with_item(next, item)?;
+        next = next_behind(item, next);
+    }
+    Ok(declared)
+}
+
+/// What is declared with a text. Out of memory is the only error of one that compiles.
+fn with_text<'a>(
+    alloc: Global,
+    declared: Declared<'a>,
+    text: &'a [u8],
+) -> Result<Declared<'a>, AllocError>
+    ensures { IfOk result (λ after. IsDeclared text.now declared.entry after) }
+{
     let Ok(tokens) = lex(alloc, text) else {
         return Err(AllocError);
     };
     let Ok(file) = parse(alloc, text, tokens.as_slice()) else {
         return Err(AllocError);
     };
-    let mut number = 0u16;
-    for item in &file.items {
-        match item {
-            Item::Packet(packet) => declared.packets.push(*packet)?,
-            Item::Field(field) => declared.fields.push(*field)?,
-            Item::Rule(rule) => {
-                declared.rules.push((rule.name.text, number))?;
-                number = number.saturating_add(1);
-            }
-        }
-    }
-    Ok(())
+    with_items(declared, file.items.as_slice())
 }
 
 /// What rule texts declare that compile. Out of memory is the only error.
-pub fn declared_in<'a>(alloc: Global, texts: &[&'a [u8]]) -> Result<Declared<'a>, AllocError> {
-    let mut declared = Declared {
-        packets: Vec::new(alloc),
-        fields: Vec::new(alloc),
-        rules: Vec::new(alloc),
-    };
+pub fn declared_in<'a>(alloc: Global, texts: &[&'a [u8]]) -> Result<Declared<'a>, AllocError>
+    ensures { IfOk result
+        (λ declared. AreDeclared (texts_of texts.now) nothing_declared declared) }
+{
+    let mut declared = Declared::new(alloc);
     for text in texts {
-        add(alloc, &mut declared, text)?;
+        declared = with_text(alloc, declared, text)?;
     }
     Ok(declared)
-}
-
-impl Declared<'_> {
-    /// The place of the first packet of a name.
-    pub(crate) fn packet(&self, name: &[u8]) -> Option<usize> {
-        self.packets
-            .iter()
-            .position(|packet| packet.name.text == name)
-    }
-
-    /// The place of the first field of a name.
-    pub(crate) fn field(&self, name: &[u8]) -> Option<usize> {
-        self.fields.iter().position(|field| field.name.text == name)
-    }
-
-    /// The number of the first rule of a name.
-    pub(crate) fn rule(&self, name: &[u8]) -> Option<u16> {
-        let place = self.rules.iter().position(|rule| rule.0 == name)?;
-        Some(self.rules.as_slice().get(place)?.1)
-    }
 }

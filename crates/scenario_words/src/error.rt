@@ -1,7 +1,10 @@
 //! Why a scenario says no script.
 
+ghost use Rattle.std.specs.Prelude.{◌≡◌};
+ghost use Rattle.scenario_words.specs.declared.error.Fault.TheVariants as fault;
+ghost use Rattle.scenario_words.specs.declared.error.ScenarioError.TheVariants as error;
+
 use std::alloc::{AllocError, AllocFailed};
-use std::io;
 use thiserror::Error;
 
 /// What is wrong with a line of a scenario.
@@ -22,6 +25,9 @@ pub enum Reason {
     /// A word that has to be a number isn't one, or is out of its range.
     #[error("a number is missing or out of range")]
     BadNumber,
+    /// A value isn't one of its field's type.
+    #[error("the value is outside the type of the field")]
+    OutsideType,
     /// A ramp isn't written so.
     #[error("a ramp is `ramp FIELD FROM TO by STEP each SECONDS`, with `tick` behind it where ticks are wanted")]
     NoRamp,
@@ -67,37 +73,40 @@ pub(crate) enum Fault {
 }
 
 impl From<Reason> for Fault {
+    ghost from_gives = { λ reason e. e ≡ fault.Line reason };
+
     fn from(reason: Reason) -> Fault {
         Fault::Line(reason)
     }
 }
 
 impl From<AllocError> for Fault {
+    ghost from_gives = { λ _ e. e ≡ fault.Memory };
+
     fn from(_error: AllocError) -> Fault {
         Fault::Memory
     }
 }
 
 impl<T: Drop> From<AllocFailed<T>> for Fault {
+    ghost from_gives = { λ _ e. e ≡ fault.Memory };
+
     fn from(_error: AllocFailed<T>) -> Fault {
         Fault::Memory
     }
 }
 
-/// A script is written into memory, so that a failed write is want of it.
-impl From<io::Error> for Fault {
-    fn from(_error: io::Error) -> Fault {
-        Fault::Memory
-    }
-}
-
 impl From<AllocError> for ScenarioError {
+    ghost from_gives = { λ _ e. e ≡ error.Memory };
+
     fn from(_error: AllocError) -> ScenarioError {
         ScenarioError::Memory
     }
 }
 
 impl<T: Drop> From<AllocFailed<T>> for ScenarioError {
+    ghost from_gives = { λ _ e. e ≡ error.Memory };
+
     fn from(_error: AllocFailed<T>) -> ScenarioError {
         ScenarioError::Memory
     }

@@ -5,11 +5,14 @@
 mod declared;
 mod error;
 mod line;
-mod orders;
-mod packets;
+mod named;
+mod number;
+mod order;
 mod plain;
 mod ramp;
-mod words;
+mod repetition;
+mod said;
+mod word;
 
 pub use declared::{Declared, declared_in};
 pub use error::{Reason, ScenarioError};

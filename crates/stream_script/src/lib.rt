@@ -22,5 +22,7 @@ pub use error::{Reason, ScriptError};
 pub use front::{Front, front_of};
 pub use kind::RecordKind;
 pub use listing::{write_listing, write_listing_from};
+pub use number::decimal_number;
+pub use part::{first_line, words};
 pub use reading::read_script;
 pub use writing::write_script;

@@ -9,7 +9,7 @@ use crate::error::Reason;
 const MOST_DIGITS: usize = 10;
 
 /// The number that one to ten decimal digits write.
-fn decimal_number(word: &[u8]) -> Option<u64>
+pub fn decimal_number(word: &[u8]) -> Option<u64>
     ensures { result ≡ decimal_number word.now }
 {
     if word.is_empty() || word.len() > MOST_DIGITS {

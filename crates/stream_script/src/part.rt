@@ -31,7 +31,7 @@ fn word_length(line: &[u8]) -> usize
 }
 
 /// The first line, and what follows its line feed, where it has one.
-pub(crate) fn first_line(text: &[u8]) -> (&[u8], Option<&[u8]>)
+pub fn first_line(text: &[u8]) -> (&[u8], Option<&[u8]>)
     ensures lines { slice_split is_feed text.now ≡ result.0.now ∷ parts_in is_feed result.1 }
     ensures fewer { most_parts result.1 ≤ length text.now }
 {
@@ -56,8 +56,8 @@ fn first_part(line: &[u8]) -> (&[u8], Option<&[u8]>)
     (part, Some(rest))
 }
 
-/// The words of a line.
-pub(crate) fn words(alloc: Global, line: &[u8]) -> Result<Vec<&[u8]>, AllocError>
+/// The words of a line. Out of memory is the only error.
+pub fn words(alloc: Global, line: &[u8]) -> Result<Vec<&[u8]>, AllocError>
     ensures { IfOk result (λ words. texts_of words.items ≡ words_of line.now) }
 {
     let mut words = Vec::new(alloc);

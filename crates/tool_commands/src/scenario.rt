@@ -70,11 +70,10 @@ fn stream_of<'a>(
         Err(error) => return Err(words_fault(alloc, name, scenario, error)),
     };
     let script = plain.text.as_slice();
-    let expectations = match read_expectations(alloc, script) {
-        Ok(expectations) => expectations,
-        Err(error) => return Err(expectation_fault(alloc, name, scenario, error.at(&plain))),
-    };
-    let quiet = silenced(alloc, script, expectations.as_slice())?;
+    if let Err(error) = read_expectations(alloc, script) {
+        return Err(expectation_fault(alloc, name, scenario, error.at(&plain)));
+    }
+    let quiet = silenced(alloc, script)?;
     match read_script(alloc, quiet.as_slice()) {
         Ok(stream) => Ok(stream),
         Err(error) => Err(script_fault(alloc, name, scenario, script_error_at(&plain, error))),

@@ -5,4 +5,4 @@ use Rattle.app_host_tests.proofs.playing.follow.Given as goal
 -- so it is between two records
 abbrev pub invariant-loop-number : goal.invariant-loop-number
 invariant-loop-number g l =
-    IsBetween (shown (λ b. (goal.App-dyn g (b.vtable, b.value)).meaning b.value) l.host)
+    IsBetween (shown g.B.App.meaning l.host)

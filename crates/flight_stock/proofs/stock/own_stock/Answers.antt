@@ -2,6 +2,6 @@ use Rattle.flight_stock.proofs.Named.{eight}
 use Rattle.flight_stock.proofs.stock.own_stock.Goals as goal
 
 pub returns-clause-names : goal.returns-clause-names
-returns-clause-names g c =
+returns-clause-names c =
     eight _ _ _ _ _ _ _ _ _ _ _ _ _ _ _ _ _ _ c.new-stock.ensures.items c.in_ok-add.ensures.names c.in_ok-add-2.ensures.names c.in_ok-add-3.ensures.names c.in_ok-add-4.ensures.names
     c.in_ok-add-5.ensures.names c.in_ok-add-6.ensures.names c.in_ok-add-7.ensures.names c.in_ok-add-8.ensures.names

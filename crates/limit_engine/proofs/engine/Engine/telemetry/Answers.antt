@@ -41,6 +41,7 @@ invariant_of-self-2 c =
         few_steps = c.self.invariant.2.few_steps;
         few_probes = subst (λ probes. probes ≤ 8) (sym c.find-found.ensures.probes) ((probes_are_few c.message_id.result terms).few tables.few);
       },
+      c.self.invariant.3,
     )
 
 pub returns-clause-after : goal.returns-clause-after

@@ -1,0 +1,64 @@
+//! A host that is fed.
+
+ghost use Rattle.std.specs.Prelude.{◌≡◌, ◌≢◌, ◌<◌, ◌⊎◌, length, None, IsSomeAnd};
+ghost use Rattle.needlemauve_calls.specs.Feeding.{AreFed, IsFed, IsMade, IsUnmade, too_small};
+ghost use Rattle.needlemauve_calls.specs.Running.{IsNotRun};
+ghost use Rattle.needlemauve_calls.specs.Texts.{texts_in};
+
+use needlemauve_calls::{Handle, Handled, Made, close_host, feed_host, make_host};
+use std::alloc::Global;
+
+/// Makes a host of rule texts, which lie one behind the other, and answers 0 or the number of what is refused. Condition: the
+/// handle holds nothing.
+#[unsafe(no_mangle)]
+pub extern "C" fn needlemauve_host_new(
+    alloc: Global,
+    texts: &[u8],
+    lengths: &[usize],
+    schedule: &[u8],
+    room: usize,
+    host: &mut Handle,
+    told: &mut Made,
+) -> u32
+    requires empty { host.old.value ≡ None }
+    ensures answered { result ≡ told.new.refusal.code }
+    ensures made { result ≡ 0 → IsSomeAnd host.new.value
+        (IsMade (texts_in texts.now lengths.now) schedule.now room) }
+    ensures ready { result ≡ 0 → IsSomeAnd host.new.value IsFed }
+    ensures unmade { result ≢ 0 → host.new.value ≡ None }
+    ensures why { result ≢ 0 → IsNotRun texts.now lengths.now schedule.now told.new.refusal ⊎
+        IsUnmade (texts_in texts.now lengths.now) told.new.refusal }
+{
+    make_host(alloc, texts, lengths, schedule, room, host, told)
+}
+
+/// Takes bytes of the stream, handles the record in front, and answers what came of it. Condition: the handle holds a host.
+#[unsafe(no_mangle)]
+pub extern "C" fn needlemauve_host_feed(
+    alloc: Global,
+    host: &mut Handle,
+    bytes: &[u8],
+    output: &mut [u8],
+    told: &mut Handled,
+) -> u32
+    requires there { IsSomeAnd host.old.value IsFed }
+    ensures answered { result ≡ told.new.code }
+    ensures ready { IsSomeAnd host.new.value IsFed }
+    ensures fed { result ≢ too_small →
+        AreFed bytes.now output.new told.new host.old.value host.new.value }
+    ensures small { result ≡ too_small →
+        (host.new.value ≡ host.old.value) × (output.new ≡ output.old) }
+    ensures smaller { result ≡ too_small → IsSomeAnd host.old.value
+        (λ fed. length output.old < length fed.room.items) }
+{
+    feed_host(alloc, host, bytes, output, told)
+}
+
+/// Closes a host: all applications retire, and all its memory is given back. Condition: the handle holds a host.
+#[unsafe(no_mangle)]
+pub extern "C" fn needlemauve_host_close(alloc: Global, host: &mut Handle)
+    requires { IsSomeAnd host.old.value IsFed }
+    ensures { host.new.value ≡ None }
+{
+    close_host(alloc, host);
+}

@@ -1,0 +1,66 @@
+-- A run that goes record by record. This project's own.
+use Rattle.std.specs.Prelude.{◌≡◌, ℕ, Bool, List, [], ◌∷◌, Option, Some, None, Result, Ok, Err}
+use Rattle.lc_model.specs.Kept.Summary.{LcOwn, AppState, LcState, SchState, CounterState, Other}
+use Rattle.app_host.specs.Hosted.{Object}
+use Rattle.flight_core.specs.declared.halt.Halt.{Halt}
+use Rattle.flight_core.specs.declared.halt.Halt.TheVariants as halt
+use Rattle.flight_core.specs.Feeding.{Feeding, HandlesOne, IsReady, feeding_of, fed_with}
+use Rattle.flight_stock.specs.Members.{meaning_of}
+use Rattle.run_course.specs.declared.error.CourseError.{CourseError}
+use Rattle.run_course.specs.declared.error.CourseError.TheVariants.{Memory}
+use Rattle.run_course.specs.declared.handled.Handled.{Handled}
+use Rattle.run_course.specs.declared.handled.Handled.TheVariants.{Whole, NoRecord, Part}
+use Rattle.run_course.specs.declared.stepping.Stepping.{Stepping}
+
+-- its host, and what the last record led to
+abbrev pub host_in : Stepping → Feeding
+host_in it = feeding_of meaning_of it.fed
+
+abbrev pub written_by : Stepping → List ℕ
+written_by it = it.written.bytes.items
+
+-- so it is between two records
+abbrev pub IsAtRest : Stepping → Type 0
+IsAtRest it = IsReady (host_in it)
+
+-- ---- a record
+
+-- what became of it, by the answer of the host
+abbrev pub told_of : Result (Option ℕ) Halt → Result Handled CourseError
+told_of (Ok (Some total)) = Ok Whole
+told_of (Ok None) = Ok Part
+told_of (Err halt.NoRecord) = Ok NoRecord
+told_of (Err (halt.Unsent sent)) = Err Memory
+told_of (Err halt.Fault) = Err Memory
+told_of (Err halt.Bound) = Err Memory
+
+-- the host takes these bytes behind what it holds, and handles the record in front: what it leads to is all that is written then
+pub record HasStepped (bytes : List ℕ) (old new : Feeding) (written : List ℕ) (result : Result Handled CourseError) : Type 0 where
+  pub answer : Result (Option ℕ) Halt
+  pub failed : Bool
+  pub fails : Bool
+  pub one : HandlesOne (fed_with bytes old) new (record { gained = Some []; failed = failed }) (record { gained = Some written; failed = fails }) answer
+  pub told : result ≡ told_of answer
+
+-- ---- the Limit Checker that runs
+
+-- the engine of an object, where it is a Limit Checker
+abbrev engine_by : AppState → Option LcOwn
+engine_by (LcState own) = Some own
+engine_by (SchState slots slot) = None
+engine_by (CounterState count) = None
+engine_by Other = None
+
+abbrev pub engine_of : Option Object → Option LcOwn
+engine_of None = None
+engine_of (Some object) = engine_by object.state
+
+-- the first of two, where there is one
+abbrev pub otherwise : Option LcOwn → Option LcOwn → Option LcOwn
+otherwise None other = other
+otherwise (Some own) other = Some own
+
+-- that of the least seat with a Limit Checker
+abbrev pub engine_among : List (Option Object) → Option LcOwn
+engine_among [] = None
+engine_among (place ∷ others) = otherwise (engine_of place) (engine_among others)

@@ -1,0 +1,110 @@
+//! Which expectations are met.
+
+ghost use Rattle.std.specs.Prelude.{◌≡◌, IfOk};
+ghost use Rattle.lc_model.specs.Codes.{result_code, state_code};
+ghost use Rattle.run_expectations.specs.Expected.{expected_of};
+ghost use Rattle.run_expectations.specs.Judged.{has_result, is_in_state, is_met, is_unmet, unmet_of};
+
+use crate::expectation::{Arrival, Expectation, has_come};
+use crate::reading::Placed;
+use lc_model::{ApMode, ApResult};
+use std::alloc::{AllocError, Global};
+
+/// What was found of the rule that an expectation names.
+#[derive(Clone, Copy)]
+pub enum Found {
+    /// It names no rule, no text has a rule of that name, or the tables in force have no rule of its number.
+    NoRule,
+    /// The Limit Checker doesn't run.
+    Stopped,
+    /// The rule's byte in housekeeping.
+    Stands(u8),
+}
+
+/// An expectation, and what was found of its rule.
+#[derive(Clone, Copy)]
+pub struct Judged<'a> {
+    pub placed: Placed<'a>,
+    pub found: Found,
+}
+
+/// The number of a state in housekeeping.
+fn state_code(state: ApMode) -> u8
+    ensures { result ≡ state_code state }
+{
+    match state {
+        ApMode::Active => 1,
+        ApMode::Passive => 2,
+        ApMode::Disabled => 3,
+        ApMode::PermOff => 4,
+    }
+}
+
+/// The number of a last result there.
+fn result_code(last: Option<ApResult>) -> u8
+    ensures { result ≡ result_code last }
+{
+    match last {
+        None => 0,
+        Some(ApResult::Pass) => 1,
+        Some(ApResult::Fail) => 2,
+        Some(ApResult::Stale) => 3,
+        Some(ApResult::Error) => 4,
+    }
+}
+
+/// Whether a rule is in this state.
+fn is_in_state(state: ApMode, found: Found) -> bool
+    ensures { result ≡ is_in_state state found }
+{
+    match found {
+        Found::Stands(byte) => byte / 16 == state_code(state),
+        Found::NoRule | Found::Stopped => false,
+    }
+}
+
+/// Whether a rule's last result is this one.
+fn has_result(last: Option<ApResult>, found: Found) -> bool
+    ensures { result ≡ has_result last found }
+{
+    match found {
+        Found::Stands(byte) => byte % 16 == result_code(last),
+        Found::NoRule | Found::Stopped => false,
+    }
+}
+
+/// Whether an expectation is met, by what came and what was found of its rule.
+fn is_met(came: &[Arrival], found: Found, expectation: Expectation<'_>) -> bool
+    ensures { result ≡ is_met came.now found (expected_of expectation.entry) }
+{
+    match expectation {
+        Expectation::Comes(coming) => has_come(coming.what, coming.span, came),
+        Expectation::Absent(coming) => !has_come(coming.what, coming.span, came),
+        Expectation::State(_, state) => is_in_state(state, found),
+        Expectation::Result(_, last) => has_result(last, found),
+    }
+}
+
+/// Whether it isn't met.
+fn is_unmet(came: &[Arrival], judged: &Judged<'_>) -> bool
+    ensures { result ≡ is_unmet came.now judged.now }
+{
+    !is_met(came, judged.found, judged.placed.expectation)
+}
+
+/// The expectations that aren't met, in order. Out of memory is the only error.
+pub fn unmet_of<'a>(
+    alloc: Global,
+    came: &[Arrival],
+    judged: &[Judged<'a>],
+) -> Result<Vec<Judged<'a>>, AllocError>
+    ensures { IfOk result (λ unmet. unmet.items ≡ unmet_of came.now judged.now) }
+{
+    let mut unmet = Vec::new(alloc);
+    for one in judged {
+        if is_unmet(came, one) {
+            unmet.push(*one)?;
+        }
+    }
+    Ok(unmet)
+}

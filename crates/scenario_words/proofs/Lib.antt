@@ -1,0 +1,5 @@
+mod Digits
+mod Short
+mod Fields
+mod Values
+mod Steps
