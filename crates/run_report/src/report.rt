@@ -1,5 +1,7 @@
 //! From a stream to its page.
 
+ghost use Rattle.run_course.specs.Stepping.{IsAtRest};
+
 use crate::account::{Account, Behind};
 use crate::brought::{Brought, read_record};
 use crate::data::put_data;
@@ -49,7 +51,9 @@ fn first_record(stream: &[u8]) -> &[u8] {
 }
 
 /// How the Limit Checker stands behind the last step.
-fn look(stepping: &Stepping, behind: &mut Behind) -> Result<(), AllocError> {
+fn look(stepping: &Stepping, behind: &mut Behind) -> Result<(), AllocError>
+    requires { IsAtRest stepping.now }
+{
     behind.rules.clear();
     behind.mode = None;
     let Some(checker) = stepping.checker() else {
@@ -79,7 +83,9 @@ fn tell_record(
     stepping: &Stepping,
     record: &[u8],
     behind: &mut Behind,
-) -> Result<(), AllocError> {
+) -> Result<(), AllocError>
+    requires { IsAtRest stepping.now }
+{
     let place = account.come(record, ticks(moment_of(record)))?;
     if is_quiet(record, stepping.written(), place) {
         return Ok(());
@@ -97,7 +103,10 @@ fn take<P: Progress>(
     stepping: &mut Stepping,
     account: &mut Account<'_>,
     progress: &mut P,
-) -> Result<Ending, ReportError> {
+) -> Result<Ending, ReportError>
+    requires { IsAtRest stepping.old }
+    ensures { IsAtRest stepping.new }
+{
     let mut behind = Behind {
         mode: None,
         rules: Vec::new(alloc),
@@ -105,12 +114,12 @@ fn take<P: Progress>(
     let step = stream.len() / TOLD;
     let mut told = step;
     let mut rest = stream;
-    for _ in 0..stream.len() {
+    for number in 0..stream.len() {
         if rest.is_empty() {
             break;
         }
         let record = first_record(rest);
-        let n = account.figures.records.saturating_add(1);
+        let n = (number as u64).saturating_add(1);
         match stepping.step(record)? {
             Handled::Whole => tell_record(account, stepping, record, &mut behind)?,
             Handled::NoRecord => return Ok(Ending::NoRecord { n }),
