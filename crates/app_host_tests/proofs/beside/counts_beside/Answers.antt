@@ -5,10 +5,16 @@ use Rattle.app_host_tests.proofs.beside.counts_beside.Goals as goal
 pub count-answer-requires : goal.count-answer-requires
 count-answer-requires g c = (
   omega arith,
-  (record { whole = c.in-Ok.ensures.whole; quiet = λ is. c.in-Ok.ensures.quiet },
-  (search rules,
-  (known_first _ _ c.in-Ok.ensures.first,
-  spare_first _ _ _ _ c.in-Ok.ensures.first c.in_ok-stock.ensures.items c.requires.named c.requires.counts))),
+  (
+    record { whole = c.in-Ok.ensures.whole; quiet = λ is. c.in-Ok.ensures.quiet },
+    (
+      search rules,
+      (
+        known_first _ _ c.in-Ok.ensures.first,
+        spare_first _ _ _ _ c.in-Ok.ensures.first c.in_ok-stock.ensures.items c.requires.named c.requires.counts,
+      ),
+    ),
+  ),
 )
 
 pub returns : goal.returns
