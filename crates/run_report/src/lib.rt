@@ -1,30 +1,28 @@
-//! A run as one page (page/DATA.md): the account of the run, taken behind each record in memory that doesn't grow, and the page's
-//! own HTML, style and script, which tools/page_constants makes of page/.
+//! A run as one page: each rule's results and state over the records, sequence requests and events on one time line, and the
+//! rules. What a rule's result is at a place is asked of the host itself, by runs over fronts of the stream.
 #![tactic(auto)]
 
 mod account;
-mod bands;
-mod brought;
-mod changes;
-mod data;
+mod columns;
+mod description;
 mod error;
-mod json;
-mod packets;
-mod page_front;
-mod page_script_0;
-mod page_script_1;
-mod page_script_2;
-mod place;
+mod escape;
+mod figures;
+mod geometry;
+mod lanes;
+mod page;
+mod probes;
 mod progress;
 mod report;
-mod rules;
-mod samples;
-mod sent;
-mod texts;
-mod told;
-mod values;
+mod result_lanes;
+mod rule_table;
+mod rule_text;
+mod sent_table;
+mod standing;
+mod style;
+mod time_line;
 
 pub use error::ReportError;
 pub use progress::{Progress, Silent};
-pub use report::{Run, write_page};
-pub use texts::Source;
+pub use report::write_page;
+pub use rule_text::Source;
