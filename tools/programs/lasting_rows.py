@@ -93,7 +93,7 @@ OLD_RESULTS = [
         REPORT,
         {**OLD, "rules": b"packet BUS"},
         status=1,
-        error=b"text 0: expected `=` at 10\n",
+        error=b"rules: expected `=` at 10\n",
     ),
     Row(
         "a page that doesn't fit leaves the old one",
@@ -156,7 +156,7 @@ BOUNDED = [
         ["flight_tools", "report", "schedule", "stream", "page", "/dev/zero"],
         FILES,
         status=1,
-        error=b"text 0: the text has over 65,536 bytes\n",
+        error=b"/dev/zero: the text has over 65,536 bytes\n",
         most_memory=16 * MIB,
     ),
     Row(
@@ -233,7 +233,7 @@ LIVE = [
         {**FILES, "rules": b"packet"},
         status=1,
         reads=TWO_FAILING_SAMPLES,
-        error=b"text 0: expected a name at 6\n",
+        error=b"rules: expected a name at 6\n",
     ),
     Row(
         "a run as it comes, to a full device",

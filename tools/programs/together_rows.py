@@ -174,8 +174,8 @@ def of_a_sparse_file(programs):
             "scenario hole made": (3, b"cannot use hole: it has more than 67108864 bytes\n"),
             "report hole stream page rules": (3, b"cannot use hole: it has more than 65536 bytes\n"),
             "report schedule hole page rules": (3, b"cannot use hole: it has more than 67108864 bytes\n"),
-            "report schedule stream page hole": (1, b"text 0: the text has over 65,536 bytes\n"),
-            "live schedule hole": (1, b"text 0: the text has over 65,536 bytes\n"),
+            "report schedule stream page hole": (1, b"hole: the text has over 65,536 bytes\n"),
+            "live schedule hole": (1, b"hole: the text has over 65,536 bytes\n"),
         }
         faults = []
         for words, expected in calls.items():

@@ -117,7 +117,7 @@ REPORTS = [
         REPORT,
         {**FILES, "rules": b"packet BUS"},
         status=1,
-        error=b"text 0: expected `=` at 10\n",
+        error=b"rules: expected `=` at 10\n",
     ),
     Row("a page of a stream that is cut", REPORT, {**FILES, "stream": BUS_STREAM[:-1]}, status=4, after={"page": PAGE}),
 ]

@@ -7,4 +7,4 @@ mod quoting;
 
 pub use grouped::Grouped;
 pub use likeness::nearest;
-pub use quoting::{quoted, written};
+pub use quoting::{push_quoted, quoted, written};

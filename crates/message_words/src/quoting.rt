@@ -27,13 +27,22 @@ pub fn written(alloc: Global, bytes: &[u8]) -> Result<String, AllocError>
     Ok(text)
 }
 
+/// Adds what a person wrote, as it can be shown, between backticks.
+pub fn push_quoted(alloc: Global, text: &mut String, bytes: &[u8]) -> Result<(), AllocError>
+    ensures { OnOk result (string_bytes text.new ≡ string_bytes text.old ++
+        (codes "`" ++ encode_utf8_all (shown bytes.now) ++ codes "`")) }
+{
+    text.push_str("`")?;
+    push_bytes(alloc, text, bytes)?;
+    text.push_str("`")
+}
+
 /// What a person wrote, as it can be shown, between backticks.
 pub fn quoted(alloc: Global, bytes: &[u8]) -> Result<String, AllocError>
     ensures { IfOk result (λ text. string_bytes text ≡
         codes "`" ++ encode_utf8_all (shown bytes.now) ++ codes "`") }
 {
-    let mut text = String::from_str(alloc, "`")?;
-    push_bytes(alloc, &mut text, bytes)?;
-    text.push_str("`")?;
+    let mut text = String::new(alloc);
+    push_quoted(alloc, &mut text, bytes)?;
     Ok(text)
 }

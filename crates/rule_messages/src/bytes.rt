@@ -2,9 +2,10 @@
 
 ghost use Rattle.std.specs.Prelude.{◌≡◌, drop};
 
+use message_words::{Grouped, push_quoted};
 use std::alloc::{AllocError, Global};
 use std::fmt;
-use text_places::{front_character, shown};
+use text_places::front_character;
 
 /// The bytes behind so many, if there are as many.
 pub fn behind(bytes: &[u8], count: usize) -> &[u8]
@@ -59,22 +60,6 @@ pub fn character(bytes: &[u8]) -> (char, usize) {
     front_character(bytes)
 }
 
-/// Adds bytes as they can be shown.
-fn push_bytes(alloc: Global, text: &mut String, bytes: &[u8]) -> Result<(), AllocError> {
-    let columns = shown(alloc, bytes)?;
-    for column in &columns {
-        text.push(*column)?;
-    }
-    Ok(())
-}
-
-/// Adds what the user wrote, as it can be shown, between backticks.
-pub fn push_quoted(alloc: Global, text: &mut String, bytes: &[u8]) -> Result<(), AllocError> {
-    text.push_str("`")?;
-    push_bytes(alloc, text, bytes)?;
-    text.push_str("`")
-}
-
 /// What the user wrote, as it can be shown, between backticks, with what stands before and behind it.
 pub fn around(
     alloc: Global,
@@ -88,41 +73,7 @@ pub fn around(
     Ok(text)
 }
 
-/// What the user wrote, as it can be shown, between backticks.
-pub fn quoted(alloc: Global, bytes: &[u8]) -> Result<String, AllocError> {
-    around(alloc, "", bytes, "")
-}
-
-/// What the user wrote, as it can be shown.
-pub fn written(alloc: Global, bytes: &[u8]) -> Result<String, AllocError> {
-    let mut text = String::new(alloc);
-    push_bytes(alloc, &mut text, bytes)?;
-    Ok(text)
-}
-
-/// A number with a comma before each three digits.
-#[derive(Clone, Copy)]
-pub struct Grouped(pub u64);
-
-impl fmt::Display for Grouped {
-    fn fmt<W: fmt::Write>(&self, f: &mut fmt::Formatter<W>) -> fmt::Result {
-        let units = self.0 % 1_000;
-        let thousands = self.0 / 1_000 % 1_000;
-        let millions = self.0 / 1_000_000 % 1_000;
-        let more = self.0 / 1_000_000_000;
-        if more > 0 {
-            write!(f, "{more},{millions:03},{thousands:03},{units:03}")
-        } else if millions > 0 {
-            write!(f, "{millions},{thousands:03},{units:03}")
-        } else if thousands > 0 {
-            write!(f, "{thousands},{units:03}")
-        } else {
-            write!(f, "{units}")
-        }
-    }
-}
-
-/// The same with a sign, where the number is negative.
+/// A number with a comma before each three digits, and with a sign where it is negative.
 #[derive(Clone, Copy)]
 pub struct Signed(pub i64);
 

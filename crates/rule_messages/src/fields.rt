@@ -3,12 +3,13 @@
 ghost use Rattle.std.specs.Prelude.{◌≡◌, IfOk};
 ghost use Rattle.rule_messages.specs.Telling.{IsAt};
 
-use crate::bytes::{Signed, around, quoted};
+use crate::bytes::{Signed, around};
 use crate::marks::{mark, value_of};
 use crate::message::{Mark, Message};
 use crate::naming::declared_in;
 use crate::source::{Declared, Kind, Source};
 use lc_model::FieldType;
+use message_words::quoted;
 use rule_lexer::{Token, TokenKind};
 use std::alloc::{AllocError, Global};
 

@@ -3,13 +3,13 @@
 ghost use Rattle.std.specs.Prelude.{◌≡◌, IfOk};
 ghost use Rattle.rule_messages.specs.Telling.{IsAt};
 
-use crate::bytes::{around, written};
+use crate::bytes::around;
 use crate::marks::{declared_mark, text_of, token_mark};
 use crate::message::{Mark, Message};
-use crate::nearest::nearest;
 use crate::source::{Declared, Kind, Source, begins_item};
 use crate::wanted::{TYPES, found, is_reserved, wanted, words_for};
 use lc_model::CmpOp;
+use message_words::{nearest, written};
 use rule_lexer::{Token, TokenKind};
 use rule_parser::{Sign, What};
 use std::alloc::{AllocError, Global};

@@ -3,11 +3,12 @@
 ghost use Rattle.std.specs.Prelude.{◌≡◌, IfOk};
 ghost use Rattle.rule_messages.specs.Telling.{IsAt};
 
-use crate::bytes::{Many, around, written};
+use crate::bytes::{Many, around};
 use crate::marks::{declared_mark, mark};
 use crate::message::Message;
 use crate::nearest::nearest_name;
 use crate::source::{Declared, Kind, Source};
+use message_words::written;
 use rule_lexer::{Token, TokenKind};
 use std::alloc::{AllocError, Global};
 

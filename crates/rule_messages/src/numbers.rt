@@ -3,13 +3,14 @@
 ghost use Rattle.std.specs.Prelude.{◌≡◌, IfOk};
 ghost use Rattle.rule_messages.specs.Telling.{IsAt};
 
-use crate::bytes::{Grouped, Signed, around, push_quoted};
+use crate::bytes::{Signed, around};
 use crate::fields::{Typed, type_of};
 use crate::marks::{mark, text_of};
 use crate::message::{Mark, Message};
 use crate::source::{Kind, Source};
 use field_checker::RuleNumber;
 use lc_model::FieldType;
+use message_words::{Grouped, push_quoted};
 use rule_lexer::Token;
 use std::alloc::{AllocError, Global};
 

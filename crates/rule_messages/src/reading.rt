@@ -1,10 +1,10 @@
 //! What the grammar says of each item of a text.
 
 use crate::bytes::part;
-use crate::nearest::nearest;
 use crate::source::{Part, Source, begins_item};
 use crate::token_faults::place;
 use crate::wanted::ITEM_WORDS;
+use message_words::nearest;
 use rule_lexer::{LexError, TokenKind, lex};
 use rule_parser::{ParseError, parse};
 use std::alloc::{AllocError, Global};

@@ -2,12 +2,13 @@
 
 ghost use Rattle.std.specs.Prelude.{◌≡◌, IfOk};
 
-use crate::bytes::{Many, quoted};
+use crate::bytes::Many;
 use crate::fields::{packet_of, type_of};
 use crate::marks::{mark, text_of, value_of};
 use crate::message::{Mark, Message};
 use crate::source::{Declared, Kind, Part, Source};
 use lc_model::{EQUATION_WORDS, FieldType, TABLE_ENTRIES, Term};
+use message_words::quoted;
 use rule_lexer::{Token, TokenKind};
 use std::alloc::{AllocError, Global};
 

@@ -6,8 +6,9 @@ ghost use Rattle.rpn_compiler.specs.declared.error.CompileError.TheVariants.{Lex
 ghost use Rattle.rpn_compiler.specs.Fault.{refusal_of};
 ghost use Rattle.rule_messages.specs.Telling.{IsAt, TellsOf, TellsReason, ends_line, place_of};
 
-use crate::bytes::{Grouped, Many, around, behind, character, front, last_word, word_size};
+use crate::bytes::{Many, around, behind, character, front, last_word, word_size};
 use crate::message::{Mark, Message};
+use message_words::Grouped;
 use rule_lexer::{LexError, LexReason, TokenKind, lex};
 use std::alloc::{AllocError, Global};
 

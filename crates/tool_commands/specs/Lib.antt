@@ -1,4 +1,1 @@
-pub mod Cause
-pub mod Checked
-pub mod Status
 pub mod Words

@@ -3,32 +3,14 @@
 #![tactic(auto)]
 
 ghost use Rattle.std.specs.Prelude.{◌≡◌};
-ghost use Rattle.tool_commands.specs.Status.{status_by};
+ghost use Rattle.tool_commands.specs.Words.{fault_of_words};
+ghost use Rattle.tool_faults.specs.Status.{status_by};
 
-mod checking;
-mod comparing;
-mod exporting;
-mod fault;
-mod feed;
-mod files;
-mod given;
-mod importing;
-mod listing;
-mod live;
-mod output;
-mod report;
-mod rows;
-mod scenario;
-mod telling;
-mod trying;
-mod words;
-
-use crate::checking::Asked;
-pub use crate::fault::Fault;
-use crate::rows::wanted;
-use crate::words::{Plan, read_words};
+use check_command::{Asked, check};
 use std::fs::Files;
 use std::io::{self, BufWriter, Eprint, Input, Print, Read, Write};
+pub use tool_faults::Fault;
+use tool_words::{Plan, WordsError, read_words};
 
 /// Does what the words say, the program's name first, and answers the exit status. A listing goes to standard output, with what
 /// it finds wrong with its file, and so do help, the version, and the packets of a run as it comes; all else to standard error.
@@ -47,6 +29,16 @@ pub fn main_on<R: Files + Input + Print + Eprint + AllocGlobal>(
     tell(rt, &answer)
 }
 
+/// The fault of words that are no plan.
+fn words_fault(error: WordsError) -> Fault<'static>
+    ensures { result ≡ fault_of_words error }
+{
+    match error {
+        WordsError::Refused(error) => Fault::Words(error),
+        WordsError::Memory => Fault::Memory,
+    }
+}
+
 /// Does what the words say. A run as it comes reads from `input`, which stands for standard input; listings and packets are
 /// written to `out`, which stands for standard output.
 pub fn obey<'a, R: Files + Eprint + AllocGlobal, I: Read + Drop, W: Write>(
@@ -56,28 +48,22 @@ pub fn obey<'a, R: Files + Eprint + AllocGlobal, I: Read + Drop, W: Write>(
     out: &mut W,
     is_watched: bool,
 ) -> Result<(), Fault<'a>> {
-    match read_words(rt.alloc(), words)? {
-        Plan::Said(text) => listing::said(&text, out),
-        Plan::Table { file, watchpoints } => listing::table(rt, file, watchpoints, out),
-        Plan::Stream { file, whole, rows } => match wanted(rows)? {
-            Some(rows) => rows::records(rt, file, &rows, out),
-            None => listing::stream(rt, file, whole, out),
-        },
-        Plan::Packets { file, rows } => match wanted(rows)? {
-            Some(rows) => rows::packets(rt, file, &rows, out),
-            None => listing::packets(rt, file, out),
-        },
+    match read_words(rt.alloc(), words).map_err(words_fault)? {
+        Plan::Said(text) => file_commands::said(&text, out),
+        Plan::Table { file, watchpoints } => file_commands::table(rt, file, watchpoints, out),
+        Plan::Stream { file, whole, rows } => file_commands::stream(rt, file, whole, rows, out),
+        Plan::Packets { file, rows } => file_commands::packets(rt, file, rows, out),
         Plan::Scenario {
             script,
             stream,
             rules,
-        } => scenario::make_stream(rt, script, stream, rules),
+        } => run_commands::make_stream(rt, script, stream, rules),
         Plan::Report {
             schedule,
             stream,
             page,
             rules,
-        } => report::make_page(rt, schedule, stream, page, rules.as_slice(), is_watched),
+        } => run_commands::make_page(rt, schedule, stream, page, rules.as_slice(), is_watched),
         Plan::Check {
             schedule,
             rules,
@@ -90,22 +76,28 @@ pub fn obey<'a, R: Files + Eprint + AllocGlobal, I: Read + Drop, W: Write>(
                 is_strict: strict,
                 is_json: json,
             };
-            checking::check(rt, schedule, rules.as_slice(), asked, out)
+            check(rt, schedule, rules.as_slice(), asked, out)
         }
-        Plan::Import { files, how } => importing::import(rt, files.as_slice(), how, out),
-        Plan::Export { stream, raw } => exporting::export(rt, stream, raw),
+        Plan::Import { files, how } => file_commands::import(rt, files.as_slice(), how, out),
+        Plan::Export { stream, raw } => file_commands::export(rt, stream, raw),
         Plan::Compare {
             schedule,
             stream,
             old,
             new,
-        } => comparing::compare(rt, schedule, stream, old, new, out),
+        } => run_commands::compare(rt, schedule, stream, old, new, out),
         Plan::Try {
             script,
             schedule,
             rules,
-        } => trying::try_out(rt, script, schedule, rules.as_slice(), out),
-        Plan::Live { schedule, rules } => live::run(rt, schedule, rules.as_slice(), input, out),
+        } => run_commands::try_out(rt, script, schedule, rules.as_slice(), out),
+        Plan::Live { schedule, rules } => run_commands::run(
+            rt,
+            schedule,
+            rules.as_slice(),
+            input,
+            out,
+        ),
     }
 }
 

@@ -103,7 +103,7 @@ const ROWS: &[Row] = &[
             "@no_text",
         ],
         1,
-        "text 0: expected `=` at 10\n",
+        "@no_text: expected `=` at 10\n",
         "",
     ),
     // Files that can't be read, and those that can't be written.

@@ -1,0 +1,61 @@
+//! For which values of their fields the rules of a text fail and pass.
+
+use judgement_listing::list_outcomes;
+use message_objects::note_line;
+use message_words::written;
+use std::alloc::Global;
+use std::io::Write;
+use tool_faults::{Fault, judgement_fault, listed};
+
+/// Writes a line as an object.
+fn write_note<'a, W: Write>(
+    alloc: Global,
+    name: &'a str,
+    line: &[u8],
+    out: &mut W,
+) -> Result<(), Fault<'a>> {
+    let note = written(alloc, line)?;
+    let object = note_line(alloc, name, false, note.as_str())?;
+    listed(out.write_all(object.as_bytes()))
+}
+
+/// Writes a line behind the name of its file.
+fn write_named<'a, W: Write>(name: &'a str, line: &[u8], out: &mut W) -> Result<(), Fault<'a>> {
+    listed(write!(out, "{name}: "))?;
+    listed(out.write_all(line))?;
+    listed(out.write_all(b"\n"))
+}
+
+/// Writes lines, each behind the name of its file or as an object.
+fn write_lines<'a, W: Write>(
+    alloc: Global,
+    name: &'a str,
+    lines: &[u8],
+    is_json: bool,
+    out: &mut W,
+) -> Result<(), Fault<'a>> {
+    for line in lines.split(|byte| *byte == b'\n') {
+        if line.is_empty() {
+            continue;
+        }
+        if is_json {
+            write_note(alloc, name, line, out)?;
+        } else {
+            write_named(name, line, out)?;
+        }
+    }
+    Ok(())
+}
+
+/// Writes for which values of their fields the rules of a text that compiles fail and pass.
+pub fn write_outcomes<'a, W: Write>(
+    alloc: Global,
+    name: &'a str,
+    text: &[u8],
+    is_json: bool,
+    out: &mut W,
+) -> Result<(), Fault<'a>> {
+    let mut lines = Vec::new(alloc);
+    list_outcomes(alloc, text, &mut lines).map_err(|error| judgement_fault(name, error))?;
+    write_lines(alloc, name, lines.as_slice(), is_json, out)
+}

@@ -1,0 +1,265 @@
+//! `import RAW.. STREAM`
+
+ghost use Rattle.std.specs.Prelude.{◌≤◌, IfOk, IfSome};
+
+use lc_model::Moment;
+use lc_model::stream::{HEADER, moment_of};
+use packet_archive::{Asked, Choice, Clock, Front, Met, Report, Tally, Times, import_held};
+use program_files::{begin, discard, fault_of, keep};
+use std::alloc::Global;
+use std::fs::Files;
+use std::io::Write;
+use stream_script::read_script;
+use tool_faults::{Fault, fault_at, feed_of, is_apart, listed};
+use tool_words::ImportWords;
+
+/// Where the time of this profile's telemetry stands.
+const OWN_TIME: u32 = 6;
+
+/// The parts of a second.
+const PARTS: u64 = 65_536;
+
+/// The most digits of a part of a second.
+const MOST_DIGITS: usize = 6;
+
+/// A number that is no greater than this, decimal or behind `0x` hexadecimal.
+fn number_in(word: &str, most: u32) -> Option<u32>
+    ensures { IfSome result (λ number. number ≤ most) }
+{
+    let number = match word.strip_prefix("0x") {
+        Some(digits) => u32::from_str_radix(digits, 16),
+        None => u32::from_str_radix(word, 10),
+    };
+    match number {
+        Ok(number) if number <= most => Some(number),
+        _ => None,
+    }
+}
+
+/// The number of an option, which is no greater than this; `default` where it isn't given.
+fn number_of<'a>(
+    option: &'a str,
+    word: Option<&'a str>,
+    most: u32,
+    default: u32,
+) -> Result<u32, Fault<'a>>
+    requires { default ≤ most }
+    ensures { IfOk result (λ number. number ≤ most) }
+{
+    match word {
+        None => Ok(default),
+        Some(word) => match number_in(word, most) {
+            Some(number) => Ok(number),
+            None => Err(Fault::Value(option, word)),
+        },
+    }
+}
+
+/// The part of a second that so many digits write, of which there are six at most.
+fn part_in(digits: &str) -> Option<u16> {
+    if digits.is_empty() || digits.len() > MOST_DIGITS {
+        return None;
+    }
+    let number = u64::from(number_in(digits, 999_999)?);
+    let mut whole = 1u64;
+    for _ in 0..digits.len() {
+        whole = whole.saturating_mul(10);
+    }
+    u16::try_from(number.saturating_mul(PARTS).checked_div(whole)?).ok()
+}
+
+/// Seconds with up to six digits behind a point.
+fn seconds_in(word: &str) -> Option<Moment> {
+    let (seconds, part) = match word.split_once('.') {
+        Some((seconds, part)) => (seconds, part_in(part)?),
+        None => (word, 0),
+    };
+    Some(Moment {
+        seconds: number_in(seconds, u32::MAX)?,
+        subseconds: part,
+    })
+}
+
+/// Where the packets' times are from.
+fn times_of<'a>(wanted: ImportWords<'a>) -> Result<Times, Fault<'a>> {
+    match wanted.step {
+        Some(word) => match seconds_in(word) {
+            Some(step) => Ok(Times::Steps { step }),
+            None => Err(Fault::Value("--step", word)),
+        },
+        None => Ok(Times::Header {
+            at: number_of("--time-at", wanted.time_at, 65_535, OWN_TIME)? as u16,
+            epoch: number_of("--epoch", wanted.epoch, u32::MAX, 0)?,
+        }),
+    }
+}
+
+/// The message ids that are asked for, one behind the other, parted by commas; none where all are.
+fn ids_of<'a>(alloc: Global, word: Option<&'a str>) -> Result<Vec<u16>, Fault<'a>> {
+    let mut ids = Vec::new(alloc);
+    if let Some(word) = word {
+        for id in word.split(',') {
+            match number_in(id, 65_535) {
+                Some(id) => ids.push(id as u16)?,
+                None => return Err(Fault::Value("--only", word)),
+            }
+        }
+    }
+    Ok(ids)
+}
+
+/// Whether more bytes may make more of what stands in front.
+fn may_go_on(met: Met) -> bool {
+    matches!(met, Met::Stands(Front::Over | Front::Cut))
+}
+
+/// The records that bring both halves of a rule text as the Limit Checker's own tables, and start it and the scheduler, as a script
+/// says them.
+fn start_of<'a>(alloc: Global, moment: Moment, text: u16) -> Result<Vec<u8>, Fault<'a>> {
+    let Moment {
+        seconds,
+        subseconds,
+    } = moment;
+    let mut script = Vec::new(alloc);
+    listed(writeln!(script, "at {seconds} {subseconds}"))?;
+    listed(writeln!(script, "wdt {text} /cf/lc_def_wdt.tbl"))?;
+    listed(writeln!(script, "adt {text} /cf/lc_def_adt.tbl"))?;
+    listed(script.write_all(b"start LC\nstart SCH\n"))?;
+    read_script(alloc, script.as_slice()).map_err(|_| Fault::Memory)
+}
+
+/// The stream that is being written.
+#[derive(Drop)]
+struct Stream<'a, 's, S> {
+    name: &'a str,
+    file: &'s mut S,
+    /// The rule text with which it starts, where that is asked for and nothing is written yet.
+    start: Option<u16>,
+}
+
+impl<'a, S: Write> Stream<'a, '_, S> {
+    /// Writes bytes.
+    fn push(&mut self, bytes: &[u8]) -> Result<(), Fault<'a>> {
+        self.file
+            .write_all(bytes)
+            .map_err(|error| fault_at(self.name, fault_of(&error)))
+    }
+
+    /// Writes records, behind the start where they are the first.
+    fn push_records(&mut self, alloc: Global, records: &[u8]) -> Result<(), Fault<'a>> {
+        if records.len() < HEADER {
+            return Ok(());
+        }
+        if let Some(text) = self.start {
+            self.start = None;
+            let start = start_of(alloc, moment_of(records), text)?;
+            self.push(start.as_slice())?;
+        }
+        self.push(records)
+    }
+}
+
+/// Imports an archive behind others into a stream, and says what was met. Answers whether it ends behind a whole packet.
+fn import_one<'a, R: Files + AllocGlobal, S: Write, W: Write>(
+    rt: &R,
+    name: &'a str,
+    stream: &mut Stream<'a, '_, S>,
+    clock: &mut Clock,
+    asked: &Asked<'_>,
+    out: &mut W,
+) -> Result<bool, Fault<'a>> {
+    let mut feed = feed_of(rt, name)?;
+    let mut tally = Tally::new();
+    let mut records = Vec::new(rt.alloc());
+    for _ in 0..u64::MAX {
+        let is_more = feed.read_on()?;
+        let held = feed.held().len();
+        let (rest, met) = import_held(&mut records, clock, &mut tally, asked, feed.held())?;
+        let left = rest.len();
+        stream.push_records(rt.alloc(), records.as_slice())?;
+        records.clear();
+        if !is_more || !may_go_on(met) {
+            let report = Report {
+                name,
+                tally: &tally,
+                met,
+                left,
+            };
+            listed(write!(out, "{report}"))?;
+            return Ok(matches!(met, Met::Stands(Front::Over)));
+        }
+        feed.let_go(held.saturating_sub(left));
+    }
+    Ok(false)
+}
+
+/// Imports archives, one behind the other, into a stream, and says what was met. Answers whether each ends behind a whole packet.
+fn import_all<'a, R: Files + AllocGlobal, S: Write, W: Write>(
+    rt: &R,
+    archives: &[&'a str],
+    stream: &mut Stream<'a, '_, S>,
+    clock: &mut Clock,
+    asked: &Asked<'_>,
+    out: &mut W,
+) -> Result<bool, Fault<'a>> {
+    let mut is_whole = true;
+    for name in archives {
+        let ends = import_one(rt, name, stream, clock, asked, out)?;
+        is_whole = is_whole && ends;
+    }
+    Ok(is_whole)
+}
+
+/// The number of the rule text with which a stream starts, where one is given.
+fn start_number<'a>(word: Option<&'a str>) -> Result<Option<u16>, Fault<'a>> {
+    match word {
+        None => Ok(None),
+        Some(word) => match number_in(word, 65_535) {
+            Some(number) => Ok(Some(number as u16)),
+            None => Err(Fault::Value("--start", word)),
+        },
+    }
+}
+
+/// Imports archives of space packets, one behind the other, into a stream, which is written beside its name and takes it at the
+/// end. An archive that ends early has another status; the stream is there all the same, with what stood before.
+pub fn import<'a, R: Files + AllocGlobal, W: Write>(
+    rt: &R,
+    files: &[&'a str],
+    wanted: ImportWords<'a>,
+    out: &mut W,
+) -> Result<(), Fault<'a>> {
+    let Some((stream, archives)) = files.split_last() else {
+        return Err(Fault::NoText);
+    };
+    let only = ids_of(rt.alloc(), wanted.only)?;
+    let asked = Asked {
+        marked: wanted.marked,
+        choice: Choice {
+            idle: wanted.keep_idle,
+            faulty: wanted.keep_faulty,
+            only: only.as_slice(),
+        },
+        times: times_of(wanted)?,
+    };
+    let start = start_number(wanted.start)?;
+    let mut clock = Clock::new(number_of("--tick", wanted.tick, u32::MAX, 0)?);
+    is_apart(rt, stream, archives)?;
+    let mut draft = begin(rt, stream).map_err(|fault| fault_at(stream, fault))?;
+    let mut into = Stream {
+        name: stream,
+        file: &mut draft.file,
+        start,
+    };
+    match import_all(rt, archives, &mut into, &mut clock, &asked, out) {
+        Ok(is_whole) => {
+            keep(rt, draft).map_err(|fault| fault_at(stream, fault))?;
+            listed(out.flush())?;
+            if is_whole { Ok(()) } else { Err(Fault::Early) }
+        }
+        Err(fault) => {
+            discard(rt, draft);
+            Err(fault)
+        }
+    }
+}

@@ -1,0 +1,85 @@
+//! `live SCHEDULE RULES..`
+
+ghost use Rattle.std.specs.Prelude.{◌≡◌};
+ghost use Rattle.run_commands.specs.Cause.{IsAnswered, fault_of_text};
+
+use flight_core::{Report, RunError};
+use flight_stock::launch;
+use lc_model::{Reading, Writing};
+use program_files::Noting;
+use rpn_compiler::CompileError;
+use std::cell::Cell;
+use std::fs::Files;
+use std::io::{self, Eprint, ErrorKind, Read, Write};
+use tool_faults::{Fault, input_fault, output_fault, schedule_in, texts_in};
+
+/// A rule text that is refused, by its file's name among these.
+fn refused_text<'a>(rules: &[&'a str], text: usize, error: CompileError) -> Fault<'a>
+    ensures { result ≡ fault_of_text rules.now text error }
+{
+    match rules.get(text) {
+        Some(name) => Fault::Rules(name, error),
+        None => Fault::Run(RunError::Compile { text, error }),
+    }
+}
+
+/// How a run of rule texts in these files ended, where its input and its output failed by these kinds of errors, if they did.
+fn answered<'a>(
+    rules: &[&'a str],
+    answer: Result<Report, RunError>,
+    read: Option<ErrorKind>,
+    written: Option<ErrorKind>,
+) -> Result<Report, Fault<'a>>
+    ensures { IsAnswered rules.now answer read written result }
+{
+    match (answer, read, written) {
+        (Ok(report), _, _) => Ok(report),
+        (Err(RunError::Compile { text, error }), _, _) => Err(refused_text(rules, text, error)),
+        (Err(RunError::Memory), _, _) => Err(Fault::Memory),
+        (Err(RunError::Read), Some(kind), _) => Err(input_fault(kind)),
+        (Err(RunError::Write { .. }), _, Some(kind)) => Err(output_fault(kind)),
+        (Err(error), _, _) => Err(Fault::Run(error)),
+    }
+}
+
+/// Writes to a writer that keeps nothing back.
+#[derive(Drop)]
+struct Prompt<'a, W> {
+    writer: &'a mut W,
+}
+
+impl<W: Write> Write for Prompt<'_, W> {
+    fn write(&mut self, bytes: &[u8]) -> io::Result<usize> {
+        self.writer.write_all(bytes)?;
+        self.writer.flush()?;
+        Ok(bytes.len())
+    }
+
+    fn flush(&mut self) -> io::Result<()> {
+        self.writer.flush()
+    }
+}
+
+/// A host runs over a stream as it comes, and writes packets as they come: before it waits for more of the stream, all that its
+/// records so far led to is written and flushed. How much that was is said on standard error at the end of the stream.
+pub fn run<'a, R: Files + Eprint + AllocGlobal, I: Read + Drop, W: Write>(
+    rt: &R,
+    schedule: &'a str,
+    rules: &[&'a str],
+    input: I,
+    out: &mut W,
+) -> Result<(), Fault<'a>> {
+    let plan = schedule_in(rt, schedule)?;
+    let texts = texts_in(rt, rules)?;
+    let mut slices = Vec::new(rt.alloc());
+    for text in &texts {
+        slices.push(text.as_slice())?;
+    }
+    let (read, written) = (Cell::new(None), Cell::new(None));
+    let mut reader = Reading::new(Noting::new(input, &read));
+    let writer = Writing::new(Noting::new(Prompt { writer: out }, &written));
+    let (answer, _device) = launch(rt.alloc(), slices.as_slice(), &plan, &mut reader, writer);
+    let Report { records, bytes } = answered(rules, answer, read.get(), written.get())?;
+    let _said = eprintln!(rt; "records {records}, bytes {bytes}");
+    Ok(())
+}

@@ -1,0 +1,116 @@
+//! `report SCHEDULE STREAM PAGE RULES..`
+
+ghost use Rattle.std.specs.Prelude.{◌≡◌};
+ghost use Rattle.run_commands.specs.Cause.{fault_of_page};
+
+use program_files::{Noting, Why, begin, discard, keep, reason_for};
+use run_report::{Progress, ReportError, Source, write_page};
+use std::alloc::Global;
+use std::cell::Cell;
+use std::fs::Files;
+use std::io::{BufWriter, Eprint, ErrorKind, Write};
+use tick_scheduler::Schedule;
+use tool_faults::{Fault, LONGEST_WHOLE, fault_at, is_apart, read, schedule_in, texts_in};
+
+/// Of how many steps each is told, at most.
+const TOLD: usize = 20;
+
+/// Tells on standard error how far a report is, where a person looks at it.
+#[derive(Drop)]
+struct Told<'a, R> {
+    rt: &'a R,
+    is_watched: bool,
+}
+
+impl<R: Eprint> Progress for Told<'_, R> {
+    fn done(&mut self, probes: usize, of: usize) {
+        let step = of / TOLD + 1;
+        if self.is_watched && (probes == of || probes % step == 0) {
+            let _told = eprintln!(self.rt; "{probes} of {of} columns");
+        }
+    }
+}
+
+/// Why there is no page of this name of rule texts in these files, where a write failed by this kind of error, if one did.
+fn page_fault<'a>(
+    page: &'a str,
+    rules: &[&'a str],
+    error: ReportError,
+    kind: Option<ErrorKind>,
+) -> Fault<'a>
+    ensures { result ≡ fault_of_page page.entry rules.now error kind }
+{
+    match (error, kind) {
+        (ReportError::Rules { text, error }, _) => match rules.get(text) {
+            Some(name) => Fault::Rules(name, error),
+            None => Fault::Rules(page, error),
+        },
+        (ReportError::Memory, _) => Fault::Memory,
+        (ReportError::Write, Some(kind)) => Fault::File(page, reason_for(kind)),
+        (ReportError::Write, None) => Fault::File(page, Why::Failed),
+    }
+}
+
+/// Writes the page, and all of it is with the device. Answers whether the stream has an end.
+fn write_to<R: Eprint, F: Write + Drop>(
+    alloc: Global,
+    schedule: &Schedule,
+    stream: &[u8],
+    sources: &[Source<'_>],
+    file: F,
+    told: &mut Told<'_, R>,
+) -> Result<bool, ReportError> {
+    let Ok(mut out) = BufWriter::new(alloc, file) else {
+        return Err(ReportError::Memory);
+    };
+    let written = write_page(alloc, schedule, stream, sources, &mut out, told);
+    let flushed = out.flush();
+    let (_file, _unwritten) = out.into_parts();
+    let is_whole = written?;
+    flushed?;
+    Ok(is_whole)
+}
+
+/// A run of these rule texts over a stream, as a page, which is written beside its name and takes it at the end. A stream that
+/// ends early has a page, and another status.
+pub fn make_page<'a, R: Files + Eprint + AllocGlobal>(
+    rt: &R,
+    schedule: &'a str,
+    stream: &'a str,
+    page: &'a str,
+    rules: &[&'a str],
+    is_watched: bool,
+) -> Result<(), Fault<'a>> {
+    let plan = schedule_in(rt, schedule)?;
+    let bytes = read(rt, stream, LONGEST_WHOLE)?;
+    let texts = texts_in(rt, rules)?;
+    is_apart(rt, page, &[schedule, stream])?;
+    is_apart(rt, page, rules)?;
+    let mut sources = Vec::new(rt.alloc());
+    for (name, text) in rules.iter().zip(texts.iter()) {
+        sources.push(Source {
+            name,
+            text: text.as_slice(),
+        })?;
+    }
+    let mut draft = begin(rt, page).map_err(|fault| fault_at(page, fault))?;
+    let kind = Cell::new(None);
+    let written = write_to(
+        rt.alloc(),
+        &plan,
+        bytes.as_slice(),
+        sources.as_slice(),
+        Noting::new(&mut draft.file, &kind),
+        &mut Told { rt, is_watched },
+    );
+    match written {
+        Ok(is_whole) => {
+            keep(rt, draft).map_err(|fault| fault_at(page, fault))?;
+            if is_whole { Ok(()) } else { Err(Fault::Early) }
+        }
+        Err(error) => {
+            discard(rt, draft);
+            Err(page_fault(page, rules, error, kind.get()))
+        }
+    }
+}

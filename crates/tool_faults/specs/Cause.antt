@@ -1,0 +1,74 @@
+-- Which fault each failure is. This project's own.
+use Rattle.std.specs.Prelude.{◌≡◌, ⊤, codes, List, ℕ, Option, Some, None, Result, Ok, Err}
+use Rattle.std.specs.Borrow.{Bor}
+use Rattle.std.specs.IoError.{error_kind}
+use Rattle.std_io.specs.declared.io.error.Error.{Error}
+use Rattle.std_io.specs.declared.io.kind.ErrorKind.{ErrorKind}
+use Rattle.std_io.specs.declared.io.kind.ErrorKind.TheVariants as kind
+use Rattle.program_files.specs.Why.{why_of}
+use Rattle.program_files.specs.declared.why.Why.{Why}
+use Rattle.program_files.specs.declared.why.Why.TheVariants as why
+use Rattle.program_files.specs.declared.why.FileFault.{FileFault}
+use Rattle.program_files.specs.declared.why.FileFault.TheVariants as file
+use Rattle.line_messages.specs.declared.refusal.Refusal.{Refusal}
+use Rattle.line_messages.specs.declared.refusal.Refusal.TheVariants as refusal
+use Rattle.stream_script.specs.declared.error.ScriptError.{ScriptError}
+use Rattle.stream_script.specs.declared.error.ScriptError.TheVariants as script
+use Rattle.judgement_listing.specs.declared.error.ListingError.{ListingError}
+use Rattle.judgement_listing.specs.declared.error.ListingError.TheVariants as judgement
+use Rattle.tool_faults.specs.declared.fault.Fault.{Fault}
+use Rattle.tool_faults.specs.declared.fault.Fault.TheVariants as fault
+
+-- want of memory is one fault, wherever it arose
+abbrev pub fault_of_file : Bor (List ℕ) → FileFault → Fault
+fault_of_file name file.Memory = fault.Memory
+fault_of_file name (file.Unusable why) = fault.File name why
+
+-- what is said of a text is the fault, or there was no memory for it
+abbrev pub IsToldFault : Fault → Type 0
+IsToldFault (fault.Lines page) = ⊤
+IsToldFault fault.Memory = ⊤
+IsToldFault other = ⊥
+
+-- of a schedule or a script that is refused
+abbrev pub IsOfRefusal : Refusal → Fault → Type 0
+IsOfRefusal refusal.Memory found = found ≡ fault.Memory
+IsOfRefusal (refusal.Told message) found = IsToldFault found
+
+-- of a script that is refused
+abbrev pub IsOfScript : ScriptError → Fault → Type 0
+IsOfScript script.Memory found = found ≡ fault.Memory
+IsOfScript (script.Line n reason) found = IsToldFault found
+
+-- of what was judged into memory
+abbrev pub fault_of_judgement : Bor (List ℕ) → ListingError → Fault
+fault_of_judgement name judgement.Memory = fault.Memory
+fault_of_judgement name judgement.Write = fault.Memory
+fault_of_judgement name error = fault.Judgement name error
+
+-- what has this name can't be used, for this reason
+abbrev pub IsUnusable : List ℕ → Why → Fault → Type 0
+IsUnusable of reason (fault.File name found) = (name.now ≡ of) × (found ≡ reason)
+IsUnusable of reason other = ⊥
+
+-- standard input, by the kind of its error
+abbrev pub IsOfInput : ErrorKind → Fault → Type 0
+IsOfInput kind.OutOfMemory found = found ≡ fault.Memory
+IsOfInput rest found = IsUnusable (codes "standard input") (why_of rest) found
+
+-- standard output, by the kind of its error: where nobody reads any more the program ends quietly
+abbrev pub IsOfOutput : ErrorKind → Fault → Type 0
+IsOfOutput kind.OutOfMemory found = found ≡ fault.Memory
+IsOfOutput kind.BrokenPipe found = found ≡ fault.Gone
+IsOfOutput rest found = IsUnusable (codes "standard output") (why_of rest) found
+
+-- the same where it may not have been noted
+abbrev pub IsOfWrite : Option ErrorKind → Fault → Type 0
+IsOfWrite (Some kind) found = IsOfOutput kind found
+IsOfWrite None found = IsUnusable (codes "standard output") why.Failed found
+
+-- the same of what was listed
+abbrev pub IsListed : Result (Unit {0}) Error → Result (Unit {0}) Fault → Type 0
+IsListed (Ok none) answer = answer ≡ Ok none
+IsListed (Err error) (Ok none) = ⊥
+IsListed (Err error) (Err found) = IsOfOutput (error_kind error) found

@@ -1,0 +1,40 @@
+-- The exit status that goes with each fault. This project's own.
+use Rattle.std.specs.Prelude.{ℕ, Result, Ok, Err}
+use Rattle.flight_core.specs.declared.error.RunError.{RunError}
+use Rattle.flight_core.specs.declared.error.RunError.TheVariants as run
+use Rattle.tool_faults.specs.declared.fault.Fault.{Fault}
+use Rattle.tool_faults.specs.declared.fault.Fault.TheVariants.{Words, NoText, Value, Table, Early, Lines, Rules, Differs, Unmet, Refused, Judgement, Warned, Run, File, Gone, Memory}
+
+-- of a run that was stopped: a rule text that is refused, a device that failed, the stream, memory
+abbrev pub stopped : RunError → ℕ
+stopped (run.Compile text error) = 1
+stopped (run.BadRecord n) = 4
+stopped (run.Truncated n) = 4
+stopped run.Read = 3
+stopped (run.Write sent) = 3
+stopped run.ReadBound = 4
+stopped run.Memory = 5
+
+-- what has a fault, is refused, or is warned of where nothing may be: 1; words that are no command: 2; files: 3; what ends early: 4; memory: 5; where nobody reads any more nothing is wrong
+abbrev pub status_of : Fault → ℕ
+status_of (Words error) = 2
+status_of NoText = 2
+status_of (Value option word) = 2
+status_of Table = 1
+status_of Early = 4
+status_of (Lines page) = 1
+status_of (Rules name error) = 1
+status_of Differs = 1
+status_of Unmet = 1
+status_of Refused = 1
+status_of (Judgement name error) = 1
+status_of Warned = 1
+status_of (Run error) = stopped error
+status_of (File name why) = 3
+status_of Gone = 0
+status_of Memory = 5
+
+-- the status of an answer
+abbrev pub status_by : Result (Unit {0}) Fault → ℕ
+status_by (Ok none) = 0
+status_by (Err fault) = status_of fault

@@ -1,0 +1,166 @@
+//! What is said of texts, and of those that are refused.
+
+ghost use Rattle.std.specs.Prelude.{◌≡◌};
+ghost use Rattle.tool_faults.specs.Cause.{IsOfRefusal, IsOfScript, IsToldFault, fault_of_judgement};
+
+use crate::fault::Fault;
+use crate::output::listed;
+use judgement_listing::ListingError;
+use line_messages::{Refusal, script_message};
+use message_objects::message_line;
+use rule_messages::{Mark, Message, page_of, warnings_page_of};
+use std::alloc::{AllocError, Global};
+use std::fmt::Display;
+use std::io::Write;
+use stream_script::ScriptError;
+
+/// This message alone.
+pub fn alone(alloc: Global, message: Message) -> Result<Vec<Message>, AllocError> {
+    let mut told = Vec::new(alloc);
+    told.push(message)?;
+    Ok(told)
+}
+
+/// What is said of a text in a file of this name, as it is printed.
+fn page(alloc: Global, name: &str, text: &[u8], message: Message) -> Result<String, AllocError> {
+    let told = alone(alloc, message)?;
+    page_of(alloc, name, text, told.as_slice())
+}
+
+/// The fault of a text in a file of this name of which this is said.
+fn told_fault(alloc: Global, name: &str, text: &[u8], message: Message) -> Fault<'static>
+    ensures { IsToldFault result }
+{
+    match page(alloc, name, text, message) {
+        Ok(page) => Fault::Lines(page),
+        Err(_) => Fault::Memory,
+    }
+}
+
+/// The place of a line with this number, from its first word to its last; of a number that no line has, the text's end.
+fn line_mark(alloc: Global, text: &[u8], number: usize) -> Mark {
+    let mut at = 0usize;
+    for (place, line) in text.split(|byte| *byte == b'\n').enumerate() {
+        if place.saturating_add(1) == number {
+            let indent = line.len().saturating_sub(line.trim_ascii_start().len());
+            return Mark {
+                at: at.saturating_add(indent),
+                size: line.trim_ascii().len(),
+                label: String::new(alloc),
+            };
+        }
+        at = at.saturating_add(line.len()).saturating_add(1);
+    }
+    Mark {
+        at: text.len(),
+        size: 0,
+        label: String::new(alloc),
+    }
+}
+
+/// The fault of a line, by its number, of a text in a file of this name, with the fault's own number and what it says.
+pub fn line_fault<E: Display>(
+    alloc: Global,
+    name: &str,
+    text: &[u8],
+    code: u8,
+    number: usize,
+    error: &E,
+) -> Fault<'static>
+    ensures { IsToldFault result }
+{
+    match format!(in alloc; "{error}") {
+        Ok(head) => {
+            let mark = line_mark(alloc, text, number);
+            told_fault(alloc, name, text, Message::at(alloc, code, head, mark))
+        }
+        Err(_) => Fault::Memory,
+    }
+}
+
+/// The fault of a script in a file of this name, at a line of the text that says it.
+pub fn script_fault(alloc: Global, name: &str, text: &[u8], error: ScriptError) -> Fault<'static>
+    ensures { IsOfScript error result }
+{
+    match error {
+        ScriptError::Memory => Fault::Memory,
+        ScriptError::Line { n, reason } => match script_message(alloc, text, n, reason) {
+            Ok(message) => told_fault(alloc, name, text, message),
+            Err(_) => Fault::Memory,
+        },
+    }
+}
+
+/// The fault of a schedule in a file of this name that is refused so.
+pub fn refusal_fault(alloc: Global, name: &str, text: &[u8], refusal: Refusal) -> Fault<'static>
+    ensures { IsOfRefusal refusal result }
+{
+    match refusal {
+        Refusal::Told(message) => told_fault(alloc, name, text, message),
+        Refusal::Memory => Fault::Memory,
+    }
+}
+
+/// The fault of what couldn't be judged, in a file of this name. What is written goes into memory, so that a failed write is want
+/// of it.
+pub fn judgement_fault(name: &str, error: ListingError) -> Fault<'_>
+    ensures { result ≡ fault_of_judgement name.entry error }
+{
+    match error {
+        ListingError::Memory | ListingError::Write => Fault::Memory,
+        error => Fault::Judgement(name, error),
+    }
+}
+
+/// Writes messages of a text in a file of this name, each as an object.
+fn write_objects<'a, W: Write>(
+    alloc: Global,
+    name: &'a str,
+    text: &[u8],
+    messages: &[Message],
+    out: &mut W,
+) -> Result<(), Fault<'a>> {
+    for message in messages {
+        let line = message_line(alloc, name, text, message)?;
+        listed(out.write_all(line.as_bytes()))?;
+    }
+    listed(out.flush())
+}
+
+/// Writes messages of a text in a file of this name, as a page or each as an object.
+pub fn write_messages<'a, W: Write>(
+    alloc: Global,
+    name: &'a str,
+    text: &[u8],
+    messages: &[Message],
+    is_json: bool,
+    out: &mut W,
+) -> Result<(), Fault<'a>> {
+    if is_json {
+        return write_objects(alloc, name, text, messages, out);
+    }
+    let page = page_of(alloc, name, text, messages)?;
+    listed(out.write_all(page.as_bytes()))?;
+    listed(out.flush())
+}
+
+/// The most warnings of a text that are written on a page. All are counted, and each is an object.
+pub const MOST_WARNINGS: usize = 100;
+
+/// Writes warnings of a text in a file of this name, the first hundred as a page, or each as an object.
+pub fn write_warnings<'a, W: Write>(
+    alloc: Global,
+    name: &'a str,
+    text: &[u8],
+    warnings: &[Message],
+    is_json: bool,
+    out: &mut W,
+) -> Result<(), Fault<'a>> {
+    if is_json {
+        return write_objects(alloc, name, text, warnings, out);
+    }
+    let shown = warnings.len().min(MOST_WARNINGS);
+    let page = warnings_page_of(alloc, name, text, &warnings[..shown])?;
+    listed(out.write_all(page.as_bytes()))?;
+    listed(out.flush())
+}
