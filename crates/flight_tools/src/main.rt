@@ -9,7 +9,8 @@ use std::env::{self, Env};
 use std::fs::Files;
 use std::io::{Eprint, ErrorKind, Input, IsTerminal, Print};
 use std::process::ExitCode;
-use tool_commands::{Fault, main_on, tell};
+use tool_commands::{main_on, tell};
+use tool_faults::Fault;
 
 /// Where the system has no words for the program: want of memory, or words that are no text.
 fn fault_without_words(kind: ErrorKind) -> Fault<'static>

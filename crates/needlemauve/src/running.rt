@@ -1,7 +1,7 @@
 //! A run from memory to memory.
 
 ghost use Rattle.std.specs.Prelude.{◌≡◌, ◌≢◌, ◌≤◌, length};
-ghost use Rattle.needlemauve_calls.specs.Running.{IsNotRun, RunsOf};
+ghost use Rattle.needlemauve_calls.specs.Running.{IsKeptBehind, IsNotRun, RunsOf};
 ghost use Rattle.needlemauve_calls.specs.Texts.{texts_in};
 
 use needlemauve_calls::{Run, run_texts};
@@ -24,6 +24,8 @@ pub extern "C" fn needlemauve_run(
         stream.now output.new told.new.written told.new.ending }
     ensures unrun { told.new.ending.of ≡ 4 →
         IsNotRun texts.now lengths.now schedule.now told.new.ending }
+    ensures behind { IsKeptBehind told.new.written output.old output.new }
+    ensures unwritten { told.new.ending.of ≡ 4 → told.new.written ≡ 0 }
 {
     *told = run_texts(alloc, texts, lengths, schedule, stream, output);
     told.ending.code

@@ -1,5 +1,5 @@
 -- A run from memory to memory. This project's own.
-use Rattle.std.specs.Prelude.{◌≡◌, ◌≢◌, ◌⊎◌, ⊤, ℕ, Bool, true, false, List, [], take, length, Option, Some, None, Result, Ok, Err}
+use Rattle.std.specs.Prelude.{◌≡◌, ◌≢◌, ◌⊎◌, ⊤, ℕ, Bool, true, false, List, [], take, drop, length, Option, Some, None, Result, Ok, Err}
 use Rattle.std.specs.List.{sum}
 use Rattle.lc_model.specs.Device.{Source, Sink}
 use Rattle.lc_model.specs.Host.Schedule.{Schedule}
@@ -35,6 +35,10 @@ unwritten = record { gained = Some []; failed = false }
 -- the room's first bytes, so many, were written, and then it was full or not
 abbrev pub written_in : List ℕ → ℕ → Bool → Sink
 written_in output written full = record { gained = Some (take written output); failed = full }
+
+-- what stands behind the first bytes of the output, so many, is as it was
+abbrev pub IsKeptBehind : ℕ → (old new : List ℕ) → Type 0
+IsKeptBehind count old new = drop count new ≡ drop count old
 
 -- a run over memory: all that a run promises holds of it, no read fails, and a write only where the output is full
 pub record RunsInMemory (sources : List (List ℕ)) (schedule : Schedule) (stream output : List ℕ) (written : ℕ) (answer : Result Report RunError) : Type 0 where

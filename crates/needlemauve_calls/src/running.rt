@@ -1,8 +1,8 @@
 //! A run from memory to memory.
 
-ghost use Rattle.std.specs.Prelude.{◌≡◌, ◌≢◌, ◌≤◌, length, IfSome};
+ghost use Rattle.std.specs.Prelude.{◌≡◌, ◌≢◌, ◌≤◌, length, None, IfSome};
 ghost use Rattle.flight_core.specs.Compiled.{sources_of};
-ghost use Rattle.needlemauve_calls.specs.Running.{IsNotRun, IsUnscheduled, RunsInMemory, RunsOf};
+ghost use Rattle.needlemauve_calls.specs.Running.{IsKeptBehind, IsNotRun, IsUnscheduled, RunsInMemory, RunsOf};
 ghost use Rattle.needlemauve_calls.specs.Texts.{texts_in};
 
 use crate::ending::{UNFIT, ending_in_numbers, no_schedule, not_run, said};
@@ -41,6 +41,7 @@ fn run_into<S: Size>(
     ensures run { RunsInMemory (sources_of texts.now) schedule.now stream.now output.new result.1
         result.0 }
     ensures within { result.1 ≤ length output.new }
+    ensures behind { IsKeptBehind result.1 output.old output.new }
 {
     let mut reader = Stream::new(stream);
     let writer = Room::<S>::new(room);
@@ -62,6 +63,8 @@ fn run_in_memory(
     ensures run { IfSome result (λ told. RunsInMemory (sources_of texts.now) schedule.now
         stream.now output.new told.1 told.0) }
     ensures within { IfSome result (λ told. told.1 ≤ length output.new) }
+    ensures behind { IfSome result (λ told. IsKeptBehind told.1 output.old output.new) }
+    ensures untouched { result ≡ None → output.new ≡ output.old }
 {
     let size = output.len();
     let Ok(mut room) = Vec::from_elem(alloc, 0u8, size) else {
@@ -96,6 +99,8 @@ fn run_scheduled(
     ensures run { result.ending.of ≢ 4 → RunsOf (sources_of texts.now) schedule.now stream.now
         output.new result.written result.ending }
     ensures unrun { result.ending.of ≡ 4 → IsUnscheduled schedule.now result.ending }
+    ensures behind { IsKeptBehind result.written output.old output.new }
+    ensures unwritten { result.ending.of ≡ 4 → result.written ≡ 0 }
 {
     match parse_schedule(alloc, schedule) {
         Ok(slots) => match run_in_memory(alloc, texts, &slots, stream, output) {
@@ -125,6 +130,8 @@ pub fn run_texts(
         stream.now output.new result.written result.ending }
     ensures unrun { result.ending.of ≡ 4 →
         IsNotRun texts.now lengths.now schedule.now result.ending }
+    ensures behind { IsKeptBehind result.written output.old output.new }
+    ensures unwritten { result.ending.of ≡ 4 → result.written ≡ 0 }
 {
     if !are_lengths(lengths, texts.len()) {
         let why = Sentence::of("the lengths are not those of the texts");

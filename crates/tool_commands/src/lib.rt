@@ -9,7 +9,7 @@ ghost use Rattle.tool_faults.specs.Status.{status_by};
 use check_command::{Asked, check};
 use std::fs::Files;
 use std::io::{self, BufWriter, Eprint, Input, Print, Read, Write};
-pub use tool_faults::Fault;
+use tool_faults::Fault;
 use tool_words::{Plan, WordsError, read_words};
 
 /// Does what the words say, the program's name first, and answers the exit status. A listing goes to standard output, with what

@@ -1,5 +1,6 @@
 use Rattle.std.proofs.Common.{rules, ◌∙◌, ap, sym, refl, List, ℕ, length, take, drop, Some, false}
 use Rattle.flight_core.specs.Compiled.{sources_of}
+use Rattle.std.proofs.lemmas.List.{drop_at}
 use Rattle.needlemauve_calls.proofs.Memory.{copied, in_memory}
 use Rattle.needlemauve_calls.proofs.running.run_into.Goals as goal
 
@@ -19,3 +20,8 @@ returns-clause-run g c =
     (ap (λ (bytes : List ℕ). record { gained = Some bytes; failed = w.failed }) (sym c.bytes-bytes.ensures.bytes)
     ∙ copied c.bytes-bytes.result.now c.copy_from_slice.new.self (drop (length c.bytes-bytes.result.now) c.args.output.now) w.failed (search rules))
     c.launch-answer.ensures.promises
+
+pub returns-clause-behind : goal.returns-clause-behind
+returns-clause-behind g c =
+    drop_at c.copy_from_slice.new.self (drop (length c.bytes-bytes.result.now) c.args.output.now)
+    (length c.bytes-bytes.result.now) (search rules)
