@@ -1,32 +1,11 @@
 //! `export STREAM RAW`
 
-use lc_model::stream::HEADER;
+use packet_archive::export_held;
 use program_files::{begin, discard, fault_of, keep};
-use std::alloc::AllocError;
 use std::fs::Files;
 use std::io::Write;
-use stream_script::{Front, RecordKind, front_of};
+use stream_script::Front;
 use tool_faults::{Fault, fault_at, feed_of, is_apart};
-
-/// The packets of the whole records in front, one behind the other, behind others. Answers how many bytes are left, and what
-/// stands there.
-fn push_packets(packets: &mut Vec<u8>, bytes: &[u8]) -> Result<(usize, Front), AllocError> {
-    let mut rest = bytes;
-    for _ in 0..bytes.len() {
-        match front_of(rest) {
-            Front::Record { kind, size } => {
-                let (record, behind) = rest.split_at(size);
-                if kind == RecordKind::Packet {
-                    let (_, body) = record.split_at(HEADER);
-                    packets.extend_from_slice(body)?;
-                }
-                rest = behind;
-            }
-            front => return Ok((rest.len(), front)),
-        }
-    }
-    Ok((rest.len(), front_of(rest)))
-}
 
 /// Writes the packets of a stream piece by piece; answers whether the stream ends behind a whole record.
 fn export_all<'a, R: Files + AllocGlobal, S: Write>(
@@ -40,7 +19,8 @@ fn export_all<'a, R: Files + AllocGlobal, S: Write>(
     for _ in 0..u64::MAX {
         let is_more = feed.read_on()?;
         let held = feed.held().len();
-        let (left, front) = push_packets(&mut packets, feed.held())?;
+        let (left, front) = export_held(&mut packets, feed.held())?;
+        let left = left.len();
         match file.write_all(packets.as_slice()) {
             Ok(()) => packets.clear(),
             Err(error) => return Err(fault_at(raw, fault_of(&error))),

@@ -1,6 +1,11 @@
+mod ArchivesGivenBack
 mod Importing
 mod Kept
 mod Pieces
 mod Stays
 mod Ticks
 mod Counting
+mod Exports
+mod GivenBack
+mod Written
+mod Exporting

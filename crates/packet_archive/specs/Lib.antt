@@ -1,5 +1,7 @@
 pub mod Choice
 pub mod Clock
+pub mod Export
 pub mod Front
 pub mod Import
+pub mod Said
 pub mod Tally

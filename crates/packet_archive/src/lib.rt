@@ -4,6 +4,7 @@
 
 mod choice;
 mod clock;
+mod export;
 mod front;
 mod import;
 pub mod laws;
@@ -13,6 +14,7 @@ mod tally;
 
 pub use choice::{Choice, Fate};
 pub use clock::{Clock, Times};
+pub use export::export_held;
 pub use front::{Front, MARKER, front_of};
 pub use import::{Asked, Met, import_held, import_next};
 pub use said::Report;

@@ -1,15 +1,20 @@
 //! What an import says of an archive.
 
+ghost use Rattle.std.specs.Prelude.{Some, flat_map};
+ghost use Rattle.packet_archive.specs.Said.{end_line, fault_line, fault_words, left_out_words, more_line, packet_lines, report_lines, taken_line, zeros_line};
+
 use crate::front::Front;
 use crate::import::Met;
-use crate::tally::{Faulty, Tally};
+use crate::tally::{Faulty, NAMED, Tally};
 use std::fmt::{self, Display, Formatter, Write};
 
 /// What is wrong with a packet by its fault's number.
-#[derive(Drop)]
+#[derive(Clone, Copy)]
 struct Why(u8);
 
 impl Display for Why {
+    ghost output = { λ why. Some (fault_words why.0) };
+
     fn fmt<W: Write>(&self, f: &mut Formatter<W>) -> fmt::Result {
         match self.0 {
             1 => write!(f, "it is shorter than its headers"),
@@ -21,6 +26,212 @@ impl Display for Why {
             7 => write!(f, "its message id is the host's own"),
             number => write!(f, "fault {number}"),
         }
+    }
+}
+
+/// How many packets were left out, for each reason.
+#[derive(Clone, Copy)]
+struct LeftOut {
+    idle: u64,
+    other: u64,
+    faulty: u64,
+}
+
+impl Display for LeftOut {
+    ghost output = { λ l. Some (left_out_words l.idle l.other l.faulty) };
+
+    fn fmt<W: Write>(&self, f: &mut Formatter<W>) -> fmt::Result {
+        let LeftOut {
+            idle,
+            other,
+            faulty,
+        } = *self;
+        write!(
+            f,
+            "{idle} idle, {other} not asked for, {faulty} with a fault"
+        )
+    }
+}
+
+/// How much of an archive was taken, and how much was left out.
+#[derive(Clone, Copy)]
+struct TakenLine<'a> {
+    name: &'a str,
+    taken: u64,
+    left: LeftOut,
+}
+
+impl Display for TakenLine<'_> {
+    ghost output = { λ l. Some (taken_line l.name.now l.taken
+        (left_out_words l.left.idle l.left.other l.left.faulty)) };
+
+    fn fmt<W: Write>(&self, f: &mut Formatter<W>) -> fmt::Result {
+        let name = self.name;
+        let taken = self.taken;
+        let left = self.left;
+        write!(f, "{name}: {taken} packets taken; left out: {left}\n")
+    }
+}
+
+/// The line of a packet with a fault, where there is one.
+#[derive(Clone, Copy)]
+struct FaultLine<'a> {
+    name: &'a str,
+    faulty: Option<Faulty>,
+}
+
+impl Display for FaultLine<'_> {
+    ghost output = { λ l. Some (fault_line l.name.now l.faulty) };
+
+    fn fmt<W: Write>(&self, f: &mut Formatter<W>) -> fmt::Result {
+        let name = self.name;
+        match self.faulty {
+            Some(faulty) => {
+                let at = faulty.at;
+                let why = Why(faulty.fault);
+                write!(f, "{name}: byte {at}: a packet is left out: {why}\n")
+            }
+            None => Ok(()),
+        }
+    }
+}
+
+/// The lines of the first packets with a fault.
+#[derive(Clone, Copy)]
+struct FaultLines<'a> {
+    name: &'a str,
+    first: &'a [Option<Faulty>],
+}
+
+impl Display for FaultLines<'_> {
+    ghost output = { λ l. Some (flat_map (fault_line l.name.now) l.first.now) };
+
+    fn fmt<W: Write>(&self, f: &mut Formatter<W>) -> fmt::Result {
+        for faulty in self.first {
+            let line = FaultLine {
+                name: self.name,
+                faulty: *faulty,
+            };
+            write!(f, "{line}")?;
+        }
+        Ok(())
+    }
+}
+
+/// How many packets with a fault aren't named.
+#[derive(Clone, Copy)]
+struct MoreLine<'a> {
+    name: &'a str,
+    faulty: u64,
+}
+
+impl Display for MoreLine<'_> {
+    ghost output = { λ l. Some (more_line l.name.now l.faulty) };
+
+    fn fmt<W: Write>(&self, f: &mut Formatter<W>) -> fmt::Result {
+        let name = self.name;
+        if self.faulty > NAMED as u64 {
+            let more = self.faulty - NAMED as u64;
+            write!(f, "{name}: and {more} more\n")
+        } else {
+            Ok(())
+        }
+    }
+}
+
+/// The zero bytes between packets.
+#[derive(Clone, Copy)]
+struct ZerosLine<'a> {
+    name: &'a str,
+    first: Option<u64>,
+    zeros: u64,
+}
+
+impl Display for ZerosLine<'_> {
+    ghost output = { λ l. Some (zeros_line l.name.now l.first l.zeros) };
+
+    fn fmt<W: Write>(&self, f: &mut Formatter<W>) -> fmt::Result {
+        let name = self.name;
+        let zeros = self.zeros;
+        match self.first {
+            Some(at) => write!(
+                f,
+                "{name}: byte {at}: zeros where a packet would begin, {zeros} in all\n"
+            ),
+            None => Ok(()),
+        }
+    }
+}
+
+/// Why an archive ends early, where it does.
+#[derive(Clone, Copy)]
+struct EndLine<'a> {
+    name: &'a str,
+    at: u64,
+    left: usize,
+    met: Met,
+}
+
+impl Display for EndLine<'_> {
+    ghost output = { λ l. Some (end_line l.name.now l.at l.left l.met) };
+
+    fn fmt<W: Write>(&self, f: &mut Formatter<W>) -> fmt::Result {
+        let name = self.name;
+        let at = self.at;
+        let left = self.left;
+        match self.met {
+            Met::Stands(Front::Cut) => write!(
+                f,
+                "{name}: byte {at}: the last packet is cut, {left} bytes of it are there\n"
+            ),
+            Met::Stands(Front::Foreign) => write!(
+                f,
+                "{name}: byte {at}: no packet of version 0 begins here; what follows is not read\n"
+            ),
+            Met::Stands(Front::Unmarked) => write!(
+                f,
+                "{name}: byte {at}: no marker 1ACFFC1D stands here; what follows is not read\n"
+            ),
+            Met::Leap => write!(
+                f,
+                "{name}: byte {at}: a packet so late that over 86,400 ticks would come before it; what follows is not read\n"
+            ),
+            _ => Ok(()),
+        }
+    }
+}
+
+/// What is said of packets.
+#[derive(Clone, Copy)]
+struct PacketLines<'a> {
+    name: &'a str,
+    tally: &'a Tally,
+}
+
+impl Display for PacketLines<'_> {
+    ghost output = { λ l. Some (packet_lines l.name.now l.tally.now) };
+
+    fn fmt<W: Write>(&self, f: &mut Formatter<W>) -> fmt::Result {
+        let name = self.name;
+        let tally = self.tally;
+        let taken = TakenLine {
+            name,
+            taken: tally.taken,
+            left: LeftOut {
+                idle: tally.idle,
+                other: tally.other,
+                faulty: tally.faulty,
+            },
+        };
+        let faults = FaultLines {
+            name,
+            first: &tally.first,
+        };
+        let more = MoreLine {
+            name,
+            faulty: tally.faulty,
+        };
+        write!(f, "{taken}{faults}{more}")
     }
 }
 
@@ -38,91 +249,24 @@ pub struct Report<'a> {
     pub left: usize,
 }
 
-impl Report<'_> {
-    /// The line of a packet with a fault.
-    fn say_fault<W: Write>(&self, faulty: Faulty, f: &mut Formatter<W>) -> fmt::Result {
-        let Faulty { at, fault } = faulty;
-        let why = Why(fault);
-        writeln!(f, "{}: byte {at}: a packet is left out: {why}", self.name)
-    }
-
-    /// The lines of the first packets with a fault, and how many more there are.
-    fn say_faults<W: Write>(&self, f: &mut Formatter<W>) -> fmt::Result {
-        let mut named = 0u64;
-        for faulty in &self.tally.first {
-            if let Some(faulty) = faulty {
-                self.say_fault(*faulty, f)?;
-                named = named.saturating_add(1);
-            }
-        }
-        let more = self.tally.faulty.saturating_sub(named);
-        if more > 0 {
-            writeln!(f, "{}: and {more} more", self.name)?;
-        }
-        Ok(())
-    }
-
-    /// The line of the zero bytes between packets.
-    fn say_zeros<W: Write>(&self, f: &mut Formatter<W>) -> fmt::Result {
-        match self.tally.first_zero {
-            Some(at) => {
-                let zeros = self.tally.zeros;
-                writeln!(
-                    f,
-                    "{}: byte {at}: zeros where a packet would begin, {zeros} in all",
-                    self.name
-                )
-            }
-            None => Ok(()),
-        }
-    }
-
-    /// The line that says why the archive ends early, where it does.
-    fn say_end<W: Write>(&self, f: &mut Formatter<W>) -> fmt::Result {
-        let at = self.tally.bytes;
-        let left = self.left;
-        match self.met {
-            Met::Stands(Front::Cut) => writeln!(
-                f,
-                "{}: byte {at}: the last packet is cut, {left} bytes of it are there",
-                self.name
-            ),
-            Met::Stands(Front::Foreign) => writeln!(
-                f,
-                "{}: byte {at}: no packet of version 0 begins here; what follows is not read",
-                self.name
-            ),
-            Met::Stands(Front::Unmarked) => writeln!(
-                f,
-                "{}: byte {at}: no marker 1ACFFC1D stands here; what follows is not read",
-                self.name
-            ),
-            Met::Leap => writeln!(
-                f,
-                "{}: byte {at}: a packet so late that over 86,400 ticks would come before it; what follows is not read",
-                self.name
-            ),
-            _ => Ok(()),
-        }
-    }
-}
-
 impl Display for Report<'_> {
+    ghost output = { λ r. Some (report_lines r.name.now r.tally.now r.met r.left) };
+
     fn fmt<W: Write>(&self, f: &mut Formatter<W>) -> fmt::Result {
-        let Tally {
-            taken,
-            idle,
-            other,
-            faulty,
-            ..
-        } = *self.tally;
-        writeln!(
-            f,
-            "{}: {taken} packets taken; left out: {idle} idle, {other} not asked for, {faulty} with a fault",
-            self.name
-        )?;
-        self.say_faults(f)?;
-        self.say_zeros(f)?;
-        self.say_end(f)
+        let name = self.name;
+        let tally = self.tally;
+        let packets = PacketLines { name, tally };
+        let zeros = ZerosLine {
+            name,
+            first: tally.first_zero,
+            zeros: tally.zeros,
+        };
+        let end = EndLine {
+            name,
+            at: tally.bytes,
+            left: self.left,
+            met: self.met,
+        };
+        write!(f, "{packets}{zeros}{end}")
     }
 }

@@ -7,3 +7,4 @@ pub mod Triples
 pub mod Again
 pub mod Lines
 pub mod WholeStreams
+pub mod InFront

@@ -1,6 +1,7 @@
 -- What stands at the front of a stream, by its kind. This project's own.
-use Rattle.std.specs.Prelude.{◌≡◌, ℕ, ◌+◌, ◌-◌, ◌≤◌, not, ◌==◌, List, length, take, drop, slice_index, nat_lt, Option, Some, None, if◌then◌else◌, ⊤}
-use Rattle.lc_model.specs.Host.Stream.{all_kinds, body_size, fits_body, header_size}
+use Rattle.std.specs.Prelude.{◌≡◌, ℕ, ◌+◌, ◌-◌, ◌≤◌, not, ◌==◌, List, [], length, take, drop, slice_index, nat_lt, Option, Some, None, if◌then◌else◌, ⊤}
+use Rattle.lc_model.specs.Host.Stream.{Contents, all_kinds, body_size, contents_of, fits_body, front, header_size, moment_of}
+use Rattle.lc_model.specs.Host.Stream as stream
 use Rattle.stream_script.specs.declared.kind.RecordKind.{RecordKind}
 use Rattle.stream_script.specs.declared.front.Front.{Front}
 use Rattle.stream_script.specs.declared.front.Front.TheVariants.{End, Record, NoRecord, Cut}
@@ -34,3 +35,20 @@ front_in bytes =
 abbrev pub IsInside : List ℕ → Front → Type 0
 IsInside bytes (Record kind size) = (size ≡ record_size bytes) × (header_size ≤ size) × (size ≤ length bytes) × fits_kind kind (size - header_size)
 IsInside bytes front = ⊤
+
+-- a rule text may have any number of two bytes
+abbrev pub any_text : ℕ
+any_text = 65536
+
+-- a record of this kind stands in front, and brings what its body says
+pub record IsRead (bytes : List ℕ) (kind : RecordKind) : Type 0 where
+  pub contents : Contents
+  pub brings : contents_of any_text (kind_number kind) (body_in_front bytes) ≡ Some contents
+  pub there : front all_kinds any_text bytes ≡ stream.Record (record { moment = moment_of bytes; contents = contents }) (drop (record_size bytes) bytes)
+
+-- what stands in front is what a stream has there, whatever numbers its rule texts have
+abbrev pub Reads : List ℕ → Front → Type 0
+Reads bytes End = bytes ≡ []
+Reads bytes NoRecord = front all_kinds any_text bytes ≡ stream.NoRecord
+Reads bytes Cut = front all_kinds any_text bytes ≡ stream.CutRecord
+Reads bytes (Record kind size) = IsRead bytes kind

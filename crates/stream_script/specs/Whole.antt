@@ -7,7 +7,7 @@ use Rattle.lc_model.specs.Host.Stream.{Whole, moment_of, records_of}
 use Rattle.stream_script.specs.declared.kind.RecordKind.{RecordKind}
 use Rattle.stream_script.specs.declared.front.Front.{Front}
 use Rattle.stream_script.specs.declared.front.Front.TheVariants.{End, Record, NoRecord, Cut}
-use Rattle.stream_script.specs.Front.{body_in_front, front_in, record_size}
+use Rattle.stream_script.specs.Front.{any_text, body_in_front, front_in, record_size}
 use Rattle.stream_script.specs.Kind.{kind_word}
 use Rattle.stream_script.specs.Number.{bytes_word}
 use Rattle.stream_script.specs.Script.{script_in}
@@ -56,10 +56,6 @@ whole_records stream = records_within (length stream) stream
 -- the law: what a stream's script says are its records, byte for byte
 abbrev pub SaysTheRecords : Type 0
 SaysTheRecords = (stream : List ℕ) → IsBytes stream → script_in (script_of stream) ≡ Ok (whole_records stream)
-
--- a rule text may have any number of two bytes
-abbrev pub any_text : ℕ
-any_text = 65536
 
 -- the law: the script of a stream that ends behind a whole record says the stream
 abbrev pub SaysTheStream : Type 0

@@ -2,7 +2,7 @@
 
 ghost use Rattle.std.specs.Prelude.{◌≡◌, ◌≤◌, length, slice_index};
 ghost use Rattle.lc_model.specs.Host.Stream.{body_size, header_size};
-ghost use Rattle.stream_script.specs.Front.{front_in, front_of_kind, IsInside};
+ghost use Rattle.stream_script.specs.Front.{front_in, front_of_kind, IsInside, Reads};
 ghost use Rattle.stream_script.specs.Kind.{kind_numbered};
 
 use crate::kind::RecordKind;
@@ -50,6 +50,7 @@ fn front_of_header(bytes: &[u8]) -> Front
 pub fn front_of(bytes: &[u8]) -> Front
     ensures stands { result ≡ front_in bytes.now }
     ensures inside { IsInside bytes.now result }
+    ensures reads { Reads bytes.now result }
 {
     if bytes.is_empty() {
         return Front::End;

@@ -1,0 +1,130 @@
+-- An archive of packets without a fault is given back.
+use Rattle.std.proofs.Common.{◌≡◌, refl, sym, ◌∙◌, ap, ℕ, zero, suc, ◌+◌, ◌<◌, ◌≤◌, ◌/◌, ◌%◌, Bool, true, false, not, ◌&&◌, ◌||◌, ◌==◌, nat_lt, List, [], ◌∷◌, ◌++◌, length, take, drop, length-append, append_assoc, Option, Some, None, if◌then◌else◌, arith}
+use Rattle.std.specs.List.{AllByRecursion, concat}
+use Rattle.std.specs.Option.{option_or}
+use Rattle.std.proofs.Math.Seq.{take-append_seam, drop-append_seam}
+use Rattle.lc_model.specs.Bytes.{u16_at}
+use Rattle.lc_model.specs.Packet.{has_secondary_header, header_fault, is_command, sequence_flags, stream_fault, version}
+use Rattle.lc_model.proofs.Facts.{not_false, or_first, test_not_less, test_unequal, tested_equal, tested_not_less}
+use Rattle.packet_archive.specs.declared.choice.Fate.TheVariants.{Kept}
+use Rattle.packet_archive.specs.declared.clock.Times.{Times}
+use Rattle.packet_archive.specs.declared.front.Front.TheVariants.{Cut, Foreign, Packet}
+use Rattle.packet_archive.specs.Choice.{fate_of}
+use Rattle.packet_archive.specs.Export.{ArchivesAreGivenBack, IsFine, all_of, archive_of, kept_in}
+use Rattle.packet_archive.specs.Front.{front_in, marker, packet_in, packet_size, zeros}
+use Rattle.packet_archive.proofs.GivenBack.{imports_are_given_back, kept_nothing, kept_packet}
+use Rattle.packet_archive.proofs.Stays.{front_stays}
+
+-- ---- what is known of a packet without a fault
+
+record Known (packet : List ℕ) : Type 0 where
+  long : 8 ≤ length packet
+  version_is : (version packet == 0) ≡ true
+  header : has_secondary_header packet ≡ true
+  size : packet_size packet ≡ length packet
+  short : length packet ≤ 2048
+
+abbrev fault_of : ℕ → Option ℕ
+fault_of n = Some n
+
+no_fault : (a b c d e f : Bool) → (if a then fault_of 1 else if b then fault_of 2 else if c then fault_of 3 else if d then fault_of 4 else if e then fault_of 5 else if f then fault_of 6 else None) ≡ None →
+    (a ≡ false) × (b ≡ false) × (c ≡ false) × (e ≡ false) × (f ≡ false)
+no_fault true b c d e f is = absurd (cc is)
+no_fault false true c d e f is = absurd (cc is)
+no_fault false false true d e f is = absurd (cc is)
+no_fault false false false true e f is = absurd (cc is)
+no_fault false false false false true f is = absurd (cc is)
+no_fault false false false false false true is = absurd (cc is)
+no_fault false false false false false false is = (refl, refl, refl, refl, refl)
+
+none_first : (first others : Option ℕ) → option_or first others ≡ None → first ≡ None
+none_first None others is = refl
+none_first (Some n) others is = absurd (cc is)
+
+known : (packet : List ℕ) → stream_fault packet ≡ None → Known packet
+known packet fine =
+    let is = no_fault (nat_lt (length packet) 8 || (not (is_command packet) && nat_lt (length packet) 12)) (not (version packet == 0))
+    (not (has_secondary_header packet)) (not (sequence_flags packet == 3)) (not (u16_at packet 4 + 7 == length packet)) (nat_lt 2048 (length packet))
+    (none_first (header_fault packet) _ fine) in
+    record {
+      long = tested_not_less (length packet) 8 (or_first (nat_lt (length packet) 8) (not (is_command packet) && nat_lt (length packet) 12) is.0);
+      version_is = not_false (version packet == 0) is.1;
+      header = not_false (has_secondary_header packet) is.2;
+      size = tested_equal (u16_at packet 4 + 7) (length packet) (not_false (u16_at packet 4 + 7 == length packet) is.3);
+      short = tested_not_less 2048 (length packet) is.4;
+    }
+
+-- its first byte isn't zero, since it has the bit of a secondary header
+low : (n b : ℕ) → n ≡ b → b < 256 → (n / 2048 % 2 == 1) ≡ true → ⊥
+low n b same less is = let one : n / 2048 % 2 ≡ 1 = tested_equal (n / 2048 % 2) 1 is in absurd (omega (arith, one, same, less))
+
+no_zeros : (packet : List ℕ) → IsFine packet → Known packet → zeros packet ≡ 0
+no_zeros [] fine is = refl
+no_zeros (a ∷ []) fine is = absurd (omega (arith, is.long))
+no_zeros (zero ∷ b ∷ rest) fine is = absurd (low (0 + b) b (omega arith) (fine.bytes 1) is.header)
+no_zeros (suc a ∷ b ∷ rest) fine is = let some : (suc a == 0) ≡ false = test_unequal (suc a) 0 (λ same. omega (arith, same)) in rw some refl
+
+-- ---- where it stands
+
+stands : (before : ℕ) (packet : List ℕ) → Known packet → packet_in before packet ≡ Packet before (length packet)
+stands before packet is =
+    let header : nat_lt (length packet) 6 ≡ false = test_not_less (length packet) 6 (omega (arith, is.long)) in
+    let whole : nat_lt (length packet) (packet_size packet) ≡ false = test_not_less (length packet) (packet_size packet) (omega (arith, is.size)) in
+    by_tests (nat_lt (length packet) 6) (version packet == 0) (nat_lt (length packet) (packet_size packet)) header is.version_is whole
+    ∙ ap (Packet before) is.size
+  where
+    by_tests : (short version_is cut : Bool) → short ≡ false → version_is ≡ true → cut ≡ false → (if short then Cut else if not version_is then Foreign else if cut then Cut else Packet before (packet_size packet)) ≡ Packet before (packet_size packet)
+    by_tests short version_is cut p q r = rw (p, q, r) refl
+
+abbrev before_it : Bool → List ℕ
+before_it marked = if marked then marker else []
+
+plain : (packet : List ℕ) → IsFine packet → Known packet → front_in false packet ≡ Packet 0 (length packet)
+plain packet fine is =
+    let some : (length packet == 0) ≡ false = test_unequal (length packet) 0 (λ same. omega (arith, same, is.long)) in
+    let none : nat_lt 0 (zeros packet) ≡ false = test_not_less 0 (zeros packet) (omega (arith, no_zeros packet fine is)) in
+    rw (some, none) (stands 0 packet is)
+
+behind_marker : (packet : List ℕ) → Known packet → front_in true (marker ++ packet) ≡ Packet 4 (length packet)
+behind_marker packet is =
+    let long : nat_lt (length (marker ++ packet)) 4 ≡ false = test_not_less (length (marker ++ packet)) 4 (omega arith) in
+    let some : (length (marker ++ packet) == 0) ≡ false = test_unequal (length (marker ++ packet)) 0 (λ same. omega (arith, same)) in
+    rw (some, long) (stands 4 packet is)
+
+framed : (marked : Bool) (packet : List ℕ) → IsFine packet → Known packet → front_in marked (before_it marked ++ packet) ≡ Packet (length (before_it marked)) (length packet)
+framed true packet fine is = behind_marker packet is
+framed false packet fine is = plain packet fine is
+
+fate_is : (faulty : Bool) (packet : List ℕ) → stream_fault packet ≡ None → Known packet → fate_of (record { idle = true; faulty = faulty; only = [] }) packet ≡ Kept
+fate_is faulty packet fine is =
+    let long : nat_lt 65536 (length packet) ≡ false = test_not_less 65536 (length packet) (omega (arith, is.short)) in
+    rw (long, fine) refl
+
+-- ---- all packets
+
+module _ (marked faulty : Bool) (times : Times) where
+  one_more : (packet : List ℕ) (packets : List (List ℕ)) → IsFine packet → kept_in (all_of marked faulty times) (archive_of marked packets) ≡ concat packets →
+      kept_in (all_of marked faulty times) (archive_of marked (packet ∷ packets)) ≡ packet ++ concat packets
+  one_more packet packets fine others =
+      let is : Known packet = known packet fine.fault in
+      let before : List ℕ = before_it marked in
+      let rest : List ℕ = archive_of marked packets in
+      let there : front_in marked ((before ++ packet) ++ rest) ≡ Packet (length before) (length packet) =
+      front_stays marked (before ++ packet) rest (length before) (length packet) (framed marked packet fine is) in
+      let behind : drop (length before) ((before ++ packet) ++ rest) ≡ packet ++ rest =
+      ap (drop (length before)) (append_assoc before packet rest) ∙ drop-append_seam before (packet ++ rest) in
+      let it : take (length packet) (drop (length before) ((before ++ packet) ++ rest)) ≡ packet = ap (take (length packet)) behind ∙ take-append_seam packet rest in
+      let past : drop (length before + length packet) ((before ++ packet) ++ rest) ≡ rest =
+      ap (λ n. drop n ((before ++ packet) ++ rest)) (sym (length-append before packet)) ∙ drop-append_seam (before ++ packet) rest in
+      kept_packet (all_of marked faulty times) ((before ++ packet) ++ rest) (length before) (length packet) Kept there
+      (ap (fate_of (record { idle = true; faulty = faulty; only = [] })) it ∙ fate_is faulty packet fine.fault is)
+      ∙ (λ i. it i ++ kept_in (all_of marked faulty times) (past i))
+      ∙ ap (λ more. packet ++ more) others
+
+  all_kept : (packets : List (List ℕ)) → AllByRecursion IsFine packets → kept_in (all_of marked faulty times) (archive_of marked packets) ≡ concat packets
+  all_kept [] fine = kept_nothing (all_of marked faulty times)
+  all_kept (packet ∷ packets) fine = one_more packet packets fine.0 (all_kept packets fine.1)
+
+pub archives_are_given_back : ArchivesAreGivenBack
+archives_are_given_back marked faulty times clock packets fine never =
+    (imports_are_given_back (all_of marked faulty times) clock (archive_of marked packets)).whole never ∙ all_kept marked faulty times packets fine
