@@ -1,5 +1,5 @@
 -- What is left of rows that were written to standard output. This project's own.
-use Rattle.std.specs.Prelude.{◌≡◌, ⊥, Result, Ok, Err}
+use Rattle.std.specs.Prelude.{◌≡◌, Result, Ok, Err}
 use Rattle.listing_rows.specs.declared.error.RowError.{RowError}
 use Rattle.listing_rows.specs.declared.error.RowError.TheVariants as row
 use Rattle.tool_faults.specs.Cause.{IsOfOutput}
