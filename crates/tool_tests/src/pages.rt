@@ -1,8 +1,9 @@
 //! Pages that tests make of scripts, and what they read of them as bytes.
 
 use crate::claims::same;
-use run_report::{ReportError, Silent, Source, write_page};
+use run_report::{Progress, ReportError, Run, Silent, Source, write_page};
 use std::alloc::{AllocError, Global};
+use std::io::Write;
 use std::process::Abort;
 use stream_script::read_script;
 use tick_scheduler::parse_schedule;
@@ -49,22 +50,40 @@ fn joined(alloc: Global, parts: &[&[u8]]) -> Result<Vec<u8>, AllocError> {
     Ok(bytes)
 }
 
+/// A page of a run of these texts over a stream.
+pub fn page_of<R: Abort + AllocGlobal, W: Write, P: Progress>(
+    rt: &R,
+    sources: &[Source<'_>],
+    stream: &[u8],
+    out: &mut W,
+    progress: &mut P,
+) -> Result<bool, ReportError> {
+    let plan: &[u8] = b"slots 1";
+    let schedule = parse_schedule(rt.alloc(), plan).expect(rt, "a schedule");
+    let run = Run {
+        schedule: &schedule,
+        plan: Source {
+            name: "plan",
+            text: plan,
+        },
+        stream: Source {
+            name: "run.stream",
+            text: stream,
+        },
+        texts: sources,
+        epoch: None,
+    };
+    write_page(rt.alloc(), &run, out, progress)
+}
+
 /// The answer over a stream, and what is written.
 pub fn answer_over<R: Abort + AllocGlobal>(
     rt: &R,
     sources: &[Source<'_>],
     stream: &[u8],
 ) -> (Result<bool, ReportError>, Vec<u8>) {
-    let schedule = parse_schedule(rt.alloc(), b"slots 1").expect(rt, "a schedule");
     let mut page = Vec::new(rt.alloc());
-    let answer = write_page(
-        rt.alloc(),
-        &schedule,
-        stream,
-        sources,
-        &mut page,
-        &mut Silent,
-    );
+    let answer = page_of(rt, sources, stream, &mut page, &mut Silent);
     (answer, page)
 }
 
