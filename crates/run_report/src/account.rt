@@ -2,12 +2,12 @@
 
 use crate::bands::{Bands, How};
 use crate::brought::{Brought, read_record};
-use crate::changes::{Kind, Pool};
 use crate::error::ReportError;
 use crate::place::{ABSENT, Place, Stand};
 use crate::samples::{Met, NOTHING, Part, Row, met_in, parts_of};
 use crate::sent::Sending;
 use crate::texts::{Field, Text, fields_of, read_text};
+use change_lists::Pool;
 use lc_model::packet::message_id;
 use lc_model::{EventKind, LcMode};
 use std::alloc::{AllocError, Global};
@@ -136,11 +136,8 @@ fn most_rules(texts: &[Text<'_>]) -> usize {
 /// A list for each field and each lane.
 fn pool_of(alloc: Global, fields: usize, lanes: usize) -> Result<Pool, AllocError> {
     let mut pool = Pool::new(alloc, ENTRIES);
-    for _ in 0..fields {
-        pool.push(Kind::Bounds)?;
-    }
-    for _ in 0..lanes {
-        pool.push(Kind::Bits)?;
+    for _ in 0..fields.saturating_add(lanes) {
+        pool.push()?;
     }
     Ok(pool)
 }
@@ -283,7 +280,7 @@ impl<'a> Account<'a> {
             Some(value) => (value, value),
             None => (i64::MAX, i64::MIN),
         };
-        self.pool.add(number, place.entry(low, high))
+        self.pool.add(number, place.value(low, high))
     }
 
     /// Tables came into force: what comparisons meet begins anew.
@@ -316,7 +313,7 @@ impl<'a> Account<'a> {
         for rule in 0..self.lanes {
             let stand = behind.rules.get(rule).copied().unwrap_or(ABSENT);
             let list = fields.saturating_add(rule);
-            self.pool.add(list, place.entry(stand.result, stand.state))?;
+            self.pool.add(list, place.stand(stand))?;
             if let Some(kept) = self.before.get_mut(rule) {
                 *kept = stand;
             }

@@ -35,7 +35,7 @@ fn put_ending<W: Write>(out: &mut W, ending: Ending) -> io::Result<()> {
     }
 }
 
-fn put_file<W: Write>(out: &mut W, role: &str, file: &Source<'_>) -> io::Result<()> {
+fn put_file<W: Write>(out: &mut W, role: &str, file: &Source<'_, '_>) -> io::Result<()> {
     write!(out, "{{\"role\":\"{role}\",\"name\":")?;
     put_text(out, file.name.as_bytes())?;
     let size = file.text.len();
@@ -46,7 +46,7 @@ fn put_file<W: Write>(out: &mut W, role: &str, file: &Source<'_>) -> io::Result<
     put(out, "\"}")
 }
 
-fn put_files<W: Write>(out: &mut W, run: &Run<'_>) -> io::Result<()> {
+fn put_files<W: Write>(out: &mut W, run: &Run<'_, '_>) -> io::Result<()> {
     for file in run.texts {
         put_file(out, "rules", file)?;
         put(out, ",")?;
@@ -80,7 +80,7 @@ fn put_figures<W: Write>(out: &mut W, figures: Figures) -> io::Result<()> {
 /// Writes what stands in front of the texts.
 fn put_head<W: Write>(
     out: &mut W,
-    run: &Run<'_>,
+    run: &Run<'_, '_>,
     account: &Account<'_>,
     ending: Ending,
 ) -> io::Result<()> {
@@ -109,7 +109,7 @@ fn put_head<W: Write>(
 /// Writes all of it.
 pub fn put_data<W: Write>(
     out: &mut W,
-    run: &Run<'_>,
+    run: &Run<'_, '_>,
     account: &Account<'_>,
     ending: Ending,
 ) -> io::Result<()> {

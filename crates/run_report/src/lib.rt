@@ -5,7 +5,6 @@
 mod account;
 mod bands;
 mod brought;
-mod changes;
 mod data;
 mod error;
 mod json;

@@ -1,6 +1,6 @@
 //! Places in a run, and how rules stand behind one.
 
-use crate::changes::Entry;
+use change_lists::{Entry, Told};
 use lc_model::{ApMode, ApResult, LcMode, Moment};
 
 /// A record, from 1, and its time in 1/65,536 s, less that of the first.
@@ -11,13 +11,32 @@ pub struct Place {
 }
 
 impl Place {
-    /// One change here.
-    pub fn entry(self, low: i64, high: i64) -> Entry {
+    /// A field has a value between these from here on.
+    pub fn value(self, low: i64, high: i64) -> Entry {
         Entry {
-            record: self.record,
+            from: self.record,
             time: self.time,
-            low,
-            high,
+            told: Told {
+                results: 0,
+                states: 0,
+                low,
+                high,
+            },
+            changes: 1,
+        }
+    }
+
+    /// A rule stands so from here on.
+    pub fn stand(self, stand: Stand) -> Entry {
+        Entry {
+            from: self.record,
+            time: self.time,
+            told: Told {
+                results: stand.result,
+                states: stand.state,
+                low: 0,
+                high: 0,
+            },
             changes: 1,
         }
     }
@@ -26,8 +45,8 @@ impl Place {
 /// How a rule stands: its result and its state as bits, and how often it failed in a row.
 #[derive(Clone, Copy, Debug, PartialEq, Eq)]
 pub struct Stand {
-    pub result: i64,
-    pub state: i64,
+    pub result: u8,
+    pub state: u8,
     pub fails: u16,
 }
 
@@ -39,14 +58,14 @@ pub const ABSENT: Stand = Stand {
 };
 
 /// A failure, and the states of a rule that asks, and of one that has asked.
-pub const FAIL: i64 = 32;
+pub const FAIL: u8 = 32;
 
-pub const ACTIVE: i64 = 1;
+pub const ACTIVE: u8 = 1;
 
-pub const PASSIVE: i64 = 2;
+pub const PASSIVE: u8 = 2;
 
 /// The bit of a result: the worse, the higher.
-pub fn result_bit(last: Option<ApResult>) -> i64 {
+pub fn result_bit(last: Option<ApResult>) -> u8 {
     match last {
         None => 2,
         Some(ApResult::Pass) => 4,
@@ -57,7 +76,7 @@ pub fn result_bit(last: Option<ApResult>) -> i64 {
 }
 
 /// The bit of a state.
-pub fn state_bit(state: ApMode) -> i64 {
+pub fn state_bit(state: ApMode) -> u8 {
     match state {
         ApMode::Active => ACTIVE,
         ApMode::Passive => PASSIVE,

@@ -17,23 +17,22 @@ use std::alloc::{AllocError, Global};
 use std::io::Write;
 use tick_scheduler::Schedule;
 
-/// What a page is made of.
+/// What a page is made of, beside its schedule. Names and texts live for as long as they like.
 #[derive(Clone, Copy)]
-pub struct Run<'a> {
-    pub schedule: &'a Schedule,
+pub struct Run<'n, 't> {
     /// The file of the schedule, and that of the stream.
-    pub plan: Source<'a>,
-    pub stream: Source<'a>,
-    pub texts: &'a [Source<'a>],
+    pub plan: Source<'n, 't>,
+    pub stream: Source<'n, 't>,
+    pub texts: &'t [Source<'n, 't>],
     /// The instant of second 0, as RFC 3339 writes it.
-    pub epoch: Option<&'a str>,
+    pub epoch: Option<&'n str>,
 }
 
 /// How often it is told how far a report is.
 const TOLD: usize = 20;
 
 /// The bytes of the texts.
-fn bytes_of<'a>(alloc: Global, sources: &[Source<'a>]) -> Result<Vec<&'a [u8]>, AllocError> {
+fn bytes_of<'t>(alloc: Global, sources: &[Source<'_, 't>]) -> Result<Vec<&'t [u8]>, AllocError> {
     let mut texts = Vec::new(alloc);
     for source in sources {
         texts.push(source.text)?;
@@ -137,7 +136,7 @@ fn take<P: Progress>(
     })
 }
 
-/// Runs rule texts over a stream, and writes what happened as one page of HTML, which needs no other file.
+/// Runs rule texts under a schedule over a stream, and writes what happened as one page of HTML, which needs no other file.
 ///
 /// What the page has is said in page/DATA.md: the run is stepped through once, and the account of it is taken behind each
 /// record, in memory that the run's length doesn't change; `progress` is told of about twenty parts of the stream. A stream
@@ -147,12 +146,13 @@ fn take<P: Progress>(
 /// where the writer fails. What was written before stands.
 pub fn write_page<W: Write, P: Progress>(
     alloc: Global,
-    run: &Run<'_>,
+    schedule: &Schedule,
+    run: &Run<'_, '_>,
     out: &mut W,
     progress: &mut P,
 ) -> Result<bool, ReportError> {
     let texts = bytes_of(alloc, run.texts)?;
-    let mut stepping = Stepping::new(alloc, texts.as_slice(), run.schedule)?;
+    let mut stepping = Stepping::new(alloc, texts.as_slice(), schedule)?;
     let mut account = Account::new(alloc, texts.as_slice())?;
     let ending = take(
         alloc,

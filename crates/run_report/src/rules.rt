@@ -1,11 +1,11 @@
 //! The texts and fields of a page's data.
 
 use crate::account::Account;
-use crate::changes::Entry;
 use crate::json::{put, put_comma, put_optional, put_text};
 use crate::samples::Part;
 use crate::texts::{Field, Text};
 use crate::values::type_word;
+use change_lists::Entry;
 use lc_model::{ApMode, CmpOp, EventKind};
 use rule_parser::{Expression, ReportItem, RuleItem};
 use std::io::{self, Write};
@@ -210,15 +210,15 @@ fn put_field<W: Write>(out: &mut W, field: &Field<'_>) -> io::Result<()> {
 
 /// Writes an entry of a field. A value that is more than the greatest and less than the least is none.
 fn put_value<W: Write>(out: &mut W, entry: Entry) -> io::Result<()> {
-    let record = entry.record;
+    let record = entry.from;
     let time = entry.time;
     write!(out, "[{record},{time},")?;
-    let is_known = entry.low <= entry.high;
-    put_optional(out, Some(entry.low).filter(|_| is_known))?;
+    let is_known = entry.told.low <= entry.told.high;
+    put_optional(out, Some(entry.told.low).filter(|_| is_known))?;
     if entry.changes > 1 {
         let changes = entry.changes;
         put(out, ",")?;
-        put_optional(out, Some(entry.high).filter(|_| is_known))?;
+        put_optional(out, Some(entry.told.high).filter(|_| is_known))?;
         write!(out, ",{changes}")?;
     }
     put(out, "]")
@@ -226,10 +226,10 @@ fn put_value<W: Write>(out: &mut W, entry: Entry) -> io::Result<()> {
 
 /// Writes an entry of a lane.
 fn put_span<W: Write>(out: &mut W, entry: Entry) -> io::Result<()> {
-    let record = entry.record;
+    let record = entry.from;
     let time = entry.time;
-    let result = entry.low;
-    let state = entry.high;
+    let result = entry.told.results;
+    let state = entry.told.states;
     write!(out, "[{record},{time},{result},{state}")?;
     if entry.changes > 1 {
         let changes = entry.changes;

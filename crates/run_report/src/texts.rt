@@ -8,9 +8,9 @@ use std::alloc::{AllocError, Global};
 
 /// A file, with the name under which a page speaks of it.
 #[derive(Clone, Copy, Debug)]
-pub struct Source<'a> {
-    pub name: &'a str,
-    pub text: &'a [u8],
+pub struct Source<'n, 't> {
+    pub name: &'n str,
+    pub text: &'t [u8],
 }
 
 /// A rule text that compiles.

@@ -12,6 +12,7 @@ use std::alloc::Global;
 use std::cell::Cell;
 use std::fs::Files;
 use std::io::{BufWriter, Eprint, ErrorKind, Write};
+use tick_scheduler::Schedule;
 
 /// Tells on standard error how far a report is, where a person looks at it.
 #[derive(Drop)]
@@ -43,14 +44,15 @@ fn page_fault(page: &str, error: ReportError, kind: Option<ErrorKind>) -> Fault<
 /// Writes the page, and all of it is with the device. Answers whether the stream has an end.
 fn write_to<R: Eprint, F: Write + Drop>(
     alloc: Global,
-    run: &Run<'_>,
+    schedule: &Schedule,
+    run: &Run<'_, '_>,
     file: F,
     told: &mut Told<'_, R>,
 ) -> Result<bool, ReportError> {
     let Ok(mut out) = BufWriter::new(alloc, file) else {
         return Err(ReportError::Memory);
     };
-    let written = write_page(alloc, run, &mut out, told);
+    let written = write_page(alloc, schedule, run, &mut out, told);
     let flushed = out.flush();
     let (_file, _unwritten) = out.into_parts();
     let is_whole = written?;
@@ -82,7 +84,6 @@ pub fn make_page<'a, R: Files + Eprint + AllocGlobal>(
         })?;
     }
     let run = Run {
-        schedule: &plan,
         plan: Source {
             name: schedule,
             text: planned.as_slice(),
@@ -98,6 +99,7 @@ pub fn make_page<'a, R: Files + Eprint + AllocGlobal>(
     let kind = Cell::new(None);
     let written = write_to(
         rt.alloc(),
+        &plan,
         &run,
         Noting::new(&mut draft.file, &kind),
         &mut Told { rt, is_watched },

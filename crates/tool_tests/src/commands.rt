@@ -252,7 +252,6 @@ fn page<R: Abort + AllocGlobal>(rt: &R, folder: &str) -> Vec<u8> {
     let mut page = Vec::new(rt.alloc());
     let (plan, stream) = (named(rt, folder, "@schedule"), named(rt, folder, "@stream"));
     let run = Run {
-        schedule: &schedule,
         plan: Source {
             name: plan.as_str(),
             text: SCHEDULE,
@@ -264,7 +263,7 @@ fn page<R: Abort + AllocGlobal>(rt: &R, folder: &str) -> Vec<u8> {
         texts: &sources,
         epoch: None,
     };
-    write_page(rt.alloc(), &run, &mut page, &mut Silent).expect(rt, "a page");
+    write_page(rt.alloc(), &schedule, &run, &mut page, &mut Silent).expect(rt, "a page");
     page
 }
 

@@ -10,7 +10,7 @@ use std::process::Abort;
 
 /// Texts, a script in parts, and what the page says of the run, each so many times.
 type Row = (
-    &'static [Source<'static>],
+    &'static [Source<'static, 'static>],
     &'static [&'static [u8]],
     &'static [(&'static str, usize)],
 );
