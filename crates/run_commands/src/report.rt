@@ -4,16 +4,15 @@ ghost use Rattle.std.specs.Prelude.{◌≡◌};
 ghost use Rattle.run_commands.specs.Cause.{fault_of_page};
 
 use program_files::{Noting, Why, begin, discard, keep, reason_for};
-use run_report::{Progress, ReportError, Source, write_page};
+use run_report::{Progress, ReportError, Run, Source, write_page};
 use std::alloc::Global;
 use std::cell::Cell;
 use std::fs::Files;
 use std::io::{BufWriter, Eprint, ErrorKind, Write};
 use tick_scheduler::Schedule;
-use tool_faults::{Fault, LONGEST_WHOLE, fault_at, is_apart, read, schedule_in, texts_in};
-
-/// Of how many steps each is told, at most.
-const TOLD: usize = 20;
+use tool_faults::{
+    Fault, LONGEST_TEXT, LONGEST_WHOLE, fault_at, is_apart, read, schedule_of, texts_in,
+};
 
 /// Tells on standard error how far a report is, where a person looks at it.
 #[derive(Drop)]
@@ -23,10 +22,9 @@ struct Told<'a, R> {
 }
 
 impl<R: Eprint> Progress for Told<'_, R> {
-    fn done(&mut self, probes: usize, of: usize) {
-        let step = of / TOLD + 1;
-        if self.is_watched && (probes == of || probes % step == 0) {
-            let _told = eprintln!(self.rt; "{probes} of {of} columns");
+    fn done(&mut self, bytes: usize, of: usize) {
+        if self.is_watched {
+            let _told = eprintln!(self.rt; "{bytes} of {of} bytes");
         }
     }
 }
@@ -55,15 +53,14 @@ fn page_fault<'a>(
 fn write_to<R: Eprint, F: Write + Drop>(
     alloc: Global,
     schedule: &Schedule,
-    stream: &[u8],
-    sources: &[Source<'_>],
+    run: &Run<'_, '_>,
     file: F,
     told: &mut Told<'_, R>,
 ) -> Result<bool, ReportError> {
     let Ok(mut out) = BufWriter::new(alloc, file) else {
         return Err(ReportError::Memory);
     };
-    let written = write_page(alloc, schedule, stream, sources, &mut out, told);
+    let written = write_page(alloc, schedule, run, &mut out, told);
     let flushed = out.flush();
     let (_file, _unwritten) = out.into_parts();
     let is_whole = written?;
@@ -81,7 +78,8 @@ pub fn make_page<'a, R: Files + Eprint + AllocGlobal>(
     rules: &[&'a str],
     is_watched: bool,
 ) -> Result<(), Fault<'a>> {
-    let plan = schedule_in(rt, schedule)?;
+    let planned = read(rt, schedule, LONGEST_TEXT)?;
+    let plan = schedule_of(rt, schedule, planned.as_slice())?;
     let bytes = read(rt, stream, LONGEST_WHOLE)?;
     let texts = texts_in(rt, rules)?;
     is_apart(rt, page, &[schedule, stream])?;
@@ -93,13 +91,24 @@ pub fn make_page<'a, R: Files + Eprint + AllocGlobal>(
             text: text.as_slice(),
         })?;
     }
+    let run = Run {
+        plan: Source {
+            name: schedule,
+            text: planned.as_slice(),
+        },
+        stream: Source {
+            name: stream,
+            text: bytes.as_slice(),
+        },
+        texts: sources.as_slice(),
+        epoch: None,
+    };
     let mut draft = begin(rt, page).map_err(|fault| fault_at(page, fault))?;
     let kind = Cell::new(None);
     let written = write_to(
         rt.alloc(),
         &plan,
-        bytes.as_slice(),
-        sources.as_slice(),
+        &run,
         Noting::new(&mut draft.file, &kind),
         &mut Told { rt, is_watched },
     );

@@ -1,28 +1,29 @@
-//! A run as one page: each rule's results and state over the records, sequence requests and events on one time line, and the
-//! rules. What a rule's result is at a place is asked of the host itself, by runs over fronts of the stream.
+//! A run as one page (page/DATA.md): the account of the run, taken behind each record in memory that doesn't grow, and the page's
+//! own HTML, style and script, which tools/page_constants makes of page/.
 #![tactic(auto)]
 
 mod account;
-mod columns;
-mod description;
+mod bands;
+mod brought;
+mod data;
 mod error;
-mod escape;
-mod figures;
-mod geometry;
-mod lanes;
-mod page;
-mod probes;
+mod json;
+mod packets;
+mod page_front;
+mod page_script_0;
+mod page_script_1;
+mod page_script_2;
+mod place;
 mod progress;
 mod report;
-mod result_lanes;
-mod rule_table;
-mod rule_text;
-mod sent_table;
-mod standing;
-mod style;
-mod time_line;
+mod rules;
+mod samples;
+mod sent;
+mod texts;
+mod told;
+mod values;
 
 pub use error::ReportError;
 pub use progress::{Progress, Silent};
-pub use report::write_page;
-pub use rule_text::Source;
+pub use report::{Run, write_page};
+pub use texts::Source;

@@ -7,17 +7,25 @@ use line_messages::read_schedule;
 use std::fs::Files;
 use tick_scheduler::Schedule;
 
+/// The schedule that a file's text is.
+pub fn schedule_of<'a, R: AllocGlobal>(
+    rt: &R,
+    name: &'a str,
+    text: &[u8],
+) -> Result<Schedule, Fault<'a>> {
+    match read_schedule(rt.alloc(), text) {
+        Ok(schedule) => Ok(schedule),
+        Err(refusal) => Err(refusal_fault(rt.alloc(), name, text, refusal)),
+    }
+}
+
 /// The schedule in a file.
 pub fn schedule_in<'a, R: Files + AllocGlobal>(
     rt: &R,
     name: &'a str,
 ) -> Result<Schedule, Fault<'a>> {
     let text = read(rt, name, LONGEST_TEXT)?;
-    let text = text.as_slice();
-    match read_schedule(rt.alloc(), text) {
-        Ok(schedule) => Ok(schedule),
-        Err(refusal) => Err(refusal_fault(rt.alloc(), name, text, refusal)),
-    }
+    schedule_of(rt, name, text.as_slice())
 }
 
 /// The texts in these files.

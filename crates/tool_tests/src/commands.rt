@@ -2,7 +2,7 @@
 
 use crate::claims::same;
 use crate::tables::{WDT, watchpoints};
-use run_report::{Silent, Source, write_page};
+use run_report::{Run, Silent, Source, write_page};
 use std::alloc::{AllocError, Global};
 use std::env::{self, Env};
 use std::fs::{self, Files};
@@ -250,15 +250,20 @@ fn page<R: Abort + AllocGlobal>(rt: &R, folder: &str) -> Vec<u8> {
     ];
     let schedule = parse_schedule(rt.alloc(), SCHEDULE).expect(rt, "a schedule");
     let mut page = Vec::new(rt.alloc());
-    write_page(
-        rt.alloc(),
-        &schedule,
-        STREAM,
-        &sources,
-        &mut page,
-        &mut Silent,
-    )
-    .expect(rt, "a page");
+    let (plan, stream) = (named(rt, folder, "@schedule"), named(rt, folder, "@stream"));
+    let run = Run {
+        plan: Source {
+            name: plan.as_str(),
+            text: SCHEDULE,
+        },
+        stream: Source {
+            name: stream.as_str(),
+            text: STREAM,
+        },
+        texts: &sources,
+        epoch: None,
+    };
+    write_page(rt.alloc(), &schedule, &run, &mut page, &mut Silent).expect(rt, "a page");
     page
 }
 

@@ -1,8 +1,9 @@
 //! Pages that tests make of scripts, and what they read of them as bytes.
 
 use crate::claims::same;
-use run_report::{ReportError, Silent, Source, write_page};
+use run_report::{Progress, ReportError, Run, Silent, Source, write_page};
 use std::alloc::{AllocError, Global};
+use std::io::Write;
 use std::process::Abort;
 use stream_script::read_script;
 use tick_scheduler::parse_schedule;
@@ -26,7 +27,7 @@ pub const TICK: &[u8] = b"after 1\ntick\n";
 pub const NONE: &[u8] = &[9, 0, 0, 0, 105, 0, 0, 0, 0, 0, 0];
 
 /// One rule: two samples in a row with a voltage below 2,400 request sequence 7.
-pub const LOW: Source<'static> = Source {
+pub const LOW: Source<'static, 'static> = Source {
     name: "low.rules",
     text: b"packet P = mid 0x0883 length 16; field V = P u16be at 12 stale 2; rule LOW active fails 2 sequence 7 event error 1001 \"low volts\" when V < 2400;",
 };
@@ -49,22 +50,39 @@ fn joined(alloc: Global, parts: &[&[u8]]) -> Result<Vec<u8>, AllocError> {
     Ok(bytes)
 }
 
+/// A page of a run of these texts over a stream.
+pub fn page_of<'n, 't, R: Abort + AllocGlobal, W: Write, P: Progress>(
+    rt: &R,
+    sources: &'t [Source<'n, 't>],
+    stream: &'t [u8],
+    out: &mut W,
+    progress: &mut P,
+) -> Result<bool, ReportError> {
+    let plan: &[u8] = b"slots 1";
+    let schedule = parse_schedule(rt.alloc(), plan).expect(rt, "a schedule");
+    let run = Run {
+        plan: Source {
+            name: "plan",
+            text: plan,
+        },
+        stream: Source {
+            name: "run.stream",
+            text: stream,
+        },
+        texts: sources,
+        epoch: None,
+    };
+    write_page(rt.alloc(), &schedule, &run, out, progress)
+}
+
 /// The answer over a stream, and what is written.
 pub fn answer_over<R: Abort + AllocGlobal>(
     rt: &R,
-    sources: &[Source<'_>],
+    sources: &[Source<'_, '_>],
     stream: &[u8],
 ) -> (Result<bool, ReportError>, Vec<u8>) {
-    let schedule = parse_schedule(rt.alloc(), b"slots 1").expect(rt, "a schedule");
     let mut page = Vec::new(rt.alloc());
-    let answer = write_page(
-        rt.alloc(),
-        &schedule,
-        stream,
-        sources,
-        &mut page,
-        &mut Silent,
-    );
+    let answer = page_of(rt, sources, stream, &mut page, &mut Silent);
     (answer, page)
 }
 
@@ -89,7 +107,7 @@ pub fn says<R: Abort>(rt: &R, page: &[u8], wanted: &[(&str, usize)]) {
 /// The page over a stream says this.
 pub fn shows<R: Abort + AllocGlobal>(
     rt: &R,
-    sources: &[Source<'_>],
+    sources: &[Source<'_, '_>],
     stream: &[u8],
     wanted: &[(&str, usize)],
 ) {

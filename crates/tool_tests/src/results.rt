@@ -1,15 +1,16 @@
-//! What pages say of runs: results, states and what was written, each with the records behind which it stands; tables that are
+//! What the data of pages says of runs: results and states behind each record, values, what was written and why; tables that are
 //! swapped; streams that are empty, end early, or have many records; and no text is taken for markup.
 
 use crate::claims::same;
-use crate::pages::{ASK, BEGIN, FAIL, LOW, NONE, PASS, TICK, answer_over, says, shows, stream_of};
-use run_report::{Progress, ReportError, Silent, Source, write_page};
+use crate::pages::{
+    ASK, BEGIN, FAIL, LOW, NONE, PASS, TICK, answer_over, page_of, says, shows, stream_of,
+};
+use run_report::{Progress, ReportError, Silent, Source};
 use std::process::Abort;
-use tick_scheduler::parse_schedule;
 
 /// Texts, a script in parts, and what the page says of the run, each so many times.
 type Row = (
-    &'static [Source<'static>],
+    &'static [Source<'static, 'static>],
     &'static [&'static [u8]],
     &'static [(&'static str, usize)],
 );
@@ -22,80 +23,47 @@ fn show<R: Abort + AllocGlobal>(rt: &R, rows: &[Row]) {
     }
 }
 
-/// Both files, the start, two failing samples, a passing one, and the request for housekeeping: results and states of the rule,
-/// and the mode; what was written, and by which record; the figures (3 telemetry, 5 commands and 2 files; 5 events, a request and
-/// a housekeeping packet, 1,044 bytes); and the rule as the text has it.
+/// Both files, the start, two failing samples, a passing one, and the request for housekeeping.
 const TEN_RECORDS: Row = (
     &[LOW],
     &[BEGIN, FAIL, FAIL, PASS, ASK],
     &[
         (
-            "<title>rule 0 LOW: no result, records 3 to 4, seconds 102 to 103</title>",
+            r#""lanes":[[[1,0,1,0],[3,131072,2,1],[5,262144,32,1],[7,393216,32,2],[9,524288,4,2]]]"#,
+            1,
+        ),
+        (r#""mode":[[1,0,"absent"],[3,131072,"active"]]"#, 1),
+        (r#""tables":[[1,0,null,"none"],[3,131072,0,"started"]]"#, 1),
+        (
+            r#""packets":3,"last":[8,458752],"values":[[4,196608,2399],[8,458752,2400]]"#,
             1,
         ),
         (
-            "<title>rule 0 LOW: fail, records 5 to 8, seconds 104 to 107</title>",
+            r#"{"packet":5,"record":7,"time":393216,"rule":0,"text":0,"sequence":7,"count":0,"event":6,"counted":2,"samples":[[5,262144,[[2399,4,196608,"true"]]],[7,393216,[[2399,6,327680,"true"]]]]}"#,
             1,
         ),
         (
-            "<title>rule 0 LOW: pass, records 9 to 10, seconds 108 to 109</title>",
+            r#"[6,7,393216,0,"LC",1001,"error","low volts: AP = 0, FailCount = 2, RTS = 7"]"#,
             1,
         ),
         (
-            "<title>rule 0 LOW: active, records 3 to 6, seconds 102 to 105</title>",
+            r#""figures":{"records":10,"telemetry":3,"commands":5,"ticks":0,"files":2,"packets":7,"requests":1,"housekeeping":1,"critical":0,"error":1,"info":4,"debug":0,"other":0}"#,
             1,
         ),
         (
-            "<title>rule 0 LOW: passive, records 7 to 10, seconds 106 to 109</title>",
+            r#""start":6553600,"end":589824,"ordered":true,"epoch":null"#,
             1,
         ),
         (
-            "<title>Limit Checker active, records 3 to 10, seconds 102 to 109</title>",
-            1,
-        ),
-        ("<g class=\"result\"><title>", 3),
-        ("<g class=\"state\"><title>", 2),
-        (
-            "<title>record 7, second 106: request for sequence 7</title>",
+            r#"{"name":"LOW","state":"active","fails":2,"sequence":7,"level":"error","event":1001,"says":"low volts","report":[0,0,0],"condition":"V \u003c 2400","comparisons":[[0,"\u003c","2400"]],"tree":[0]}"#,
             1,
         ),
         (
-            "<title>record 7, second 106: error 1001 of LC, low volts: AP = 0, FailCount = 2, RTS = 7</title>",
+            r#"{"name":"V","packet":"P","mid":2179,"type":"u16be","at":12,"mask":null,"stale":2,"#,
             1,
         ),
-        (
-            "<title>tables came into force; record 3, second 102: information 1 of LC, started with tables</title>",
-            1,
-        ),
-        (
-            "<tr><td class=\"n\">7</td><td class=\"n\">106</td><td class=\"kind request\">request</td><td>LC</td><td></td><td>command sequence 7</td></tr>",
-            1,
-        ),
-        ("<title>record 3, second 102: start of LC</title>", 1),
-        (
-            "<title>record 1, second 100: watchpoints of text 0 stored as /cf/lc_def_wdt.tbl</title>",
-            1,
-        ),
-        ("more are left out", 0),
-        ("ended early", 0),
-        (
-            "<dt>records</dt><dd>10<small>3 telemetry, 0 ticks, 5 commands, 2 files<",
-            1,
-        ),
-        ("<dt>seconds</dt><dd>100 to 109<small>", 1),
-        (
-            "<dt>bytes written</dt><dd>1,044<small>7 packets, 1 of them housekeeping<",
-            1,
-        ),
-        ("<dt>sequence requests</dt><dd>1<small>", 1),
-        (
-            "<dt>events</dt><dd>5<small>0 critical, 1 error, 4 information, 0 debug<",
-            1,
-        ),
-        (
-            "<tr><td class=\"n\">0</td><td><b>LOW</b></td><td>active</td><td><code>V &lt; 2400</code></td><td class=\"n\">2</td><td class=\"n\">7</td><td>error 1001 &quot;low volts&quot;</td></tr>",
-            1,
-        ),
+        (r#""requests_left_out":null"#, 1),
+        (r#""status":0,"says":"10 records","whole":true"#, 1),
     ],
 );
 
@@ -105,11 +73,15 @@ const STOPPED: Row = (
     &[BEGIN, FAIL, ASK, b"after 1\nstop LC\n", TICK],
     &[
         (
-            "<title>rule 0 LOW: fail, records 5 to 6, seconds 104 to 105</title>",
+            r#""lanes":[[[1,0,1,0],[3,131072,2,1],[5,262144,32,1],[7,393216,1,0]]]"#,
             1,
         ),
         (
-            "<title>Limit Checker active, records 3 to 6, seconds 102 to 105</title>",
+            r#""tables":[[1,0,null,"none"],[3,131072,0,"started"],[7,393216,null,"none"]]"#,
+            1,
+        ),
+        (
+            r#""mode":[[1,0,"absent"],[3,131072,"active"],[7,393216,"absent"]]"#,
             1,
         ),
     ],
@@ -127,48 +99,34 @@ const TURNED_OFF: Row = (
         TICK,
     ],
     &[
-        ("<title>rule 0 LOW: active, record 3, second 102</title>", 1),
         (
-            "<title>rule 0 LOW: disabled, record 4, second 103</title>",
+            r#""lanes":[[[1,0,1,0],[3,131072,2,1],[4,196608,2,4],[5,262144,2,8],[7,393216,1,0]]]"#,
             1,
         ),
         (
-            "<title>rule 0 LOW: off, records 5 to 6, seconds 104 to 105</title>",
+            r#""mode":[[1,0,"absent"],[3,131072,"active"],[6,327680,"passive"],[7,393216,"absent"]]"#,
             1,
         ),
-        (
-            "<title>rule 0 LOW: no result, records 3 to 6, seconds 102 to 105</title>",
-            1,
-        ),
-        (
-            "<title>Limit Checker active, records 3 to 5, seconds 102 to 104</title>",
-            1,
-        ),
-        (
-            "<title>Limit Checker passive, record 6, second 105</title>",
-            1,
-        ),
-        (
-            "<title>record 4, second 103: command 3 to 0x18A4, the Limit Checker</title>",
-            1,
-        ),
-        ("<title>record 7, second 106: stop of LC</title>", 1),
     ],
 );
 
-/// A second rule, which requests with the first: what is above the mark of two requests, and what it says.
+/// A second rule, which requests with the first.
 const BOTH: Row = (
     &[Source {
         name: "both.rules",
-        text: b"packet P = mid 0x0883 length 16; field V = P u16be at 12 stale 2; rule LOW active fails 2 sequence 7 event error 1001 \"low volts\" when V < 2400; rule TOO active fails 2 sequence 8 event error 1002 \"too\" when V < 2400;",
+        text: b"packet P = mid 0x0883 length 16; field V = P u16be at 12 stale 2; rule LOW active fails 2 sequence 7 event error 1001 \"low volts\" when V < 2400; rule TOO active fails 2 sequence 8 event error 1002 \"too\" when V < 0x960;",
     }],
     &[BEGIN, FAIL, FAIL, PASS, ASK],
     &[
-        (">7 +1</text>", 1),
         (
-            "<title>record 7, second 106: request for sequence 7; and 1 more here</title>",
+            r#""record":7,"time":393216,"rule":0,"text":0,"sequence":7,"count":0,"event":6,"counted":2,"#,
             1,
         ),
+        (
+            r#""record":7,"time":393216,"rule":1,"text":0,"sequence":8,"count":1,"event":8,"counted":2,"#,
+            1,
+        ),
+        (r#"[[0,"\u003c","0x960"]]"#, 1),
     ],
 );
 
@@ -176,10 +134,9 @@ const EMPTY: Row = (
     &[LOW],
     &[],
     &[
-        ("<dt>records</dt><dd>0<small>", 1),
-        ("<dt>bytes written</dt><dd>0<small>", 1),
-        ("ended early", 0),
-        ("<g class=\"result\">", 5),
+        (r#""figures":{"records":0,"#, 1),
+        (r#""lanes":[[]],"tables":[],"mode":[],"requests":[]"#, 1),
+        (r#""last":null,"values":[]"#, 1),
         ("</html>", 1),
     ],
 );
@@ -196,17 +153,16 @@ const MARKUP: Row = (
         ("<b>a", 0),
         ("<i>", 0),
         ("rules<1>", 0),
-        ("<h3>rules&lt;1&gt;</h3>", 1),
+        (r#""name":"rules\u003c1>","#, 1),
         (
-            "<td>&lt;b&gt;a &amp; b&lt;/b&gt;: AP = 0, FailCount = 1, RTS = 7</td>",
+            r#""\u003cb>a & b\u003c/b>: AP = 0, FailCount = 1, RTS = 7""#,
             1,
         ),
+        (r#""says":"\u003cb>a & b\u003c/b>""#, 1),
         (
-            "<td>error 1001 &quot;&lt;b&gt;a &amp; b&lt;/b&gt;&quot;</td>",
+            r#""condition":"not (V >= 2400)","comparisons":[[0,">=","2400"]],"tree":["not",0]"#,
             1,
         ),
-        ("<code>not (V &gt;= 2400)</code>", 1),
-        ("stored as /cf/&#39;&lt;i&gt;\\xff</title>", 1),
     ],
 );
 
@@ -242,20 +198,11 @@ const SWAPPED: Row = (
     ],
     &[
         (
-            "<title>rule 0 LOW: fail, records 5 to 15, seconds 104 to 114</title>",
+            r#""lanes":[[[1,0,1,0],[3,131072,2,1],[5,262144,32,1],[16,983040,2,1],[18,1114112,4,1]]]"#,
             1,
         ),
         (
-            "<title>rule 0 LOW: no result, records 16 to 17, seconds 115 to 116</title>",
-            1,
-        ),
-        ("<title>rule 0 LOW: pass, record 18, second 117</title>", 1),
-        (
-            "<title>tables came into force; record 16, second 115: information 2 of LC, tables adopted</title>",
-            1,
-        ),
-        (
-            "<title>low.rules: rule 0 LOW, requests sequence 7. lower.rules: rule 0 LOWER, requests sequence 8. </title>",
+            r#""tables":[[1,0,null,"none"],[3,131072,0,"started"],[16,983040,1,"adopted"]]"#,
             1,
         ),
     ],
@@ -266,16 +213,11 @@ const SWAPPED: Row = (
 /// passing sample.
 const ALONE: &[(&str, usize)] = &[
     (
-        "<title>rule 0 LOW: fail, records 5 to 11, seconds 104 to 110</title>",
+        r#""lanes":[[[1,0,1,0],[3,131072,2,1],[5,262144,32,1],[12,720896,2,1],[14,851968,4,1]]]"#,
         1,
     ),
     (
-        "<title>rule 0 LOW: no result, records 12 to 13, seconds 111 to 112</title>",
-        1,
-    ),
-    ("<title>rule 0 LOW: pass, record 14, second 113</title>", 1),
-    (
-        "<title>tables came into force; record 12, second 111: information 2 of LC, tables adopted</title>",
+        r#""tables":[[1,0,null,"none"],[3,131072,0,"started"],[12,720896,0,"adopted"]]"#,
         1,
     ),
 ];
@@ -319,23 +261,23 @@ fn tables_that_wait_are_not_adopted_early(rt: HostRuntime) {
 const ENDINGS: &[(usize, &str, &str)] = &[
     (
         1,
-        "ended early: the stream ends inside record 1.",
-        "<dt>records</dt><dd>0<small>",
+        r#""status":4,"says":"the stream ends inside record 1","whole":false"#,
+        r#""figures":{"records":0,"#,
     ),
     (
         150,
-        "ended early: the stream ends inside record 4.",
-        "<dd>3<small>",
+        r#""status":4,"says":"the stream ends inside record 4","whole":false"#,
+        r#""figures":{"records":3,"#,
     ),
     (
         173,
-        "ended early: the stream ends inside record 4.",
-        "<dd>3<small>",
+        r#""status":4,"says":"the stream ends inside record 4","whole":false"#,
+        r#""figures":{"records":3,"#,
     ),
     (
         212,
-        "ended early: record 6 of the stream is none.",
-        "<dd>5<small>",
+        r#""status":4,"says":"record 6 of the stream is none","whole":false"#,
+        r#""figures":{"records":5,"#,
     ),
 ];
 
@@ -369,19 +311,9 @@ fn a_refused_text_is_named_and_nothing_written(rt: HostRuntime) {
 
 /// A page of a tick, where there is room for so many bytes.
 fn answer_within<R: Abort + AllocGlobal>(rt: &R, room: &mut [u8]) -> Option<ReportError> {
-    let Ok(schedule) = parse_schedule(rt.alloc(), b"slots 1") else {
-        return Some(ReportError::Memory);
-    };
     let mut out = room;
-    write_page(
-        rt.alloc(),
-        &schedule,
-        &[2, 0, 0, 0, 100, 0, 0, 0, 0, 0, 0],
-        &[LOW],
-        &mut out,
-        &mut Silent,
-    )
-    .err()
+    let tick = [2, 0, 0, 0, 100, 0, 0, 0, 0, 0, 0];
+    page_of(rt, &[LOW], &tick, &mut out, &mut Silent).err()
 }
 
 #[test]
@@ -394,7 +326,7 @@ fn a_full_writer_is_told(rt: HostRuntime) {
 /// answered; else it is whole.
 #[test]
 fn want_of_memory_is_answered(rt: HostRuntime) {
-    if let Some(error) = answer_within(&rt, &mut [0; 32_768]) {
+    if let Some(error) = answer_within(&rt, &mut [0; 70_000]) {
         same(&rt, "the answer", error, ReportError::Memory);
     }
 }
@@ -407,58 +339,52 @@ struct Told {
 }
 
 impl Progress for Told {
-    fn done(&mut self, probes: usize, of: usize) {
+    fn done(&mut self, bytes: usize, of: usize) {
         self.times = self.times.wrapping_add(1);
-        self.last = (probes, of);
+        self.last = (bytes, of);
     }
 }
 
-/// The first text; then a passing and a failing sample by turns, which never fail twice in a row, up to record 1,999; and the
-/// request for housekeeping.
-fn two_thousand<R: Abort + AllocGlobal>(rt: &R) -> Vec<u8> {
+/// The text; 10,000 samples, of which ten in a row fail, from record 10,005 on; and the request for housekeeping.
+fn twenty_thousand<R: Abort + AllocGlobal>(rt: &R) -> Vec<u8> {
     let mut parts = Vec::from_slice(rt.alloc(), &[BEGIN]).expect(rt, "memory for a script");
-    for _ in 0..499 {
-        parts
-            .extend_from_slice(&[FAIL, PASS])
-            .expect(rt, "memory for a script");
+    for sample in 0..10_000 {
+        let part = if (5_000..5_010).contains(&sample) {
+            FAIL
+        } else {
+            PASS
+        };
+        parts.push(part).expect(rt, "memory for a script");
     }
     parts.push(ASK).expect(rt, "memory for a script");
     stream_of(rt, parts.as_slice(), b"")
 }
 
+/// Ten failing samples among 20,004 records are there, with the records and the times of the first, of the one by which the rule
+/// became passive, and of the one that passed behind them.
 const LANES: &[(&str, usize)] = &[
-    ("<dt>records</dt><dd>2,000<small>", 1),
-    ("2,000 records in 400 columns", 1),
-    ("more are left out", 0),
+    (r#""figures":{"records":20004,"#, 1),
     (
-        "<g class=\"state\"><title>rule 0 LOW: active, records 1 to 2000, seconds 100 to 2099</title>",
+        r#""lanes":[[[1,0,1,0],[3,131072,2,1],[5,262144,4,1],[10005,655622144,32,1],[10007,655753216,32,2],[10025,656932864,4,2]]]"#,
+        1,
+    ),
+    (
+        r#""values":[[4,196608,2400],[10004,655556608,2399],[10024,656867328,2400]]"#,
         1,
     ),
 ];
 
 #[test]
-fn two_thousand_records_have_four_hundred_columns(rt: HostRuntime) {
-    let stream = two_thousand(&rt);
-    let schedule = parse_schedule(rt.alloc(), b"slots 1").expect(&rt, "a schedule");
+fn ten_failures_among_twenty_thousand_records_are_told(rt: HostRuntime) {
+    let stream = twenty_thousand(&rt);
     let mut told = Told {
         times: 0,
         last: (0, 0),
     };
     let mut page = Vec::new(rt.alloc());
-    let answer = write_page(
-        rt.alloc(),
-        &schedule,
-        stream.as_slice(),
-        &[LOW],
-        &mut page,
-        &mut told,
-    );
+    let answer = page_of(&rt, &[LOW], stream.as_slice(), &mut page, &mut told);
     same(&rt, "the page", answer, Ok(true));
-    same(
-        &rt,
-        "the progress",
-        (told.times, told.last),
-        (400, (400, 400)),
-    );
+    same(&rt, "the progress", told.times, 20);
+    same(&rt, "the stream's bytes", told.last.1, stream.len());
     says(&rt, page.as_slice(), LANES);
 }

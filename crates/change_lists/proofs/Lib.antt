@@ -1,0 +1,6 @@
+pub mod Joining
+pub mod Reduced
+pub mod Placed
+pub mod Said
+pub mod Grown
+pub mod Lists

@@ -1,0 +1,59 @@
+// Elements of the page, and how wide a text is.
+const byId = id => document.getElementById(id);
+
+function make(tag, className, text, attributes = {}) {
+  const element = document.createElement(tag);
+  if (className) element.className = className;
+  if (text !== undefined) element.textContent = text;
+  for (const name of Object.keys(attributes)) element.setAttribute(name, attributes[name]);
+  return element;
+}
+
+// A button with a name for who can't see it, which is its tip as well.
+function makeButton(className, text, name, click) {
+  const button = make('button', className, text, { type: 'button', 'aria-label': name, title: name, tabindex: -1 });
+  button.addEventListener('click', click);
+  return button;
+}
+
+const pen = document.createElement('canvas').getContext('2d');
+const family = getComputedStyle(document.body).fontFamily;
+
+function widthOf(text, size, weight = 400) {
+  pen.font = `${weight} ${size}px ${family}`;
+  return pen.measureText(text).width;
+}
+
+// Within a track the arrows go from button to button, by their places, and at the window's edge they move it.
+// The track is one stop of the tab key.
+function walkable(track) {
+  track.addEventListener('keydown', event => {
+    const step = { ArrowLeft: -1, ArrowRight: 1, Home: -Infinity, End: Infinity }[event.key];
+    const buttons = stopsOf(track);
+    const now = buttons.indexOf(document.activeElement);
+    if (step === undefined || now < 0) return;
+    event.preventDefault();
+    event.stopPropagation();
+    if (!buttons[now + step] && Number.isFinite(step)) pan(step / 2);
+    const next = buttons[Math.max(0, Math.min(buttons.length - 1, now + step))];
+    setStop(track, next);
+    next.focus({ preventScroll: true });
+  });
+}
+
+const stopsOf = track => [...track.querySelectorAll('button')].sort((one, other) => one.place - other.place);
+
+function setStop(track, button) {
+  for (const other of track.querySelectorAll('button[tabindex="0"]')) other.tabIndex = -1;
+  if (button) button.tabIndex = 0;
+}
+
+// Draws a track anew. Where the keys were in it, they go on at the same place.
+function redraw(track, elements) {
+  const held = track.contains(document.activeElement) ? document.activeElement.place : undefined;
+  track.replaceChildren(...elements);
+  const buttons = stopsOf(track);
+  const stop = buttons.filter(button => held !== undefined && button.place <= held).at(-1) ?? buttons[0];
+  setStop(track, stop);
+  if (held !== undefined && stop) stop.focus({ preventScroll: true });
+}

@@ -1,0 +1,89 @@
+// The page put together.
+const LEVELS = ['critical', 'error', 'info', 'debug'];
+
+function figure(name, value, more) {
+  const box = make('div', '', name);
+  box.append(make('b', '', value), make('small', '', more));
+  return box;
+}
+
+function tellFigures() {
+  const all = run.figures;
+  const ended = run.ended.whole ? 'The stream ended behind a whole record' : 'The stream is cut short';
+  const seconds = all.records ? ` Seconds ${secondOf(0)} to ${secondOf(run.end)}${run.epoch ? `, ${instantOf(0)} to ${instantOf(run.end)}` : ''}.` : '';
+  byId('ended').textContent = `Ended with status ${run.ended.status}: ${run.ended.says}. ${ended}.${seconds}`
+    + (run.ordered ? '' : ' Times go back in this stream, so the axis has its records.');
+  byId('ended').classList.toggle('cut', run.ended.status !== 0);
+  const events = LEVELS.reduce((sum, level) => sum + all[level], 0);
+  byId('figures').append(
+    figure('records', all.records, `${all.telemetry} telemetry, ${all.ticks} ticks, ${all.commands} commands, ${all.files} files`),
+    figure('packets written', all.packets, `${all.housekeeping} housekeeping${all.other ? `, ${all.other} others` : ''}`),
+    figure('requests', all.requests, `of ${new Set(run.requests.map(request => request.rule)).size} rules`),
+    figure('events', events, LEVELS.map(level => `${all[level]} ${level}`).join(', ')));
+}
+
+function tellFiles() {
+  byId('program').textContent = `Made by ${run.program}.`;
+  for (const file of run.files) {
+    const row = make('tr');
+    const sum = make('td');
+    sum.append(make('code', '', file.sha256));
+    row.append(make('td', '', file.role), make('td', '', file.name), make('td', 'number', file.bytes), sum);
+    byId('file_rows').append(row);
+  }
+}
+
+function fillUnits() {
+  const units = !run.ordered ? ['record'] : ['start', 'second', ...(run.epoch === null ? [] : ['utc']), 'record'];
+  const words = { start: 'seconds from the start', second: 'seconds', utc: 'UTC', record: 'records' };
+  for (const unit of units) byId('unit').append(make('option', '', words[unit], { value: unit }));
+  byId('unit').addEventListener('input', () => changeUnit(byId('unit').value));
+}
+
+function listenToControls() {
+  const moves = { in: () => zoom(0.6), out: () => zoom(1 / 0.6), earlier: () => pan(-0.25), later: () => pan(0.25), all: showAll };
+  for (const id of Object.keys(moves)) byId(id).addEventListener('click', moves[id]);
+  byId('controls').addEventListener('submit', event => event.preventDefault());
+  byId('csv').addEventListener('click', saveCsv);
+  addEventListener('keydown', moveByKey);
+  addEventListener('resize', drawSoon);
+  listenToPointers(byId('lanes'));
+}
+
+// On paper all lanes are drawn for its width, all rows are there, and each request says why.
+function beforePrint() {
+  document.body.classList.add('printing');
+  if (drawn < found.length) drawRows(found.length);
+  byId('panel').replaceChildren(...run.requests.map(whyOf));
+  draw();
+}
+
+function afterPrint() {
+  document.body.classList.remove('printing');
+  showFirst();
+  draw();
+}
+
+function showFirst() {
+  if (run.requests.length) showRequest(run.requests[0]);
+  else showText('Why', 'No sequence was requested.');
+}
+
+function start() {
+  document.body.classList.toggle('no_epoch', run.epoch === null);
+  if (matchMedia('(max-width: 600px)').matches) byId('legend').open = false;
+  tellFigures();
+  tellFiles();
+  fillUnits();
+  makeLanes();
+  fillFilters();
+  [view.low, view.high] = wholeRun();
+  find();
+  draw();
+  showFirst();
+  listenToControls();
+  addEventListener('beforeprint', beforePrint);
+  addEventListener('afterprint', afterPrint);
+}
+
+start();

@@ -1,0 +1,97 @@
+"""What is asked of single examples beside what is asked of all."""
+
+
+def expect_ten_failures(look):
+    """Ten failing samples within one column of 100,000 records are seen at each width, and keys come to the record and the time."""
+    for width in [1400, 420]:
+        look.show(width, 900)
+        column = look.ask(
+            "(() => { const fail = lanes[0].track.querySelector('.cell.fail'); if (!fail) return null;"
+            " const box = fail.getBoundingClientRect(); return [box.width, box.height, box.left - fail.parentElement.getBoundingClientRect().left]; })()"
+        )
+        look.expect(column is not None and column[0] >= 3.9 and column[1] > 18, f"the ten failures aren't seen: {column}")
+    look.show()
+    for _ in range(12):
+        look.do("[...lanes[0].track.querySelectorAll('.cell.fail')][0].focus()")
+        if look.ask("document.activeElement.matches(':not(.many)') && document.activeElement.clientWidth > 4"):
+            break
+        if look.ask("document.activeElement.matches('.many')"):
+            look.browser.key("Enter", 13)
+        else:
+            look.do("const span = lanes[0].spans.find(each => each.results & 32); zoomTo(span.from, span.to)")
+    name = look.ask("document.activeElement.getAttribute('aria-label')")
+    look.expect("LOW: fail" in name and "record 600" in name, f"the failure is named {name}")
+    look.picture("ten_failures")
+
+
+def expect_gap_to_scale(look):
+    """The 600 s without packets take their share of the axis."""
+    look.show()
+    share = look.ask(
+        "(() => { const steps = run.lanes.flat().map(entry => entry[1]).sort((a, b) => a - b); let gap = 0;"
+        " steps.forEach((time, index) => { if (index) gap = Math.max(gap, time - steps[index - 1]); });"
+        " return gap / TICKS / (view.high - view.low); })()"
+    )
+    look.expect(0.7 < share < 0.95, f"the gap takes {share} of the axis")
+    look.expect(look.ask("lanes.length") == 176, "there aren't 176 lanes")
+    look.do("lanes[175].row.scrollIntoView({block: 'center'})")
+    look.expect(look.ask("lanes[175].track.querySelectorAll('.cell').length > 0"), "the last lane isn't drawn where it is seen")
+    look.check("last lane")
+    look.picture("last_lanes")
+
+
+def expect_bands(look):
+    """Which text was in force when, and why, of tables that are exchanged in flight."""
+    look.show()
+    names = look.ask("[...document.querySelectorAll('.cell.band')].map(each => each.getAttribute('aria-label'))")
+    look.expect(sum("text 0 (rules_0.txt)" in name for name in names) == 2 and sum("text 1" in name for name in names) == 1, f"bands: {names}")
+    look.do("openLane(lanes[0], true)")
+    limits = look.ask("[...document.querySelectorAll('.limit_text')].map(each => each.textContent)")
+    look.expect({"> 6000", "> 4500"} <= {limit.split(",")[0] for limit in limits}, f"limits of both texts: {limits}")
+    why = look.ask("whyOf(run.requests[0]).innerText || whyOf(run.requests[0]).textContent")
+    look.expect(why.count("CURRENT_3 > 800") >= 4 and "Sample 3 of 3" in why, "a request doesn't say why")
+
+
+def expect_hex(look):
+    """Numbers are as the rule text has them, and the side that fails is the condition's."""
+    look.show()
+    ranges = look.ask("JSON.stringify(failingRanges(run.texts[0].rules[0], 0))")
+    look.expect(ranges == "[[64,159],[65520,65520]]", f"the failing side is {ranges}")
+    look.do("openLane(lanes[0], true)")
+    limits = look.ask("[...document.querySelectorAll('.limit_text')].map(each => each.textContent).join(', ')")
+    look.expect("0x40" in limits and "0xA0" in limits and "64" not in limits, f"limits aren't in hex: {limits}")
+    look.expect(look.ask("/0x[4-9]0/.test(byId('panel').textContent)"), "the values of samples aren't in hex")
+    look.expect(look.ask("document.querySelector('#ended').classList.contains('cut')"), "that the stream is cut isn't told")
+
+
+def expect_records_alone(look):
+    look.show()
+    look.expect(look.ask("[...byId('unit').options].map(option => option.value).join()") == "record", "an axis of times that go back")
+    look.expect("go back" in look.ask("byId('ended').textContent"), "that times go back isn't told")
+
+
+def expect_plain_texts(look):
+    """Texts from files are texts."""
+    look.show()
+    look.expect(look.ask("document.querySelectorAll('#rows b, #panel b').length === 0"), "a text is taken for markup")
+    look.expect("</script>" in look.ask("byId('rows').textContent + byId('panel').textContent"), "a text isn't told whole")
+    names = look.ask("[...document.querySelectorAll('.cell.band')].map(each => each.getAttribute('aria-label')).join()")
+    look.expect("tables of no text" in names and "no Limit Checker" in names, f"bands: {names}")
+
+
+def expect_bounds_told(look):
+    """What isn't in the page is told, with how much it is."""
+    look.show()
+    look.expect(look.ask("run.events_left_out !== null && byId('rows_shown').textContent.includes(run.events_left_out[0] + ' events')"), "events are left out in silence")
+    look.expect(look.ask("run.tables.at(-1)[3] === 'untold'") and look.ask("document.body.textContent.includes('not told any more')"), "tables are untold in silence")
+
+
+CASES = {
+    "many": [expect_ten_failures],
+    "cells": [expect_gap_to_scale],
+    "wheels": [expect_bands],
+    "one_rule": [expect_hex],
+    "back_in_time": [expect_records_alone],
+    "foreign": [expect_plain_texts],
+    "full": [expect_bounds_told],
+}

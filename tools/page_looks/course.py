@@ -1,0 +1,232 @@
+"""A run that is made up, as the page's data (crates/run_report/page/DATA.md).
+
+No Limit Checker: it samples, ages, counts failures, requests and reports as far as a page's look needs it, so that its numbers go together.
+"""
+
+import hashlib
+
+from conditions import Condition, compared
+from kept import Changes, Ends, Pool, joined_bits, joined_values
+
+TICK = 65_536
+RESULT = {"absent": 1, "none": 2, "pass": 4, "stale": 8, "error": 16, "fail": 32}
+STATE = {None: 0, "active": 1, "passive": 2, "disabled": 4, "off": 8}
+MOST = {"entries": 22_528, "bands": 500, "requests": 600, "events": 2_000, "parts": 3_072}
+
+
+class Rule:
+    def __init__(self, name, condition, fails=1, sequence=1, event=1001, state="active", level="error", says="", report=(1, 4, 4)):
+        self.name, self.fails, self.sequence, self.event = name, fails, sequence, event
+        self.state, self.level, self.says, self.report = state, level, says, list(report)
+        self.condition = Condition(condition)
+
+
+class Standing:
+    """How a rule of the tables in force stands."""
+
+    def __init__(self, rule):
+        self.state, self.result, self.row, self.samples = rule.state, "none", 0, []
+        self.told = {"fail": 0, "pass": 0}
+
+
+class Course:
+    def __init__(self, fields, texts, start, epoch=None):
+        self.fields, self.texts, self.epoch = fields, texts, epoch
+        self.time = self.first = round(start * TICK)
+        self.used = list(dict.fromkeys(field for rules in texts for rule in rules for field, _, _ in rule.condition.comparisons))
+        self.rules = max((len(rules) for rules in texts), default=0)
+        self.figures = dict.fromkeys(
+            "records telemetry commands ticks files packets requests housekeeping critical error info debug other".split(), 0
+        )
+        pool = Pool(MOST["entries"])
+        self.values = {name: Changes(pool, joined_values) for name in self.used}
+        self.lanes = [Changes(pool, joined_bits) for _ in range(self.rules)]
+        self.seen = dict.fromkeys(self.used, 0)
+        self.came = {}  # field: record, time, of its last packet in the whole run
+        self.met = {}  # field: record, time, value, agings, since the tables are in force
+        self.text, self.standings, self.mode = None, [], "absent"
+        self.tables, self.modes = [], []
+        self.requests, self.events = Ends(MOST["requests"]), Ends(MOST["events"])
+        self.counts, self.parts, self.ordered, self.full = 0, 0, True, False
+
+    # What comes.
+
+    def after(self, seconds):
+        self.time += round(seconds * TICK)
+        self.ordered = self.ordered and seconds >= 0
+
+    def record(self, kind):
+        self.figures["records"] += 1
+        self.figures[kind] += 1
+        if self.figures["records"] == 1:
+            self.first = self.time
+            self.tables.append([1, 0, None, "none"])
+            self.modes.append([1, 0, "absent"])
+        self.keep()
+        return self.figures["records"]
+
+    @property
+    def here(self):
+        return self.figures["records"], self.time - self.first
+
+    def telemetry(self, packet, **values):
+        """A packet with these fields; None stands for one that it doesn't reach."""
+        self.record("telemetry")
+        for name in self.used:
+            if self.fields[name]["packet"] == packet:
+                value = values.get(name)
+                self.seen[name] += 1
+                self.came[name] = self.here
+                self.met[name] = [*self.here, value, 0]
+                self.values[name].add(*self.here, (value,))
+
+    def tick(self, housekeeping=False):
+        self.record("ticks")
+        for number, standing in enumerate(self.standings):
+            self.sample(number, standing)
+        for met in self.met.values():
+            met[3] += 1
+        if housekeeping:
+            self.figures["packets"] += 1
+            self.figures["housekeeping"] += 1
+        self.keep()
+
+    def started(self, text):
+        self.record("files")
+        self.record("commands")
+        self.mode = "active"
+        self.band(self.modes, ["active"])
+        self.put_in_force(text, "started")
+        self.event("LC", 1, "info", "started with tables")
+
+    def adopted(self, text):
+        self.record("files")
+        self.record("commands")
+        self.put_in_force(text, "adopted")
+        self.event("LC", 2, "info", "tables adopted")
+
+    def command(self, what, *values):
+        """A command that sets the mode, or the state of a rule."""
+        self.record("commands")
+        if what == "mode":
+            self.mode = values[0]
+            self.band(self.modes, [self.mode])
+        else:
+            self.standings[values[0]].state = values[1]
+        self.event("LC", 9, "debug" if what == "mode" else "info", f"{what} set: {', '.join(map(str, values))}")
+        self.keep()
+
+    # What it leads to.
+
+    def put_in_force(self, text, how):
+        self.text, self.met = text, {}
+        self.standings = [Standing(rule) for rule in ([] if text is None else self.texts[text])]
+        self.band(self.tables, [text, how])
+        self.keep()
+
+    def band(self, entries, what):
+        if len(entries) < MOST["bands"] - 1:
+            entries.append([*self.here, *what])
+        elif len(entries) == MOST["bands"] - 1:
+            entries.append([*self.here, *([None, "untold"] if entries is self.tables else ["untold"])])
+
+    def keep(self):
+        for number, lane in enumerate(self.lanes):
+            if number < len(self.standings):
+                standing = self.standings[number]
+                lane.add(*self.here, (RESULT[standing.result], STATE[standing.state]))
+            else:
+                lane.add(*self.here, (RESULT["absent"], 0))
+
+    def sample(self, number, standing):
+        if standing.state in ["disabled", "off"] or self.mode == "disabled":
+            return
+        rule = self.texts[self.text][number]
+        met = [self.part(*comparison) for comparison in rule.condition.comparisons]
+        parts = [part for part, _ in met]
+        truth = rule.condition.truth([truth for _, truth in met])
+        result = {"true": "fail", "false": "pass"}.get(truth, truth)
+        turned = {result, standing.result} == {"fail", "pass"}
+        standing.result = result
+        if result != "fail":
+            standing.row, standing.samples = 0, []
+        else:
+            standing.row += 1
+            standing.samples.append([*self.here, parts])
+            if len(standing.samples) > 6:
+                del standing.samples[3]
+        if turned and standing.told[result] < rule.report[1]:
+            standing.told[result] += 1
+            way = "pass to fail" if result == "fail" else "fail to pass"
+            self.event("LC", 5 if result == "fail" else 6, "info", f"actionpoint {number} {way}", number)
+        if result == "fail" and standing.row >= rule.fails and standing.state == "active" and self.mode == "active":
+            self.request(number, rule, standing)
+
+    def part(self, name, operator, number):
+        """A comparison: the value that it met, its record and time, and what it makes of it; and its truth in the sample."""
+        if name not in self.met:
+            return [None, None, None, "stale"], "stale"
+        record, time, value, agings = self.met[name]
+        stale = self.fields[name]["stale"]
+        verdict = "error" if value is None else compared(value, operator, number)
+        return [value, record, time, verdict], "stale" if stale and agings >= stale else verdict
+
+    def request(self, number, rule, standing):
+        self.figures["packets"] += 1
+        self.figures["requests"] += 1
+        lines = sum(len(sample[2]) for sample in standing.samples)
+        self.full = self.full or self.parts + lines > MOST["parts"]
+        self.parts += 0 if self.full else lines
+        record, time = self.here
+        request = {
+            "packet": self.figures["packets"], "record": record, "time": time, "rule": number, "text": self.text,
+            "sequence": rule.sequence, "count": self.counts, "event": self.figures["packets"] + 1, "counted": standing.row,
+            "samples": [] if self.full else list(standing.samples),
+        }  # fmt: skip
+        self.requests.add(request, record)
+        self.counts += 1
+        standing.state = "passive"
+        self.event("LC", rule.event, rule.level, f"{rule.says}: AP = {number}, FailCount = {standing.row}, RTS = {rule.sequence}", number)
+
+    def event(self, sender, number, level, text, rule=None):
+        self.figures["packets"] += 1
+        self.figures[level] += 1
+        self.events.add([self.figures["packets"], *self.here, rule, sender, number, level, text], self.here[0])
+
+    # What is written.
+
+    def data(self, status=0, says=None, whole=True):
+        names = {name: place for place, name in enumerate(self.used)}
+        return {
+            "format": 1, "program": "flight_tools 0.10.0",
+            "ended": {"status": status, "says": says or f"records {self.figures['records']}", "whole": whole},
+            "files": [file_of("rules", f"rules_{text}.txt") for text in range(len(self.texts))]
+            + [file_of("schedule", "schedule.txt"), file_of("stream", "out/run.stream")],
+            "figures": self.figures, "start": self.first if self.figures["records"] else 0,
+            "end": self.here[1] if self.figures["records"] else 0, "ordered": self.ordered, "epoch": self.epoch,
+            "texts": [{"rules": [rule_of(rule, names) for rule in rules]} for rules in self.texts],
+            "fields": [self.field_of(name) for name in self.used],
+            "lanes": [lane.written() for lane in self.lanes], "tables": self.tables, "mode": self.modes,
+            "requests": self.requests.items(), "requests_left_out": self.requests.left_out(),
+            "events": self.events.items(), "events_left_out": self.events.left_out(),
+        }  # fmt: skip
+
+    def field_of(self, name):
+        field = self.fields[name]
+        last = self.came.get(name)
+        return {
+            "name": name, "packet": field["packet"], "mid": field["mid"], "type": field["type"], "at": field["at"], "mask": field.get("mask"),
+            "stale": field["stale"], "packets": self.seen[name], "last": list(last) if last else None, "values": self.values[name].written(),
+        }  # fmt: skip
+
+
+def file_of(role, name):
+    return {"role": role, "name": name, "bytes": 100 * len(name), "sha256": hashlib.sha256(name.encode()).hexdigest()}
+
+
+def rule_of(rule, names):
+    return {
+        "name": rule.name, "state": rule.state, "fails": rule.fails, "sequence": rule.sequence, "level": rule.level, "event": rule.event,
+        "says": rule.says, "report": rule.report, "condition": rule.condition.text,
+        "comparisons": [[names[field], operator, number] for field, operator, number in rule.condition.comparisons], "tree": rule.condition.tree,
+    }  # fmt: skip
