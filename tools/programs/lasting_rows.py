@@ -89,6 +89,13 @@ OLD = {**FILES, "stream": BUS_STREAM, "page": b"an old page"}
 
 OLD_RESULTS = [
     Row(
+        "an epoch of a page that is no instant",
+        [*REPORT[:2], "--epoch", "noon", *REPORT[2:]],
+        OLD,
+        status=2,
+        error=b"--epoch noon: no such value\n",
+    ),
+    Row(
         "a text that is refused leaves the old page",
         REPORT,
         {**OLD, "rules": b"packet BUS"},

@@ -12,7 +12,7 @@ use std::alloc::Global;
 use std::fs::Files;
 use std::io::{Read, Write};
 use stream_script::{Front, front_of};
-use tool_faults::{Fault, Feed, feed_of, listed, output_fault};
+use tool_faults::{Fault, Feed, epoch_of, feed_of, listed, output_fault};
 use tool_words::RowWords;
 
 /// How rows are written.
@@ -20,17 +20,6 @@ use tool_words::RowWords;
 pub struct Rows {
     form: Form,
     epoch: Option<Epoch>,
-}
-
-/// The epoch that is named, where one is.
-fn epoch_of<'a>(word: Option<&'a str>) -> Result<Option<Epoch>, Fault<'a>> {
-    match word {
-        None => Ok(None),
-        Some(word) => match Epoch::read(word) {
-            Some(epoch) => Ok(Some(epoch)),
-            None => Err(Fault::Value("--epoch", word)),
-        },
-    }
 }
 
 /// How the rows are written that are asked for, where they are. Values and objects can't be had at once.

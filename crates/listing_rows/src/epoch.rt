@@ -5,6 +5,7 @@ use jiff::Timestamp;
 use lc_model::Moment;
 use packet_listing::Time;
 use std::alloc::{AllocError, Global};
+use std::fmt::{self, Display, Formatter, Write};
 
 /// The nanoseconds of a second.
 const NANOSECONDS: i128 = 1_000_000_000;
@@ -16,6 +17,13 @@ const PARTS: i128 = 65_536;
 #[derive(Clone, Copy)]
 pub struct Epoch {
     zero: Timestamp,
+}
+
+impl Display for Epoch {
+    /// The instant in UTC, as `2000-01-01T12:00:00Z`.
+    fn fmt<W: Write>(&self, f: &mut Formatter<W>) -> fmt::Result {
+        write!(f, "{}", self.zero)
+    }
 }
 
 impl Epoch {

@@ -11,7 +11,7 @@ use std::fs::Files;
 use std::io::{BufWriter, Eprint, ErrorKind, Write};
 use tick_scheduler::Schedule;
 use tool_faults::{
-    Fault, LONGEST_TEXT, LONGEST_WHOLE, fault_at, is_apart, read, schedule_of, texts_in,
+    Fault, LONGEST_TEXT, LONGEST_WHOLE, epoch_of, fault_at, is_apart, read, schedule_of, texts_in,
 };
 
 /// Tells on standard error how far a report is, where a person looks at it.
@@ -68,6 +68,14 @@ fn write_to<R: Eprint, F: Write + Drop>(
     Ok(is_whole)
 }
 
+/// The instant of second 0 in UTC, where it is named.
+fn epoch_text<'a>(alloc: Global, word: Option<&'a str>) -> Result<Option<String>, Fault<'a>> {
+    match epoch_of(word)? {
+        Some(epoch) => Ok(Some(format!(in alloc; "{epoch}")?)),
+        None => Ok(None),
+    }
+}
+
 /// A run of these rule texts over a stream, as a page, which is written beside its name and takes it at the end. A stream that
 /// ends early has a page, and another status.
 pub fn make_page<'a, R: Files + Eprint + AllocGlobal>(
@@ -76,8 +84,10 @@ pub fn make_page<'a, R: Files + Eprint + AllocGlobal>(
     stream: &'a str,
     page: &'a str,
     rules: &[&'a str],
+    epoch: Option<&'a str>,
     is_watched: bool,
 ) -> Result<(), Fault<'a>> {
+    let epoch = epoch_text(rt.alloc(), epoch)?;
     let planned = read(rt, schedule, LONGEST_TEXT)?;
     let plan = schedule_of(rt, schedule, planned.as_slice())?;
     let bytes = read(rt, stream, LONGEST_WHOLE)?;
@@ -101,7 +111,7 @@ pub fn make_page<'a, R: Files + Eprint + AllocGlobal>(
             text: bytes.as_slice(),
         },
         texts: sources.as_slice(),
-        epoch: None,
+        epoch: epoch.as_ref().map(|text| text.as_str()),
     };
     let mut draft = begin(rt, page).map_err(|fault| fault_at(page, fault))?;
     let kind = Cell::new(None);

@@ -25,7 +25,7 @@ pub struct Run<'n, 't> {
     pub stream: Source<'n, 't>,
     pub texts: &'t [Source<'n, 't>],
     /// The instant of second 0, as RFC 3339 writes it.
-    pub epoch: Option<&'n str>,
+    pub epoch: Option<&'t str>,
 }
 
 /// How often it is told how far a report is.

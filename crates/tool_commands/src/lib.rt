@@ -63,7 +63,11 @@ pub fn obey<'a, R: Files + Eprint + AllocGlobal, I: Read + Drop, W: Write>(
             stream,
             page,
             rules,
-        } => run_commands::make_page(rt, schedule, stream, page, rules.as_slice(), is_watched),
+            epoch,
+        } => {
+            let rules = rules.as_slice();
+            run_commands::make_page(rt, schedule, stream, page, rules, epoch, is_watched)
+        }
         Plan::Check {
             schedule,
             rules,

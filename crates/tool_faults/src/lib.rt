@@ -2,6 +2,7 @@
 //! these are.
 #![tactic(auto)]
 
+mod epoch;
 mod fault;
 mod feed;
 mod files;
@@ -9,6 +10,7 @@ mod given;
 mod output;
 mod telling;
 
+pub use crate::epoch::epoch_of;
 pub use crate::fault::Fault;
 pub use crate::feed::{Feed, feed_of};
 pub use crate::files::{

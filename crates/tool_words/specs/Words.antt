@@ -73,9 +73,10 @@ HoldsRows found (Import files how) = (found.0 ≡ codes "import")
     × (all_of (codes "FILES") found.1 ≡ Some (map (λ file. file.now) files.items)) × HoldsImport found.1 how
 HoldsRows found (Export stream raw) = (found.0 ≡ codes "export")
     × (first_of (codes "STREAM") found.1 ≡ Some stream.now) × (first_of (codes "RAW") found.1 ≡ Some raw.now)
-HoldsRows found (Report schedule stream page rules) = (found.0 ≡ codes "report")
+HoldsRows found (Report schedule stream page rules epoch) = (found.0 ≡ codes "report")
     × (first_of (codes "SCHEDULE") found.1 ≡ Some schedule.now) × (first_of (codes "STREAM") found.1 ≡ Some stream.now)
     × (first_of (codes "PAGE") found.1 ≡ Some page.now) × (all_of (codes "RULES") found.1 ≡ Some (map (λ rule. rule.now) rules.items))
+    × (first_of (codes "epoch") found.1 ≡ option_map (λ word. word.now) epoch)
 HoldsRows found (Check schedule rules all strict json) = (found.0 ≡ codes "check")
     × (first_of (codes "schedule") found.1 ≡ option_map (λ word. word.now) schedule) × (all_of (codes "RULES") found.1 ≡ Some (map (λ rule. rule.now) rules.items))
     × IsFlag (codes "all") found.1 all × IsFlag (codes "strict") found.1 strict × IsFlag (codes "json") found.1 json

@@ -20,6 +20,8 @@ enum More {
     Imported,
     /// Rule texts, one at least.
     Rules,
+    /// Rule texts, and the instant of second 0.
+    Dated,
     /// Rule texts, and how they are checked.
     Checked,
 }
@@ -84,7 +86,7 @@ const ROWS: [Row; 11] = [
             ("STREAM", "A stream of records"),
             ("PAGE", "The page, which is written"),
         ],
-        more: More::Rules,
+        more: More::Dated,
     },
     Row {
         word: "check",
@@ -196,16 +198,21 @@ fn with_times<'a>(alloc: Global, command: Command<'a>) -> Result<Command<'a>, Al
         ))
 }
 
+/// The instant of second 0.
+fn epoch_word<'a>(alloc: Global) -> Arg<'a> {
+    option_word(
+        alloc,
+        "epoch",
+        "The instant of second 0, for times in UTC: 2000-01-01T12:00:00Z",
+    )
+}
+
 /// A listing with its rows.
 fn with_rows<'a>(alloc: Global, command: Command<'a>) -> Result<Command<'a>, AllocError> {
     command
         .arg(flag_word(alloc, "csv", "Writes comma-separated values"))?
         .arg(flag_word(alloc, "json", "Writes one JSON object a line"))?
-        .arg(option_word(
-            alloc,
-            "epoch",
-            "The instant of second 0, for times in UTC: 2000-01-01T12:00:00Z",
-        ))
+        .arg(epoch_word(alloc))
 }
 
 /// A check with how it is made.
@@ -269,6 +276,7 @@ fn with_more<'a>(
             alloc,
         )),
         More::Rules => command.arg(rule_words(alloc)),
+        More::Dated => command.arg(epoch_word(alloc))?.arg(rule_words(alloc)),
         More::Checked => with_checks(alloc, command),
     }
 }

@@ -196,6 +196,7 @@ fn report_of<'a>(found: &ArgMatches<'a>, rules: Vec<&'a str>) -> Option<Plan<'a>
         stream: file_of(found, "STREAM")?,
         page: file_of(found, "PAGE")?,
         rules,
+        epoch: named(found, "epoch"),
     })
 }
 

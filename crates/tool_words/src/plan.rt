@@ -39,12 +39,13 @@ pub enum Plan<'a> {
         stream: &'a str,
         raw: &'a str,
     },
-    /// `report SCHEDULE STREAM PAGE RULES..`: a run as a page.
+    /// `report [--epoch INSTANT] SCHEDULE STREAM PAGE RULES..`: a run as a page.
     Report {
         schedule: &'a str,
         stream: &'a str,
         page: &'a str,
         rules: Vec<&'a str>,
+        epoch: Option<&'a str>,
     },
     /// `check [--schedule S] [--all] [--strict] [--json] RULES..`: what is wrong with rules, or can be said of them before any packet
     /// comes.

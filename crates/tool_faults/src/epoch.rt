@@ -1,0 +1,15 @@
+//! The instant of second 0.
+
+use crate::fault::Fault;
+use listing_rows::Epoch;
+
+/// The instant that the option `--epoch` names, where it is given.
+pub fn epoch_of<'a>(word: Option<&'a str>) -> Result<Option<Epoch>, Fault<'a>> {
+    match word {
+        None => Ok(None),
+        Some(word) => match Epoch::read(word) {
+            Some(epoch) => Ok(Some(epoch)),
+            None => Err(Fault::Value("--epoch", word)),
+        },
+    }
+}
