@@ -1,11 +1,29 @@
 -- The words for numbers in packets, and how a time is said. This project's own.
-use Rattle.std.specs.Prelude.{ℕ, List, [], ◌++◌, ◌*◌, ◌/◌, ◌==◌, ◌^◌, ◌-◌, false, codes, if◌then◌else◌}
+use Rattle.std.specs.Prelude.{ℕ, List, [], ◌++◌, ◌*◌, ◌/◌, ◌==◌, ◌^◌, ◌-◌, false, codes, Option, Some, None, if◌then◌else◌}
 use Rattle.std.specs.Fmt.{decimal, digits, format_spec, padded_integral}
+use Rattle.lc_model.specs.declared.rule.EventKind.{EventKind}
+use Rattle.lc_model.specs.declared.rule.EventKind.TheVariants.{Debug, Information, Error, Critical}
 
--- an event's type
+-- the type of an event with this number
+abbrev pub event_numbered : ℕ → Option EventKind
+event_numbered n =
+    if n == 1 then Some Debug else if n == 2 then Some Information else if n == 3 then Some Error
+    else if n == 4 then Some Critical else None
+
+-- its word
+abbrev pub event_word : EventKind → List ℕ
+event_word Debug = codes "debug"
+event_word Information = codes "information"
+event_word Error = codes "error"
+event_word Critical = codes "critical"
+
+-- the word of a number, whether it is that of a type or not
+abbrev pub word_by : ℕ → Option EventKind → List ℕ
+word_by n None = codes "type " ++ decimal n
+word_by n (Some kind) = event_word kind
+
 abbrev pub type_word : ℕ → List ℕ
-type_word n = if n == 1 then codes "debug" else (if n == 2 then codes "information" else (if n == 3 then codes "error"
-    else (if n == 4 then codes "critical" else codes "type " ++ decimal n)))
+type_word n = word_by n (event_numbered n)
 
 -- the mode of the Limit Checker, or the state of a rule
 abbrev pub state_word : ℕ → List ℕ

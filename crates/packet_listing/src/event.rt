@@ -1,10 +1,10 @@
 //! Event packets (cFE user's guide, event services), 168 bytes.
 
 ghost use Rattle.std.specs.Prelude.{◌≡◌, length, Some};
-ghost use Rattle.packet_listing.specs.Words.{type_word};
+ghost use Rattle.packet_listing.specs.Words.{event_numbered, event_word, type_word};
 
 use crate::text::{Field, time_of};
-use lc_model::u16_at;
+use lc_model::{EventKind, u16_at};
 use std::fmt::{self, Display, Formatter, Write};
 
 /// The bytes of an event packet.
@@ -22,6 +22,31 @@ pub fn say_event<W: Write>(packet: &[u8], f: &mut Formatter<W>) -> fmt::Result
     write!(f, "{time} {sender} {id} {kind}: {text}")
 }
 
+/// The type of an event, by its number.
+pub(crate) fn event_numbered(number: u16) -> Option<EventKind>
+    ensures { result ≡ event_numbered number }
+{
+    match number {
+        1 => Some(EventKind::Debug),
+        2 => Some(EventKind::Information),
+        3 => Some(EventKind::Error),
+        4 => Some(EventKind::Critical),
+        _ => None,
+    }
+}
+
+/// The word of an event's type.
+pub fn event_word(kind: EventKind) -> &'static str
+    ensures { result.now ≡ event_word kind }
+{
+    match kind {
+        EventKind::Debug => "debug",
+        EventKind::Information => "information",
+        EventKind::Error => "error",
+        EventKind::Critical => "critical",
+    }
+}
+
 /// An event's type by its number.
 #[derive(Clone, Copy)]
 struct EventType(u16);
@@ -30,12 +55,9 @@ impl Display for EventType {
     ghost output = { λ kind. Some (type_word kind.0) };
 
     fn fmt<W: Write>(&self, f: &mut Formatter<W>) -> fmt::Result {
-        match self.0 {
-            1 => write!(f, "debug"),
-            2 => write!(f, "information"),
-            3 => write!(f, "error"),
-            4 => write!(f, "critical"),
-            number => write!(f, "type {number}"),
+        match event_numbered(self.0) {
+            Some(kind) => write!(f, "{}", event_word(kind)),
+            None => write!(f, "type {}", self.0),
         }
     }
 }

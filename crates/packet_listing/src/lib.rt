@@ -8,6 +8,7 @@ mod listing;
 mod sent;
 mod text;
 
+pub use event::event_word;
 pub use line::Line;
 pub use listing::list_packets;
 pub use sent::{Event, Sent, read_packet};

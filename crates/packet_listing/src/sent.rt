@@ -1,6 +1,12 @@
 //! The packets that a host writes.
 
-use crate::event::EVENT_SIZE;
+ghost use Rattle.std.specs.Prelude.{◌≡◌, ◌==◌, ◌≤◌, length, option_map};
+ghost use Rattle.std.specs.List.{position_or_len};
+ghost use Rattle.lc_model.specs.Bytes.{u16_at};
+ghost use Rattle.lc_model.specs.Name.{name_in};
+ghost use Rattle.packet_listing.specs.Told.{before_rules, event_of, event_told, housekeeping_by, mode_numbered, told_in, told_of};
+
+use crate::event::{EVENT_SIZE, event_numbered};
 use lc_model::packet::{REQUEST_SIZE, message_id};
 use lc_model::{EventKind, LcMode, Moment, mids, u16_at, u32_at};
 
@@ -31,25 +37,24 @@ pub enum Sent<'a> {
     },
 }
 
-/// The bytes before the first zero.
-fn before_zero(field: &[u8]) -> &[u8] {
-    let count = field.iter().take_while(|byte| **byte != 0).count();
-    field.get(..count).unwrap_or(field)
+/// How many bytes stand before the first zero, or all.
+fn text_length(field: &[u8]) -> usize
+    ensures { result ≡ position_or_len (λ b. b == 0) field.now }
+{
+    field.iter().take_while(|byte| **byte != 0).count()
 }
 
-/// The type of an event, by its number.
-fn kind_of(number: u16) -> Option<EventKind> {
-    match number {
-        1 => Some(EventKind::Debug),
-        2 => Some(EventKind::Information),
-        3 => Some(EventKind::Error),
-        4 => Some(EventKind::Critical),
-        _ => None,
-    }
+/// The bytes before the first zero.
+fn before_zero(field: &[u8]) -> &[u8]
+    ensures { result.now ≡ name_in field.now }
+{
+    &field[..text_length(field)]
 }
 
 /// A mode of the Limit Checker, by its number.
-fn mode_of(number: u16) -> Option<LcMode> {
+fn mode_of(number: u16) -> Option<LcMode>
+    ensures { result ≡ mode_numbered number }
+{
     match number {
         1 => Some(LcMode::Active),
         2 => Some(LcMode::Passive),
@@ -59,7 +64,9 @@ fn mode_of(number: u16) -> Option<LcMode> {
 }
 
 /// The event in an event packet.
-fn event_in(packet: &[u8]) -> Option<Event<'_>> {
+fn event_in(packet: &[u8]) -> Option<Event<'_>>
+    ensures { option_map event_of result ≡ event_told packet.now }
+{
     if packet.len() != EVENT_SIZE {
         return None;
     }
@@ -70,13 +77,29 @@ fn event_in(packet: &[u8]) -> Option<Event<'_>> {
         },
         sender: before_zero(&packet[12..32]),
         id: u16_at(packet, 32),
-        kind: kind_of(u16_at(packet, 34))?,
+        kind: event_numbered(u16_at(packet, 34))?,
         text: before_zero(&packet[44..166]),
     })
 }
 
+/// What a housekeeping packet tells.
+fn housekeeping_in(packet: &[u8]) -> Option<Sent<'_>>
+    requires { before_rules ≤ length packet.now }
+    ensures { option_map told_of result ≡
+        housekeeping_by packet.now (mode_numbered (u16_at packet.now 12)) }
+{
+    let (_, rules) = packet.split_at(BEFORE_RULES);
+    Some(Sent::Housekeeping {
+        mode: mode_of(u16_at(packet, 12))?,
+        count: u16_at(packet, 14),
+        rules,
+    })
+}
+
 /// What a packet is; nothing where it is none of these.
-pub fn read_packet(packet: &[u8]) -> Option<Sent<'_>> {
+pub fn read_packet(packet: &[u8]) -> Option<Sent<'_>>
+    ensures { option_map told_of result ≡ told_in packet.now }
+{
     if packet.len() < REQUEST_SIZE {
         return None;
     }
@@ -85,14 +108,13 @@ pub fn read_packet(packet: &[u8]) -> Option<Sent<'_>> {
         return Some(Sent::Request(u16_at(packet, 8)));
     }
     if mid == mids::EVENT {
-        return event_in(packet).map(Sent::Event);
+        return match event_in(packet) {
+            Some(event) => Some(Sent::Event(event)),
+            None => None,
+        };
     }
     if mid == mids::LC_HOUSEKEEPING && packet.len() >= BEFORE_RULES {
-        return Some(Sent::Housekeeping {
-            mode: mode_of(u16_at(packet, 12))?,
-            count: u16_at(packet, 14),
-            rules: packet.split_at(BEFORE_RULES).1,
-        });
+        return housekeeping_in(packet);
     }
     None
 }

@@ -1,10 +1,13 @@
 //! From two rule texts and a stream to what differs.
 
+ghost use Rattle.std.specs.Prelude.{◌∷◌, [], IfOk};
+ghost use Rattle.run_course.specs.Trace.{IsTraced};
+
 use crate::difference::only_in;
 use crate::error::{ComparisonError, Which};
-use crate::lines::{Line, Lines, run_of};
+use crate::lines::{Line, lines_of};
 use packet_listing::Time;
-use run_course::{ends_of, moment_of, record_in};
+use run_course::{Ending, Trace, trace_of};
 use std::alloc::{AllocError, Global};
 use std::io::{self, Write};
 use tick_scheduler::Schedule;
@@ -27,11 +30,8 @@ pub struct Compared {
 }
 
 /// The lines in front that came of this record, and the lines behind them.
-fn parted(lines: &[Line], record: usize) -> (&[Line], &[Line]) {
-    let count = lines
-        .iter()
-        .take_while(|line| line.record == record)
-        .count();
+fn parted(lines: &[Line], place: usize) -> (&[Line], &[Line]) {
+    let count = lines.iter().take_while(|line| line.place == place).count();
     match lines.split_at_checked(count) {
         Some(parts) => parts,
         None => (lines, &[]),
@@ -47,20 +47,34 @@ fn texts_of<'a>(alloc: Global, lines: &'a [Line]) -> Result<Vec<&'a [u8]>, Alloc
     Ok(texts)
 }
 
-/// The least record of which one of these lines came first.
-fn first_record(old: &[Line], new: &[Line]) -> Option<usize> {
-    match (old.first(), new.first()) {
-        (None, None) => None,
-        (Some(line), None) | (None, Some(line)) => Some(line.record),
-        (Some(one), Some(other)) => Some(one.record.min(other.record)),
-    }
-}
-
 /// Where a record stands: its moment and its number from 0.
 #[derive(Clone, Copy)]
 struct Place {
     time: Time,
     record: usize,
+}
+
+/// The record of which a line came.
+fn place_of(line: &Line) -> Place {
+    Place {
+        time: Time::at(line.moment),
+        record: line.place,
+    }
+}
+
+/// The least record of which one of these lines came first.
+fn first_place(old: &[Line], new: &[Line]) -> Option<Place> {
+    match (old.first(), new.first()) {
+        (None, None) => None,
+        (Some(line), None) | (None, Some(line)) => Some(place_of(line)),
+        (Some(one), Some(other)) => {
+            if one.place <= other.place {
+                Some(place_of(one))
+            } else {
+                Some(place_of(other))
+            }
+        }
+    }
 }
 
 /// Writes the lines that came of a record with one text alone, and answers how many there are.
@@ -117,35 +131,51 @@ fn write_record<W: Write>(
 /// Writes what differs, record by record.
 fn write_records<W: Write>(
     alloc: Global,
-    stream: &[u8],
     names: Names<'_>,
-    old: &Lines,
-    new: &Lines,
+    old: &[Line],
+    new: &[Line],
+    is_whole: bool,
     out: &mut W,
 ) -> Result<Compared, ComparisonError> {
-    let ends = ends_of(alloc, stream)?;
     let mut counts = Compared {
         old: 0,
         new: 0,
         both: 0,
-        is_whole: old.is_whole && new.is_whole,
+        is_whole,
     };
-    let (mut olds, mut news) = (old.lines.as_slice(), new.lines.as_slice());
-    for _ in 0..stream.len() {
-        let Some(record) = first_record(olds, news) else {
+    let (mut olds, mut news) = (old, new);
+    for _ in 0..u64::MAX {
+        let Some(place) = first_place(olds, news) else {
             break;
         };
-        let (old_here, old_behind) = parted(olds, record);
-        let (new_here, new_behind) = parted(news, record);
-        let place = Place {
-            time: Time::at(moment_of(record_in(stream, ends.as_slice(), record))),
-            record,
-        };
+        let (old_here, old_behind) = parted(olds, place.record);
+        let (new_here, new_behind) = parted(news, place.record);
         counts = write_record(alloc, place, names, old_here, new_here, counts, out)?;
         olds = old_behind;
         news = new_behind;
     }
     Ok(counts)
+}
+
+/// Whether a run's stream ended behind a whole record.
+fn is_whole(trace: &Trace) -> bool {
+    matches!(trace.ending(), Ending::Whole { .. })
+}
+
+/// A run of one of the texts over the stream, record by record.
+fn run_of(
+    alloc: Global,
+    schedule: &Schedule,
+    stream: &[u8],
+    text: &[u8],
+    which: Which,
+) -> Result<Trace, ComparisonError>
+    ensures { IfOk result (IsTraced (text.now ∷ []) schedule.now stream.now) }
+{
+    match trace_of(alloc, &[text], schedule, stream) {
+        Ok(trace) => Ok(trace),
+        Err(error) => Err(ComparisonError::of(which, error)),
+    }
 }
 
 /// Runs each of two rule texts over a stream, and writes a line for each sequence request and event that came of one alone: its
@@ -169,7 +199,10 @@ pub fn write_comparison<W: Write>(
         old: old.name,
         new: new.name,
     };
-    let found = write_records(alloc, stream, names, &before, &after, out)?;
+    let olds = lines_of(alloc, &before, old.text)?;
+    let news = lines_of(alloc, &after, new.text)?;
+    let whole = is_whole(&before) && is_whole(&after);
+    let found = write_records(alloc, names, olds.as_slice(), news.as_slice(), whole, out)?;
     let Compared { old, new, both, .. } = found;
     writeln!(
         out,

@@ -1,79 +1,89 @@
-//! What a run of one rule text led to, record by record, as lines.
+//! What a run of one rule text led to, packet by packet, as lines.
 
-use crate::error::{ComparisonError, Which};
+ghost use Rattle.std.specs.Prelude.{◌≡◌, is_some, map, IfOk};
+ghost use Rattle.packet_listing.specs.Told.{told_in};
+ghost use Rattle.run_course.specs.Trace.{arrived_from};
+ghost use Rattle.run_comparison.specs.Compared.{compared_of, is_told, spoken_of};
+
+use crate::error::ComparisonError;
 use crate::naming::{Named, rules_of};
 use crate::said::Said;
-use packet_listing::Sent;
-use run_course::{Course, Ending, Entry, run_over};
-use std::alloc::{AllocError, Global};
+use lc_model::Moment;
+use packet_listing::{Sent, read_packet};
+use run_course::{Came, Trace};
+use std::alloc::Global;
 use std::io::Write;
-use tick_scheduler::Schedule;
+use std::marker::Model;
 
-/// A line that says what came of a record, with the record's number from 0.
+/// The line that says a request or an event, with its record's number from 0 and its moment. Contracts see of which record it speaks.
 #[derive(Drop)]
 pub struct Line {
-    pub record: usize,
+    pub place: usize,
+    pub moment: Moment,
     pub text: Vec<u8>,
 }
 
-/// The lines of a run, and whether its stream ended behind a whole record.
-#[derive(Drop)]
-pub struct Lines {
-    pub lines: Vec<Line>,
-    pub is_whole: bool,
+impl Model for Line {
+    ghost use Rattle.run_comparison.specs.Compared.{Spoken};
+
+    ghost Value = { Spoken };
+
+    ghost view = { λ line. record { place = line.place; moment = line.moment } };
 }
 
-/// The line of a sequence request or an event; none of housekeeping.
+/// What a packet is, where it is compared: a request or an event.
+fn compared(packet: &[u8]) -> Option<Sent<'_>>
+    ensures { is_some result ≡ is_told (told_in packet.now) }
+{
+    match read_packet(packet) {
+        Some(Sent::Request(sequence)) => Some(Sent::Request(sequence)),
+        Some(Sent::Event(event)) => Some(Sent::Event(event)),
+        _ => None,
+    }
+}
+
+/// The line of a request or an event.
 fn line_of(
     alloc: Global,
-    entry: Entry<'_>,
+    came: &Came<'_>,
+    sent: Sent<'_>,
     rules: &[Named<'_>],
-) -> Result<Option<Line>, ComparisonError> {
-    if matches!(entry.sent, Sent::Housekeeping { .. }) {
-        return Ok(None);
-    }
+) -> Result<Line, ComparisonError>
+    ensures { IfOk result (λ line. line ≡ spoken_of came.now) }
+{
     let mut text = Vec::new(alloc);
-    let said = Said {
-        sent: entry.sent,
-        rules,
-    };
+    let said = Said { sent, rules };
     write!(text, "{said}")?;
-    Ok(Some(Line {
-        record: entry.record,
+    Ok(Line {
+        place: came.place,
+        moment: came.moment,
         text,
-    }))
+    })
 }
 
-/// The lines of a run's requests and events, in order.
-fn lines_of(
+/// The lines of the requests and events among the packets that came, in order.
+fn lines_among(
     alloc: Global,
-    course: &Course,
+    came: &[Came<'_>],
     rules: &[Named<'_>],
-) -> Result<Vec<Line>, ComparisonError> {
-    let entries = course.entries(alloc)?;
+) -> Result<Vec<Line>, ComparisonError>
+    ensures { IfOk result (λ lines. lines.items ≡ map spoken_of (compared_of came.now)) }
+{
     let mut lines = Vec::new(alloc);
-    for entry in &entries {
-        if let Some(line) = line_of(alloc, *entry, rules)? {
-            lines.push(line)?;
+    for one in came {
+        if let Some(sent) = compared(one.packet) {
+            lines.push(line_of(alloc, one, sent, rules)?)?;
         }
     }
     Ok(lines)
 }
 
-/// Runs a rule text over the stream.
-pub fn run_of(
-    alloc: Global,
-    schedule: &Schedule,
-    stream: &[u8],
-    text: &[u8],
-    which: Which,
-) -> Result<Lines, ComparisonError> {
-    let course = run_over(alloc, &[text], schedule, stream).map_err(|error| ComparisonError::of(
-        which, error,
-    ))?;
+/// The lines of a run of this rule text: one for each request and each event that its records led to, in order.
+pub fn lines_of(alloc: Global, trace: &Trace, text: &[u8]) -> Result<Vec<Line>, ComparisonError>
+    ensures { IfOk result (λ lines. lines.items ≡
+        map spoken_of (compared_of (arrived_from 0 trace.now.parts))) }
+{
     let rules = rules_of(alloc, text)?;
-    Ok(Lines {
-        lines: lines_of(alloc, &course, rules.as_slice())?,
-        is_whole: matches!(course.ending, Ending::Whole { .. }),
-    })
+    let came = trace.came(alloc)?;
+    lines_among(alloc, came.as_slice(), rules.as_slice())
 }

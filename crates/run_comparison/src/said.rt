@@ -1,8 +1,7 @@
 //! What came of a record, as a line: rules are called by their names.
 
 use crate::naming::{Named, spoken_of};
-use lc_model::EventKind;
-use packet_listing::{Event, Field, Sent};
+use packet_listing::{Event, Field, Sent, event_word};
 use std::fmt::{self, Display, Formatter, Write};
 
 /// Who sends what the Limit Checker says.
@@ -32,20 +31,10 @@ fn say_requesters<W: Write>(
     if sign == ", " { write!(f, ")") } else { Ok(()) }
 }
 
-/// An event's type.
-fn level(kind: EventKind) -> &'static str {
-    match kind {
-        EventKind::Debug => "debug",
-        EventKind::Information => "information",
-        EventKind::Error => "error",
-        EventKind::Critical => "critical",
-    }
-}
-
 /// An event, and of which rule it is.
 fn say_event<W: Write>(rules: &[Named<'_>], event: Event<'_>, f: &mut Formatter<W>) -> fmt::Result {
     let sender = Field(event.sender);
-    let level = level(event.kind);
+    let level = event_word(event.kind);
     write!(f, "{sender} {} {level}", event.id)?;
     let found = if event.sender == LIMIT_CHECKER {
         spoken_of(rules, event.id, event.text)

@@ -1,5 +1,5 @@
 -- The engine of the least seat with a Limit Checker is found seat by seat.
-use Rattle.std.proofs.Common.{◌≡◌, refl, ap, ◌∙◌, sym, ℕ, zero, suc, ◌<◌, ◌≤◌, List, [], ◌∷◌, length, drop, arith, Option, Some, None}
+use Rattle.std.proofs.Common.{◌≡◌, refl, ap, ℕ, zero, suc, ◌<◌, ◌≤◌, List, [], ◌∷◌, length, drop, arith, Option, Some, None}
 use Rattle.lc_model.specs.Kept.Summary.{LcOwn}
 use Rattle.app_host.specs.Hosted.{Object, object_at}
 use Rattle.run_course.specs.Stepping.{engine_of, engine_among, otherwise}

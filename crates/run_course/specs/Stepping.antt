@@ -1,13 +1,19 @@
 -- A run that goes record by record. This project's own.
-use Rattle.std.specs.Prelude.{◌≡◌, ℕ, Bool, List, [], ◌∷◌, Option, Some, None, Result, Ok, Err}
+use Rattle.std.specs.Prelude.{◌≡◌, ℕ, Bool, List, [], ◌∷◌, Option, Some, None, Result, Ok, Err, ⊤}
 use Rattle.lc_model.specs.Kept.Summary.{LcOwn, AppState, LcState, SchState, CounterState, Other}
 use Rattle.app_host.specs.Hosted.{Object}
 use Rattle.flight_core.specs.declared.halt.Halt.{Halt}
 use Rattle.flight_core.specs.declared.halt.Halt.TheVariants as halt
-use Rattle.flight_core.specs.Feeding.{Feeding, HandlesOne, IsReady, feeding_of, fed_with}
+use Rattle.flight_core.specs.declared.error.RunError.{RunError}
+use Rattle.flight_core.specs.declared.error.RunError.TheVariants as error
+use Rattle.flight_core.specs.Compiled.{IsFirstRefused}
+use Rattle.flight_core.specs.Feeding.{Feeding, HandlesOne, HasBegun, IsReady, feeding_of, fed_with}
+use Rattle.flight_core.specs.Run.{IsOfProfile}
+use Rattle.lc_model.specs.Host.Schedule.{Schedule}
+use Rattle.flight_stock.specs.Stock.{names_of, own_names}
 use Rattle.flight_stock.specs.Members.{meaning_of}
 use Rattle.run_course.specs.declared.error.CourseError.{CourseError}
-use Rattle.run_course.specs.declared.error.CourseError.TheVariants.{Memory}
+use Rattle.run_course.specs.declared.error.CourseError.TheVariants.{Memory, Rules}
 use Rattle.run_course.specs.declared.handled.Handled.{Handled}
 use Rattle.run_course.specs.declared.handled.Handled.TheVariants.{Whole, NoRecord, Part}
 use Rattle.run_course.specs.declared.stepping.Stepping.{Stepping}
@@ -18,6 +24,22 @@ host_in it = feeding_of meaning_of it.fed
 
 abbrev pub written_by : Stepping → List ℕ
 written_by it = it.written.bytes.items
+
+-- why a run doesn't begin: the first text that doesn't compile, or want of memory
+abbrev pub refusal_of : RunError → CourseError
+refusal_of (error.Compile text why) = Rules text why
+refusal_of other = Memory
+
+abbrev pub IsRefusal : List (List ℕ) → CourseError → Type 0
+IsRefusal sources (Rules text why) = IsFirstRefused sources text why
+IsRefusal sources Memory = ⊤
+
+-- it begins with these texts and this profile's stock, and nothing has come
+pub record IsBegun (sources : List (List ℕ)) (schedule : Schedule) (it : Feeding) : Type 0 where
+  pub stock : List Object
+  pub profile : IsOfProfile schedule stock
+  pub named : names_of stock ≡ own_names
+  pub begun : HasBegun sources stock it
 
 -- so it is between two records
 abbrev pub IsAtRest : Stepping → Type 0
@@ -45,7 +67,7 @@ pub record HasStepped (bytes : List ℕ) (old new : Feeding) (written : List ℕ
 -- ---- the Limit Checker that runs
 
 -- the engine of an object, where it is a Limit Checker
-abbrev engine_by : AppState → Option LcOwn
+abbrev pub engine_by : AppState → Option LcOwn
 engine_by (LcState own) = Some own
 engine_by (SchState slots slot) = None
 engine_by (CounterState count) = None

@@ -1,5 +1,6 @@
 //! One run over the whole stream, with what each record led to.
 
+use crate::ending::Ending;
 use crate::error::CourseError;
 use crate::steps::{Kept, Steps};
 use flight_core::{Report, RunError};
@@ -9,19 +10,6 @@ use packet_listing::{Sent, read_packet};
 use std::alloc::{AllocError, Global};
 use std::cell::Cell;
 use tick_scheduler::Schedule;
-
-/// How a stream ended.
-#[derive(Clone, Copy)]
-pub enum Ending {
-    /// Behind its last record; there were so many.
-    Whole { records: u64 },
-    /// Record `n` is none. Records count from 1.
-    NoRecord { n: u64 },
-    /// Inside record `n`.
-    Cut { n: u64 },
-    /// Behind as many reads as may be made.
-    Bound,
-}
 
 /// A run over the whole stream.
 #[derive(Drop)]

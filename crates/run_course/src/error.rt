@@ -1,5 +1,8 @@
 //! Why there is no course.
 
+ghost use Rattle.std.specs.Prelude.{◌≡◌};
+ghost use Rattle.run_course.specs.declared.error.CourseError.TheVariants as error;
+
 use rpn_compiler::CompileError;
 use std::alloc::{AllocError, AllocFailed};
 use thiserror::Error;
@@ -16,12 +19,16 @@ pub enum CourseError {
 }
 
 impl From<AllocError> for CourseError {
+    ghost from_gives = { λ _ e. e ≡ error.Memory };
+
     fn from(_error: AllocError) -> CourseError {
         CourseError::Memory
     }
 }
 
 impl<T: Drop> From<AllocFailed<T>> for CourseError {
+    ghost from_gives = { λ _ e. e ≡ error.Memory };
+
     fn from(_error: AllocFailed<T>) -> CourseError {
         CourseError::Memory
     }

@@ -5,6 +5,7 @@
 //! tells is how it stood behind these records.
 
 use crate::error::CourseError;
+use crate::plan::Plan;
 use crate::standing::Standing;
 use crate::steps::Kept;
 use flight_stock::launch;
@@ -13,7 +14,6 @@ use lc_model::packet::first_packet;
 use packet_listing::{Sent, read_packet};
 use std::alloc::{AllocError, Global};
 use std::cell::Cell;
-use tick_scheduler::Schedule;
 
 /// The bytes of a piece of a stream.
 const PIECE: usize = 8_192;
@@ -66,13 +66,6 @@ fn told(alloc: Global, packets: &[u8]) -> Result<Option<Standing>, AllocError> {
         rest = behind;
     }
     Ok(standing)
-}
-
-/// The rule texts and the schedule of a run.
-#[derive(Clone, Copy)]
-pub struct Plan<'a> {
-    pub texts: &'a [&'a [u8]],
-    pub schedule: &'a Schedule,
 }
 
 /// A run over these records, and what is told behind the first bytes of its output. The output's room is used again.

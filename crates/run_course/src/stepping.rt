@@ -1,9 +1,10 @@
 //! A run that goes record by record, and lets be seen how the Limit Checker stands behind each.
 
-ghost use Rattle.std.specs.Prelude.{◌≡◌, ◌<◌, option_map, IfOk, Some};
+ghost use Rattle.std.specs.Prelude.{◌≡◌, ◌<◌, option_map, IfErr, IfOk, Some};
 ghost use Rattle.app_host.specs.Hosted.{object_at};
-ghost use Rattle.flight_core.specs.Compiled.{sources_of};
-ghost use Rattle.run_course.specs.Stepping.{HasStepped, IsAtRest, engine_among, engine_of, host_in, written_by};
+ghost use Rattle.flight_core.specs.Compiled.{IsNotCompiled, sources_of};
+ghost use Rattle.run_course.specs.declared.error.CourseError.TheVariants.{Memory};
+ghost use Rattle.run_course.specs.Stepping.{HasStepped, IsAtRest, IsBegun, IsRefusal, engine_among, engine_of, host_in, refusal_of, written_by};
 
 use crate::error::CourseError;
 use crate::handled::Handled;
@@ -45,7 +46,9 @@ pub struct Stepping {
 }
 
 /// Why a run doesn't begin.
-fn refused(error: RunError) -> CourseError {
+fn refused(error: RunError) -> CourseError
+    ensures { result ≡ refusal_of error }
+{
     match error {
         RunError::Compile { text, error } => CourseError::Rules { text, error },
         _other => CourseError::Memory,
@@ -56,6 +59,9 @@ impl Stepping {
     /// Compiles the rule texts, and makes a host, to which nothing has come.
     pub fn new(alloc: Global, texts: &[&[u8]], schedule: &Schedule) -> Result<Stepping, CourseError>
         ensures ready { IfOk result IsAtRest }
+        ensures begun { IfOk result
+            (λ it. IsBegun (sources_of texts.now) schedule.now (host_in it)) }
+        ensures refused { IfErr result (IsRefusal (sources_of texts.now)) }
     {
         let stock = own_stock(alloc, schedule)?;
         match FedHost::new(alloc, texts, stock) {
@@ -76,6 +82,7 @@ impl Stepping {
         ensures ready { IsAtRest self.new }
         ensures stepped { HasStepped record.now (host_in self.old) (host_in self.new)
             (written_by self.new) result }
+        ensures memory { IfErr result (λ error. error ≡ Memory) }
     {
         self.written.bytes.clear();
         let _taken = self.fed.feed(record);
