@@ -21,14 +21,14 @@ counted_thrice : (a b c : ℕ) → min (min (a + b) (2 ^ 64 - 1) + c) (2 ^ 64 - 
 counted_thrice a b c = omega arith
 
 pub joined_thrice : (a b c : Entry) → joined (joined a b) c ≡ joined a (joined b c)
-joined_thrice a b c = λ i. record
-  { from = a.from
-  ; time = a.time
-  ; told = record
-    { results = bits_thrice a.told.results b.told.results c.told.results i
-    ; states = bits_thrice a.told.states b.told.states c.told.states i
-    ; low = least_thrice a.told.low b.told.low c.told.low i
-    ; high = greatest_thrice a.told.high b.told.high c.told.high i
-    }
-  ; changes = counted_thrice a.changes b.changes c.changes i
-  }
+joined_thrice a b c = λ i. record {
+  from = a.from;
+  time = a.time;
+  told = record {
+    results = bits_thrice a.told.results b.told.results c.told.results i;
+    states = bits_thrice a.told.states b.told.states c.told.states i;
+    low = least_thrice a.told.low b.told.low c.told.low i;
+    high = greatest_thrice a.told.high b.told.high c.told.high i;
+  };
+  changes = counted_thrice a.changes b.changes c.changes i;
+}
