@@ -28,7 +28,7 @@ told_new old new told entry said width placed tells = record {
       ∙ ap (λ wide. reduced wide (changes (told ++ entry ∷ []))) (sym width);
 }
 
-wider : (width : ℕ) → IsWider width (width * 2)
+pub wider : (width : ℕ) → IsWider width (width * 2)
 wider width a b same = sym (div-div-eq-div-mul (a - 1) width 2) ∙ ap (λ column. column / 2) same ∙ div-div-eq-div-mul (b - 1) width 2
 
 pub told_wide : (old new : Changes) (told : List Entry) → new.width ≡ old.width * 2 → new.entries.items ≡ reduced (old.width * 2) old.entries.items → Tells old told → Tells new told

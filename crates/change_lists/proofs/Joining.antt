@@ -7,14 +7,14 @@ use Rattle.change_lists.specs.declared.entry.Told.{Told}
 use Rattle.change_lists.specs.declared.entry.Entry.{Entry}
 use Rattle.change_lists.specs.Changes.{both, joined}
 
-bits_thrice : (a b c : ℕ) → bit_or (bit_or a b) c ≡ bit_or a (bit_or b c)
+pub bits_thrice : (a b c : ℕ) → bit_or (bit_or a b) c ≡ bit_or a (bit_or b c)
 bits_thrice a b c =
     same_from_bits _ _ (λ i. omega (arith, bit_at_or (bit_or a b) c i, bit_at_or a b i, bit_at_or a (bit_or b c) i, bit_at_or b c i))
 
-least_thrice : (a b c : ℤ) → int_min (int_min a b) c ≡ int_min a (int_min b c)
+pub least_thrice : (a b c : ℤ) → int_min (int_min a b) c ≡ int_min a (int_min b c)
 least_thrice a b c = omega (arith, ints, clamps)
 
-greatest_thrice : (a b c : ℤ) → int_max (int_max a b) c ≡ int_max a (int_max b c)
+pub greatest_thrice : (a b c : ℤ) → int_max (int_max a b) c ≡ int_max a (int_max b c)
 greatest_thrice a b c = omega (arith, ints, clamps)
 
 counted_thrice : (a b c : ℕ) → min (min (a + b) (2 ^ 64 - 1) + c) (2 ^ 64 - 1) ≡ min (a + min (b + c) (2 ^ 64 - 1)) (2 ^ 64 - 1)
