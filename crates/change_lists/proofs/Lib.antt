@@ -4,3 +4,4 @@ pub mod Placed
 pub mod Said
 pub mod Grown
 pub mod Lists
+pub mod Kept

@@ -25,7 +25,7 @@ out f false x y = refl
 into : (width : ℕ) (entry one other more last : Entry) (b : Bool) →
     in_front width entry (one ∷ (if b then joined other more ∷ last ∷ [] else other ∷ more ∷ last ∷ []))
     ≡ (if is_one_column width entry.from one.from && is_one_column width one.from other.from then
-        joined entry one ∷ (if b then joined other more ∷ last ∷ [] else other ∷ more ∷ last ∷ [])
+    joined entry one ∷ (if b then joined other more ∷ last ∷ [] else other ∷ more ∷ last ∷ [])
     else entry ∷ one ∷ (if b then joined other more ∷ last ∷ [] else other ∷ more ∷ last ∷ []))
 into width entry one other more last true = refl
 into width entry one other more last false = refl
@@ -47,11 +47,11 @@ commute width entry (one ∷ other ∷ []) last =
     let behind_it : Bool = is_one_column width entry.from one.from && is_one_column width one.from other.from in
     out (in_front width entry) before three (one ∷ other ∷ last ∷ [])
     ∙ choices (column entry) (column one) (column other) (column last)
-        (joined entry (joined one other) ∷ last ∷ []) (joined (joined entry one) other ∷ last ∷ [])
-        (entry ∷ three) (joined entry one ∷ other ∷ last ∷ []) (entry ∷ one ∷ other ∷ last ∷ [])
-        (ap (λ (first : Entry). first ∷ last ∷ []) (sym (joined_thrice entry one other)))
+    (joined entry (joined one other) ∷ last ∷ []) (joined (joined entry one) other ∷ last ∷ [])
+    (entry ∷ three) (joined entry one ∷ other ∷ last ∷ []) (entry ∷ one ∷ other ∷ last ∷ [])
+    (ap (λ (first : Entry). first ∷ last ∷ []) (sym (joined_thrice entry one other)))
     ∙ sym (out (λ entries. behind width entries last) behind_it (joined entry one ∷ other ∷ []) (entry ∷ one ∷ other ∷ [])
-        ∙ ap (cond behind_it (behind width (joined entry one ∷ other ∷ []) last)) (out (λ entries. entry ∷ entries) before three (one ∷ other ∷ last ∷ [])))
+    ∙ ap (cond behind_it (behind width (joined entry one ∷ other ∷ []) last)) (out (λ entries. entry ∷ entries) before three (one ∷ other ∷ last ∷ [])))
 commute width entry (one ∷ other ∷ more ∷ []) last =
     let together : Bool = is_one_column width entry.from one.from && is_one_column width one.from other.from in
     into width entry one other more last (is_one_column width other.from last.from && is_one_column width more.from last.from)
@@ -82,11 +82,11 @@ fused width entry one next [] near far = grind (arith, nat_tests, near, far)
 fused width entry one next (other ∷ entries) near far =
     let column : Entry → ℕ = λ it. (it.from - 1) / width in
     out (in_front width entry) (is_one_column width one.from next.from && is_one_column width next.from other.from)
-        (joined one next ∷ other ∷ entries) (one ∷ next ∷ other ∷ entries)
+    (joined one next ∷ other ∷ entries) (one ∷ next ∷ other ∷ entries)
     ∙ fewer (column entry) (column one) (column next) (column other)
-        (joined entry (joined one next) ∷ other ∷ entries) (joined (joined entry one) next ∷ other ∷ entries)
-        (entry ∷ joined one next ∷ other ∷ entries) (joined entry one ∷ next ∷ other ∷ entries) (entry ∷ one ∷ next ∷ other ∷ entries)
-        (ap (λ (first : Entry). first ∷ other ∷ entries) (sym (joined_thrice entry one next))) near far
+    (joined entry (joined one next) ∷ other ∷ entries) (joined (joined entry one) next ∷ other ∷ entries)
+    (entry ∷ joined one next ∷ other ∷ entries) (joined entry one ∷ next ∷ other ∷ entries) (entry ∷ one ∷ next ∷ other ∷ entries)
+    (ap (λ (first : Entry). first ∷ other ∷ entries) (sym (joined_thrice entry one next))) near far
 
 fused_behind : (width : ℕ) (entry one next : Entry) (entries : List Entry) → (entry.from - 1) / width ≡ (one.from - 1) / width →
     (one.from - 1) / width ≡ (next.from - 1) / width →
@@ -95,10 +95,10 @@ fused_behind width entry one next [] near far = fused width entry one next [] ne
 fused_behind width entry one next (other ∷ []) near far = fused width entry one next (other ∷ []) near far
 fused_behind width entry one next (other ∷ more ∷ entries) near far =
     by_both (is_one_column width next.from other.from && is_one_column width other.from more.from) where
-  by_both : (b : Bool) → in_front width entry (in_front width one (if b then joined next other ∷ more ∷ entries else next ∷ other ∷ more ∷ entries))
-      ≡ in_front width (joined entry one) (if b then joined next other ∷ more ∷ entries else next ∷ other ∷ more ∷ entries)
-  by_both true = fused width entry one (joined next other) (more ∷ entries) near far
-  by_both false = fused width entry one next (other ∷ more ∷ entries) near far
+      by_both : (b : Bool) → in_front width entry (in_front width one (if b then joined next other ∷ more ∷ entries else next ∷ other ∷ more ∷ entries))
+          ≡ in_front width (joined entry one) (if b then joined next other ∷ more ∷ entries else next ∷ other ∷ more ∷ entries)
+      by_both true = fused width entry one (joined next other) (more ∷ entries) near far
+      by_both false = fused width entry one next (other ∷ more ∷ entries) near far
 
 -- records of one column are in one column of the wider ones
 abbrev pub IsWider : ℕ → ℕ → Type 0
@@ -110,13 +110,13 @@ again width wide wider entry [] = refl
 again width wide wider entry (one ∷ []) = refl
 again width wide wider entry (one ∷ other ∷ entries) =
     by_test (is_one_column width entry.from one.from) (is_one_column width one.from other.from) refl refl where
-  by_test : (near far : Bool) → near ≡ is_one_column width entry.from one.from → far ≡ is_one_column width one.from other.from →
-      reduced wide (if near && far then joined entry one ∷ other ∷ entries else entry ∷ one ∷ other ∷ entries)
-      ≡ in_front wide entry (in_front wide one (in_front wide other (reduced wide entries)))
-  by_test true true near far = sym (fused_behind wide entry one other (reduced wide entries)
-      (wider _ _ (eqb-true _ _ (sym near))) (wider _ _ (eqb-true _ _ (sym far))))
-  by_test true false near far = refl
-  by_test false far near far_is = refl
+      by_test : (near far : Bool) → near ≡ is_one_column width entry.from one.from → far ≡ is_one_column width one.from other.from →
+          reduced wide (if near && far then joined entry one ∷ other ∷ entries else entry ∷ one ∷ other ∷ entries)
+          ≡ in_front wide entry (in_front wide one (in_front wide other (reduced wide entries)))
+      by_test true true near far = sym (fused_behind wide entry one other (reduced wide entries)
+          (wider _ _ (eqb-true _ _ (sym near))) (wider _ _ (eqb-true _ _ (sym far))))
+      by_test true false near far = refl
+      by_test false far near far_is = refl
 
 -- reduced by columns, and then by wider ones, is reduced by the wider ones at once
 pub twice : (width wide : ℕ) → IsWider width wide → (entries : List Entry) → reduced wide (reduced width entries) ≡ reduced wide entries
@@ -133,11 +133,11 @@ pub behind_two : (width : ℕ) (front : List Entry) (one other last : Entry) →
 behind_two width [] one other last = refl
 behind_two width (some ∷ []) one other last =
     out (λ entries. some ∷ entries) (is_one_column width one.from last.from && is_one_column width other.from last.from)
-        (joined one other ∷ last ∷ []) (one ∷ other ∷ last ∷ [])
+    (joined one other ∷ last ∷ []) (one ∷ other ∷ last ∷ [])
 behind_two width (some ∷ more ∷ []) one other last =
     out (λ entries. some ∷ more ∷ entries) (is_one_column width one.from last.from && is_one_column width other.from last.from)
-        (joined one other ∷ last ∷ []) (one ∷ other ∷ last ∷ [])
+    (joined one other ∷ last ∷ []) (one ∷ other ∷ last ∷ [])
 behind_two width (some ∷ more ∷ others ∷ front) one other last =
     ap (λ entries. some ∷ entries) (behind_two width (more ∷ others ∷ front) one other last)
     ∙ out (λ entries. some ∷ entries) (is_one_column width one.from last.from && is_one_column width other.from last.from)
-        ((more ∷ others ∷ front ++ joined one other ∷ []) ++ last ∷ []) (((more ∷ others ∷ front ++ one ∷ []) ++ other ∷ []) ++ last ∷ [])
+    ((more ∷ others ∷ front ++ joined one other ∷ []) ++ last ∷ []) (((more ∷ others ∷ front ++ one ∷ []) ++ other ∷ []) ++ last ∷ [])

@@ -42,8 +42,8 @@ more_behind last [] entry = refl
 more_behind last (one ∷ told) entry = by_both (more_behind last told entry) (more_behind one told entry) (is_said_again last.told one.told) where
   by_both : MoreBehind last told entry → MoreBehind one told entry → (b : Bool) → (if b then changes_behind last (told ++ entry ∷ []) else one ∷ changes_behind one (told ++ entry ∷ []))
       ≡ (if is_said_last (last ∷ (if b then changes_behind last told else one ∷ changes_behind one told)) entry
-          then (if b then changes_behind last told else one ∷ changes_behind one told)
-          else (if b then changes_behind last told else one ∷ changes_behind one told) ++ entry ∷ [])
+      then (if b then changes_behind last told else one ∷ changes_behind one told)
+      else (if b then changes_behind last told else one ∷ changes_behind one told) ++ entry ∷ [])
   by_both said new true = said
   by_both said new false =
       ap (λ entries. one ∷ entries) new
@@ -63,6 +63,6 @@ not_said_last (one ∷ told) entry said =
 pub last_is : (entries : List Entry) (last entry : Entry) → Some last ≡ slice_get entries (length entries - 1) → is_said_last entries entry ≡ is_said_again last.told entry.told
 last_is [] last entry is = absurd (grind arith)
 last_is (one ∷ []) last entry is = grind arith
-last_is (one ∷ other ∷ entries) last entry is = last_is (other ∷ entries) last entry (is ∙ ap (slice_get (one ∷ other ∷ entries)) (suc_first (length entries)) ) where
+last_is (one ∷ other ∷ entries) last entry is = last_is (other ∷ entries) last entry (is ∙ ap (slice_get (one ∷ other ∷ entries)) (suc_first (length entries))) where
   suc_first : (n : ℕ) → suc (suc n) - 1 ≡ suc (suc n - 1)
   suc_first n = omega arith

@@ -14,21 +14,21 @@ is_said_again one other =
 
 -- what two tell together: all bits of both, the least and the greatest of both
 abbrev pub both : Told → Told → Told
-both one other = record
-  { results = bit_or one.results other.results
-  ; states = bit_or one.states other.states
-  ; low = int_min one.low other.low
-  ; high = int_max one.high other.high
-  }
+both one other = record {
+  results = bit_or one.results other.results;
+  states = bit_or one.states other.states;
+  low = int_min one.low other.low;
+  high = int_max one.high other.high;
+}
 
 -- two entries in a row as one, from the first one's record on; changes are counted up to 2 ^ 64 - 1
 abbrev pub joined : Entry → Entry → Entry
-joined one other = record
-  { from = one.from
-  ; time = one.time
-  ; told = both one.told other.told
-  ; changes = min (one.changes + other.changes) (2 ^ 64 - 1)
-  }
+joined one other = record {
+  from = one.from;
+  time = one.time;
+  told = both one.told other.told;
+  changes = min (one.changes + other.changes) (2 ^ 64 - 1);
+}
 
 -- ---- changes
 
@@ -64,7 +64,7 @@ in_front width entry [] = entry ∷ []
 in_front width entry (one ∷ []) = entry ∷ one ∷ []
 in_front width entry (one ∷ other ∷ others) =
     if is_one_column width entry.from one.from && is_one_column width one.from other.from then
-        joined entry one ∷ other ∷ others
+    joined entry one ∷ other ∷ others
     else entry ∷ one ∷ other ∷ others
 
 -- entries by columns: in each the last one as it is, and all others as one

@@ -5,6 +5,7 @@
 mod changes;
 mod columns;
 mod entry;
+pub mod laws;
 mod pool;
 
 pub use changes::Changes;

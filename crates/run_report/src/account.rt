@@ -1,19 +1,22 @@
 //! The account of a run: taken record by record, in memory that doesn't grow with the run.
 
+ghost use Rattle.std.specs.Prelude.{List, OnOk};
+ghost use Rattle.change_lists.specs.declared.entry.Entry.{Entry as Told};
+ghost use Rattle.run_report.specs.Model.{LanesTell};
+
 use crate::bands::{Bands, How};
+use crate::behind::Behind;
 use crate::brought::{Brought, read_record};
 use crate::error::ReportError;
+use crate::lists::Lists;
 use crate::place::{ABSENT, Place, Stand};
 use crate::samples::{Met, NOTHING, Part, Row, met_in, parts_of};
 use crate::sent::Sending;
 use crate::texts::{Field, Text, fields_of, read_text};
-use change_lists::Pool;
+use change_lists::Entry;
+use lc_model::EventKind;
 use lc_model::packet::message_id;
-use lc_model::{EventKind, LcMode};
 use std::alloc::{AllocError, Global};
-
-/// The most entries of all lists of changes.
-const ENTRIES: usize = 22_528;
 
 /// How many there were of what.
 #[derive(Clone, Copy, Debug)]
@@ -85,13 +88,6 @@ pub struct Seen {
     pub last: Option<Place>,
 }
 
-/// How the Limit Checker stands behind a record: its mode, where it runs, and its rules.
-#[derive(Debug, Drop)]
-pub struct Behind {
-    pub mode: Option<LcMode>,
-    pub rules: Vec<Stand>,
-}
-
 /// All that is told of a run, of the records so far.
 #[derive(Drop)]
 pub struct Account<'a> {
@@ -100,19 +96,22 @@ pub struct Account<'a> {
     pub fields: Vec<Field<'a>>,
     pub parts: Vec<Vec<Vec<Part>>>,
     pub lanes: usize,
-    /// The lists of the fields, and behind them those of the lanes.
-    pub pool: Pool,
     pub seen: Vec<Seen>,
     pub met: Vec<Met>,
     pub rows: Vec<Row>,
     pub bands: Bands,
     pub sending: Sending,
     pub figures: Figures,
-    pub start: i64,
-    pub end: i64,
-    pub is_ordered: bool,
     /// How the rules stood in front of the record.
     pub before: Vec<Stand>,
+}
+
+/// A value from a packet on. One that is too short for it has none, which is less than the least and more than the greatest.
+fn value_entry(met: Met, place: Place) -> Entry {
+    match met.value {
+        Some(value) => place.value(value, value),
+        None => place.value(i64::MAX, i64::MIN),
+    }
 }
 
 /// The texts.
@@ -131,15 +130,6 @@ fn most_rules(texts: &[Text<'_>]) -> usize {
         most = most.max(text.rule_count());
     }
     most
-}
-
-/// A list for each field and each lane.
-fn pool_of(alloc: Global, fields: usize, lanes: usize) -> Result<Pool, AllocError> {
-    let mut pool = Pool::new(alloc, ENTRIES);
-    for _ in 0..fields.saturating_add(lanes) {
-        pool.push()?;
-    }
-    Ok(pool)
 }
 
 /// The comparisons of a rule of the text in force.
@@ -199,76 +189,63 @@ impl<'a> Account<'a> {
             })?;
             met.push(NOTHING)?;
         }
-        let pool = pool_of(alloc, fields.len(), lanes)?;
         Ok(Account {
             alloc,
             texts,
             fields,
             parts,
             lanes,
-            pool,
             seen,
             met,
             rows,
             bands: Bands::new(alloc),
             sending: Sending::new(alloc),
             figures: NONE,
-            start: 0,
-            end: 0,
-            is_ordered: true,
             before,
         })
     }
 
-    /// The place of the next record, which has this time.
-    fn next_place(&mut self, time: i64) -> Place {
-        if self.figures.records == 0 {
-            self.start = time;
-        }
-        let time = time.saturating_sub(self.start);
-        if time < self.end {
-            self.is_ordered = false;
-        }
-        self.end = time;
-        Place {
-            record: self.figures.records.saturating_add(1),
-            time,
-        }
-    }
-
     /// A record comes: what it brings is counted and kept, in front of what it leads to.
-    pub fn come(&mut self, record: &[u8], time: i64) -> Result<Place, AllocError> {
-        let place = self.next_place(time);
+    pub fn come(&mut self, record: &[u8], place: Place, lists: &mut Lists) -> Result<(), AllocError>
+        ensures { (lanes : List (List Told)) → LanesTell lists.old lanes →
+            OnOk result (LanesTell lists.new lanes) }
+    {
         let brings = read_record(record);
         self.figures.take(brings);
         match brings {
-            Brought::Telemetry(packet) => self.see(packet, place)?,
+            Brought::Telemetry(packet) => self.see(packet, place, lists)?,
             Brought::Load(name) => self.bands.load(name),
             Brought::File(name) => self.bands.store(name, None)?,
             Brought::Half(name, text) => self.bands.store(name, Some(text))?,
             Brought::Tick | Brought::Command => {}
         }
-        Ok(place)
+        Ok(())
     }
 
     /// A telemetry packet: the fields of its message id have new values.
-    fn see(&mut self, packet: &[u8], place: Place) -> Result<(), AllocError> {
+    fn see(&mut self, packet: &[u8], place: Place, lists: &mut Lists) -> Result<(), AllocError>
+        ensures { (lanes : List (List Told)) → LanesTell lists.old lanes →
+            OnOk result (LanesTell lists.new lanes) }
+    {
         if packet.len() < 2 {
             return Ok(());
         }
         let mid = message_id(packet);
         for number in 0..self.fields.len() {
-            if let Some(field) = self.fields.get(number).copied() {
-                if field.mid == mid {
-                    self.see_field(number, met_in(&field, packet, place), place)?;
-                }
+            if let Some(met) = self.meet(number, mid, packet, place) {
+                lists.value(number, value_entry(met, place))?;
             }
         }
         Ok(())
     }
 
-    /// A packet with a field. One that is too short for it has no value, which is less than the least and more than the greatest.
-    fn see_field(&mut self, number: usize, met: Met, place: Place) -> Result<(), AllocError> {
+    /// What a packet with this message id says of a field, if it is one of the field's.
+    fn meet(&mut self, number: usize, mid: u16, packet: &[u8], place: Place) -> Option<Met> {
+        let field = self.fields.get(number).copied()?;
+        if field.mid != mid {
+            return None;
+        }
+        let met = met_in(&field, packet, place);
         if let Some(seen) = self.seen.get_mut(number) {
             count(&mut seen.packets);
             seen.last = Some(place);
@@ -276,11 +253,7 @@ impl<'a> Account<'a> {
         if let Some(kept) = self.met.get_mut(number) {
             *kept = met;
         }
-        let (low, high) = match met.value {
-            Some(value) => (value, value),
-            None => (i64::MAX, i64::MIN),
-        };
-        self.pool.add(number, place.value(low, high))
+        Some(met)
     }
 
     /// Tables came into force: what comparisons meet begins anew.
@@ -308,16 +281,9 @@ impl<'a> Account<'a> {
 
     /// How all stands behind a record, once what it wrote was read.
     pub fn stand(&mut self, place: Place, behind: &Behind) -> Result<(), AllocError> {
-        self.bands.stand(place, behind.mode)?;
-        let fields = self.fields.len();
-        for rule in 0..self.lanes {
-            let stand = behind.rules.get(rule).copied().unwrap_or(ABSENT);
-            let list = fields.saturating_add(rule);
-            self.pool.add(list, place.stand(stand))?;
-            if let Some(kept) = self.before.get_mut(rule) {
-                *kept = stand;
-            }
+        for (rule, kept) in self.before.iter_mut().enumerate() {
+            *kept = behind.rules.get(rule).copied().unwrap_or(ABSENT);
         }
-        Ok(())
+        self.bands.stand(place, behind.mode)
     }
 }

@@ -1,9 +1,10 @@
 //! The data of a page, as page/DATA.md says it.
 
-use crate::account::{Account, Figures};
+use crate::account::Figures;
 use crate::json::{put, put_comma, put_text};
 use crate::report::Run;
 use crate::rules::{put_fields, put_lanes, put_texts};
+use crate::telling::Telling;
 use crate::texts::Source;
 use crate::told::{put_modes, put_sent, put_tables};
 use lc_model::VERSION;
@@ -81,7 +82,7 @@ fn put_figures<W: Write>(out: &mut W, figures: Figures) -> io::Result<()> {
 fn put_head<W: Write>(
     out: &mut W,
     run: &Run<'_, '_>,
-    account: &Account<'_>,
+    telling: &Telling<'_>,
     ending: Ending,
 ) -> io::Result<()> {
     write!(
@@ -92,10 +93,10 @@ fn put_head<W: Write>(
     put(out, ",\"files\":[")?;
     put_files(out, run)?;
     put(out, "],\"figures\":{")?;
-    put_figures(out, account.figures)?;
-    let start = account.start;
-    let end = account.end;
-    let ordered = account.is_ordered;
+    put_figures(out, telling.account.figures)?;
+    let start = telling.clock.start;
+    let end = telling.clock.end;
+    let ordered = telling.clock.is_ordered;
     write!(
         out,
         "}},\"start\":{start},\"end\":{end},\"ordered\":{ordered},\"epoch\":"
@@ -110,16 +111,18 @@ fn put_head<W: Write>(
 pub fn put_data<W: Write>(
     out: &mut W,
     run: &Run<'_, '_>,
-    account: &Account<'_>,
+    telling: &Telling<'_>,
     ending: Ending,
 ) -> io::Result<()> {
-    put_head(out, run, account, ending)?;
+    put_head(out, run, telling, ending)?;
+    let account = &telling.account;
+    let (lanes, values) = telling.lists.parts();
     put(out, ",\"texts\":[")?;
     put_texts(out, account)?;
     put(out, "],\"fields\":[")?;
-    put_fields(out, account)?;
+    put_fields(out, account, values)?;
     put(out, "],\"lanes\":[")?;
-    put_lanes(out, account)?;
+    put_lanes(out, lanes)?;
     put(out, "],\"tables\":[")?;
     put_tables(out, &account.bands)?;
     put(out, "],\"mode\":[")?;

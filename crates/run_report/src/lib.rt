@@ -4,10 +4,13 @@
 
 mod account;
 mod bands;
+mod behind;
 mod brought;
+mod clock;
 mod data;
 mod error;
 mod json;
+mod lists;
 mod packets;
 mod page_front;
 mod page_script_0;
@@ -19,6 +22,7 @@ mod report;
 mod rules;
 mod samples;
 mod sent;
+mod telling;
 mod texts;
 mod told;
 mod values;
@@ -26,4 +30,5 @@ mod values;
 pub use error::ReportError;
 pub use progress::{Progress, Silent};
 pub use report::{Run, write_page};
+pub use telling::{Telling, tell_run};
 pub use texts::Source;

@@ -1,7 +1,8 @@
 //! The packets that a record led to, as the account has them.
 
-use crate::account::{Account, Behind, count};
+use crate::account::{Account, count};
 use crate::bands::How;
+use crate::behind::Behind;
 use crate::place::{ABSENT, ACTIVE, FAIL, PASSIVE, Place};
 use crate::samples::Sample;
 use crate::sent::{Request, Told};

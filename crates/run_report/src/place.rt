@@ -1,7 +1,11 @@
 //! Places in a run, and how rules stand behind one.
 
+ghost use Rattle.std.specs.Prelude.{◌≡◌, ◌<◌, ◌^◌};
+ghost use Rattle.run_report.specs.Model.{bit_of_result, bit_of_state, stood, ticks_of};
+
 use change_lists::{Entry, Told};
-use lc_model::{ApMode, ApResult, LcMode, Moment};
+use lc_model::stream::{HEADER, moment_of};
+use lc_model::{ApMode, ApResult, LcMode};
 
 /// A record, from 1, and its time in 1/65,536 s, less that of the first.
 #[derive(Clone, Copy, Debug, PartialEq, Eq)]
@@ -27,7 +31,9 @@ impl Place {
     }
 
     /// A rule stands so from here on.
-    pub fn stand(self, stand: Stand) -> Entry {
+    pub fn stand(self, stand: Stand) -> Entry
+        ensures { result ≡ stood self stand }
+    {
         Entry {
             from: self.record,
             time: self.time,
@@ -65,7 +71,9 @@ pub const ACTIVE: u8 = 1;
 pub const PASSIVE: u8 = 2;
 
 /// The bit of a result: the worse, the higher.
-pub fn result_bit(last: Option<ApResult>) -> u8 {
+pub fn result_bit(last: Option<ApResult>) -> u8
+    ensures { result ≡ bit_of_result last }
+{
     match last {
         None => 2,
         Some(ApResult::Pass) => 4,
@@ -76,7 +84,9 @@ pub fn result_bit(last: Option<ApResult>) -> u8 {
 }
 
 /// The bit of a state.
-pub fn state_bit(state: ApMode) -> u8 {
+pub fn state_bit(state: ApMode) -> u8
+    ensures { result ≡ bit_of_state state }
+{
     match state {
         ApMode::Active => ACTIVE,
         ApMode::Passive => PASSIVE,
@@ -85,11 +95,16 @@ pub fn state_bit(state: ApMode) -> u8 {
     }
 }
 
-/// A moment in 1/65,536 s.
-pub fn ticks(moment: Moment) -> i64 {
-    i64::from(moment.seconds)
-        .saturating_mul(65_536)
-        .saturating_add(i64::from(moment.subseconds))
+/// The time of a record in 1/65,536 s; 0 where its header isn't whole.
+pub fn ticks_in(record: &[u8]) -> u64
+    ensures ticks { result ≡ ticks_of record.now }
+    ensures small { result < 2 ^ 48 }
+{
+    if record.len() < HEADER {
+        return 0;
+    }
+    let moment = moment_of(record);
+    u64::from(moment.seconds) * 65_536 + u64::from(moment.subseconds)
 }
 
 /// The word for a mode, or for no Limit Checker.

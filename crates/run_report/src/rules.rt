@@ -5,7 +5,7 @@ use crate::json::{put, put_comma, put_optional, put_text};
 use crate::samples::Part;
 use crate::texts::{Field, Text};
 use crate::values::type_word;
-use change_lists::Entry;
+use change_lists::{Changes, Entry};
 use lc_model::{ApMode, CmpOp, EventKind};
 use rule_parser::{Expression, ReportItem, RuleItem};
 use std::io::{self, Write};
@@ -239,7 +239,11 @@ fn put_span<W: Write>(out: &mut W, entry: Entry) -> io::Result<()> {
 }
 
 /// Writes all fields.
-pub fn put_fields<W: Write>(out: &mut W, account: &Account<'_>) -> io::Result<()> {
+pub fn put_fields<W: Write>(
+    out: &mut W,
+    account: &Account<'_>,
+    values: &[Changes],
+) -> io::Result<()> {
     for (number, field) in account.fields.iter().enumerate() {
         put_comma(out, number)?;
         put_field(out, field)?;
@@ -256,7 +260,7 @@ pub fn put_fields<W: Write>(out: &mut W, account: &Account<'_>) -> io::Result<()
             }
         }
         put(out, ",\"values\":[")?;
-        if let Some(list) = account.pool.lists().get(number) {
+        if let Some(list) = values.get(number) {
             for (place, entry) in list.entries().iter().enumerate() {
                 put_comma(out, place)?;
                 put_value(out, *entry)?;
@@ -268,9 +272,7 @@ pub fn put_fields<W: Write>(out: &mut W, account: &Account<'_>) -> io::Result<()
 }
 
 /// Writes all lanes.
-pub fn put_lanes<W: Write>(out: &mut W, account: &Account<'_>) -> io::Result<()> {
-    let lists = account.pool.lists();
-    let lanes = lists.get(account.fields.len()..).unwrap_or(&[]);
+pub fn put_lanes<W: Write>(out: &mut W, lanes: &[Changes]) -> io::Result<()> {
     for (number, list) in lanes.iter().enumerate() {
         put_comma(out, number)?;
         put(out, "[")?;

@@ -10,6 +10,6 @@ returns-then-number-len c = λ told all.
 pub returns : goal.returns
 returns c = λ told all.
     c.make_room.ensures (told_to c.args.number c.args.entry told)
-        (all_told c.args.self.now.lists.items told c.args.number c.index_mut.result.now c.add.new.self c.args.entry
-            (omega (arith, c.args.self.now.lists.ok.0, c.if-number-len.false, c.len.ensures)) c.index_mut.ensures.value
-            (λ it tells. c.in_ok-add.ensures it tells) all)
+    (all_told c.args.self.now.lists.items told c.args.number c.index_mut.result.now c.add.new.self c.args.entry
+    (omega (arith, c.args.self.now.lists.ok.0, c.if-number-len.false, c.len.ensures)) c.index_mut.ensures.value
+    (λ it tells. c.in_ok-add.ensures it tells) all)

@@ -7,4 +7,4 @@ use Rattle.change_lists.proofs.pool.Pool.push.Goals as goal
 pub returns : goal.returns
 returns c = λ told all.
     subst (λ (lists : List Changes). AllTell lists (told ++ [] ∷ [])) (sym c.in_ok-push.ensures.items)
-        (all_more c.args.self.now.lists.items told c.new.result all c.new.ensures)
+    (all_more c.args.self.now.lists.items told c.new.result all c.new.ensures)

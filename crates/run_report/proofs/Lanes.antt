@@ -1,0 +1,92 @@
+-- Lanes, in front of the lists of fields.
+use Rattle.std.proofs.Common.{◌≡◌, ℕ, zero, suc, ◌+◌, ◌-◌, ◌<◌, ◌≤◌, List, [], ◌∷◌, ◌++◌, length, refl, ap, sym, ◌∙◌, subst, arith}
+use Rattle.std.proofs.lemmas.List.{append_assoc}
+use Rattle.change_lists.specs.declared.entry.Entry.{Entry}
+use Rattle.change_lists.specs.declared.changes.Changes.{Changes}
+use Rattle.change_lists.specs.Telling.{AllTell, lists_of, told_to}
+use Rattle.run_report.specs.declared.place.Place.{Place}
+use Rattle.run_report.specs.declared.place.Stand.{Stand}
+use Rattle.run_report.specs.declared.lists.Lists.{Lists}
+use Rattle.run_report.specs.Model.{LanesTell, Step, lanes_from, nothing_told, stand_at, stood, stood_more}
+
+-- ---- nothing told
+
+pub nothing_more : (count : ℕ) → nothing_told count ++ [] ∷ [] ≡ nothing_told (suc count)
+nothing_more zero = refl
+nothing_more (suc count) = ap (λ told. [] ∷ told) (nothing_more count)
+
+pub one_more_told : (lists : List Changes) (told : List (List Entry)) (count : ℕ) → AllTell lists ((told ++ nothing_told count) ++ [] ∷ []) →
+    AllTell lists (told ++ nothing_told (suc count))
+one_more_told lists told count all =
+    subst (AllTell lists) (append_assoc told (nothing_told count) ([] ∷ []) ∙ ap (λ more. told ++ more) (nothing_more count)) all
+
+pub length_nothing : (count : ℕ) → length (nothing_told count) ≡ count
+length_nothing zero = refl
+length_nothing (suc count) = grind (arith, length_nothing count)
+
+pub nothing_of_lanes : (rule count : ℕ) → lanes_from rule count [] ≡ nothing_told count
+nothing_of_lanes rule zero = refl
+nothing_of_lanes rule (suc count) = ap (λ told. [] ∷ told) (nothing_of_lanes (suc rule) count)
+
+-- ---- one list told more
+
+pub told_in_front : (n : ℕ) (entry : Entry) (lanes values : List (List Entry)) → n < length lanes → told_to n entry (lanes ++ values) ≡ told_to n entry lanes ++ values
+told_in_front n entry [] values within = absurd (omega arith)
+told_in_front zero entry (told ∷ lanes) values within = refl
+told_in_front (suc n) entry (told ∷ lanes) values within = ap (λ more. told ∷ more) (told_in_front n entry lanes values (omega arith))
+
+pub told_behind : (n : ℕ) (entry : Entry) (lanes values : List (List Entry)) → length lanes ≤ n → told_to n entry (lanes ++ values) ≡ lanes ++ told_to (n - length lanes) entry values
+told_behind n entry [] values behind = ap (λ number. told_to number entry values) (omega arith)
+told_behind zero entry (told ∷ lanes) values behind = absurd (omega arith)
+told_behind (suc n) entry (told ∷ lanes) values behind =
+    ap (λ more. told ∷ more) (told_behind n entry lanes values (omega arith)
+    ∙ ap (λ number. lanes ++ told_to number entry values) (omega arith))
+
+pub length_told : (n : ℕ) (entry : Entry) (lanes : List (List Entry)) → length (told_to n entry lanes) ≡ length lanes
+length_told n entry [] = refl
+length_told zero entry (told ∷ lanes) = refl
+length_told (suc n) entry (told ∷ lanes) = grind (arith, length_told n entry lanes)
+
+-- a field is told more
+pub value_told : (old new : Lists) (n : ℕ) (entry : Entry) (lanes : List (List Entry)) → old.lanes ≤ n → new.lanes ≡ old.lanes →
+    (tells : LanesTell old lanes) → AllTell (lists_of new.pool) (told_to n entry (lanes ++ tells.values)) → LanesTell new lanes
+value_told old new n entry lanes behind same tells all = record {
+  values = told_to (n - length lanes) entry tells.values;
+  lanes_are = tells.lanes_are ∙ sym same;
+  all = subst (AllTell (lists_of new.pool)) (told_behind n entry lanes tells.values (omega (arith, tells.lanes_are))) all;
+}
+
+-- a rule is told more
+pub lane_told : (old new : Lists) (n : ℕ) (entry : Entry) (lanes : List (List Entry)) → n < old.lanes → new.lanes ≡ old.lanes →
+    (tells : LanesTell old lanes) → AllTell (lists_of new.pool) (told_to n entry (lanes ++ tells.values)) → LanesTell new (told_to n entry lanes)
+lane_told old new n entry lanes within same tells all = record {
+  values = tells.values;
+  lanes_are = length_told n entry lanes ∙ tells.lanes_are ∙ sym same;
+  all = subst (AllTell (lists_of new.pool)) (told_in_front n entry lanes tells.values (omega (arith, tells.lanes_are))) all;
+}
+
+-- ---- all rules told more
+
+-- so many of them
+abbrev pub stood_some : ℕ → Place → List Stand → ℕ → List (List Entry) → List (List Entry)
+stood_some n place stands rule [] = []
+stood_some zero place stands rule (told ∷ more) = told ∷ more
+stood_some (suc n) place stands rule (told ∷ more) = (told ++ stood place (stand_at rule stands) ∷ []) ∷ stood_some n place stands (suc rule) more
+
+pub none_stood : (place : Place) (stands : List Stand) (rule : ℕ) (lanes : List (List Entry)) → stood_some 0 place stands rule lanes ≡ lanes
+none_stood place stands rule [] = refl
+none_stood place stands rule (told ∷ lanes) = refl
+
+pub all_stood : (place : Place) (stands : List Stand) (rule : ℕ) (lanes : List (List Entry)) → stood_some (length lanes) place stands rule lanes ≡ stood_more place stands rule lanes
+all_stood place stands rule [] = refl
+all_stood place stands rule (told ∷ lanes) =
+    ap (λ more. (told ++ stood place (stand_at rule stands) ∷ []) ∷ more) (all_stood place stands (suc rule) lanes)
+
+pub next_stood : (n : ℕ) (place : Place) (stands : List Stand) (rule at : ℕ) (lanes : List (List Entry)) → at ≡ rule + n → n < length lanes →
+    told_to n (stood place (stand_at at stands)) (stood_some n place stands rule lanes) ≡ stood_some (suc n) place stands rule lanes
+next_stood n place stands rule at [] is within = absurd (omega arith)
+next_stood zero place stands rule at (told ∷ lanes) is within =
+    ap (λ number. (told ++ stood place (stand_at number stands) ∷ []) ∷ lanes) (omega (arith, is))
+    ∙ ap (λ more. (told ++ stood place (stand_at rule stands) ∷ []) ∷ more) (sym (none_stood place stands (suc rule) lanes))
+next_stood (suc n) place stands rule at (told ∷ lanes) is within =
+    ap (λ more. (told ++ stood place (stand_at rule stands) ∷ []) ∷ more) (next_stood n place stands (suc rule) at lanes (omega (arith, is)) (omega arith))

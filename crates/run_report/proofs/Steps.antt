@@ -1,0 +1,118 @@
+-- Records that are told one after the other.
+use Rattle.std.proofs.Common.{◌≡◌, ℕ, zero, suc, ◌+◌, ◌<◌, ◌≤◌, ◌^◌, List, [], ◌∷◌, ◌++◌, length, length-append, refl, ap, sym, ◌∙◌, subst, arith, ℤ, pos, ◌-ℤ◌, if◌then◌else◌, Option, Some, None, Result, Ok}
+use Rattle.std.specs.Prelude.{◌==◌, Bool, false}
+use Rattle.std.proofs.lemmas.Bool.Decides.{nat_tests}
+use Rattle.std.proofs.lemmas.List.{append_assoc, append-nil}
+use Rattle.change_lists.specs.declared.entry.Entry.{Entry}
+use Rattle.flight_core.specs.Feeding.{Feeding}
+use Rattle.run_course.specs.Stepping.{HasStepped, engine_among}
+use Rattle.run_course.specs.declared.handled.Handled.TheVariants as handled
+use Rattle.run_report.specs.declared.place.Place.{Place}
+use Rattle.run_report.specs.declared.place.Stand.{Stand}
+use Rattle.run_report.specs.declared.lists.Lists.{Lists}
+use Rattle.run_report.specs.Model.{HasTold, LanesTell, Step, Went, bytes_of, lanes_from, stand_at, stands_of, start_of, stood, stood_more, ticks_of, told_from, told_of}
+
+-- the host goes through one record more
+pub went_more : (first old new : Feeding) (steps : List Step) (bytes written : List ℕ) → Went first steps old → HasStepped bytes old new written (Ok handled.Whole) →
+    Went first (steps ++ record { bytes = bytes; host = new; written = written } ∷ []) new
+went_more first old new [] bytes written went stepped =
+    (subst (λ host. HasStepped bytes host new written (Ok handled.Whole)) (sym went) stepped, refl)
+went_more first old new (step ∷ steps) bytes written went stepped = (went.0, went_more step.host old new steps bytes written went.1 stepped)
+
+pub bytes_more : (steps : List Step) (step : Step) → bytes_of (steps ++ step ∷ []) ≡ bytes_of steps ++ (step.bytes ++ [])
+bytes_more [] step = refl
+bytes_more (one ∷ steps) step = ap (λ more. one.bytes ++ more) (bytes_more steps step) ∙ sym (append_assoc one.bytes (bytes_of steps) (step.bytes ++ []))
+
+-- where this record stands
+abbrev pub place_of : ℕ → ℕ → List ℕ → Place
+place_of start number bytes = record { «record» = number; time = pos (ticks_of bytes) -ℤ pos start }
+
+told_more : (start number rule : ℕ) (steps : List Step) (step : Step) →
+    told_from start number rule (steps ++ step ∷ [])
+    ≡ told_from start number rule steps ++ stood (place_of start (number + length steps) step.bytes) (stand_at rule (stands_of (engine_among step.host.host.seats))) ∷ []
+told_more start number rule [] step =
+    ap (λ at. stood (place_of start at step.bytes) (stand_at rule (stands_of (engine_among step.host.host.seats))) ∷ []) (omega arith)
+told_more start number rule (one ∷ steps) step =
+    ap (λ more. stood (place_of start number one.bytes) (stand_at rule (stands_of (engine_among one.host.host.seats))) ∷ more)
+    (told_more start (number + 1) rule steps step
+    ∙ ap (λ at. told_from start (number + 1) rule steps ++ stood (place_of start at step.bytes) (stand_at rule (stands_of (engine_among step.host.host.seats))) ∷ []) (omega arith))
+
+-- by a run whose first record is of this time
+started : (steps : List Step) (step : Step) (start : ℕ) → start ≡ (if length steps + 1 == 1 then ticks_of step.bytes else start_of steps) → start ≡ start_of (steps ++ step ∷ [])
+started [] step start is = is
+started (one ∷ steps) step start is =
+    let more : (length (one ∷ steps) + 1 == 1) ≡ false = grind (arith, nat_tests) in
+    is ∙ ap (λ (b : Bool). if b then ticks_of step.bytes else ticks_of one.bytes) more
+
+told_of_more : (rule : ℕ) (steps : List Step) (step : Step) (start : ℕ) → start ≡ (if length steps + 1 == 1 then ticks_of step.bytes else start_of steps) →
+    told_of rule steps ++ stood (place_of start (length steps + 1) step.bytes) (stand_at rule (stands_of (engine_among step.host.host.seats))) ∷ [] ≡ told_of rule (steps ++ step ∷ [])
+told_of_more rule [] step start is =
+    ap (λ from. stood (place_of from 1 step.bytes) (stand_at rule (stands_of (engine_among step.host.host.seats))) ∷ []) is
+told_of_more rule (one ∷ steps) step start is =
+    ap (λ from. told_from (ticks_of one.bytes) 1 rule (one ∷ steps) ++ stood (place_of from (length (one ∷ steps) + 1) step.bytes) (stand_at rule (stands_of (engine_among step.host.host.seats))) ∷ [])
+    (started (one ∷ steps) step start is)
+    ∙ ap (λ at. told_from (ticks_of one.bytes) 1 rule (one ∷ steps) ++ stood (place_of (ticks_of one.bytes) at step.bytes) (stand_at rule (stands_of (engine_among step.host.host.seats))) ∷ []) (omega arith)
+    ∙ sym (told_more (ticks_of one.bytes) 1 rule (one ∷ steps) step)
+
+lanes_more : (rule count : ℕ) (steps : List Step) (step : Step) (start : ℕ) → start ≡ (if length steps + 1 == 1 then ticks_of step.bytes else start_of steps) →
+    stood_more (place_of start (length steps + 1) step.bytes) (stands_of (engine_among step.host.host.seats)) rule (lanes_from rule count steps)
+    ≡ lanes_from rule count (steps ++ step ∷ [])
+lanes_more rule zero steps step start is = refl
+lanes_more rule (suc count) steps step start is =
+    λ i. told_of_more rule steps step start is i ∷ lanes_more (suc rule) count steps step start is i
+
+length_stood : (place : Place) (stands : List Stand) (rule : ℕ) (lanes : List (List Entry)) → length (stood_more place stands rule lanes) ≡ length lanes
+length_stood place stands rule [] = refl
+length_stood place stands rule (told ∷ lanes) = grind (arith, length_stood place stands (suc rule) lanes)
+
+counted : (steps : List Step) (step : Step) (number : ℕ) → length steps ≡ number → length (steps ++ step ∷ []) ≡ number + 1
+counted steps step number is = omega (arith, length-append steps (step ∷ []))
+
+joined_bytes : (front bytes behind : List ℕ) → (front ++ (bytes ++ [])) ++ behind ≡ front ++ (bytes ++ behind)
+joined_bytes front bytes behind =
+    ap (λ more. (front ++ more) ++ behind) (append-nil bytes) ∙ append_assoc front bytes behind
+
+-- what was told so far of a stream, of which these bytes are left
+pub record SoFar (first now : Feeding) (stream rest : List ℕ) (lists : Lists) (start number : ℕ) : Type 0 where
+  pub steps : List Step
+  pub count : length steps ≡ number
+  pub went : Went first steps now
+  pub bytes : bytes_of steps ++ rest ≡ stream
+  pub told : HasTold lists start steps
+
+pub nothing_so_far : (first : Feeding) (stream : List ℕ) (lists : Lists) (start : ℕ) → HasTold lists start [] → SoFar first first stream stream lists start 0
+nothing_so_far first stream lists start told = record { steps = []; count = refl; went = refl; bytes = refl; told = told }
+
+-- one record more
+pub next_so_far : (first old new : Feeding) (stream rest bytes behind written : List ℕ) (lists after : Lists) (start now number : ℕ) →
+    SoFar first old stream rest lists start number → HasStepped bytes old new written (Ok handled.Whole) → bytes ++ behind ≡ rest →
+    now ≡ (if number + 1 == 1 then ticks_of bytes else start) → now < 2 ^ 48 →
+    ((lanes : List (List Entry)) → LanesTell lists lanes →
+    LanesTell after (stood_more (place_of now (number + 1) bytes) (stands_of (engine_among new.host.seats)) 0 lanes)) →
+    SoFar first new stream behind after now (number + 1)
+next_so_far first old new stream rest bytes behind written lists after start now number so stepped parts begins small adds = record {
+  steps = so.steps ++ step ∷ [];
+  count = counted so.steps step number so.count;
+  went = went_more first old new so.steps bytes written so.went stepped;
+  bytes = ap (λ front. front ++ behind) (bytes_more so.steps step) ∙ joined_bytes (bytes_of so.steps) bytes behind ∙ ap (λ more. bytes_of so.steps ++ more) parts ∙ so.bytes;
+  told = record {
+    first = started so.steps step now begins_so;
+    small = small;
+    lanes = subst (λ count. LanesTell after (lanes_from 0 count (so.steps ++ step ∷ []))) same_lanes
+        (subst (LanesTell after) (lanes_more 0 lists.lanes so.steps step now begins_so) told_now);
+  };
+} where
+  step : Step
+  step = record { bytes = bytes; host = new; written = written }
+
+  begins_so : now ≡ (if length so.steps + 1 == 1 then ticks_of bytes else start_of so.steps)
+  begins_so = begins ∙ (λ i. if sym so.count i + 1 == 1 then ticks_of bytes else so.told.first i)
+
+  told_now : LanesTell after (stood_more (place_of now (length so.steps + 1) bytes) (stands_of (engine_among new.host.seats)) 0 (lanes_from 0 lists.lanes so.steps))
+  told_now = subst (λ count. LanesTell after (stood_more (place_of now (count + 1) bytes) (stands_of (engine_among new.host.seats)) 0 (lanes_from 0 lists.lanes so.steps)))
+      (sym so.count) (adds (lanes_from 0 lists.lanes so.steps) so.told.lanes)
+
+  same_lanes : lists.lanes ≡ after.lanes
+  same_lanes = sym (sym told_now.lanes_are
+      ∙ length_stood (place_of now (length so.steps + 1) bytes) (stands_of (engine_among new.host.seats)) 0 (lanes_from 0 lists.lanes so.steps)
+      ∙ so.told.lanes.lanes_are)

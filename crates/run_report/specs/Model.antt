@@ -1,0 +1,161 @@
+-- What a page tells of a run: how the Limit Checker stands behind each record, rule by rule (page/DATA.md). This project's own.
+use Rattle.std.specs.Prelude.{◌≡◌, ℕ, zero, suc, ◌+◌, ◌*◌, ◌^◌, ◌<◌, List, [], ◌∷◌, ◌++◌, length, map, ℤ, pos, ◌-ℤ◌, nat_lt, if◌then◌else◌, Option, Some, None, Result, Ok, slice_get}
+use Rattle.lc_model.specs.declared.mode.ApResult.{ApResult}
+use Rattle.lc_model.specs.declared.mode.ApResult.TheVariants.{Pass, Stale, Error, Fail}
+use Rattle.lc_model.specs.declared.mode.ApMode.{ApMode}
+use Rattle.lc_model.specs.declared.mode.ApMode.TheVariants.{Active, Passive, Disabled, PermOff}
+use Rattle.lc_model.specs.Bytes.{u16_at, u32_at}
+use Rattle.lc_model.specs.Host.Stream.{header_size}
+use Rattle.lc_model.specs.Kept.Summary.{LcOwn, Tally}
+use Rattle.lc_model.specs.LimitChecker.Steps.{Point}
+use Rattle.flight_core.specs.Feeding.{Feeding}
+use Rattle.run_course.specs.Stepping.{HasStepped, engine_among}
+use Rattle.run_course.specs.declared.handled.Handled.{Handled}
+use Rattle.run_course.specs.declared.handled.Handled.TheVariants as handled
+use Rattle.run_course.specs.declared.course.Ending.{Ending}
+use Rattle.run_course.specs.declared.course.Ending.TheVariants.{Whole, NoRecord, Cut, Bound}
+use Rattle.change_lists.specs.declared.entry.Entry.{Entry}
+use Rattle.change_lists.specs.Telling.{AllTell, lists_of}
+use Rattle.run_report.specs.declared.place.Place.{Place}
+use Rattle.run_report.specs.declared.place.Stand.{Stand}
+use Rattle.run_report.specs.declared.lists.Lists.{Lists}
+
+-- ---- a run
+
+-- a record that was handled: its bytes, the host behind it, and the packets that it led to
+pub record Step : Type 0 where
+  pub bytes : List ℕ
+  pub host : Feeding
+  pub written : List ℕ
+
+-- the host goes through these records
+abbrev pub Went : Feeding → List Step → Feeding → Type 0
+Went old [] new = old ≡ new
+Went old (step ∷ steps) new = HasStepped step.bytes old step.host step.written (Ok handled.Whole) × Went step.host steps new
+
+-- ---- how a rule stands
+
+-- the bit of its last result: the worse, the higher
+abbrev pub bit_of_result : Option ApResult → ℕ
+bit_of_result None = 2
+bit_of_result (Some Pass) = 4
+bit_of_result (Some Stale) = 8
+bit_of_result (Some Error) = 16
+bit_of_result (Some Fail) = 32
+
+-- the bit of its state
+abbrev pub bit_of_state : ApMode → ℕ
+bit_of_state Active = 1
+bit_of_state Passive = 2
+bit_of_state Disabled = 4
+bit_of_state PermOff = 8
+
+-- with how many failures in a row
+abbrev pub stand_of : Point Tally → Stand
+stand_of point = record { result = bit_of_result point.past.last; state = bit_of_state point.state; fails = point.past.run }
+
+-- all rules, where a Limit Checker runs; none else
+abbrev pub stands_of : Option LcOwn → List Stand
+stands_of None = []
+stands_of (Some engine) = map stand_of engine.points
+
+-- there is no such rule
+abbrev pub absent : Stand
+absent = record { result = 1; state = 0; fails = 0 }
+
+abbrev pub stand_at : ℕ → List Stand → Stand
+stand_at rule [] = absent
+stand_at zero (stand ∷ stands) = stand
+stand_at (suc rule) (stand ∷ stands) = stand_at rule stands
+
+-- ---- lanes
+
+-- the time of a record, in 1/65,536 s; 0 where its header isn't whole
+abbrev pub ticks_of : List ℕ → ℕ
+ticks_of bytes = if nat_lt (length bytes) header_size then 0 else u32_at bytes 1 * 65536 + u16_at bytes 5
+
+-- that of the first record
+abbrev pub start_of : List Step → ℕ
+start_of [] = 0
+start_of (step ∷ steps) = ticks_of step.bytes
+
+-- a rule stands so from this place on
+abbrev pub stood : Place → Stand → Entry
+stood place stand = record {
+  from = place.«record»;
+  time = place.time;
+  told = record { results = stand.result; states = stand.state; low = pos 0; high = pos 0 };
+  changes = 1;
+}
+
+-- what is told of a rule by records, the first of which has this number
+abbrev pub told_from : (start number rule : ℕ) → List Step → List Entry
+told_from start number rule [] = []
+told_from start number rule (step ∷ steps) =
+    stood (record { «record» = number; time = pos (ticks_of step.bytes) -ℤ pos start }) (stand_at rule (stands_of (engine_among step.host.host.seats)))
+    ∷ told_from start (number + 1) rule steps
+
+-- .. by a whole run: how it stands behind each record
+abbrev pub told_of : ℕ → List Step → List Entry
+told_of rule steps = told_from (start_of steps) 1 rule steps
+
+-- for each of so many rules, from this one on
+abbrev pub lanes_from : (rule count : ℕ) → List Step → List (List Entry)
+lanes_from rule zero steps = []
+lanes_from rule (suc count) steps = told_of rule steps ∷ lanes_from (suc rule) count steps
+
+-- one more of each rule, from this one on
+abbrev pub stood_more : Place → List Stand → ℕ → List (List Entry) → List (List Entry)
+stood_more place stands rule [] = []
+stood_more place stands rule (told ∷ more) = (told ++ stood place (stand_at rule stands) ∷ []) ∷ stood_more place stands (suc rule) more
+
+-- nothing is told of so many
+abbrev pub nothing_told : ℕ → List (List Entry)
+nothing_told zero = []
+nothing_told (suc count) = [] ∷ nothing_told count
+
+-- the lists of the lanes tell this: they stand in front of those of the fields
+pub record LanesTell (lists : Lists) (lanes : List (List Entry)) : Type 0 where
+  pub values : List (List Entry)
+  pub lanes_are : length lanes ≡ lists.lanes
+  pub all : AllTell (lists_of lists.pool) (lanes ++ values)
+
+-- ---- a whole run
+
+-- all this is told of these records
+pub record HasTold (lists : Lists) (start : ℕ) (steps : List Step) : Type 0 where
+  pub first : start ≡ start_of steps
+  pub small : start < 2 ^ 48
+  pub lanes : LanesTell lists (lanes_from 0 lists.lanes steps)
+
+-- the bytes of all records, one behind the other
+abbrev pub bytes_of : List Step → List ℕ
+bytes_of [] = []
+bytes_of (step ∷ steps) = step.bytes ++ bytes_of steps
+
+-- what is in front of these bytes the host doesn't handle
+pub record StopsAt (host : Feeding) (rest : List ℕ) (handled : Handled) : Type 0 where
+  pub front : List ℕ
+  pub others : List ℕ
+  pub bytes : rest ≡ front ++ others
+  pub now : Feeding
+  pub written : List ℕ
+  pub stops : HasStepped front host now written (Ok handled)
+
+-- how a run ends behind these records, of which the last left the host so, where these bytes are left
+abbrev pub EndsSo : Ending → List Step → Feeding → List ℕ → Type 0
+EndsSo (Whole records) steps host rest = (records ≡ length steps) × (rest ≡ [])
+EndsSo (NoRecord n) steps host rest = (n ≡ length steps + 1) × StopsAt host rest handled.NoRecord
+EndsSo (Cut n) steps host rest = (n ≡ length steps + 1) × StopsAt host rest handled.Part
+EndsSo Bound steps host rest = ⊥
+
+-- a run over a stream by a host that was so, as its page tells it: the records in front of the stream are handled, each as the host
+-- itself handles it, and each rule's lane has the changes of how the rule stood behind each of them, reduced by columns
+pub record Tells (stream : List ℕ) (first : Feeding) (lists : Lists) (ending : Ending) : Type 0 where
+  pub steps : List Step
+  pub host : Feeding
+  pub rest : List ℕ
+  pub went : Went first steps host
+  pub bytes : bytes_of steps ++ rest ≡ stream
+  pub ends : EndsSo ending steps host rest
+  pub lanes : LanesTell lists (lanes_from 0 lists.lanes steps)

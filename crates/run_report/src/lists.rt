@@ -1,0 +1,96 @@
+//! The lists of a page: what is told of each rule, and behind them of each field.
+
+ghost use Rattle.std.specs.Prelude.{◌≡◌, ◌<◌, List, OnOk, IfOk, ◌++◌, []};
+ghost use Rattle.change_lists.specs.declared.entry.Entry.{Entry as Told};
+ghost use Rattle.change_lists.specs.Telling.{AllTell, lists_of, told_to};
+ghost use Rattle.run_report.specs.Model.{LanesTell, nothing_told, stand_at, stood_more};
+
+use crate::place::{ABSENT, Place, Stand};
+use change_lists::{Changes, Entry, Pool};
+use std::alloc::{AllocError, Global};
+
+/// The most entries of all lists.
+const ENTRIES: usize = 22_528;
+
+/// A list for each lane, and behind them one for each field.
+#[derive(Drop)]
+pub struct Lists {
+    pool: Pool,
+    lanes: usize,
+}
+
+/// So many lists more, to which nothing was told.
+fn push_all(pool: &mut Pool, count: usize) -> Result<(), AllocError>
+    ensures { (told : List (List Told)) → AllTell (lists_of pool.old) told →
+        OnOk result (AllTell (lists_of pool.new) (told ++ nothing_told count)) }
+{
+    for _ in 0..count {
+        pool.push()?;
+    }
+    Ok(())
+}
+
+/// How a rule stands, if there is one of this number.
+fn stand_in(stands: &[Stand], rule: usize) -> Stand
+    ensures { result ≡ stand_at rule stands.now }
+{
+    match stands.get(rule) {
+        Some(stand) => *stand,
+        None => ABSENT,
+    }
+}
+
+impl Lists {
+    /// Of so many lanes and fields, of which nothing was told.
+    pub fn new(alloc: Global, lanes: usize, fields: usize) -> Result<Lists, AllocError>
+        ensures { IfOk result (λ lists. LanesTell lists (nothing_told lanes)) }
+    {
+        let mut pool = Pool::new(alloc, ENTRIES);
+        push_all(&mut pool, lanes)?;
+        push_all(&mut pool, fields)?;
+        Ok(Lists { pool, lanes })
+    }
+
+    /// How many lanes there are.
+    pub fn lanes(&self) -> usize
+        ensures { result ≡ self.now.lanes }
+    {
+        self.lanes
+    }
+
+    /// The lists of the lanes, and those of the fields.
+    pub fn parts(&self) -> (&[Changes], &[Changes]) {
+        let lists = self.pool.lists();
+        lists.split_at(self.lanes.min(lists.len()))
+    }
+
+    /// A field has a value from a record on. Lanes stay as they are.
+    pub fn value(&mut self, field: usize, entry: Entry) -> Result<(), AllocError>
+        ensures { (lanes : List (List Told)) → LanesTell self.old lanes →
+            OnOk result (LanesTell self.new lanes) }
+    {
+        self.pool.add(self.lanes.saturating_add(field), entry)
+    }
+
+    /// A rule stands so from a record on.
+    fn stand_one(&mut self, rule: usize, entry: Entry) -> Result<(), AllocError>
+        requires { rule < self.old.lanes }
+        ensures count { self.new.lanes ≡ self.old.lanes }
+        ensures told { (lanes : List (List Told)) → LanesTell self.old lanes →
+            OnOk result (LanesTell self.new (told_to rule entry lanes)) }
+    {
+        self.pool.add(rule, entry)
+    }
+
+    /// How all rules stand from a record on.
+    pub fn stand(&mut self, place: Place, stands: &[Stand]) -> Result<(), AllocError>
+        ensures { (lanes : List (List Told)) → LanesTell self.old lanes →
+            OnOk result (LanesTell self.new (stood_more place stands.now 0 lanes)) }
+    {
+        for rule in 0..self.lanes {
+            let entry = place.stand(stand_in(stands, rule));
+            self.stand_one(rule, entry)?;
+        }
+        Ok(())
+    }
+}

@@ -1,0 +1,151 @@
+//! From a stream to what its page tells.
+
+ghost use Rattle.std.specs.Prelude.{◌≡◌, ◌<◌, ◌-ℤ◌, ◌==◌, ◌^◌, ◌++◌, [], pos, List, OnOk, IfOk, length, if◌then◌else◌};
+ghost use Rattle.change_lists.specs.declared.entry.Entry.{Entry as Told};
+ghost use Rattle.flight_core.specs.Feeding.{Feeding, IsReady};
+ghost use Rattle.run_course.specs.Stepping.{IsAtRest, engine_among, host_in};
+ghost use Rattle.run_report.specs.Model.{HasTold, LanesTell, Tells, stands_of, stood_more, ticks_of};
+
+use crate::account::Account;
+use crate::behind::Behind;
+use crate::clock::Clock;
+use crate::error::ReportError;
+use crate::lists::Lists;
+use crate::place::ticks_in;
+use crate::progress::Progress;
+use lc_model::stream::{HEADER, body_size};
+use run_course::{Ending, Handled, Stepping};
+use std::alloc::{AllocError, Global};
+use tick_scheduler::Schedule;
+
+/// How often it is told how far a run is.
+const TOLD: usize = 20;
+
+/// All that a page tells of a run, of the records so far.
+#[derive(Drop)]
+pub struct Telling<'a> {
+    pub(crate) clock: Clock,
+    pub(crate) lists: Lists,
+    pub(crate) behind: Behind,
+    pub(crate) account: Account<'a>,
+}
+
+/// The first bytes of these as a record: all of it, or all of them where they end before.
+fn first_record(stream: &[u8]) -> (&[u8], &[u8])
+    ensures all { result.0.now ++ result.1.now ≡ stream.now }
+    ensures some { 0 < length stream.now → 0 < length result.0.now }
+{
+    if stream.len() < HEADER {
+        return (stream, &[]);
+    }
+    let size = body_size(stream).saturating_add(HEADER).min(stream.len());
+    stream.split_at(size)
+}
+
+impl<'a> Telling<'a> {
+    /// Of no record, for runs of these texts, which compile.
+    fn new(alloc: Global, texts: &[&'a [u8]]) -> Result<Telling<'a>, ReportError>
+        ensures { IfOk result (λ telling. HasTold telling.lists telling.clock.start []) }
+    {
+        let account = Account::new(alloc, texts)?;
+        let lists = Lists::new(alloc, account.lanes, account.fields.len())?;
+        Ok(Telling {
+            clock: Clock::new(),
+            lists,
+            behind: Behind::new(alloc),
+            account,
+        })
+    }
+
+    /// A record that was handled.
+    fn take(&mut self, stepping: &Stepping, record: &[u8], number: u64) -> Result<(), AllocError>
+        requires rest { IsAtRest stepping.now }
+        requires start { self.old.clock.start < 2 ^ 48 }
+        ensures start { self.new.clock.start ≡
+            (if number == 1 then ticks_of record.now else self.old.clock.start) }
+        ensures small { self.new.clock.start < 2 ^ 48 }
+        ensures told { (lanes : List (List Told)) → LanesTell self.old.lists lanes →
+            OnOk result (LanesTell self.new.lists (stood_more
+            (record { «record» = number; time = pos (ticks_of record.now) -ℤ pos self.new.clock.start })
+            (stands_of (engine_among (host_in stepping.now).host.seats)) 0 lanes)) }
+    {
+        let place = self.clock.next(number, ticks_in(record));
+        self.account.come(record, place, &mut self.lists)?;
+        self.behind.look(stepping)?;
+        self.account.sample(place, &self.behind)?;
+        self.account.write(stepping.written(), place, &self.behind)?;
+        self.account.stand(place, &self.behind)?;
+        self.lists.stand(place, self.behind.rules.as_slice())
+    }
+}
+
+/// All records of a stream. Answers how it ended.
+fn tell_all<P: Progress>(
+    telling: &mut Telling<'_>,
+    stepping: &mut Stepping,
+    stream: &[u8],
+    progress: &mut P,
+) -> Result<Ending, ReportError>
+    requires rest { IsAtRest stepping.old }
+    requires nothing { HasTold telling.old.lists telling.old.clock.start [] }
+    ensures rest { IsAtRest stepping.new }
+    ensures told { IfOk result
+        (λ ending. Tells stream.now (host_in stepping.old) telling.new.lists ending) }
+{
+    let step = stream.len() / TOLD;
+    let mut told = step;
+    let mut rest = stream;
+    let mut number = 0u64;
+    for _ in 0..stream.len() {
+        if rest.is_empty() {
+            return Ok(Ending::Whole { records: number });
+        }
+        let (record, behind) = first_record(rest);
+        let next = number + 1;
+        match stepping.step(record)? {
+            Handled::Whole => telling.take(stepping, record, next)?,
+            Handled::NoRecord => return Ok(Ending::NoRecord { n: next }),
+            Handled::Part => return Ok(Ending::Cut { n: next }),
+        }
+        number = next;
+        rest = behind;
+        told = tell(
+            progress,
+            told,
+            step,
+            stream.len().saturating_sub(rest.len()),
+            stream.len(),
+        );
+    }
+    Ok(Ending::Whole { records: number })
+}
+
+/// Tells how far a run is, where a part more is done. Answers behind how many bytes it is told next.
+fn tell<P: Progress>(progress: &mut P, told: usize, step: usize, done: usize, of: usize) -> usize {
+    if done < told {
+        return told;
+    }
+    progress.done(done, of);
+    told.saturating_add(step)
+}
+
+/// Runs rule texts under a schedule over a stream, record by record. Answers what is told of the run, and how it ended; both are
+/// `Tells`, of a host to which nothing had come.
+///
+/// Errors: `Rules` with the first text that doesn't compile, numbered from 0; `Memory`.
+pub fn tell_run<'a, P: Progress>(
+    alloc: Global,
+    schedule: &Schedule,
+    texts: &[&'a [u8]],
+    stream: &[u8],
+    progress: &mut P,
+) -> Result<(Telling<'a>, Ending), ReportError>
+    ensures { IfOk result (λ told. (first : Feeding) × IsReady first ×
+        Tells stream.now first told.0.lists told.1) }
+{
+    let mut stepping = Stepping::new(alloc, texts, schedule)?;
+    let mut telling = Telling::new(alloc, texts)?;
+    let ending = tell_all(&mut telling, &mut stepping, stream, progress)?;
+    stepping.close();
+    Ok((telling, ending))
+}
