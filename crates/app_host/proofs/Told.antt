@@ -11,6 +11,7 @@ use Rattle.lc_model.specs.Kept.Call.{sent_by}
 use Rattle.lc_model.specs.Laws.Senders.{EventsByName}
 use Rattle.lc_model.specs.Services.Events.{counts_with, Sender, EventService, Origin, IsEventService, Asked, sender_at, sender_named, asked_by, accounted_at, event_asked}
 use Rattle.lc_model.specs.Services.Seen.{services_seen, count_among, files_seen, slot_among}
+use Rattle.event_service.specs.Packet.{with_packet}
 use Rattle.app_host.specs.declared.services.Services.{Services}
 use Rattle.app_host.specs.Shared.{shared}
 use Rattle.app_host.specs.Telling.{Tells, name_of}
@@ -28,6 +29,11 @@ one_packet bytes packet = ap (λ more. bytes ++ more) (sym (append-nil packet))
 
 pub no_packet : (bytes : List ℕ) → bytes ≡ bytes ++ concat (option_to_list None)
 no_packet bytes = sym (append-nil bytes)
+
+-- with a packet or without
+pub one_or_none : (bytes : List ℕ) (packet : Option (List ℕ)) → with_packet bytes packet ≡ bytes ++ concat (option_to_list packet)
+one_or_none bytes None = no_packet bytes
+one_or_none bytes (Some packet) = one_packet bytes packet
 
 module _ (moment : Moment) (id : ℕ) (kind : EventKind) (text : List ℕ) where
   asked_at : (origin : Origin) (sender : Sender) (service : EventService) → sender_at origin service ≡ Some sender →

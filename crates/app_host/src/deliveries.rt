@@ -18,6 +18,7 @@ use lc_model::{ByteSink, Seat, write_all};
 impl<B: App> Host<B> {
     /// The object of a seat answers the first packet of its pipe. Condition: that is the least seat with a packet. Answers the
     /// next such seat.
+    #[inline(never)]
     pub(crate) fn deliver(&mut self, seat: Seat) -> Option<Seat>
         requires whole { IsWhole (shown B.meaning self.old) }
         requires light { IsLight (seen self.old.services.bus) }

@@ -87,6 +87,7 @@ pub(crate) fn obey(events: &mut Events, packet: &[u8]) -> Result<(), Numbers>
 
 impl<B: App> Host<B> {
     /// A command to the event services is obeyed or refused, and `HOST` tells which.
+    #[inline(never)]
     pub(crate) fn obey_events<W: ByteSink>(
         &mut self,
         packet: &[u8],

@@ -17,6 +17,7 @@ use lc_model::{ByteSink, EventKind};
 
 impl<B: App> Host<B> {
     /// A file is stored, or refused. Condition: a name of at most 40 bytes.
+    #[inline(never)]
     pub(crate) fn store_file<W: ByteSink>(
         &mut self,
         name: &[u8],

@@ -24,6 +24,7 @@ pub(crate) fn start<B: App>(app: &mut Box<B>, seat: Seat, services: &mut Service
 }
 
 /// The object of a seat answers a packet.
+#[inline(always)]
 pub(crate) fn give<B: App>(app: &mut Box<B>, seat: Seat, services: &mut Services, packet: &[u8])
     requires { MayAnswer seat packet.now services.old (B.meaning app.old.value) }
     ensures { HasAnswered seat packet.now services.old services.new (B.meaning app.old.value)

@@ -250,6 +250,7 @@ impl<B: App> Host<B> {
 
     /// A command to the executive services is obeyed or refused. What the application asks for is written, and then `HOST`
     /// tells which.
+    #[inline(never)]
     pub(crate) fn obey_orders<W: ByteSink>(
         &mut self,
         packet: &[u8],

@@ -1,8 +1,13 @@
 //! The bytes that wait to be written.
 
 ghost use Rattle.std.specs.Prelude.{◌≡◌, ◌+◌, ◌≤◌, ◌++◌, true, [], length, IfOk};
+ghost use Rattle.lc_model.specs.Events.Outgoing.{event_packet_size, longest_event_text};
+ghost use Rattle.lc_model.specs.Services.Events.{event_asked};
 ghost use Rattle.lc_model.specs.Services.Interface.{outgoing_room};
+ghost use Rattle.event_service.specs.Packet.{with_packet};
 
+use event_service::Events;
+use lc_model::{EventKind, Moment, Seat};
 use std::alloc::{AllocError, Global};
 use std::marker::Model;
 
@@ -50,11 +55,33 @@ impl Outgoing {
     }
 
     /// Adds bytes behind those that wait. There is room for them.
+    #[inline(always)]
     pub fn append(&mut self, bytes: &[u8])
         requires { length self.old + length bytes.now ≤ outgoing_room }
         ensures { self.new ≡ self.old ++ bytes.now }
     {
         self.bytes.extend_from_slice(bytes).unwrap();
+    }
+
+    /// The packet of an event that is asked for, where it is sent, comes behind those that wait. There is room for it.
+    #[inline(always)]
+    pub(crate) fn send(
+        &mut self,
+        events: &mut Events,
+        from: Option<Seat>,
+        moment: Moment,
+        id: u16,
+        kind: EventKind,
+        text: &[u8],
+    )
+        requires text { length text.now ≤ longest_event_text }
+        requires room { length self.old + event_packet_size ≤ outgoing_room }
+        ensures events { events.new ≡ (event_asked from moment id kind text.now events.old).0 }
+        ensures packet { self.new ≡ with_packet self.old
+            (event_asked from moment id kind text.now events.old).1 }
+        ensures size { length self.new ≤ length self.old + event_packet_size }
+    {
+        events.send_into(from, moment, id, kind, text, &mut self.bytes);
     }
 
     /// Nothing waits from now on.

@@ -52,6 +52,7 @@ impl<B: App> Host<B> {
     }
 
     /// A packet that is none is refused, for this reason.
+    #[inline(never)]
     pub(crate) fn refuse_packet<W: ByteSink>(
         &mut self,
         reason: u8,

@@ -12,6 +12,7 @@ use crate::services::Services;
 use lc_model::Seat;
 
 /// The object of a place answers a packet.
+#[inline(always)]
 fn give_in<B: App>(place: &mut Option<Box<B>>, seat: Seat, services: &mut Services, packet: &[u8])
     requires { IfSome (object_in B.meaning place.old) (MayAnswer seat packet.now services.old) }
     ensures { IfBoth (object_in B.meaning place.old) (object_in B.meaning place.new)
@@ -23,6 +24,7 @@ fn give_in<B: App>(place: &mut Option<Box<B>>, seat: Seat, services: &mut Servic
 }
 
 /// The object of a seat answers a packet.
+#[inline(always)]
 pub(crate) fn give_at<B: App>(
     seats: &mut [Option<Box<B>>; Seat::COUNT],
     seat: Seat,

@@ -24,6 +24,7 @@ const TICK: [u8; 8] = [0x18, 0xC0, 0xC0, 0, 0, 1, 0, 0xE6];
 impl<B: App> Host<B> {
     /// The object of a seat answers this packet, without the bus. Conditions: no packet waits, and that seat alone hears this one.
     /// Answers the next seat with a packet.
+    #[inline(always)]
     fn hand_over(&mut self, seat: Seat, packet: &[u8]) -> Option<Seat>
         requires whole { IsWhole (shown B.meaning self.old) }
         requires quiet { IsQuiet (shown B.meaning self.old) }
@@ -47,6 +48,7 @@ impl<B: App> Host<B> {
     /// A packet is published, and all packets are delivered. One that a single application hears is handed to it where it lies:
     /// to publish it and to take it out of the pipe again would leave the bus as it is. What each call asks for is written
     /// behind it. Answers how many bytes these were. Condition: it has no fault.
+    #[inline(always)]
     pub(crate) fn pass_on<W: ByteSink>(
         &mut self,
         packet: &[u8],

@@ -57,6 +57,7 @@ impl Services {
     /// An event of the seat's application, or of `HOST` where `from` is none: its packet waits to be written, where types and
     /// filters let it through. Conditions: somebody is registered there, a text of at most 121 bytes, and room for a packet of
     /// 168 bytes.
+    #[inline(always)]
     pub fn tell(&mut self, from: Option<Seat>, id: u16, kind: EventKind, text: &[u8])
         requires text { length text.now ≤ longest_event_text }
         requires room { length self.old.outgoing + event_packet_size ≤ outgoing_room }
@@ -69,6 +70,7 @@ impl Services {
     }
 
     /// Asks for an event as `tell` does; contracts see by seats what the event services become, too.
+    #[inline(never)]
     pub(crate) fn ask(&mut self, from: Option<Seat>, id: u16, kind: EventKind, text: &[u8])
         requires text { length text.now ≤ longest_event_text }
         requires room { length self.old.outgoing + event_packet_size ≤ outgoing_room }
@@ -85,8 +87,7 @@ impl Services {
     {
         // For the proof: the senders of events have names of their own.
         self.events.is_service();
-        if let Some(packet) = self.events.send(from, self.moment, id, kind, text) {
-            self.outgoing.append(packet.as_bytes());
-        }
+        self.outgoing
+            .send(&mut self.events, from, self.moment, id, kind, text);
     }
 }

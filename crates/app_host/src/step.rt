@@ -47,6 +47,7 @@ impl<B: App> Host<B> {
     }
 
     /// Handles a record as `step` does, and answers how many bytes were written, for writers that don't tell.
+    #[inline(always)]
     pub fn step_counted<W: ByteSink>(
         &mut self,
         entry: &Record<'_>,
@@ -84,6 +85,7 @@ impl<B: App> Host<B> {
     }
 
     /// A step begins, at this moment: no call was made in it.
+    #[inline(always)]
     fn begin_step(&mut self, moment: Moment)
         requires whole { IsWhole (shown B.meaning self.old) }
         ensures begun { StepHasBegun moment (shown B.meaning self.old) (shown B.meaning self.new) }
@@ -96,6 +98,7 @@ impl<B: App> Host<B> {
     }
 
     /// What a record brings is handled.
+    #[inline(always)]
     fn handle<W: ByteSink>(&mut self, body: &Body<'_>, out: &mut W) -> Result<u64, WriteFault>
         requires whole { IsWhole (shown B.meaning self.old) }
         requires quiet { IsQuiet (shown B.meaning self.old) }
@@ -117,6 +120,7 @@ impl<B: App> Host<B> {
     }
 
     /// A packet is refused, obeyed as a command to a service, or passed on to the applications.
+    #[inline(always)]
     fn take_packet<W: ByteSink>(&mut self, packet: &[u8], out: &mut W) -> Result<u64, WriteFault>
         requires whole { IsWhole (shown B.meaning self.old) }
         requires quiet { IsQuiet (shown B.meaning self.old) }
@@ -136,6 +140,7 @@ impl<B: App> Host<B> {
     }
 
     /// A packet is obeyed as a command to a service, or passed on to the applications. Condition: a stream may bring it.
+    #[inline(always)]
     fn route<W: ByteSink>(&mut self, packet: &[u8], out: &mut W) -> Result<u64, WriteFault>
         requires whole { IsWhole (shown B.meaning self.old) }
         requires quiet { IsQuiet (shown B.meaning self.old) }

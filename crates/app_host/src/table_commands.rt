@@ -105,6 +105,7 @@ pub(crate) fn obey(tables: &mut Tables, packet: &[u8]) -> Result<(), Numbers>
 
 impl<B: App> Host<B> {
     /// A command to the table services is obeyed or refused, and `HOST` tells which.
+    #[inline(never)]
     pub(crate) fn obey_tables<W: ByteSink>(
         &mut self,
         packet: &[u8],

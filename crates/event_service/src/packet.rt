@@ -1,7 +1,7 @@
 //! The packets of events (CCSDS 133.0-B, primary header; cFE user's guide, event services; the layout is this project's
 //! own).
 
-ghost use Rattle.std.specs.Prelude.{◌≡◌, ◌+◌, ◌<◌, ◌≤◌, length};
+ghost use Rattle.std.specs.Prelude.{◌≡◌, ◌+◌, ◌++◌, ◌<◌, ◌≤◌, length, replicate, vec_capacity};
 ghost use Rattle.lc_model.specs.Bytes as model;
 ghost use Rattle.lc_model.specs.Codes.{event_code as code_of_kind};
 ghost use Rattle.lc_model.specs.Events.Outgoing.{event_packet, event_packet_size, longest_event_text};
@@ -71,19 +71,73 @@ impl EventPacket {
         ensures { result ≡ event_packet count moment sender.now id kind text.now }
     {
         let mut bytes = [0; PACKET_SIZE];
-        put_u16(&mut bytes, 0, EVENT_MESSAGE);
-        put_u16(&mut bytes, 2, WHOLE_PACKET + count);
-        put_u16(&mut bytes, 4, PACKET_LENGTH);
-        put_u32(&mut bytes, 6, moment.seconds);
-        put_u16(&mut bytes, 10, moment.subseconds);
-        put(&mut bytes, 12, sender);
-        put_u16(&mut bytes, 32, id);
-        put_u16(&mut bytes, 34, event_code(kind));
-        put_u32(&mut bytes, 36, SPACECRAFT);
-        put_u32(&mut bytes, 40, PROCESSOR);
-        put(&mut bytes, 44, text);
+        lay(&mut bytes, count, moment, sender, id, kind, text);
         EventPacket { bytes }
     }
+}
+
+/// The packet of an event, with this sequence count, comes behind the bytes of `out`. Condition: room for its 168 bytes.
+#[inline(always)]
+pub(crate) fn append_packet(
+    out: &mut Vec<u8>,
+    count: u16,
+    moment: Moment,
+    sender: &[u8],
+    id: u16,
+    kind: EventKind,
+    text: &[u8],
+)
+    requires room { length out.old.items + event_packet_size ≤ vec_capacity out.old }
+    requires count { count < count_end }
+    requires sender { length sender.now ≤ app_name_size }
+    requires text { length text.now ≤ longest_event_text }
+    ensures packet { out.new.items ≡ out.old.items ++
+        event_packet count moment sender.now id kind text.now }
+    ensures size { length out.new.items ≡ length out.old.items + event_packet_size }
+    ensures room { vec_capacity out.old ≤ vec_capacity out.new }
+{
+    let at = out.len();
+    out.extend_from_slice(&[0; PACKET_SIZE]).unwrap();
+    lay(
+        &mut out.as_mut_slice()[at..],
+        count,
+        moment,
+        sender,
+        id,
+        kind,
+        text,
+    );
+}
+
+/// The fields of an event packet, with this sequence count, over zeros.
+#[inline(always)]
+fn lay(
+    bytes: &mut [u8],
+    count: u16,
+    moment: Moment,
+    sender: &[u8],
+    id: u16,
+    kind: EventKind,
+    text: &[u8],
+)
+    requires blank { bytes.old ≡ replicate event_packet_size 0 }
+    requires count { count < count_end }
+    requires sender { length sender.now ≤ app_name_size }
+    requires text { length text.now ≤ longest_event_text }
+    ensures packet { bytes.new ≡ event_packet count moment sender.now id kind text.now }
+    ensures size { length bytes.new ≡ length bytes.old }
+{
+    put_u16(bytes, 0, EVENT_MESSAGE);
+    put_u16(bytes, 2, WHOLE_PACKET + count);
+    put_u16(bytes, 4, PACKET_LENGTH);
+    put_u32(bytes, 6, moment.seconds);
+    put_u16(bytes, 10, moment.subseconds);
+    put(bytes, 12, sender);
+    put_u16(bytes, 32, id);
+    put_u16(bytes, 34, event_code(kind));
+    put_u32(bytes, 36, SPACECRAFT);
+    put_u32(bytes, 40, PROCESSOR);
+    put(bytes, 44, text);
 }
 
 /// Bytes at a place.

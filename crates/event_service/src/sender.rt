@@ -1,7 +1,7 @@
 //! A sender of events: its name, its types and its filters (cFE user's guide, event services).
 
-ghost use Rattle.std.specs.Prelude.{◌≡◌, ◌<◌, ◌≤◌, [], length, OnErr};
-ghost use Rattle.lc_model.specs.Events.Outgoing.{longest_event_text};
+ghost use Rattle.std.specs.Prelude.{◌≡◌, ◌+◌, ◌<◌, ◌≤◌, [], length, vec_capacity, OnErr};
+ghost use Rattle.lc_model.specs.Events.Outgoing.{event_packet_size, longest_event_text};
 ghost use Rattle.lc_model.specs.Name.{is_named, app_name_size};
 ghost use Rattle.lc_model.specs.Kept.Call.{new_sender};
 ghost use Rattle.lc_model.specs.Kept.Executive.{joined_now};
@@ -9,10 +9,11 @@ ghost use Rattle.lc_model.specs.Packet.{count_end};
 ghost use Rattle.lc_model.specs.Services.Events.{Sender as Kept, asked_by};
 ghost use Rattle.event_service.specs.Error.{answered};
 ghost use Rattle.event_service.specs.Change.{item_of};
+ghost use Rattle.event_service.specs.Packet.{with_packet};
 
 use crate::error::EventError;
 use crate::filter::Filters;
-use crate::packet::EventPacket;
+use crate::packet::{EventPacket, append_packet};
 use crate::types::EventTypes;
 use arrayvec::ArrayVec;
 use lc_model::{EventKind, Moment};
@@ -100,6 +101,39 @@ impl Sender {
         let count = *sent;
         *sent = (count + 1) % 16384;
         Some(EventPacket::new(count, moment, self.name.as_slice(), id, kind, text))
+    }
+
+    /// Asks for an event as `ask` does; its packet, where it is sent, comes behind the bytes of `out`, which have room for it.
+    #[inline(always)]
+    pub(crate) fn ask_into(
+        &mut self,
+        sent: &mut u16,
+        moment: Moment,
+        id: u16,
+        kind: EventKind,
+        text: &[u8],
+        out: &mut Vec<u8>,
+    )
+        requires count { sent.old < count_end }
+        requires text { length text.now ≤ longest_event_text }
+        requires room { length out.old.items + event_packet_size ≤ vec_capacity out.old }
+        ensures packet { out.new.items ≡ with_packet out.old.items
+            (asked_by self.old moment id kind text.now sent.old).packet }
+        ensures size { length out.new.items ≤ length out.old.items + event_packet_size }
+        ensures room { vec_capacity out.old ≤ vec_capacity out.new }
+        ensures events { self.new ≡
+            record {
+              name = self.old.name;
+              events = (asked_by self.old moment id kind text.now sent.old).events;
+            } }
+        ensures sent { sent.new ≡ (asked_by self.old moment id kind text.now sent.old).sent }
+        ensures count { sent.new < count_end }
+    {
+        if self.types.has(kind) && self.filters.ask(id) {
+            let count = *sent;
+            *sent = (count + 1) % 16384;
+            append_packet(out, count, moment, self.name.as_slice(), id, kind, text);
+        }
     }
 
     /// Changes its types or filters.

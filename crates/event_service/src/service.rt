@@ -1,14 +1,15 @@
 //! The event services: who sends events, at which seat, and the events that are sent (cFE user's guide, event services).
 
-ghost use Rattle.std.specs.Prelude.{◌≡◌, ◌<◌, ◌≤◌, length, IfErr, IfOk, IfSome, OnErr};
+ghost use Rattle.std.specs.Prelude.{◌≡◌, ◌+◌, ◌<◌, ◌≤◌, length, vec_capacity, IfErr, IfOk, IfSome, OnErr};
 ghost use Rattle.std.specs.List.{position_from};
 ghost use Rattle.lc_model.specs.Events.Log.{FilterSet, FiltersReset, TypesSet};
-ghost use Rattle.lc_model.specs.Events.Outgoing.{longest_event_text};
+ghost use Rattle.lc_model.specs.Events.Outgoing.{event_packet_size, longest_event_text};
 ghost use Rattle.lc_model.specs.Name.{app_name_size};
 ghost use Rattle.lc_model.specs.Services.Events.{IsEventService, first_events, is_sender, registered_at, unregistered_at, commanded, event_asked};
 ghost use Rattle.event_service.specs.declared.error.EventError.TheVariants.{Memory};
 ghost use Rattle.event_service.specs.Error.{answered};
 ghost use Rattle.event_service.specs.Change.{item_of};
+ghost use Rattle.event_service.specs.Packet.{with_packet};
 ghost use Rattle.event_service.specs.Types.{bits_of};
 
 use crate::error::EventError;
@@ -124,6 +125,37 @@ impl Events {
             Some(seat) => match &mut self.places[seat.index()] {
                 None => None,
                 Some(sender) => sender.ask(&mut self.sent, moment, id, kind, text),
+            },
+        }
+    }
+
+    /// Sends an event as `send` does; its packet, where it is sent, comes behind the bytes of `out`. Condition: room for its 168
+    /// bytes.
+    #[inline(always)]
+    pub fn send_into(
+        &mut self,
+        from: Option<Seat>,
+        moment: Moment,
+        id: u16,
+        kind: EventKind,
+        text: &[u8],
+        out: &mut Vec<u8>,
+    )
+        requires text { length text.now ≤ longest_event_text }
+        requires room { length out.old.items + event_packet_size ≤ vec_capacity out.old }
+        ensures after { self.new ≡ (event_asked from moment id kind text.now self.old).0 }
+        ensures packet { out.new.items ≡ with_packet out.old.items
+            (event_asked from moment id kind text.now self.old).1 }
+        ensures size { length out.new.items ≤ length out.old.items + event_packet_size }
+        ensures room { vec_capacity out.old ≤ vec_capacity out.new }
+    {
+        match from {
+            None => self
+                .host
+                .ask_into(&mut self.sent, moment, id, kind, text, out),
+            Some(seat) => match &mut self.places[seat.index()] {
+                None => {}
+                Some(sender) => sender.ask_into(&mut self.sent, moment, id, kind, text, out),
             },
         }
     }

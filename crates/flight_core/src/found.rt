@@ -42,6 +42,7 @@ fn front_name(body: &[u8]) -> &[u8]
 }
 
 /// What a whole record of this shape brings.
+#[inline(always)]
 pub(crate) fn read_off(shape: Shape, bytes: &[u8]) -> Found<'_>
     requires long { header_size ≤ length bytes.now }
     requires named { HasName shape (length bytes.now - header_size) }

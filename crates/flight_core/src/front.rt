@@ -31,6 +31,7 @@ pub(crate) enum Front {
 }
 
 /// The half that a body names, where there is such a half, and a text of this number among so many.
+#[inline(never)]
 fn half(texts: usize, body: &[u8]) -> Option<Shape>
     requires { length body.now ≡ HALF }
     ensures text { IfSome result (IsOfText texts) }
@@ -57,6 +58,7 @@ fn half(texts: usize, body: &[u8]) -> Option<Shape>
 }
 
 /// What a record of this kind brings by its body, where there are so many texts.
+#[inline(always)]
 fn shape_of(texts: usize, kind: u8, body: &[u8]) -> Option<Shape>
     requires { fits_body all_kinds kind (length body.now) ≡ true }
     ensures text { IfSome result (IsOfText texts) }
@@ -72,6 +74,7 @@ fn shape_of(texts: usize, kind: u8, body: &[u8]) -> Option<Shape>
 }
 
 /// What stands at the front of the bytes, where there are so many texts.
+#[inline(always)]
 pub(crate) fn front_of(texts: usize, bytes: &[u8]) -> Front
     ensures { IsFront texts bytes.now result }
 {

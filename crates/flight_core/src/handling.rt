@@ -14,6 +14,7 @@ use lc_model::ByteSink;
 use rpn_compiler::TablePair;
 
 /// Handles the next record, where a whole one is held, and answers how many bytes were written.
+#[inline(always)]
 pub(crate) fn handle_next<W: ByteSink, B: App>(
     records: &mut Records,
     pairs: &[TablePair],

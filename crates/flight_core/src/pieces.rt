@@ -62,6 +62,7 @@ pub(crate) fn take_piece<R: ByteSource>(
 
 /// Takes the next piece, behind all that was written so far, which is so many bytes: first the device is given what is held of
 /// it. A device that fails ends the run, and nothing is read.
+#[inline(never)]
 pub(crate) fn refill<R: ByteSource, T: ByteSink, O: Outlet<T>>(
     records: &mut Records,
     room: &mut [u8],

@@ -72,6 +72,7 @@ impl Records {
 
     /// Takes off the record at the front and lends it from where it lies; or answers that what stands there is no record, now
     /// and at each further call. None where no whole record is held, and what is held may yet become one.
+    #[inline(always)]
     pub fn next(&mut self) -> Option<Found<'_>>
         ensures found { answer_in result ≡ next_answer self.old }
         ensures text { IfSome result (NamesText self.old.texts) }

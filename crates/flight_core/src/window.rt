@@ -65,6 +65,7 @@ impl Window {
     }
 
     /// What is held.
+    #[inline(always)]
     pub fn held(&self) -> &[u8]
         ensures held { result.now ≡ self.now.held }
         ensures few { length self.now.held ≤ MOST_HELD }
@@ -73,6 +74,7 @@ impl Window {
     }
 
     /// What went last.
+    #[inline(always)]
     pub fn last(&self) -> &[u8]
         ensures { result.now ≡ self.now.last }
     {
@@ -80,6 +82,7 @@ impl Window {
     }
 
     /// The first bytes held go, so many.
+    #[inline(always)]
     pub fn take(&mut self, size: usize)
         requires { size ≤ length self.old.held }
         ensures { self.new ≡

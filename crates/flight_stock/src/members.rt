@@ -35,6 +35,7 @@ impl App for Member {
         }
     }
 
+    #[inline(always)]
     fn on_packet(&mut self, services: &mut Services, packet: &[u8]) {
         match self {
             Member::Checker(app) => app.on_packet(services, packet),

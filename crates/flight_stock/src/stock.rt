@@ -1,6 +1,7 @@
 //! Spares of a run.
 
 ghost use Rattle.std.specs.Prelude.{◌≡◌, ◌++◌, ◌∷◌, [], None, IfOk, OnOk};
+ghost use Rattle.lc_model.specs.Name.{lc_name};
 ghost use Rattle.lc_model.specs.Tables.HalvesAndBytes.{as_bytes};
 ghost use Rattle.lc_model.specs.Tables.InForce.{layouts};
 ghost use Rattle.host_laws.specs.Keeping.{IsSpare};
@@ -42,8 +43,29 @@ pub fn add<B: App>(
     Ok(())
 }
 
+/// One Limit Checker more. Conditions and error as `add` has them.
+#[inline(never)]
+fn add_checker(
+    alloc: Global,
+    stock: &mut Vec<Box<Member>>,
+    schedule: &Schedule,
+) -> Result<(), AllocError>
+    requires spares { AreSpares (objects_in meaning_of stock.old.items) }
+    requires profile { IsOfProfile schedule.now (objects_in meaning_of stock.old.items) }
+    ensures spares { OnOk result (AreSpares (objects_in meaning_of stock.new.items)) }
+    ensures profile { OnOk result
+        (IsOfProfile schedule.now (objects_in meaning_of stock.new.items)) }
+    ensures names { OnOk result
+        (names_of (objects_in meaning_of stock.new.items) ≡ names_of
+        (objects_in meaning_of stock.old.items) ++ lc_name ∷ []) }
+{
+    let app = Box::new(alloc, Member::Checker(LimitChecker::new(alloc)?))?;
+    add(stock, schedule, b"LC", app)
+}
+
 /// The stock of this profile: four Limit Checkers, two schedulers with this schedule, and two counters. Out of memory is the only
 /// error.
+#[inline(never)]
 pub fn own_stock(alloc: Global, schedule: &Schedule) -> Result<Vec<Box<Member>>, AllocError>
     ensures spares { IfOk result (λ stock. AreSpares (objects_in meaning_of stock.items)) }
     ensures profile { IfOk result
@@ -52,14 +74,10 @@ pub fn own_stock(alloc: Global, schedule: &Schedule) -> Result<Vec<Box<Member>>,
         (λ stock. names_of (objects_in meaning_of stock.items) ≡ own_names) }
 {
     let mut stock: Vec<Box<Member>> = Vec::new(alloc);
-    let first = Box::new(alloc, Member::Checker(LimitChecker::new(alloc)?))?;
-    add(&mut stock, schedule, b"LC", first)?;
-    let second = Box::new(alloc, Member::Checker(LimitChecker::new(alloc)?))?;
-    add(&mut stock, schedule, b"LC", second)?;
-    let third = Box::new(alloc, Member::Checker(LimitChecker::new(alloc)?))?;
-    add(&mut stock, schedule, b"LC", third)?;
-    let fourth = Box::new(alloc, Member::Checker(LimitChecker::new(alloc)?))?;
-    add(&mut stock, schedule, b"LC", fourth)?;
+    add_checker(alloc, &mut stock, schedule)?;
+    add_checker(alloc, &mut stock, schedule)?;
+    add_checker(alloc, &mut stock, schedule)?;
+    add_checker(alloc, &mut stock, schedule)?;
     let scheduler = Box::new(alloc, Member::Scheduler(Scheduler::new(alloc, schedule)?))?;
     add(&mut stock, schedule, b"SCH", scheduler)?;
     let other_scheduler = Box::new(alloc, Member::Scheduler(Scheduler::new(alloc, schedule)?))?;

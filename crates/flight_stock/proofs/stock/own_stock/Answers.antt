@@ -3,5 +3,5 @@ use Rattle.flight_stock.proofs.stock.own_stock.Goals as goal
 
 pub returns-clause-names : goal.returns-clause-names
 returns-clause-names c =
-    eight _ _ _ _ _ _ _ _ _ _ _ _ _ _ _ _ _ _ c.new-stock.ensures.items c.in_ok-add.ensures.names c.in_ok-add-2.ensures.names c.in_ok-add-3.ensures.names c.in_ok-add-4.ensures.names
-    c.in_ok-add-5.ensures.names c.in_ok-add-6.ensures.names c.in_ok-add-7.ensures.names c.in_ok-add-8.ensures.names
+    eight _ _ _ _ _ _ _ _ _ _ _ _ _ _ _ _ _ _ c.new-stock.ensures.items c.in_ok-add_checker.ensures.names c.in_ok-add_checker-2.ensures.names c.in_ok-add_checker-3.ensures.names
+    c.in_ok-add_checker-4.ensures.names c.in_ok-add.ensures.names c.in_ok-add-2.ensures.names c.in_ok-add-3.ensures.names c.in_ok-add-4.ensures.names

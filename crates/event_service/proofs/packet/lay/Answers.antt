@@ -1,9 +1,8 @@
-use Rattle.std.proofs.Common.{refl}
 use Rattle.event_service.proofs.Joined.{written}
-use Rattle.event_service.proofs.packet.EventPacket.new.Goals as goal
+use Rattle.event_service.proofs.packet.lay.Goals as goal
 
-pub returns : goal.returns
-returns c =
+pub returns-clause-packet : goal.returns-clause-packet
+returns-clause-packet c =
     written c.args.count c.args.moment c.args.sender.now c.args.text.now c.args.id c.event_code.result c.args.kind c.event_code.ensures c.requires.sender c.requires.text
-    _ _ _ _ _ _ _ _ _ _ _ _ refl c.put_u16.ensures.field c.put_u16-2.ensures.field c.put_u16-3.ensures.field c.put_u32.ensures.field c.put_u16-4.ensures.field
+    _ _ _ _ _ _ _ _ _ _ _ _ c.requires.blank c.put_u16.ensures.field c.put_u16-2.ensures.field c.put_u16-3.ensures.field c.put_u32.ensures.field c.put_u16-4.ensures.field
     c.put.ensures.field c.put_u16-5.ensures.field c.put_u16-6.ensures.field c.put_u32-2.ensures.field c.put_u32-3.ensures.field c.put-2.ensures.field
