@@ -12,8 +12,8 @@ use Rattle.flight_core.specs.Feeding.{Feeding}
 use Rattle.run_course.specs.Stepping.{HasStepped, engine_among}
 use Rattle.run_course.specs.declared.handled.Handled.{Handled}
 use Rattle.run_course.specs.declared.handled.Handled.TheVariants as handled
-use Rattle.run_course.specs.declared.course.Ending.{Ending}
-use Rattle.run_course.specs.declared.course.Ending.TheVariants.{Whole, NoRecord, Cut, Bound}
+use Rattle.run_course.specs.declared.ending.Ending.{Ending}
+use Rattle.run_course.specs.declared.ending.Ending.TheVariants.{Whole, NoRecord, Cut, Bound}
 use Rattle.change_lists.specs.declared.entry.Entry.{Entry}
 use Rattle.change_lists.specs.Telling.{AllTell, lists_of}
 use Rattle.run_report.specs.declared.place.Place.{Place}
