@@ -1,11 +1,14 @@
 -- A run that goes record by record. This project's own.
 use Rattle.std.specs.Prelude.{◌≡◌, ℕ, Bool, List, [], ◌∷◌, Option, Some, None, Result, Ok, Err}
+use Rattle.lc_model.specs.Host.Schedule.{Schedule}
 use Rattle.lc_model.specs.Kept.Summary.{LcOwn, AppState, LcState, SchState, CounterState, Other}
 use Rattle.app_host.specs.Hosted.{Object}
 use Rattle.flight_core.specs.declared.halt.Halt.{Halt}
 use Rattle.flight_core.specs.declared.halt.Halt.TheVariants as halt
-use Rattle.flight_core.specs.Feeding.{Feeding, HandlesOne, IsReady, feeding_of, fed_with}
+use Rattle.flight_core.specs.Feeding.{Feeding, HandlesOne, HasBegun, IsReady, feeding_of, fed_with}
+use Rattle.flight_core.specs.Run.{IsOfProfile}
 use Rattle.flight_stock.specs.Members.{meaning_of}
+use Rattle.flight_stock.specs.Stock.{names_of, own_names}
 use Rattle.run_course.specs.declared.error.CourseError.{CourseError}
 use Rattle.run_course.specs.declared.error.CourseError.TheVariants.{Memory}
 use Rattle.run_course.specs.declared.handled.Handled.{Handled}
@@ -22,6 +25,13 @@ written_by it = it.written.bytes.items
 -- so it is between two records
 abbrev pub IsAtRest : Stepping → Type 0
 IsAtRest it = IsReady (host_in it)
+
+-- nothing has come: these texts are compiled, and the host is new, with this profile's own applications in stock, under this schedule
+pub record BeginsWith (sources : List (List ℕ)) (schedule : Schedule) (it : Feeding) : Type 0 where
+  pub stock : List Object
+  pub profile : IsOfProfile schedule stock
+  pub names : names_of stock ≡ own_names
+  pub begun : HasBegun sources stock it
 
 -- ---- a record
 

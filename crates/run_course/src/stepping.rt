@@ -3,7 +3,7 @@
 ghost use Rattle.std.specs.Prelude.{◌≡◌, ◌<◌, option_map, IfOk, Some};
 ghost use Rattle.app_host.specs.Hosted.{object_at};
 ghost use Rattle.flight_core.specs.Compiled.{sources_of};
-ghost use Rattle.run_course.specs.Stepping.{HasStepped, IsAtRest, engine_among, engine_of, host_in, written_by};
+ghost use Rattle.run_course.specs.Stepping.{BeginsWith, HasStepped, IsAtRest, engine_among, engine_of, host_in, written_by};
 
 use crate::error::CourseError;
 use crate::handled::Handled;
@@ -56,6 +56,8 @@ impl Stepping {
     /// Compiles the rule texts, and makes a host, to which nothing has come.
     pub fn new(alloc: Global, texts: &[&[u8]], schedule: &Schedule) -> Result<Stepping, CourseError>
         ensures ready { IfOk result IsAtRest }
+        ensures begun { IfOk result
+            (λ it. BeginsWith (sources_of texts.now) schedule.now (host_in it)) }
     {
         let stock = own_stock(alloc, schedule)?;
         match FedHost::new(alloc, texts, stock) {
