@@ -39,8 +39,8 @@ class Course:
             "records telemetry commands ticks files packets requests housekeeping critical error info debug other".split(), 0
         )
         pool = Pool(MOST["entries"])
-        self.values = {name: Changes(pool, joined_values) for name in self.used}
         self.lanes = [Changes(pool, joined_bits) for _ in range(self.rules)]
+        self.values = {name: Changes(pool, joined_values) for name in self.used}
         self.seen = dict.fromkeys(self.used, 0)
         self.came = {}  # field: record, time, of its last packet in the whole run
         self.met = {}  # field: record, time, value, agings, since the tables are in force

@@ -10,7 +10,7 @@ use Rattle.run_course.specs.declared.handled.Handled.TheVariants as handled
 use Rattle.run_report.specs.declared.place.Place.{Place}
 use Rattle.run_report.specs.declared.place.Stand.{Stand}
 use Rattle.run_report.specs.declared.lists.Lists.{Lists}
-use Rattle.run_report.specs.Model.{HasTold, LanesTell, Step, Went, bytes_of, lanes_from, stand_at, stands_of, start_of, stood, stood_more, ticks_of, told_from, told_of}
+use Rattle.run_report.specs.Model.{HasTold, LanesTell, Step, Went, bytes_of, lanes_from, place_of, stand_at, stands_of, start_of, stood, stood_more, ticks_of, told_from, told_of}
 
 -- the host goes through one record more
 pub went_more : (first old new : Feeding) (steps : List Step) (bytes written : List ℕ) → Went first steps old → HasStepped bytes old new written (Ok handled.Whole) →
@@ -22,10 +22,6 @@ went_more first old new (step ∷ steps) bytes written went stepped = (went.0, w
 pub bytes_more : (steps : List Step) (step : Step) → bytes_of (steps ++ step ∷ []) ≡ bytes_of steps ++ (step.bytes ++ [])
 bytes_more [] step = refl
 bytes_more (one ∷ steps) step = ap (λ more. one.bytes ++ more) (bytes_more steps step) ∙ sym (append_assoc one.bytes (bytes_of steps) (step.bytes ++ []))
-
--- where this record stands
-abbrev pub place_of : ℕ → ℕ → List ℕ → Place
-place_of start number bytes = record { «record» = number; time = pos (ticks_of bytes) -ℤ pos start }
 
 told_more : (start number rule : ℕ) (steps : List Step) (step : Step) →
     told_from start number rule (steps ++ step ∷ [])

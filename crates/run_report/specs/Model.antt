@@ -88,11 +88,15 @@ stood place stand = record {
   changes = 1;
 }
 
+-- where a record stands, in a run whose first record is of this time
+abbrev pub place_of : (start number : ℕ) → List ℕ → Place
+place_of start number bytes = record { «record» = number; time = pos (ticks_of bytes) -ℤ pos start }
+
 -- what is told of a rule by records, the first of which has this number
 abbrev pub told_from : (start number rule : ℕ) → List Step → List Entry
 told_from start number rule [] = []
 told_from start number rule (step ∷ steps) =
-    stood (record { «record» = number; time = pos (ticks_of step.bytes) -ℤ pos start }) (stand_at rule (stands_of (engine_among step.host.host.seats)))
+    stood (place_of start number step.bytes) (stand_at rule (stands_of (engine_among step.host.host.seats)))
     ∷ told_from start (number + 1) rule steps
 
 -- .. by a whole run: how it stands behind each record
@@ -149,7 +153,7 @@ EndsSo (NoRecord n) steps host rest = (n ≡ length steps + 1) × StopsAt host r
 EndsSo (Cut n) steps host rest = (n ≡ length steps + 1) × StopsAt host rest handled.Part
 EndsSo Bound steps host rest = ⊥
 
--- a run over a stream by a host that was so, as its page tells it: the records in front of the stream are handled, each as the host
+-- a run over a stream by a host that was so at first, as its page tells it: the records in front of the stream are handled, each as the host
 -- itself handles it, and each rule's lane has the changes of how the rule stood behind each of them, reduced by columns
 pub record Tells (stream : List ℕ) (first : Feeding) (lists : Lists) (ending : Ending) : Type 0 where
   pub steps : List Step

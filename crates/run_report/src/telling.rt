@@ -1,10 +1,11 @@
 //! From a stream to what its page tells.
 
-ghost use Rattle.std.specs.Prelude.{◌≡◌, ◌<◌, ◌-ℤ◌, ◌==◌, ◌^◌, ◌++◌, [], pos, List, OnOk, IfOk, length, if◌then◌else◌};
+ghost use Rattle.std.specs.Prelude.{◌≡◌, ◌<◌, ◌==◌, ◌^◌, ◌++◌, [], List, OnOk, IfOk, length, if◌then◌else◌};
 ghost use Rattle.change_lists.specs.declared.entry.Entry.{Entry as Told};
-ghost use Rattle.flight_core.specs.Feeding.{Feeding, IsReady};
-ghost use Rattle.run_course.specs.Stepping.{IsAtRest, engine_among, host_in};
-ghost use Rattle.run_report.specs.Model.{HasTold, LanesTell, Tells, stands_of, stood_more, ticks_of};
+ghost use Rattle.flight_core.specs.Compiled.{sources_of};
+ghost use Rattle.flight_core.specs.Feeding.{Feeding};
+ghost use Rattle.run_course.specs.Stepping.{IsAtRest, IsBegun, engine_among, host_in};
+ghost use Rattle.run_report.specs.Model.{HasTold, LanesTell, Tells, place_of, stands_of, stood_more, ticks_of};
 
 use crate::account::Account;
 use crate::behind::Behind;
@@ -66,7 +67,7 @@ impl<'a> Telling<'a> {
         ensures small { self.new.clock.start < 2 ^ 48 }
         ensures told { (lanes : List (List Told)) → LanesTell self.old.lists lanes →
             OnOk result (LanesTell self.new.lists (stood_more
-            (record { «record» = number; time = pos (ticks_of record.now) -ℤ pos self.new.clock.start })
+            (place_of self.new.clock.start number record.now)
             (stands_of (engine_among (host_in stepping.now).host.seats)) 0 lanes)) }
     {
         let place = self.clock.next(number, ticks_in(record));
@@ -130,7 +131,7 @@ fn tell<P: Progress>(progress: &mut P, told: usize, step: usize, done: usize, of
 }
 
 /// Runs rule texts under a schedule over a stream, record by record. Answers what is told of the run, and how it ended; both are
-/// `Tells`, of a host to which nothing had come.
+/// `Tells`, of a host that was new, with these texts' files and this profile's applications under this schedule in stock.
 ///
 /// Errors: `Rules` with the first text that doesn't compile, numbered from 0; `Memory`.
 pub fn tell_run<'a, P: Progress>(
@@ -140,7 +141,8 @@ pub fn tell_run<'a, P: Progress>(
     stream: &[u8],
     progress: &mut P,
 ) -> Result<(Telling<'a>, Ending), ReportError>
-    ensures { IfOk result (λ told. (first : Feeding) × IsReady first ×
+    ensures { IfOk result (λ told. (first : Feeding) ×
+        IsBegun (sources_of texts.now) schedule.now first ×
         Tells stream.now first told.0.lists told.1) }
 {
     let mut stepping = Stepping::new(alloc, texts, schedule)?;

@@ -3,8 +3,7 @@ use Rattle.std.specs.Prelude.{OnOk}
 use Rattle.run_course.specs.Stepping.{engine_among, host_in}
 use Rattle.run_report.specs.declared.place.Place.{Place}
 use Rattle.run_report.specs.declared.place.Stand.{Stand}
-use Rattle.run_report.specs.Model.{LanesTell, stands_of, stood_more, ticks_of}
-use Rattle.run_report.proofs.Steps.{place_of}
+use Rattle.run_report.specs.Model.{LanesTell, place_of, stands_of, stood_more}
 use Rattle.run_report.proofs.telling.Telling.take.Goals as goal
 
 pub returns-clause-told : goal.returns-clause-told
