@@ -12,7 +12,6 @@ use Rattle.flight_core.specs.Run.{IsOfProfile}
 use Rattle.lc_model.specs.Host.Schedule.{Schedule}
 use Rattle.flight_stock.specs.Stock.{names_of, own_names}
 use Rattle.flight_stock.specs.Members.{meaning_of}
-use Rattle.flight_stock.specs.Stock.{names_of, own_names}
 use Rattle.run_course.specs.declared.error.CourseError.{CourseError}
 use Rattle.run_course.specs.declared.error.CourseError.TheVariants.{Memory, Rules}
 use Rattle.run_course.specs.declared.handled.Handled.{Handled}
