@@ -3,3 +3,4 @@ pub mod InFront
 pub mod Known
 pub mod Tracing
 pub mod Arriving
+pub mod Output

@@ -34,7 +34,7 @@ use Rattle.run_course.specs.declared.ending.Ending.TheVariants as ended
 use Rattle.run_course.specs.declared.error.CourseError.{CourseError}
 use Rattle.run_course.specs.declared.handled.Handled.{Handled}
 use Rattle.run_course.specs.declared.handled.Handled.TheVariants as handled
-use Rattle.run_course.specs.Stepping.{HasStepped, IsBegun, engine_among, engine_of, otherwise, told_of}
+use Rattle.run_course.specs.Stepping.{HasStepped, BeginsWith, engine_among, engine_of, otherwise, told_of}
 use Rattle.run_course.specs.declared.behind.RuleStanding.{RuleStanding}
 use Rattle.run_course.specs.Trace.{HasRun, IsStanding, Part, Traced, ending_by, engine_in, moment_in, parts_from, size_in_front, standing_in}
 use Rattle.run_course.proofs.InFront.{IsAllOf, all_of, long_size, none_of, part_of_all, short_size}
@@ -242,7 +242,7 @@ module _ (pairs : List TablePair) (first : Executive (List ℕ)) (stream : List 
 
 -- ---- the beginning and the end
 
-pub begun : (sources : List (List ℕ)) (schedule : Schedule) (stream : List ℕ) (it : Feeding) → IsBegun sources schedule it → Tracing it.files (executive_in it.host) stream it [] stream
+pub begun : (sources : List (List ℕ)) (schedule : Schedule) (stream : List ℕ) (it : Feeding) → BeginsWith sources schedule it → Tracing it.files (executive_in it.host) stream it [] stream
 begun sources schedule stream it is = record {
   held = ap (λ (h : Held). h.bytes) is.begun.held;
   good = ap (λ (h : Held). h.is_bad) is.begun.held;
@@ -259,7 +259,7 @@ called : (stock : List Object) → map (λ (member : Member). member.called) (me
 called [] = refl
 called (o ∷ stock) = ap (λ names. o.called ∷ names) (called stock)
 
-pub has_run : (sources : List (List ℕ)) (schedule : Schedule) (stream : List ℕ) (it : Feeding) (h : Hosted) (t : Traced) → IsBegun sources schedule it →
+pub has_run : (sources : List (List ℕ)) (schedule : Schedule) (stream : List ℕ) (it : Feeding) (h : Hosted) (t : Traced) → BeginsWith sources schedule it →
     Finishes it.files (executive_in it.host) stream h t.parts t.ending → HasRun sources schedule stream t (executive_in h)
 has_run sources schedule stream it h t is done =
     let first : executive_in it.host ≡ first_executive (members_of is.stock) = ap (λ (h : model.Host (List ℕ)). h.executive) is.begun.host in
@@ -268,7 +268,7 @@ has_run sources schedule stream it h t is done =
       compiled = is.begun.compiled;
       members = members_of is.stock;
       profile = is.profile;
-      named = called is.stock ∙ is.named;
+      named = called is.stock ∙ is.names;
       parts = done.writes ∙ ap (λ e. parts_from (meanings_of it.files) e (records_of (length it.files) stream).0) first;
       ends = done.ends;
       stands = done.stands ∙ ap (λ e. executive_after on_board e (meanings_of it.files) (records_of (length it.files) stream).0) first;
@@ -292,7 +292,7 @@ pub nothing_left : (rest : List ℕ) (none : Bool) → none ≡ (length rest == 
 nothing_left [] none is test = refl
 nothing_left (b ∷ rest) none is test = absurd (true≢false (sym test ∙ is ∙ test_unequal (length (b ∷ rest)) 0 (λ same. omega (arith, same))))
 
-module _ (sources : List (List ℕ)) (schedule : Schedule) (stream : List ℕ) (start : Feeding) (is_begun : IsBegun sources schedule start) where
+module _ (sources : List (List ℕ)) (schedule : Schedule) (stream : List ℕ) (start : Feeding) (is_begun : BeginsWith sources schedule start) where
   abbrev SoFar : Feeding → List Part → List ℕ → Type 0
   SoFar it done rest = Tracing start.files (executive_in start.host) stream it done rest
 

@@ -34,16 +34,16 @@ abbrev pub IsRefusal : List (List ℕ) → CourseError → Type 0
 IsRefusal sources (Rules text why) = IsFirstRefused sources text why
 IsRefusal sources Memory = ⊤
 
--- it begins with these texts and this profile's stock, and nothing has come
-pub record IsBegun (sources : List (List ℕ)) (schedule : Schedule) (it : Feeding) : Type 0 where
-  pub stock : List Object
-  pub profile : IsOfProfile schedule stock
-  pub named : names_of stock ≡ own_names
-  pub begun : HasBegun sources stock it
-
 -- so it is between two records
 abbrev pub IsAtRest : Stepping → Type 0
 IsAtRest it = IsReady (host_in it)
+
+-- nothing has come: these texts are compiled, and the host is new, with this profile's own applications in stock, under this schedule
+pub record BeginsWith (sources : List (List ℕ)) (schedule : Schedule) (it : Feeding) : Type 0 where
+  pub stock : List Object
+  pub profile : IsOfProfile schedule stock
+  pub names : names_of stock ≡ own_names
+  pub begun : HasBegun sources stock it
 
 -- ---- a record
 

@@ -12,7 +12,7 @@ use Rattle.lc_model.specs.Host.Schedule.{Schedule}
 use Rattle.lc_model.specs.Host.Stream.{End, Whole, Bad, Truncated, StreamEntry, body_size, header_size, moment_of, records_of}
 use Rattle.lc_model.specs.LimitChecker.Steps.{Point}
 use Rattle.lc_model.specs.Kept.Summary.{LcOwn, Tally}
-use Rattle.lc_model.specs.Kept.Executive.{Executive, Member, Written, first_executive, step_by}
+use Rattle.lc_model.specs.Kept.Executive.{Executive, Member, Written, first_executive, step_by, written_from}
 use Rattle.host_laws.specs.Keeping.{IsSpare}
 use Rattle.host_laws.specs.Statements.{executive_after}
 use Rattle.rpn_compiler.specs.declared.files.TablePair.{TablePair}
@@ -51,6 +51,11 @@ parts_from meanings e [] = []
 parts_from meanings e (entry ∷ entries) =
     let step : Written (List ℕ) = step_by on_board entry.moment e (input_of meanings entry.contents) in
     record { moment = entry.moment; packets = concat step.1 } ∷ parts_from meanings step.0 entries
+
+-- one behind the other they are what the host in numbers writes over these records, as the promise of a run has it
+abbrev pub PartsAreTheOutput : Type 0
+PartsAreTheOutput = (meanings : FileMeanings (List ℕ)) (e : Executive (List ℕ)) (entries : List StreamEntry) →
+    concat (map (λ (part : Part). part.packets) (parts_from meanings e entries)) ≡ concat (written_from on_board e meanings entries)
 
 -- how a stream ended, behind so many records
 abbrev pub ending_by : ℕ → End → Ending

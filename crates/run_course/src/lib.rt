@@ -7,6 +7,7 @@ mod ending;
 mod error;
 mod framing;
 mod handled;
+pub mod laws;
 mod moment;
 mod plan;
 mod probe;

@@ -4,7 +4,7 @@ ghost use Rattle.std.specs.Prelude.{◌≡◌, ◌<◌, option_map, IfErr, IfOk,
 ghost use Rattle.app_host.specs.Hosted.{object_at};
 ghost use Rattle.flight_core.specs.Compiled.{IsNotCompiled, sources_of};
 ghost use Rattle.run_course.specs.declared.error.CourseError.TheVariants.{Memory};
-ghost use Rattle.run_course.specs.Stepping.{HasStepped, IsAtRest, IsBegun, IsRefusal, engine_among, engine_of, host_in, refusal_of, written_by};
+ghost use Rattle.run_course.specs.Stepping.{HasStepped, IsAtRest, BeginsWith, IsRefusal, engine_among, engine_of, host_in, refusal_of, written_by};
 
 use crate::error::CourseError;
 use crate::handled::Handled;
@@ -60,7 +60,7 @@ impl Stepping {
     pub fn new(alloc: Global, texts: &[&[u8]], schedule: &Schedule) -> Result<Stepping, CourseError>
         ensures ready { IfOk result IsAtRest }
         ensures begun { IfOk result
-            (λ it. IsBegun (sources_of texts.now) schedule.now (host_in it)) }
+            (λ it. BeginsWith (sources_of texts.now) schedule.now (host_in it)) }
         ensures refused { IfErr result (IsRefusal (sources_of texts.now)) }
     {
         let stock = own_stock(alloc, schedule)?;

@@ -4,7 +4,7 @@ ghost use Rattle.std.specs.Prelude.{◌≡◌, ◌++◌, IfErr, IfOk};
 ghost use Rattle.app_host.specs.Delivered.{executive_in};
 ghost use Rattle.flight_core.specs.Compiled.{sources_of};
 ghost use Rattle.run_course.specs.declared.error.CourseError.TheVariants.{Memory};
-ghost use Rattle.run_course.specs.Stepping.{IsAtRest, IsBegun, IsRefusal, host_in};
+ghost use Rattle.run_course.specs.Stepping.{IsAtRest, BeginsWith, IsRefusal, host_in};
 ghost use Rattle.run_course.specs.Trace.{HasRun, IsTraced, arrived_by, arrived_from};
 
 use crate::ending::Ending;
@@ -121,7 +121,7 @@ pub(crate) fn trace_all(
     stream: &[u8],
 ) -> Result<Trace, CourseError>
     requires ready { IsAtRest stepping.old }
-    requires begun { IsBegun (sources_of texts.now) schedule.now (host_in stepping.old) }
+    requires begun { BeginsWith (sources_of texts.now) schedule.now (host_in stepping.old) }
     ensures ready { IsAtRest stepping.new }
     ensures run { IfOk result (λ t. HasRun (sources_of texts.now) schedule.now stream.now t
         (executive_in (host_in stepping.new).host)) }
