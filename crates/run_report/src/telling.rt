@@ -4,7 +4,7 @@ ghost use Rattle.std.specs.Prelude.{◌≡◌, ◌<◌, ◌==◌, ◌^◌, ◌++
 ghost use Rattle.change_lists.specs.declared.entry.Entry.{Entry as Told};
 ghost use Rattle.flight_core.specs.Compiled.{sources_of};
 ghost use Rattle.flight_core.specs.Feeding.{Feeding};
-ghost use Rattle.run_course.specs.Stepping.{IsAtRest, IsBegun, engine_among, host_in};
+ghost use Rattle.run_course.specs.Stepping.{IsAtRest, BeginsWith, engine_among, host_in};
 ghost use Rattle.run_report.specs.Model.{HasTold, LanesTell, Tells, place_of, stands_of, stood_more, ticks_of};
 
 use crate::account::Account;
@@ -142,7 +142,7 @@ pub fn tell_run<'a, P: Progress>(
     progress: &mut P,
 ) -> Result<(Telling<'a>, Ending), ReportError>
     ensures { IfOk result (λ told. (first : Feeding) ×
-        IsBegun (sources_of texts.now) schedule.now first ×
+        BeginsWith (sources_of texts.now) schedule.now first ×
         Tells stream.now first told.0.lists told.1) }
 {
     let mut stepping = Stepping::new(alloc, texts, schedule)?;
