@@ -1,2 +1,4 @@
 mod Lines
 mod Pairs
+mod Comments
+mod TrialSteps

@@ -1,5 +1,5 @@
 -- What is expected of a run, and whether that came. This project's own.
-use Rattle.std.specs.Prelude.{ℕ, ◌&&◌, ◌==◌, ◌/◌, ◌%◌, Bool, true, false, not, List, filter, nat_le, Option, Some, None}
+use Rattle.std.specs.Prelude.{ℕ, ◌&&◌, ◌==◌, Bool, true, false, not, List, filter, nat_le, Option, Some, None}
 use Rattle.std.specs.List.{list_any}
 use Rattle.lc_model.specs.Codes.{result_code, state_code}
 use Rattle.lc_model.specs.declared.mode.ApMode.{ApMode}
@@ -8,8 +8,8 @@ use Rattle.run_expectations.specs.declared.expectation.Arrival.{Arrival}
 use Rattle.run_expectations.specs.declared.expectation.Span.{Span}
 use Rattle.run_expectations.specs.declared.expectation.What.{What}
 use Rattle.run_expectations.specs.declared.expectation.What.TheVariants.{Sequence, Event}
-use Rattle.run_expectations.specs.declared.verdict.Found.{Found}
-use Rattle.run_expectations.specs.declared.verdict.Found.TheVariants.{Stands}
+use Rattle.run_course.specs.declared.behind.RuleStanding.{RuleStanding}
+use Rattle.run_course.specs.declared.behind.RuleStanding.TheVariants.{Stands}
 use Rattle.run_expectations.specs.declared.verdict.Judged.{Judged}
 use Rattle.run_expectations.specs.Expected.{Absent, Comes, Expected, LastResult, State, expected_of}
 
@@ -33,17 +33,17 @@ has_come what span came = list_any (λ one. is_what what one && is_within span o
 
 -- ---- whether an expectation is met, by what came and what was found of its rule
 
--- the rule is in this state: the upper four bits of its byte in housekeeping
-abbrev pub is_in_state : ApMode → Found → Bool
-is_in_state state (Stands byte) = byte / 16 == state_code state
+-- the rule is in this state
+abbrev pub is_in_state : ApMode → RuleStanding → Bool
+is_in_state state (Stands there last) = state_code there == state_code state
 is_in_state state found = false
 
--- its last result is this one: the lower four bits
-abbrev pub has_result : Option ApResult → Found → Bool
-has_result last (Stands byte) = byte % 16 == result_code last
+-- its last result is this one
+abbrev pub has_result : Option ApResult → RuleStanding → Bool
+has_result last (Stands state there) = result_code there == result_code last
 has_result last found = false
 
-abbrev pub is_met : List Arrival → Found → Expected → Bool
+abbrev pub is_met : List Arrival → RuleStanding → Expected → Bool
 is_met came found (Comes coming) = has_come coming.what coming.span came
 is_met came found (Absent coming) = not (has_come coming.what coming.span came)
 is_met came found (State rule state) = is_in_state state found

@@ -2,3 +2,4 @@
 pub mod Expected
 pub mod Reading
 pub mod Judged
+pub mod Arrivals

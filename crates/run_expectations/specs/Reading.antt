@@ -1,7 +1,9 @@
 -- The expectations of a script, and the script without them. This project's own.
 use Rattle.std.specs.Prelude.{◌≡◌, ℕ, ◌+◌, Bool, false, List, [], ◌∷◌, ◌++◌, length, take, drop, map, codes, bytes_eq, Option, Some, None, Result, Ok, Err, ⊤, if◌then◌else◌}
 use Rattle.std.specs.List.{join_with_byte, prefix_len}
+use Rattle.stream_script.specs.Error.{ScriptFault}
 use Rattle.stream_script.specs.Part.{is_blank, lines_of, words_of}
+use Rattle.stream_script.specs.Script.{lines_said, nothing_said, script_in, stream_of}
 use Rattle.run_expectations.specs.declared.fault.Fault.{Fault}
 use Rattle.run_expectations.specs.declared.reading.Placed.{Placed}
 use Rattle.run_expectations.specs.declared.reading.ReadError.{ReadError}
@@ -83,3 +85,17 @@ silenced_line line = if is_expectation (words_of line) then commented line else 
 -- the script whose expectations are comments: all other lines stay
 abbrev pub silenced_in : List ℕ → List ℕ
 silenced_in script = join_with_byte 10 (map silenced_line (lines_of script))
+
+-- ---- the stream beside them
+
+-- a line, of which nothing is left where it is an expectation
+abbrev pub emptied_line : List ℕ → List ℕ
+emptied_line line = if is_expectation (words_of line) then [] else line
+
+-- the stream that a script says where its expectations say nothing, or the fault of its least line
+abbrev pub stream_beside : List ℕ → Result (List ℕ) ScriptFault
+stream_beside script = stream_of (lines_said nothing_said 1 (map emptied_line (lines_of script)))
+
+-- a script whose expectations are comments says that stream, and is refused at the same line for the same reason
+abbrev pub SilencedSaysTheRest : Type 0
+SilencedSaysTheRest = (script : List ℕ) → script_in (silenced_in script) ≡ stream_beside script

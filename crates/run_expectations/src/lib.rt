@@ -4,6 +4,7 @@
 mod error;
 mod expectation;
 mod fault;
+pub mod laws;
 mod reading;
 mod telling;
 mod trial;
@@ -15,4 +16,4 @@ pub use expectation::{Arrival, Coming, Expectation, Span, What, has_come};
 pub use fault::Fault;
 pub use reading::{Placed, ReadError, read_expectations, silenced};
 pub use trial::{Tried, script_error_at, try_scenario};
-pub use verdict::{Found, Judged, unmet_of};
+pub use verdict::{Judged, unmet_of};

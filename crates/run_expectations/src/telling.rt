@@ -1,8 +1,7 @@
 //! Why an expectation isn't met: what came in its place.
 
 use crate::expectation::{Arrival, Span, What};
-use crate::verdict::Found;
-use run_course::{result_in, result_word, state_in, state_word};
+use run_course::{RuleStanding, result_word, state_word};
 use std::fmt::{self, Display, Formatter, Write};
 
 /// Of what came so many are told, at most.
@@ -24,9 +23,9 @@ pub enum Unmet<'a> {
         arrivals: &'a [Arrival],
     },
     /// The rule is in another state.
-    State(Found),
+    State(RuleStanding),
     /// The rule has another result.
-    Result(Found),
+    Result(RuleStanding),
 }
 
 impl Display for Arrival {
@@ -104,11 +103,11 @@ fn say_missing<W: Write>(
 }
 
 /// Says how a rule isn't found.
-fn say_not_found<W: Write>(found: Found, f: &mut Formatter<W>) -> fmt::Result {
+fn say_not_found<W: Write>(found: RuleStanding, f: &mut Formatter<W>) -> fmt::Result {
     match found {
-        Found::NoRule => write!(f, "there is no such rule"),
-        Found::Stopped => write!(f, "the Limit Checker doesn't run"),
-        Found::Stands(_) => Ok(()),
+        RuleStanding::NoRule => write!(f, "there is no such rule"),
+        RuleStanding::Stopped => write!(f, "the Limit Checker doesn't run"),
+        RuleStanding::Stands { .. } => Ok(()),
     }
 }
 
@@ -133,11 +132,15 @@ impl Display for Unmet<'_> {
                 let _is_told = say_those("there came ", those, arrivals, f)?;
                 Ok(())
             }
-            Unmet::State(Found::Stands(byte)) => write!(f, "it is {}", state_word(state_in(byte))),
-            Unmet::Result(Found::Stands(byte)) => write!(
+            Unmet::State(RuleStanding::Stands { state, .. }) => write!(
+                f,
+                "it is {}",
+                state_word(state)
+            ),
+            Unmet::Result(RuleStanding::Stands { last, .. }) => write!(
                 f,
                 "its last result is {}",
-                result_word(result_in(byte))
+                result_word(last)
             ),
             Unmet::State(found) | Unmet::Result(found) => say_not_found(found, f),
         }

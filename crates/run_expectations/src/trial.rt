@@ -1,18 +1,23 @@
 //! A run of a script, and whether what it expects has come.
 
+ghost use Rattle.std.specs.Prelude.{◌≡◌, filter_map, map, Ok, IfOk};
+ghost use Rattle.std.specs.List.{AllByRecursion};
+ghost use Rattle.flight_core.specs.Compiled.{sources_of};
+ghost use Rattle.run_expectations.specs.Arrivals.{IsFound, IsJudged, IsNamed, IsNumbered, IsPlainTried, IsTried, StandsAt, arrival_of, placed_in, rule_in, rule_numbered};
+ghost use Rattle.run_expectations.specs.Expected.{expected_of};
+ghost use Rattle.run_expectations.specs.Reading.{expectations_in, placed_of};
+ghost use Rattle.stream_script.specs.Script.{script_in};
+
 use crate::error::TrialError;
 use crate::expectation::{Arrival, Coming, Expectation};
 use crate::reading::{Placed, read_expectations, silenced};
 use crate::telling::Unmet;
-use crate::verdict::{Found, Judged, unmet_of};
-use packet_listing::{Sent, list_packets};
-use rule_lexer::{TokenKind, lex};
-use run_course::{
-    Course, Ending, Entry, Plan, Standing, ends_of, moment_of, record_in, run_over, standing_behind,
-};
-use scenario_words::{Plain, declared_in, plain_script};
+use crate::verdict::{Judged, unmet_of};
+use packet_listing::{Line, Sent, read_packet};
+use run_course::{Came, Plan, RuleStanding, standing_of, trace_of};
+use scenario_words::{Declared, Plain, declared_in, plain_script};
 use std::alloc::{AllocError, Global};
-use std::io::Write;
+use std::io::{self, Write};
 use stream_script::{ScriptError, read_script};
 
 /// What a trial came to: how many expectations there are, and how many weren't met.
@@ -22,134 +27,121 @@ pub struct Tried {
     pub unmet: u64,
 }
 
-/// A run of a scenario: the rule texts and the schedule, its plain script with the lines that say that, the script without its
-/// expectations, and what came.
-#[derive(Drop)]
-struct Trial<'a> {
-    alloc: Global,
-    plan: Plan<'a>,
-    plain: &'a Plain,
-    script: &'a [u8],
-    arrivals: &'a [Arrival],
-}
-
-/// A request or an event of the Limit Checker, by its number.
-fn arrival(entry: Entry<'_>, second: u32) -> Option<Arrival> {
-    match entry.sent {
-        Sent::Request(number) => Some(Arrival {
+/// A request or an event of the Limit Checker, by its number, in the second of its record.
+fn arrival(came: &Came<'_>) -> Option<Arrival>
+    ensures { result ≡ arrival_of came.now }
+{
+    let second = came.moment.seconds;
+    match read_packet(came.packet) {
+        Some(Sent::Request(number)) => Some(Arrival {
             second,
             is_event: false,
             number,
         }),
-        Sent::Event(event) if event.sender == b"LC".as_slice() => Some(Arrival {
-            second,
-            is_event: true,
-            number: event.id,
-        }),
-        Sent::Event(_) | Sent::Housekeeping { .. } => None,
+        Some(Sent::Event(event)) => {
+            let checker: &[u8] = b"LC";
+            if event.sender == checker {
+                Some(Arrival {
+                    second,
+                    is_event: true,
+                    number: event.id,
+                })
+            } else {
+                None
+            }
+        }
+        _ => None,
     }
 }
 
-/// What came of a run over this stream, in order.
-fn arrivals_of(alloc: Global, course: &Course, stream: &[u8]) -> Result<Vec<Arrival>, AllocError> {
-    let ends = ends_of(alloc, stream)?;
-    let entries = course.entries(alloc)?;
+/// What of the packets that came may be expected, in order. Out of memory is the only error.
+fn arrivals_of(alloc: Global, came: &[Came<'_>]) -> Result<Vec<Arrival>, AllocError>
+    ensures { IfOk result (λ arrivals. arrivals.items ≡ filter_map arrival_of came.now) }
+{
     let mut arrivals = Vec::new(alloc);
-    for entry in &entries {
-        let moment = moment_of(record_in(stream, ends.as_slice(), entry.record));
-        if let Some(one) = arrival(*entry, moment.seconds) {
-            arrivals.push(one)?;
+    for one in came {
+        if let Some(arrival) = arrival(one) {
+            arrivals.push(arrival)?;
         }
     }
     Ok(arrivals)
 }
 
-/// The number of the rule with this name in a text that compiles: rules count from 0.
-fn number_of(alloc: Global, text: &[u8], name: &[u8]) -> Result<Option<usize>, AllocError> {
-    let Ok(tokens) = lex(alloc, text) else {
-        return Err(AllocError);
-    };
-    let mut number = 0usize;
-    let mut is_name = false;
-    for token in &tokens {
-        if is_name {
-            if token.text == name {
-                return Ok(Some(number));
-            }
-            number = number.saturating_add(1);
-        }
-        is_name = token.kind == TokenKind::Rule;
-    }
-    Ok(None)
-}
-
-/// The number of the rule with this name in the first text that has one.
-fn first_number(alloc: Global, texts: &[&[u8]], name: &[u8]) -> Result<Option<usize>, AllocError> {
-    for text in texts {
-        let number = number_of(alloc, text, name)?;
-        if number.is_some() {
-            return Ok(number);
-        }
-    }
-    Ok(None)
-}
-
-impl Trial<'_> {
-    /// How the rules stand behind what the script says before a place: nothing where the Limit Checker doesn't run.
-    fn standing_at(&self, at: usize) -> Result<Option<Standing>, TrialError> {
-        let front = self.script.get(..at).unwrap_or(self.script);
-        let mut records = read_script(self.alloc, front)?;
-        let ends = ends_of(self.alloc, records.as_slice())?;
-        let Some(last) = ends.len().checked_sub(1) else {
-            return Ok(None);
+/// Lists the packets that came, a line each, counted from 1.
+fn list_all<W: Write>(came: &[Came<'_>], out: &mut W) -> io::Result<()> {
+    let mut number = 0u64;
+    for one in came {
+        number = number.saturating_add(1);
+        let line = Line {
+            number,
+            packet: one.packet,
         };
-        let course = run_over(
+        writeln!(out, "{line}")?;
+    }
+    Ok(())
+}
+
+/// A run of a scenario: the rule texts and the schedule, what the texts declare, its plain script with the lines that say that, and
+/// the script without its expectations.
+#[derive(Clone, Copy)]
+struct Trial<'a, 't> {
+    alloc: Global,
+    plan: Plan<'a>,
+    declared: &'a Declared<'t>,
+    plain: &'a Plain,
+    script: &'a [u8],
+}
+
+impl Trial<'_, '_> {
+    /// How the rule with this number stands behind what the script says before a place.
+    fn standing_at(&self, at: usize, rule: usize) -> Result<RuleStanding, TrialError>
+        ensures { IfOk result (StandsAt (sources_of self.now.plan.texts.now)
+            self.now.plan.schedule.now self.now.declared.now self.now.script.now at rule) }
+    {
+        let (front, _) = self.script.split_at(at.min(self.script.len()));
+        let stream = read_script(self.alloc, front)?;
+        let standing = standing_of(
             self.alloc,
             self.plan.texts,
             self.plan.schedule,
-            records.as_slice(),
+            stream.as_slice(),
+            rule,
         )?;
-        let record = Vec::from_slice(
-            self.alloc,
-            record_in(records.as_slice(), ends.as_slice(), last),
-        )?;
-        let mut output = Vec::new(self.alloc);
-        Ok(standing_behind(
-            self.alloc,
-            self.plan,
-            &mut records,
-            record.as_slice(),
-            course.output.len(),
-            &mut output,
-        )?)
+        Ok(standing)
     }
 
-    /// A rule's byte in the standing behind what the script says before a place.
-    fn byte_at(&self, name: &[u8], at: usize) -> Result<Found, TrialError> {
-        let Some(number) = first_number(self.alloc, self.plan.texts, name)? else {
-            return Ok(Found::NoRule);
-        };
-        match self.standing_at(at)? {
-            None => Ok(Found::Stopped),
-            Some(standing) => match standing.rules.as_slice().get(number) {
-                Some(byte) => Ok(Found::Stands(*byte)),
-                None => Ok(Found::NoRule),
-            },
+    /// How the rule of this name stands there.
+    fn named_at(&self, at: usize, name: &[u8]) -> Result<RuleStanding, TrialError>
+        ensures { IfOk result (IsNumbered (sources_of self.now.plan.texts.now)
+            self.now.plan.schedule.now self.now.declared.now self.now.script.now at
+            (rule_numbered self.now.declared.now name.now)) }
+    {
+        match self.declared.rule_number(name) {
+            Some(rule) => self.standing_at(at, usize::from(rule)),
+            None => Ok(RuleStanding::NoRule),
         }
     }
 
-    /// What is found of the rule that an expectation names.
-    fn found(&self, placed: &Placed<'_>) -> Result<Found, TrialError> {
+    /// How the rule stands that an expectation names.
+    fn found(&self, placed: &Placed<'_>) -> Result<RuleStanding, TrialError>
+        ensures { IfOk result (IsNamed (sources_of self.now.plan.texts.now)
+            self.now.plan.schedule.now self.now.declared.now self.now.script.now placed.now.at
+            (rule_in (expected_of placed.now.expectation))) }
+    {
         match placed.expectation {
-            Expectation::Comes(_) | Expectation::Absent(_) => Ok(Found::NoRule),
-            Expectation::State(name, _) | Expectation::Result(name, _) => {
-                self.byte_at(name, placed.at)
-            }
+            Expectation::Comes(_) | Expectation::Absent(_) => Ok(RuleStanding::NoRule),
+            Expectation::State(name, _) => self.named_at(placed.at, name),
+            Expectation::Result(name, _) => self.named_at(placed.at, name),
         }
     }
 
-    /// The expectations, each with what is found of its rule.
-    fn judged<'p>(&self, expectations: &[Placed<'p>]) -> Result<Vec<Judged<'p>>, TrialError> {
+    /// The expectations, each with how its rule stands.
+    fn judged<'p>(&self, expectations: &[Placed<'p>]) -> Result<Vec<Judged<'p>>, TrialError>
+        ensures each { IfOk result (λ judged. map placed_in judged.items ≡ expectations.now) }
+        ensures found { IfOk result (λ judged. AllByRecursion (IsFound
+            (sources_of self.now.plan.texts.now) self.now.plan.schedule.now
+            self.now.declared.now self.now.script.now) judged.items) }
+    {
         let mut judged = Vec::new(self.alloc);
         for placed in expectations {
             judged.push(Judged {
@@ -159,43 +151,41 @@ impl Trial<'_> {
         }
         Ok(judged)
     }
+}
 
-    /// Why an expectation isn't met that isn't.
-    fn why(&self, judged: &Judged<'_>) -> Unmet<'_> {
-        let arrivals = self.arrivals;
-        match judged.placed.expectation {
-            Expectation::Comes(Coming { what, span }) => Unmet::Missing {
-                what,
-                span,
-                arrivals,
-            },
-            Expectation::Absent(Coming { what, span }) => Unmet::Came {
-                what,
-                span,
-                arrivals,
-            },
-            Expectation::State(_, _) => Unmet::State(judged.found),
-            Expectation::Result(_, _) => Unmet::Result(judged.found),
-        }
+/// Why an expectation isn't met that isn't.
+fn why<'a>(arrivals: &'a [Arrival], judged: &Judged<'_>) -> Unmet<'a> {
+    match judged.placed.expectation {
+        Expectation::Comes(Coming { what, span }) => Unmet::Missing {
+            what,
+            span,
+            arrivals,
+        },
+        Expectation::Absent(Coming { what, span }) => Unmet::Came {
+            what,
+            span,
+            arrivals,
+        },
+        Expectation::State(_, _) => Unmet::State(judged.found),
+        Expectation::Result(_, _) => Unmet::Result(judged.found),
     }
+}
 
-    /// Writes a line for each expectation that isn't met, and answers how many these are.
-    fn judge<W: Write>(
-        &self,
-        name: &str,
-        expectations: &[Placed<'_>],
-        out: &mut W,
-    ) -> Result<u64, TrialError> {
-        let judged = self.judged(expectations)?;
-        let unmet = unmet_of(self.alloc, self.arrivals, judged.as_slice())?;
-        for one in &unmet {
-            let why = self.why(one);
-            write!(out, "{name}:{}: not met: ", self.plain.line(one.placed.n))?;
-            out.write_all(one.placed.line)?;
-            writeln!(out, ": {why}")?;
-        }
-        Ok(unmet.len() as u64)
+/// Writes a line for each expectation that isn't met.
+fn tell<W: Write>(
+    name: &str,
+    plain: &Plain,
+    arrivals: &[Arrival],
+    unmet: &[Judged<'_>],
+    out: &mut W,
+) -> io::Result<()> {
+    for one in unmet {
+        let why = why(arrivals, one);
+        write!(out, "{name}:{}: not met: ", plain.line(one.placed.n))?;
+        out.write_all(one.placed.line)?;
+        writeln!(out, ": {why}")?;
     }
+    Ok(())
 }
 
 /// An error of a plain script, at the line of the scenario that says it.
@@ -209,6 +199,96 @@ pub fn script_error_at(plain: &Plain, error: ScriptError) -> ScriptError {
     }
 }
 
+/// The stream of a plain script without its expectations.
+fn stream_of(alloc: Global, plain: &Plain, quiet: &[u8]) -> Result<Vec<u8>, TrialError>
+    ensures { IfOk result (λ stream. script_in quiet.now ≡ Ok stream.items) }
+{
+    match read_script(alloc, quiet) {
+        Ok(stream) => Ok(stream),
+        Err(error) => Err(TrialError::from(script_error_at(plain, error))),
+    }
+}
+
+/// The expectations of a plain script.
+fn expectations_of<'p>(alloc: Global, plain: &'p Plain) -> Result<Vec<Placed<'p>>, TrialError>
+    ensures { IfOk result (λ found. expectations_in plain.now.text.items ≡
+        Ok (map placed_of found.items)) }
+{
+    match read_expectations(alloc, plain.text.as_slice()) {
+        Ok(expectations) => Ok(expectations),
+        Err(error) => Err(TrialError::from(error.at(plain))),
+    }
+}
+
+/// What a trial of these expectations came to: writes a line for each that isn't met, and a last one with how many there are.
+fn judge<W: Write>(
+    trial: &Trial<'_, '_>,
+    name: &str,
+    expectations: &[Placed<'_>],
+    arrivals: &[Arrival],
+    out: &mut W,
+) -> Result<Tried, TrialError>
+    ensures { IfOk result (λ tried. IsJudged (sources_of trial.now.plan.texts.now)
+        trial.now.plan.schedule.now trial.now.declared.now trial.now.script.now
+        (map placed_of expectations.now) arrivals.now tried) }
+{
+    let judged = trial.judged(expectations)?;
+    let unmet = unmet_of(trial.alloc, arrivals, judged.as_slice())?;
+    tell(name, trial.plain, arrivals, unmet.as_slice(), out)?;
+    let tried = Tried {
+        expected: expectations.len() as u64,
+        unmet: unmet.len() as u64,
+    };
+    writeln!(
+        out,
+        "{name}: {} expectations, {} not met",
+        tried.expected, tried.unmet
+    )?;
+    Ok(tried)
+}
+
+/// What becomes of a plain script: a run over the stream that it says without its expectations, which are judged, where it has some;
+/// where it has none, the packets that came are listed.
+fn try_plain<W: Write>(
+    alloc: Global,
+    name: &str,
+    plan: Plan<'_>,
+    declared: &Declared<'_>,
+    plain: &Plain,
+    out: &mut W,
+) -> Result<Tried, TrialError>
+    ensures { IfOk result (λ tried. IsPlainTried (sources_of plan.entry.texts.now)
+        plan.entry.schedule.now declared.now plain.now.text.items tried) }
+{
+    let expectations = expectations_of(alloc, plain)?;
+    let quiet = silenced(alloc, plain.text.as_slice())?;
+    let stream = stream_of(alloc, plain, quiet.as_slice())?;
+    let trace = trace_of(alloc, plan.texts, plan.schedule, stream.as_slice())?;
+    let came = trace.came(alloc)?;
+    if expectations.is_empty() {
+        list_all(came.as_slice(), out)?;
+        return Ok(Tried {
+            expected: 0,
+            unmet: 0,
+        });
+    }
+    let arrivals = arrivals_of(alloc, came.as_slice())?;
+    let trial = Trial {
+        alloc,
+        plan,
+        declared,
+        plain,
+        script: quiet.as_slice(),
+    };
+    judge(
+        &trial,
+        name,
+        expectations.as_slice(),
+        arrivals.as_slice(),
+        out,
+    )
+}
+
 /// Runs rule texts over the stream that a scenario says in their words. Without expectations in it, the packets that came are listed. Else
 /// a line is written for each expectation that isn't met, with what came in its place, and a last one with how many there are.
 ///
@@ -220,36 +300,13 @@ pub fn try_scenario<W: Write>(
     scenario: &[u8],
     plan: Plan<'_>,
     out: &mut W,
-) -> Result<Tried, TrialError> {
+) -> Result<Tried, TrialError>
+    ensures { IfOk result (IsTried (sources_of plan.entry.texts.now) plan.entry.schedule.now
+        scenario.now) }
+{
     // For the texts' sake alone: one that doesn't compile declares nothing.
-    let _nothing = run_over(alloc, plan.texts, plan.schedule, &[])?;
+    let _nothing = trace_of(alloc, plan.texts, plan.schedule, &[])?;
     let declared = declared_in(alloc, plan.texts)?;
     let plain = plain_script(alloc, scenario, &declared)?;
-    let expectations = read_expectations(alloc, plain.text.as_slice()).map_err(
-        |error| TrialError::from(error.at(&plain)),
-    )?;
-    let quiet = silenced(alloc, plain.text.as_slice())?;
-    let stream = read_script(alloc, quiet.as_slice()).map_err(|error| TrialError::from(
-        script_error_at(&plain, error),
-    ))?;
-    let course = run_over(alloc, plan.texts, plan.schedule, stream.as_slice())?;
-    if expectations.is_empty() {
-        list_packets(course.output.as_slice(), out)?;
-        return Ok(Tried {
-            expected: 0,
-            unmet: 0,
-        });
-    }
-    let arrivals = arrivals_of(alloc, &course, stream.as_slice())?;
-    let trial = Trial {
-        alloc,
-        plan,
-        plain: &plain,
-        script: quiet.as_slice(),
-        arrivals: arrivals.as_slice(),
-    };
-    let unmet = trial.judge(name, expectations.as_slice(), out)?;
-    let expected = expectations.len() as u64;
-    writeln!(out, "{name}: {expected} expectations, {unmet} not met")?;
-    Ok(Tried { expected, unmet })
+    try_plain(alloc, name, plan, &declared, &plain, out)
 }

@@ -8,24 +8,14 @@ ghost use Rattle.run_expectations.specs.Judged.{has_result, is_in_state, is_met,
 use crate::expectation::{Arrival, Expectation, has_come};
 use crate::reading::Placed;
 use lc_model::{ApMode, ApResult};
+use run_course::RuleStanding;
 use std::alloc::{AllocError, Global};
 
-/// What was found of the rule that an expectation names.
-#[derive(Clone, Copy)]
-pub enum Found {
-    /// It names no rule, no text has a rule of that name, or the tables in force have no rule of its number.
-    NoRule,
-    /// The Limit Checker doesn't run.
-    Stopped,
-    /// The rule's byte in housekeeping.
-    Stands(u8),
-}
-
-/// An expectation, and what was found of its rule.
+/// An expectation, and how its rule stands: `NoRule` where it names none, or none that there is.
 #[derive(Clone, Copy)]
 pub struct Judged<'a> {
     pub placed: Placed<'a>,
-    pub found: Found,
+    pub found: RuleStanding,
 }
 
 /// The number of a state in housekeeping.
@@ -54,27 +44,33 @@ fn result_code(last: Option<ApResult>) -> u8
 }
 
 /// Whether a rule is in this state.
-fn is_in_state(state: ApMode, found: Found) -> bool
+fn is_in_state(state: ApMode, found: RuleStanding) -> bool
     ensures { result ≡ is_in_state state found }
 {
     match found {
-        Found::Stands(byte) => byte / 16 == state_code(state),
-        Found::NoRule | Found::Stopped => false,
+        RuleStanding::Stands {
+            state: there,
+            last: _,
+        } => state_code(there) == state_code(state),
+        _ => false,
     }
 }
 
 /// Whether a rule's last result is this one.
-fn has_result(last: Option<ApResult>, found: Found) -> bool
+fn has_result(last: Option<ApResult>, found: RuleStanding) -> bool
     ensures { result ≡ has_result last found }
 {
     match found {
-        Found::Stands(byte) => byte % 16 == result_code(last),
-        Found::NoRule | Found::Stopped => false,
+        RuleStanding::Stands {
+            state: _,
+            last: there,
+        } => result_code(there) == result_code(last),
+        _ => false,
     }
 }
 
 /// Whether an expectation is met, by what came and what was found of its rule.
-fn is_met(came: &[Arrival], found: Found, expectation: Expectation<'_>) -> bool
+fn is_met(came: &[Arrival], found: RuleStanding, expectation: Expectation<'_>) -> bool
     ensures { result ≡ is_met came.now found (expected_of expectation.entry) }
 {
     match expectation {

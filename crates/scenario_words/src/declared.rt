@@ -1,11 +1,12 @@
 //! What rule texts declare.
 
-ghost use Rattle.std.specs.Prelude.{◌≡◌, ◌<◌, ◌≤◌, ◌+◌, ◌^◌, IfOk};
+ghost use Rattle.std.specs.Prelude.{◌≡◌, ◌<◌, ◌≤◌, ◌+◌, ◌^◌, bytes_eq, find, option_map, IfOk};
 ghost use Rattle.stream_script.specs.Part.{texts_of};
 ghost use Rattle.rule_parser.specs.Syntax.{item_of, items_of};
+ghost use Rattle.scenario_words.specs.Named.{NamedRule};
 ghost use Rattle.scenario_words.specs.Declarations.{AreDeclared, IsDeclared, next_behind, nothing_declared, with_item, with_items};
 
-use crate::named::{Field, Packet, Rule};
+use crate::named::{Field, Packet, Rule, number_of_rule};
 use rule_lexer::lex;
 use rule_parser::{Item, parse};
 use std::alloc::{AllocError, Global};
@@ -59,6 +60,14 @@ impl<'a> Declared<'a> {
         ensures { result.now ≡ self.now.rules }
     {
         self.rules.as_slice()
+    }
+
+    /// The number of the first rule of this name, in its text.
+    pub fn rule_number(&self, name: &[u8]) -> Option<u16>
+        ensures { result ≡ option_map (λ (r : NamedRule). r.number)
+            (find (λ (r : NamedRule). bytes_eq r.name name.now) self.now.rules) }
+    {
+        number_of_rule(self.rules(), name)
     }
 
     /// What is declared with an item, where the next rule of its text has this number.
@@ -140,7 +149,8 @@ fn with_text<'a>(
     with_items(declared, file.items.as_slice())
 }
 
-/// What rule texts declare that compile. Out of memory is the only error.
+/// What rule texts declare that compile. Of such texts want of memory is the only error; of one that doesn't compile it is answered,
+/// too, so that who calls compiles them first.
 pub fn declared_in<'a>(alloc: Global, texts: &[&'a [u8]]) -> Result<Declared<'a>, AllocError>
     ensures { IfOk result
         (λ declared. AreDeclared (texts_of texts.now) nothing_declared declared) }

@@ -1,0 +1,28 @@
+-- What a trial comes to.
+use Rattle.std.proofs.Common.{◌≡◌, refl, sym, ◌∙◌, ap, ℕ, List, [], ◌∷◌, length, map}
+use Rattle.std.specs.List.{AllByRecursion}
+use Rattle.std.proofs.lemmas.List.{length-map}
+use Rattle.lc_model.specs.Host.Schedule.{Schedule}
+use Rattle.scenario_words.specs.Declarations.{Declarations}
+use Rattle.run_expectations.specs.declared.expectation.Arrival.{Arrival}
+use Rattle.run_expectations.specs.declared.reading.Placed.{Placed}
+use Rattle.run_expectations.specs.declared.trial.Tried.{Tried}
+use Rattle.run_expectations.specs.declared.verdict.Judged.{Judged}
+use Rattle.run_expectations.specs.Arrivals.{IsFound, IsJudged, placed_in}
+use Rattle.run_expectations.specs.Judged.{unmet_of}
+use Rattle.run_expectations.specs.Reading.{placed_of}
+
+each_placed : (judged : List Judged) → map (λ (one : Judged). placed_of one.placed) judged ≡ map placed_of (map placed_in judged)
+each_placed [] = refl
+each_placed (one ∷ others) = ap (λ rest. placed_of one.placed ∷ rest) (each_placed others)
+
+pub judged_so : (sources : List (List ℕ)) (schedule : Schedule) (declared : Declarations) (script : List ℕ) (expectations : List Placed) (came : List Arrival) (judged unmet : List Judged) (count : ℕ) →
+    map placed_in judged ≡ expectations → AllByRecursion (IsFound sources schedule declared script) judged → unmet ≡ unmet_of came judged → count ≡ length unmet →
+    IsJudged sources schedule declared script (map placed_of expectations) came (record { expected = length expectations; unmet = count })
+judged_so sources schedule declared script expectations came judged unmet count each found those counts = record {
+  judged = judged;
+  each = each_placed judged ∙ ap (map placed_of) each;
+  found = found;
+  counted = sym (length-map expectations placed_of);
+  counts = counts ∙ ap length those;
+}
