@@ -5,7 +5,6 @@ ghost use Rattle.run_course.specs.Trace.{moment_in, size_in_front};
 
 use lc_model::Moment;
 use lc_model::stream::{self, HEADER, body_size};
-use std::alloc::{AllocError, Global};
 
 /// The bytes from the front of a record to its end, or to the end of the stream where that comes first.
 pub fn record_size(rest: &[u8]) -> usize
@@ -18,33 +17,6 @@ pub fn record_size(rest: &[u8]) -> usize
         return rest.len();
     }
     body_size(rest).saturating_add(HEADER).min(rest.len())
-}
-
-/// Where each record of a stream ends, by their lengths. Bytes that are no whole record stand last, as one.
-pub fn ends_of(alloc: Global, stream: &[u8]) -> Result<Vec<usize>, AllocError> {
-    let mut ends = Vec::new(alloc);
-    let mut rest = stream;
-    let mut at = 0usize;
-    for _ in 0..stream.len() {
-        if rest.is_empty() {
-            break;
-        }
-        let size = record_size(rest);
-        rest = rest.split_at(size).1;
-        at = at.saturating_add(size);
-        ends.push(at)?;
-    }
-    Ok(ends)
-}
-
-/// The bytes of the record with this number, from 0; none where there is none.
-pub fn record_in<'a>(stream: &'a [u8], ends: &[usize], number: usize) -> &'a [u8] {
-    let start = match number.checked_sub(1) {
-        Some(before) => ends.get(before).copied().unwrap_or(stream.len()),
-        None => 0,
-    };
-    let end = ends.get(number).copied().unwrap_or(stream.len());
-    stream.get(start..end).unwrap_or(&[])
 }
 
 /// The moment of a record; second 0 where its header isn't whole.
