@@ -20,7 +20,7 @@ pub struct Run<'n, 't> {
     pub stream: Source<'n, 't>,
     pub texts: &'t [Source<'n, 't>],
     /// The instant of second 0, as RFC 3339 writes it.
-    pub epoch: Option<&'t str>,
+    pub epoch: Option<&'n str>,
 }
 
 /// The bytes of the texts.
