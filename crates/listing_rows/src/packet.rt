@@ -7,8 +7,8 @@ use crate::epoch::{Epoch, time_cell, utc_cell};
 use crate::error::RowError;
 use crate::form::{Form, write_row};
 use lc_model::packet::message_id;
-use lc_model::{EventKind, Moment, u16_at, u32_at};
-use packet_listing::{Event, Field, Line, Sent, read_packet};
+use lc_model::{Moment, u16_at, u32_at};
+use packet_listing::{Event, Field, Line, Sent, event_word, read_packet};
 use std::alloc::Global;
 use std::io::Write;
 
@@ -62,16 +62,6 @@ fn plain(kind: &'static str) -> Said {
     }
 }
 
-/// An event's type.
-fn level(kind: EventKind) -> &'static str {
-    match kind {
-        EventKind::Debug => "debug",
-        EventKind::Information => "information",
-        EventKind::Error => "error",
-        EventKind::Critical => "critical",
-    }
-}
-
 /// Bytes as text, up to the first zero.
 fn text_of(alloc: Global, bytes: &[u8]) -> Result<Cell, RowError> {
     let field = Field(bytes);
@@ -84,7 +74,7 @@ fn event_said(alloc: Global, event: Event<'_>) -> Result<Said, RowError> {
         moment: Some(event.moment),
         sender: text_of(alloc, event.sender)?,
         id: Some(event.id),
-        level: Some(level(event.kind)),
+        level: Some(event_word(event.kind)),
         text: text_of(alloc, event.text)?,
         ..plain("event")
     })

@@ -6,7 +6,6 @@ use Rattle.lc_model.specs.Host.Schedule.{Schedule}
 use Rattle.scenario_words.specs.Declarations.{Declarations}
 use Rattle.run_expectations.specs.declared.expectation.Arrival.{Arrival}
 use Rattle.run_expectations.specs.declared.reading.Placed.{Placed}
-use Rattle.run_expectations.specs.declared.trial.Tried.{Tried}
 use Rattle.run_expectations.specs.declared.verdict.Judged.{Judged}
 use Rattle.run_expectations.specs.Arrivals.{IsFound, IsJudged, placed_in}
 use Rattle.run_expectations.specs.Judged.{unmet_of}

@@ -1,5 +1,5 @@
 -- What of the packets that came may be expected, and how the rules of expectations stand. This project's own.
-use Rattle.std.specs.Prelude.{◌≡◌, ℕ, true, false, List, codes, bytes_eq, filter_map, find, length, map, option_map, take, Option, Some, None, Result, Ok, if◌then◌else◌}
+use Rattle.std.specs.Prelude.{◌≡◌, ℕ, true, false, List, codes, bytes_eq, filter_map, find, length, map, option_map, take, Option, Some, None, Ok, if◌then◌else◌}
 use Rattle.std.specs.List.{AllByRecursion}
 use Rattle.lc_model.specs.Host.Schedule.{Schedule}
 use Rattle.packet_listing.specs.Told.{Told, Request, Event, Housekeeping, told_in}

@@ -1,6 +1,5 @@
-use Rattle.std.proofs.Common.{rules, ◌≡◌, length}
+use Rattle.std.proofs.Common.{rules}
 use Rattle.flight_core.specs.Compiled.{sources_of}
-use Rattle.run_expectations.specs.Judged.{unmet_of}
 use Rattle.run_expectations.proofs.TrialSteps.{judged_so}
 use Rattle.run_expectations.proofs.trial.judge.Goals as goal
 
