@@ -48,11 +48,24 @@ class Begins:
         return f"bytes that begin with {self.bytes!r}"
 
 
+@dataclass(frozen=True)
+class Holds:
+    """A file in which these bytes stand."""
+
+    bytes: bytes
+
+    def is_met(self, found):
+        return self.bytes in found
+
+    def __str__(self):
+        return f"bytes among which {self.bytes!r} stand"
+
+
 @dataclass
 class Row:
     """One call of a program, in a new folder that has the files of `before`.
 
-    A file is its bytes, FOLDER, a Link to a name, the Twin of a name before it, or, behind the call, Sized or Begins. `after` has the files that the call makes
+    A file is its bytes, FOLDER, a Link to a name, the Twin of a name before it, or, behind the call, Sized, Begins or Holds. `after` has the files that the call makes
     or changes; all others stay as they were, and no further ones come. `first` are calls before, which end with status 0.
     `prints_to` is a device in the place of standard output, and GONE one that nobody reads. `reads` is what stands on standard
     input. `forbidden` are files of `before` that the system lets nobody open; the call is then of a user without rights.

@@ -5,7 +5,7 @@ import os
 import re
 
 from records import LOW_VOLTS
-from row import FOLDER, Begins, Row
+from row import FOLDER, Begins, Holds, Row
 
 CRATES = os.path.join(os.path.dirname(os.path.abspath(__file__)), "..", "..", "crates")
 
@@ -105,6 +105,13 @@ PAGE = Begins(b"<!DOCTYPE html>\n")
 REPORTS = [
     Row("a page", REPORT, FILES, after={"page": PAGE}),
     Row("a page of two texts", [*REPORT, "empty"], FILES, after={"page": PAGE}),
+    Row("a page without an epoch", REPORT, FILES, after={"page": Holds(b'"epoch":null,')}),
+    Row(
+        "a page with an epoch of another zone",
+        [*REPORT[:2], "--epoch", "2000-01-01T14:00:00+02:00", *REPORT[2:]],
+        FILES,
+        after={"page": Holds(b'"epoch":"2000-01-01T12:00:00Z",')},
+    ),
     Row(
         "a schedule that is refused makes no page",
         REPORT,
