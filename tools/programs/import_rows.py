@@ -120,6 +120,22 @@ ROWS = [
         output=counts("raw", 3_010) + line("raw", len(MANY), "zeros where a packet would begin, 20000 in all"),
         after={"stream": MANY_STREAM + STREAM},
     ),
+    Row(
+        "a stream that is cut, exported",
+        ["flight_tools", "export", "stream", "raw"],
+        {"stream": tick(7) + STREAM[:-1]},
+        status=4,
+        error=b"stream: the stream ends inside record 11\n",
+        after={"raw": PLAIN[: -len(TEN[9])]},
+    ),
+    Row(
+        "what is no record, exported",
+        ["flight_tools", "export", "stream", "raw"],
+        {"stream": STREAM + b"\x09" * 11 + STREAM},
+        status=4,
+        error=b"stream: record 11 is none\n",
+        after={"raw": PLAIN},
+    ),
     Row("a long stream", ["flight_tools", "export", "stream", "raw"], {"stream": MANY_STREAM}, after={"raw": MANY}),
     Row(
         "markers",

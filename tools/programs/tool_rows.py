@@ -126,7 +126,14 @@ REPORTS = [
         status=1,
         error=b"rules: expected `=` at 10\n",
     ),
-    Row("a page of a stream that is cut", REPORT, {**FILES, "stream": BUS_STREAM[:-1]}, status=4, after={"page": PAGE}),
+    Row(
+        "a page of a stream that is cut",
+        REPORT,
+        {**FILES, "stream": BUS_STREAM[:-1]},
+        status=4,
+        error=b"stream: the stream ends inside record 24\n",
+        after={"page": PAGE},
+    ),
 ]
 
 

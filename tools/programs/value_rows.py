@@ -25,7 +25,7 @@ ROWS = [
     packets("requests as values, and a byte behind them", PACKETS, ["--csv"], NAMES + b"""\
 1,,,request,,,,,7,0,0x18A9,12
 2,,,request,,,,,7,0,0x18A9,12
-""", status=4),
+""", status=4, error=b"file: cut behind packet 2: 1 bytes are no whole packet\n"),
     packets("an event as values", EVENT, ["--csv"], NAMES + b"""\
 1,105.00000,,event,LC,1001,error,"low volts: AP = 0, FailCount = 2, RTS = 7",,5,0x0808,168
 """),
@@ -43,11 +43,11 @@ ROWS = [
     packets("no packets as values", b"", ["--csv"], NAMES),
     stream("a half and a cut record as values", BUS_STREAM[:65], ["--csv"], RECORD_NAMES + b"""\
 1,100.00000,,half,wdt 0 /cf/lc_def_wdt.tbl,54
-""", status=4),
+""", status=4, error=b"file: the stream ends inside record 2\n"),
     stream("a tick as an object, in UTC", TICK, ["--json", "--epoch", EPOCH], b"""\
 {"kind":"tick","number":1,"says":"","size":11,"time":"100.50000","utc":"2000-01-01T12:01:40.5Z"}
 """),
-    stream("what is no record as values", TICK + b"\x09" * 11, ["--csv"], RECORD_NAMES + b"1,100.50000,,tick,,11\n", status=4),
+    stream("what is no record as values", TICK + b"\x09" * 11, ["--csv"], RECORD_NAMES + b"1,100.50000,,tick,,11\n", status=4, error=b"file: record 2 is none\n"),
     Row(
         "values and objects at once",
         ["flight_tools", "packets", "--csv", "--json", "file"],

@@ -1,7 +1,7 @@
 //! What calls cost: `time` on a test, or `valgrind --tool=callgrind`, which counts the instructions of the functions that stay
 //! functions of their own. What they are given comes by reference, so that they know nothing of it.
 
-ghost use Rattle.std.specs.Prelude.{◌≡◌, ◌≤◌, length};
+ghost use Rattle.std.specs.Prelude.{◌≤◌, length, vec_capacity};
 
 use crate::shared::same;
 use event_service::{Events, PACKET_SIZE};
@@ -58,24 +58,27 @@ fn a_hundred_thousand_rounds(rt: HostRuntime) {
     rounds(&rt, &[(3, 4)]);
 }
 
-/// Sends an event and writes its bytes, as the host does; whether it is sent.
+/// Sends an event behind nothing, as the host does; whether it is sent.
 #[inline(never)]
-fn send_into(events: &mut Events, id: u16, text: &[u8], out: &mut [u8]) -> bool
+fn is_sent(events: &mut Events, id: u16, text: &[u8], out: &mut Vec<u8>) -> bool
     requires text { length text.now ≤ 121 }
-    requires room { length out.old ≡ 168 }
-    ensures { length out.new ≡ 168 }
+    requires room { 168 ≤ vec_capacity out.old }
+    ensures { 168 ≤ vec_capacity out.new }
 {
     let moment = Moment {
         seconds: 100,
         subseconds: 0,
     };
-    match events.send(Some(Seat::new(3)), moment, id, EventKind::Error, text) {
-        None => false,
-        Some(packet) => {
-            out.copy_from_slice(packet.as_bytes());
-            true
-        }
-    }
+    out.clear();
+    events.send(
+        Some(Seat::new(3)),
+        moment,
+        id,
+        EventKind::Error,
+        text,
+        out,
+    );
+    !out.is_empty()
 }
 
 /// A thousand times event 1001 of a sender with filters of these ids; so many are sent.
@@ -85,11 +88,11 @@ fn sends<R: Abort + AllocGlobal>(rt: &R, filters: &[u16], expected: u32) {
     for id in filters {
         same(rt, *id, events.set_filter(b"LC", *id, 0xFFFF), Ok(()));
     }
-    let mut out = [0; PACKET_SIZE];
+    let mut out = Vec::with_capacity(rt.alloc(), PACKET_SIZE).expect(rt, "out of memory");
     let mut count = 0u32;
     for _ in 0..1000u32 {
         let text = b"low volts: AP = 0, FailCount = 2, RTS = 7";
-        if send_into(&mut events, 1001, text, &mut out) {
+        if is_sent(&mut events, 1001, text, &mut out) {
             count = count.saturating_add(1);
         }
     }

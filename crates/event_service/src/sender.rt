@@ -13,7 +13,7 @@ ghost use Rattle.event_service.specs.Packet.{with_packet};
 
 use crate::error::EventError;
 use crate::filter::Filters;
-use crate::packet::{EventPacket, append_packet};
+use crate::packet::append_packet;
 use crate::types::EventTypes;
 use arrayvec::ArrayVec;
 use lc_model::{EventKind, Moment};
@@ -75,37 +75,10 @@ impl Sender {
         name == self.name.as_slice()
     }
 
-    /// Asks for an event to be sent, where `sent` event packets were sent before.
-    pub(crate) fn ask(
-        &mut self,
-        sent: &mut u16,
-        moment: Moment,
-        id: u16,
-        kind: EventKind,
-        text: &[u8],
-    ) -> Option<EventPacket>
-        requires count { sent.old < count_end }
-        requires text { length text.now ≤ longest_event_text }
-        ensures packet { result ≡ (asked_by self.old moment id kind text.now sent.old).packet }
-        ensures events { self.new ≡
-            record {
-              name = self.old.name;
-              events = (asked_by self.old moment id kind text.now sent.old).events;
-            } }
-        ensures sent { sent.new ≡ (asked_by self.old moment id kind text.now sent.old).sent }
-        ensures count { sent.new < count_end }
-    {
-        if !self.types.has(kind) || !self.filters.ask(id) {
-            return None;
-        }
-        let count = *sent;
-        *sent = (count + 1) % 16384;
-        Some(EventPacket::new(count, moment, self.name.as_slice(), id, kind, text))
-    }
-
-    /// Asks for an event as `ask` does; its packet, where it is sent, comes behind the bytes of `out`, which have room for it.
+    /// Asks for an event to be sent, where `sent` event packets were sent before; its packet, where it is sent, comes behind the
+    /// bytes of `out`, which have room for it.
     #[inline(always)]
-    pub(crate) fn ask_into(
+    pub(crate) fn ask(
         &mut self,
         sent: &mut u16,
         moment: Moment,

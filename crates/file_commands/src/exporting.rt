@@ -1,5 +1,7 @@
 //! `export STREAM RAW`
 
+use crate::ends::end_of_stream;
+use crate::listing::whole_records;
 use packet_archive::export_held;
 use program_files::{begin, discard, fault_of, keep};
 use std::fs::Files;
@@ -7,18 +9,21 @@ use std::io::Write;
 use stream_script::Front;
 use tool_faults::{Fault, fault_at, feed_of, is_apart};
 
-/// Writes the packets of a stream piece by piece; answers whether the stream ends behind a whole record.
+/// Writes the packets of a stream piece by piece; answers what stands in the place of which record where it ends.
 fn export_all<'a, R: Files + AllocGlobal, S: Write>(
     rt: &R,
     stream: &'a str,
     raw: &'a str,
     file: &mut S,
-) -> Result<bool, Fault<'a>> {
+) -> Result<(Front, u64), Fault<'a>> {
     let mut feed = feed_of(rt, stream)?;
     let mut packets = Vec::new(rt.alloc());
+    let mut n = 1u64;
     for _ in 0..u64::MAX {
         let is_more = feed.read_on()?;
         let held = feed.held().len();
+        let (count, _, _) = whole_records(feed.held());
+        n = n.saturating_add(u64::try_from(count).unwrap_or(u64::MAX));
         let (left, front) = export_held(&mut packets, feed.held())?;
         let left = left.len();
         match file.write_all(packets.as_slice()) {
@@ -26,15 +31,15 @@ fn export_all<'a, R: Files + AllocGlobal, S: Write>(
             Err(error) => return Err(fault_at(raw, fault_of(&error))),
         }
         if !is_more || matches!(front, Front::NoRecord) {
-            return Ok(matches!(front, Front::End));
+            return Ok((front, n));
         }
         feed.let_go(held.saturating_sub(left));
     }
-    Ok(false)
+    Ok((Front::Cut, n))
 }
 
-/// Writes the packets of a stream, one behind the other, beside a name that they take at the end. A stream that ends early has
-/// another status.
+/// Writes the packets of a stream, one behind the other, beside a name that they take at the end. A stream that ends early is a
+/// fault, which says where; the packets in front of its end are there.
 pub fn export<'a, R: Files + AllocGlobal>(
     rt: &R,
     stream: &'a str,
@@ -43,9 +48,9 @@ pub fn export<'a, R: Files + AllocGlobal>(
     is_apart(rt, raw, &[stream])?;
     let mut draft = begin(rt, raw).map_err(|fault| fault_at(raw, fault))?;
     match export_all(rt, stream, raw, &mut draft.file) {
-        Ok(is_whole) => {
+        Ok((front, n)) => {
             keep(rt, draft).map_err(|fault| fault_at(raw, fault))?;
-            if is_whole { Ok(()) } else { Err(Fault::Early) }
+            end_of_stream(stream, front, n)
         }
         Err(fault) => {
             discard(rt, draft);

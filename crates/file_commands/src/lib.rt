@@ -2,6 +2,7 @@
 //! a stream's packets.
 #![tactic(auto)]
 
+mod ends;
 mod exporting;
 mod forms;
 mod importing;

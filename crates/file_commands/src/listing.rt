@@ -73,7 +73,7 @@ pub fn table<'a, R: Files + AllocGlobal, W: Write>(
 }
 
 /// How many whole records stand in front, how long they are together, and what stands behind them.
-fn whole_records(bytes: &[u8]) -> (usize, usize, Front) {
+pub fn whole_records(bytes: &[u8]) -> (usize, usize, Front) {
     let mut count = 0usize;
     let mut size = 0usize;
     let mut rest = bytes;
@@ -138,7 +138,7 @@ pub fn stream<'a, R: Files + AllocGlobal, W: Write>(
 }
 
 /// The end of what is listed, which is whole or not.
-pub fn ended_with<'a>(is_whole: bool) -> Result<(), Fault<'a>> {
+fn ended_with<'a>(is_whole: bool) -> Result<(), Fault<'a>> {
     if is_whole { Ok(()) } else { Err(Fault::Early) }
 }
 

@@ -2,7 +2,7 @@
 
 ghost use Rattle.file_commands.specs.Taken.{IsTaken};
 
-use crate::listing::ended_with;
+use crate::ends::{end_of_packets, end_of_stream};
 use lc_model::packet::first_packet;
 use listing_rows::{
     Epoch, Form, PACKET_NAMES, RECORD_NAMES, RowError, write_names, write_packet, write_record,
@@ -10,9 +10,9 @@ use listing_rows::{
 use packet_listing::Line;
 use std::alloc::Global;
 use std::fs::Files;
-use std::io::{Read, Write};
+use std::io::Write;
 use stream_script::{Front, front_of};
-use tool_faults::{Fault, Feed, epoch_of, feed_of, listed, output_fault};
+use tool_faults::{Fault, epoch_of, feed_of, listed, output_fault};
 use tool_words::RowWords;
 
 /// How rows are written.
@@ -98,13 +98,7 @@ fn write_records<W: Write>(
     Ok((number, records.len().saturating_sub(rest.len())))
 }
 
-/// The end of rows, behind which nothing is left, or a part of a packet or of a record.
-fn end<'a, F: Read + Drop, W: Write>(feed: &Feed<'_, F>, out: &mut W) -> Result<(), Fault<'a>> {
-    listed(out.flush())?;
-    ended_with(feed.held().is_empty())
-}
-
-/// Writes a row for each packet of a file, piece by piece. Bytes behind the last whole packet have another status.
+/// Writes a row for each packet of a file, piece by piece. Bytes behind the last whole packet are a fault, which says where.
 pub fn packets<'a, R: Files + AllocGlobal, W: Write>(
     rt: &R,
     file: &'a str,
@@ -120,13 +114,14 @@ pub fn packets<'a, R: Files + AllocGlobal, W: Write>(
         number = count;
         feed.let_go(size);
         if !is_more {
-            return end(&feed, out);
+            listed(out.flush())?;
+            return end_of_packets(file, number, feed.held().len());
         }
     }
     Ok(())
 }
 
-/// Writes a row for each record of a stream, piece by piece. A stream that ends early has another status.
+/// Writes a row for each record of a stream, piece by piece. A stream that ends early is a fault, which says where.
 pub fn records<'a, R: Files + AllocGlobal, W: Write>(
     rt: &R,
     file: &'a str,
@@ -141,8 +136,10 @@ pub fn records<'a, R: Files + AllocGlobal, W: Write>(
         let (count, size) = taken(write_records(rt.alloc(), rows, feed.held(), number, out))?;
         number = count;
         feed.let_go(size);
-        if !is_more || matches!(front_of(feed.held()), Front::NoRecord) {
-            return end(&feed, out);
+        let front = front_of(feed.held());
+        if !is_more || matches!(front, Front::NoRecord) {
+            listed(out.flush())?;
+            return end_of_stream(file, front, number.saturating_add(1));
         }
     }
     Ok(())

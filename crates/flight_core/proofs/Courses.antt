@@ -1,30 +1,24 @@
 -- A run between two steps, and how it ends.
-use Rattle.std.proofs.Common.{◌≡◌, refl, sym, ◌∙◌, ap, subst, ℕ, ◌+◌, ◌*◌, ◌<◌, ◌≤◌, ◌==◌, Bool, true, false, cond, List, [], ◌∷◌, ◌++◌, length, take, get_or, Option, Some, None, arith, append_assoc, append-nil, length-append}
-use Rattle.std.specs.Prelude.{All, Contains, find, slice_index_or, IfSome, IsTrue}
-use Rattle.std.specs.List.{list_any, AllByRecursion, concat}
+use Rattle.std.proofs.Common.{◌≡◌, refl, sym, ◌∙◌, ap, subst, ℕ, ◌+◌, ◌*◌, ◌<◌, ◌≤◌, ◌==◌, false, List, [], ◌∷◌, ◌++◌, length, take, Option, arith, append_assoc, append-nil, length-append}
+use Rattle.std.specs.List.{concat}
 use Rattle.std.specs.Io.KnownBytes.{Appends, Consumes}
 use Rattle.std.proofs.KnownBytes.{Appends-nil, Appends-trans, Consumes-nil, Consumes-trans}
 use Rattle.std.proofs.lemmas.List.{take-append-le}
-use Rattle.std.proofs.lemmas.List.Elements.{All-head, All-tail, All-contains}
 use Rattle.std.proofs.lemmas.List.Folds.{concat-append}
 use Rattle.std.proofs.Math.Seq.{take-append-add}
 use Rattle.lc_model.specs.Device.{Source, Sink}
-use Rattle.lc_model.specs.Name.{Name, is_named}
 use Rattle.lc_model.specs.Tables.HalvesAndBytes.{as_bytes}
 use Rattle.lc_model.specs.Tables.InForce.{layouts}
 use Rattle.lc_model.specs.Tables.Interpretation.{FileMeanings}
 use Rattle.lc_model.specs.Host.Run.{input_of}
 use Rattle.lc_model.specs.Host.Stream.{StreamEntry, all_kinds, front}
-use Rattle.lc_model.specs.Kept.Executive.{Pipe, Executive, Written, step_by, written_from}
+use Rattle.lc_model.specs.Kept.Executive.{Executive, Written, step_by, written_from}
 use Rattle.lc_model.specs.Kept.Stations as model
 use Rattle.lc_model.specs.Kept.Stations.{host_step}
-use Rattle.lc_model.specs.Services.Bus.{seen}
 use Rattle.host_laws.specs.Statements.{AreBytes, executive_after, RunsGoOn}
 use Rattle.host_laws.specs.Writes.{OpenHostsTake}
 use Rattle.app_host.specs.Shared.{on_board}
-use Rattle.app_host.specs.Hosted.{Object, Hosted, object_at}
-use Rattle.app_host.specs.Whole.{IsKnown}
-use Rattle.app_host.specs.Party.{Party, Hearers, Waiting, Holders, Only, scheduled_mids, AreKnownHearers, IsKnownOnSeat, IsKnownSpare, AreKnownIn}
+use Rattle.app_host.specs.Hosted.{Hosted}
 use Rattle.app_host.specs.Delivered.{executive_in}
 use Rattle.app_host.specs.Step.{IsBetween, party_of, called_for, StepsSo}
 use Rattle.flight_core.specs.Cutting.{IsHandedOut, Begins, Comes, Goes}
@@ -33,6 +27,7 @@ use Rattle.flight_core.specs.Going as going
 use Rattle.flight_core.specs.Going.{IsNext, IsHandled, IsCutShort, NoneIsHeld, MeetsNone, IsOver, IsBroken, IsAtBound}
 use Rattle.flight_core.specs.Records.{Held, nothing_held, front_of}
 use Rattle.flight_core.specs.Steps.{IsOneStep, AreSteps}
+use Rattle.flight_core.proofs.Known.{party_known, still_known}
 
 -- ---- on board
 
@@ -53,47 +48,6 @@ bytes_joined (x ∷ xs) ys first second = (first.0, bytes_joined xs ys first.1 s
 pub taken_front : (ws cs xs : List ℕ) (sent : ℕ) → sent ≤ length cs → take (length ws + sent) ((ws ++ cs) ++ xs) ≡ ws ++ take sent cs
 taken_front ws cs xs sent few =
     take-append-le (length ws + sent) (ws ++ cs) xs (omega (arith, few, length-append ws cs)) ∙ take-append-add ws cs sent
-
--- ---- who is known
-
-found_known : (test : Object → Bool) (stock : List Object) → All IsKnown stock → IfSome (find test stock) IsKnown
-found_known test [] all = tt
-found_known test (o ∷ stock) all = by_test (test o) (found_known test stock (All-tail IsKnown o stock all))
-  where
-    by_test : (b : Bool) → IfSome (find test stock) IsKnown → IfSome (cond b (Some o) (find test stock)) IsKnown
-    by_test true rest = All-head IsKnown o stock all
-    by_test false rest = rest
-
--- where all are known, so are those who take part in a record
-spare_known : (name : Option Name) (stock : List Object) → All IsKnown stock → IsKnownSpare name stock
-spare_known None stock all = tt
-spare_known (Some name) stock all = found_known (λ (spare : Object). is_named name spare.called) stock all
-
-seat_known : (name : Option Name) (seats : List (Option Object)) → ((seat : ℕ) → IfSome (object_at seat seats) IsKnown) → IsKnownOnSeat name seats
-seat_known None seats all = tt
-seat_known (Some name) seats all = λ seat. by_place (object_at seat seats) (all seat)
-  where
-    by_place : (place : Option Object) → IfSome place IsKnown → IfSome place (λ (o : Object). is_named name o.called ≡ true → IsKnown o)
-    by_place None known = tt
-    by_place (Some o) known = λ named. known
-
-heard_by_known : (mid : ℕ) (pipe : Option Pipe) (place : Option Object) → IfSome place IsKnown → IfSome pipe (λ (p : Pipe). IsTrue (list_any (λ own. mid == own) p.subscriptions) → IfSome place IsKnown)
-heard_by_known mid None place known = tt
-heard_by_known mid (Some pipe) place known = λ subscribed. known
-
-hearers_known : (mids : List ℕ) (h : Hosted) → ((seat : ℕ) → IfSome (object_at seat h.seats) IsKnown) → AllByRecursion (AreKnownHearers h) mids
-hearers_known [] h all = tt
-hearers_known (mid ∷ mids) h all = ((λ seat. heard_by_known mid (slice_index_or (seen h.services.bus) seat None) (object_at seat h.seats) (all seat)), hearers_known mids h all)
-
-pub party_known : (party : Party) (h : Hosted) → AreAllKnown h → AreKnownIn party h
-party_known (Hearers mids) h all = hearers_known mids h all.seated
-party_known Waiting h all = record { waiting = λ seat some. all.seated seat; scheduled = λ some. hearers_known scheduled_mids h all.seated }
-party_known Holders h all = λ seat some. all.seated seat
-party_known (Only leaving coming) h all = (seat_known leaving h.seats all.seated, spare_known coming h.stock all.spares)
-
--- and where none is new, all are
-pub still_known : (old new : List Object) → All IsKnown old → All (Contains old) new → All IsKnown new
-still_known old new all among k d less = All-contains IsKnown old (get_or new k d) all (among k d less)
 
 -- ---- one step after the other
 

@@ -30,7 +30,8 @@ use Rattle.flight_core.specs.Front.{part_of}
 use Rattle.flight_core.specs.Gathered.{with_held, MayHold}
 use Rattle.flight_core.specs.Going.{IsNext, IsCutShort, IsHeldUp, IsOver, TakesPiece}
 use Rattle.flight_core.specs.Records.{Held, front_of}
-use Rattle.flight_core.proofs.Courses.{party_known, written_behind, taken_front, Exact, SoFar, in_front, joined}
+use Rattle.flight_core.proofs.Known.{party_known}
+use Rattle.flight_core.proofs.Courses.{written_behind, taken_front, Exact, SoFar, in_front, joined}
 use Rattle.flight_core.proofs.HeldOutput.{kept_behind, reached_part}
 
 -- this was written so far, which is what is to be written of the records so far where these are all that have come

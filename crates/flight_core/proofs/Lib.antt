@@ -1,6 +1,7 @@
 pub mod Fronts
 pub mod Slices
 pub mod Cutting
+pub mod Known
 mod TextsCompiled
 mod RecordsBrought
 mod NextHandled

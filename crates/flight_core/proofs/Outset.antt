@@ -1,8 +1,7 @@
 -- How a run begins: the first host, and the texts that were compiled.
-use Rattle.std.proofs.Common.{◌≡◌, ◌≢◌, refl, sym, ◌∙◌, ap, subst, ℕ, zero, suc, ◌+◌, ◌-◌, ◌==◌, ◌<◌, ◌≤◌, Bool, true, false, not, cond, nat_lt, List, [], ◌∷◌, length, map, replicate, Option, Some, None, Result, Ok, Err, arith, length-drop, Bor}
-use Rattle.std.specs.Prelude.{option_map, All, IfSome}
+use Rattle.std.proofs.Common.{◌≡◌, ◌≢◌, refl, sym, ◌∙◌, ap, subst, ℕ, ◌+◌, ◌-◌, ◌==◌, ◌<◌, ◌≤◌, Bool, true, false, not, cond, nat_lt, List, ◌∷◌, length, Result, Ok, Err, arith, length-drop, Bor}
 use Rattle.std.specs.List.{AllByRecursion, concat}
-use Rattle.lc_model.specs.Tables.HalvesAndBytes.{as_bytes, meaning_by}
+use Rattle.lc_model.specs.Tables.HalvesAndBytes.{meaning_by}
 use Rattle.lc_model.specs.Tables.InForce.{layouts, edition}
 use Rattle.lc_model.specs.Bytes.{u32_at}
 use Rattle.lc_model.specs.Tables.File.{TableFile, opened, headers_length, content_type, subtype, file_header_length, fields_of, wrapped}
@@ -12,7 +11,7 @@ use Rattle.lc_model.specs.Host.Stream.{records_of}
 use Rattle.lc_model.specs.Host.Run.{size_in}
 use Rattle.lc_model.specs.Host.Outcome.{Devices, Ending, IsOutcome}
 use Rattle.lc_model.specs.Host.Promise.{Mission, IsRun, EndsBy, IsRunByBytes, output_by_bytes}
-use Rattle.lc_model.specs.Kept.Summary.{AppState, LcState, SchState, CounterState, Other}
+use Rattle.lc_model.specs.Kept.Summary.{Other}
 use Rattle.lc_model.specs.Kept.Executive.{Member, first_executive, written_from}
 use Rattle.lc_model.specs.Kept.Stations as model
 use Rattle.lc_model.specs.Kept.Stations.{first_host}
@@ -21,56 +20,19 @@ use Rattle.lc_model.proofs.Host.RunsKept.{files_of_halves}
 use Rattle.lc_model.proofs.Host.WholeRuns.{numbered}
 use Rattle.lc_model.proofs.Facts.{tested_not_less}
 use Rattle.rpn_compiler.specs.declared.files.TablePair.{TablePair}
-use Rattle.host_laws.specs.Keeping.{IsSpare}
-use Rattle.host_laws.specs.Keeping as keeping
 use Rattle.host_laws.specs.Statements.{AreBrought, WritesByBytes}
 use Rattle.app_host.specs.Shared.{on_board}
-use Rattle.app_host.specs.Hosted.{Object, Hosted, member_of, in_numbers, object_at}
-use Rattle.app_host.specs.Whole.{IsKnown}
+use Rattle.app_host.specs.Hosted.{Object, Hosted, in_numbers}
 use Rattle.flight_core.specs.declared.error.Report.{Report}
 use Rattle.flight_core.specs.declared.error.RunError.{RunError}
 use Rattle.flight_core.specs.declared.error.RunError.TheVariants as error
 use Rattle.flight_core.specs.Brought.{meanings_of, AreWhole}
 use Rattle.flight_core.specs.Compiled.{sources_of, file_in, AreAllCompiled}
 use Rattle.flight_core.specs.Ending.{ending_of}
-use Rattle.flight_core.specs.Flight.{AreAllKnown, FliesSo}
+use Rattle.flight_core.specs.Flight.{FliesSo}
 use Rattle.flight_core.specs.Run.{members_of, mission_of, IsOfProfile, IsOutputFrom, EndsSo, RunsSo}
+use Rattle.flight_core.proofs.Known.{known_first}
 use Rattle.flight_core.proofs.TextsCompiled.{AreTexts, texts_of}
-
--- ---- objects of this profile
-
-not_other : (schedule : Schedule) (member : Member) → IsSpare (as_bytes layouts) schedule member → member.state ≢ Other
-not_other schedule member spare other = by_state member.state other spare
-  where
-    by_state : (state : AppState) → state ≡ Other → keeping.IsOfProfile (as_bytes layouts) schedule member.called state → ⊥
-    by_state (LcState own) e is = absurd (cc e)
-    by_state (SchState own slot) e is = absurd (cc e)
-    by_state (CounterState count) e is = absurd (cc e)
-    by_state Other e is = is
-
-pub all_not_other : (schedule : Schedule) (members : List Member) → AllByRecursion (IsSpare (as_bytes layouts) schedule) members → AllByRecursion (λ (member : Member). member.state ≢ Other) members
-all_not_other schedule [] all = tt
-all_not_other schedule (member ∷ members) all = (not_other schedule member all.0, all_not_other schedule members all.1)
-
--- ---- the first host
-
-spares_known : (stock : List Object) → AllByRecursion (λ (member : Member). member.state ≢ Other) (map member_of stock) → All IsKnown stock
-spares_known [] all k d less = absurd (omega (arith, less))
-spares_known (spare ∷ stock) all zero d less = all.0
-spares_known (spare ∷ stock) all (suc k) d less = spares_known stock all.1 k d (omega (arith, less))
-
-no_seat : (n : ℕ) (seats : List (Option Object)) (seat : ℕ) → map (option_map member_of) seats ≡ replicate n None → object_at seat seats ≡ None
-no_seat n [] seat is = refl
-no_seat zero (place ∷ seats) seat is = absurd (cc is)
-no_seat (suc n) (None ∷ seats) zero is = refl
-no_seat (suc n) (None ∷ seats) (suc seat) is = let rest : map (option_map member_of) seats ≡ replicate n None = cc is in no_seat n seats seat rest
-no_seat (suc n) (Some o ∷ seats) seat is = let clash : Some (member_of o) ≡ None = cc is in absurd (cc clash)
-
-pub known_first : (h : Hosted) (members : List Member) → in_numbers h ≡ first_host members → AllByRecursion (λ (member : Member). member.state ≢ Other) members → AreAllKnown h
-known_first h members is all = record {
-  spares = spares_known h.stock (subst (AllByRecursion (λ (member : Member). member.state ≢ Other)) (sym (ap (λ (x : model.Host (List ℕ)). x.executive.stock) is)) all);
-  seated = λ seat. subst (λ o. IfSome o IsKnown) (sym (no_seat 8 h.seats seat (ap (λ (x : model.Host (List ℕ)). x.executive.seats) is))) tt;
-}
 
 -- ---- the files
 

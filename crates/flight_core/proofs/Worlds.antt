@@ -27,8 +27,7 @@ use Rattle.app_host.specs.Shared.{on_board}
 use Rattle.app_host.specs.Step.{StepsWhole, StepsPart, called_for, party_of}
 use Rattle.flight_core.specs.Flight.{AreAllKnown}
 use Rattle.flight_core.specs.Worlds.{AllBringHalves, AreOnBoard, BringsHalves, FollowsTheWorld, HostsStandForTheTexts, IsFirst, StandForTheTexts, StandsFor, Takes, brought_by, none, one, sent_for}
-use Rattle.flight_core.proofs.Courses.{party_known, still_known}
-use Rattle.flight_core.proofs.Outset.{all_not_other, known_first}
+use Rattle.flight_core.proofs.Known.{all_not_other, known_first, party_known, still_known}
 
 half_below : (texts : ℕ) (contents : Contents) → IsBrought texts contents → IsHalfBelow texts contents
 half_below texts (Packet bytes) brought = tt

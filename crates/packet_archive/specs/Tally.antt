@@ -1,5 +1,5 @@
 -- What an import counts and names. This project's own.
-use Rattle.std.specs.Prelude.{ℕ, zero, suc, ◌+◌, ◌-◌, ◌^◌, List, drop, length, min, nat_lt, slice_set, Option, Some, None, if◌then◌else◌}
+use Rattle.std.specs.Prelude.{ℕ, zero, suc, ◌+◌, ◌-◌, ◌^◌, List, drop, length, min, nat_lt, replicate, slice_set, Option, Some, None, if◌then◌else◌}
 use Rattle.packet_archive.specs.declared.choice.Fate.{Fate}
 use Rattle.packet_archive.specs.declared.choice.Fate.TheVariants.{Idle, Faulty}
 use Rattle.packet_archive.specs.declared.front.Front.{Front}
@@ -17,6 +17,10 @@ counted count more = min (count + more) (2 ^ 64 - 1)
 -- how many packets with a fault are named
 abbrev pub named : ℕ
 named = 10
+
+-- nothing was met
+abbrev pub nothing_met : Tally
+nothing_met = record { bytes = 0; taken = 0; idle = 0; other = 0; faulty = 0; first = replicate named None; zeros = 0; first_zero = None }
 
 -- a packet with this fault, behind those that were met: one of the first ten is named, with the byte at which it begins
 abbrev pub fault_noted : ℕ → Tally → Tally

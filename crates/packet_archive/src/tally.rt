@@ -1,7 +1,7 @@
 //! What an import has met.
 
 ghost use Rattle.std.specs.Prelude.{◌≡◌};
-ghost use Rattle.packet_archive.specs.Tally.{bytes_noted, fault_noted, front_noted, left_out_noted, met_noted, noted, zeros_noted};
+ghost use Rattle.packet_archive.specs.Tally.{bytes_noted, fault_noted, front_noted, left_out_noted, met_noted, noted, nothing_met, zeros_noted};
 
 use crate::choice::Fate;
 use crate::front::Front;
@@ -40,7 +40,9 @@ pub struct Tally {
 
 impl Tally {
     /// Nothing.
-    pub fn new() -> Tally {
+    pub fn new() -> Tally
+        ensures { result ≡ nothing_met }
+    {
         Tally {
             bytes: 0,
             taken: 0,

@@ -8,6 +8,8 @@ use Rattle.rpn_compiler.specs.declared.error.CompileError.{CompileError}
 use Rattle.flight_core.specs.declared.error.Report.{Report}
 use Rattle.flight_core.specs.declared.error.RunError.{RunError}
 use Rattle.flight_core.specs.declared.error.RunError.TheVariants as run
+use Rattle.run_course.specs.declared.ending.Ending.{Ending}
+use Rattle.run_course.specs.declared.ending.Ending.TheVariants as ending
 use Rattle.run_report.specs.declared.error.ReportError.{ReportError}
 use Rattle.run_report.specs.declared.error.ReportError.TheVariants as page
 use Rattle.run_comparison.specs.declared.comparison.Compared.{Compared}
@@ -30,6 +32,13 @@ fault_of_page name rules page.Memory noted = fault.Memory
 fault_of_page name rules page.Write (Some kind) = fault.File name (why_of kind)
 fault_of_page name rules page.Write None = fault.File name why.Failed
 fault_of_page name rules (page.Rules text error) noted = fault.Rules (unwrap_or (slice_get rules text) name) error
+
+-- a stream in a file of this name that ends early is a fault, which says where
+abbrev pub answer_of_ending : Bor (List ℕ) → Ending → Result (Unit {0}) Fault
+answer_of_ending name (ending.Whole records) = Ok tt
+answer_of_ending name (ending.NoRecord n) = Err (fault.Stream name (run.BadRecord n))
+answer_of_ending name (ending.Cut n) = Err (fault.Stream name (run.Truncated n))
+answer_of_ending name ending.Bound = Err (fault.Stream name run.ReadBound)
 
 -- of two rule texts in files of these names that aren't compared
 abbrev pub IsOfComparison : (old new : Bor (List ℕ)) → ComparisonError → Option ErrorKind → Fault → Type 0

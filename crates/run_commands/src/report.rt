@@ -1,9 +1,11 @@
 //! `report SCHEDULE STREAM PAGE RULES..`
 
 ghost use Rattle.std.specs.Prelude.{◌≡◌};
-ghost use Rattle.run_commands.specs.Cause.{fault_of_page};
+ghost use Rattle.run_commands.specs.Cause.{answer_of_ending, fault_of_page};
 
+use flight_core::RunError;
 use program_files::{Noting, Why, begin, discard, keep, reason_for};
+use run_course::Ending;
 use run_report::{Progress, ReportError, Run, Source, write_page};
 use std::alloc::Global;
 use std::cell::Cell;
@@ -49,23 +51,35 @@ fn page_fault<'a>(
     }
 }
 
-/// Writes the page, and all of it is with the device. Answers whether the stream has an end.
+/// Writes the page, and all of it is with the device. Answers how the run ended.
 fn write_to<R: Eprint, F: Write + Drop>(
     alloc: Global,
     schedule: &Schedule,
     run: &Run<'_, '_>,
     file: F,
     told: &mut Told<'_, R>,
-) -> Result<bool, ReportError> {
+) -> Result<Ending, ReportError> {
     let Ok(mut out) = BufWriter::new(alloc, file) else {
         return Err(ReportError::Memory);
     };
     let written = write_page(alloc, schedule, run, &mut out, told);
     let flushed = out.flush();
     let (_file, _unwritten) = out.into_parts();
-    let is_whole = written?;
+    let ending = written?;
     flushed?;
-    Ok(is_whole)
+    Ok(ending)
+}
+
+/// What a run over a stream in a file of this name comes to: one that ends early is a fault.
+fn answer_of<'a>(stream: &'a str, ending: Ending) -> Result<(), Fault<'a>>
+    ensures { result ≡ answer_of_ending stream.entry ending }
+{
+    match ending {
+        Ending::Whole { .. } => Ok(()),
+        Ending::NoRecord { n } => Err(Fault::Stream(stream, RunError::BadRecord { n })),
+        Ending::Cut { n } => Err(Fault::Stream(stream, RunError::Truncated { n })),
+        Ending::Bound => Err(Fault::Stream(stream, RunError::ReadBound)),
+    }
 }
 
 /// The instant of second 0 in UTC, where it is named.
@@ -77,7 +91,7 @@ fn epoch_text<'a>(alloc: Global, word: Option<&'a str>) -> Result<Option<String>
 }
 
 /// A run of these rule texts over a stream, as a page, which is written beside its name and takes it at the end. A stream that
-/// ends early has a page, and another status.
+/// ends early has a page, and is a fault, which says where.
 pub fn make_page<'a, R: Files + Eprint + AllocGlobal>(
     rt: &R,
     schedule: &'a str,
@@ -123,9 +137,9 @@ pub fn make_page<'a, R: Files + Eprint + AllocGlobal>(
         &mut Told { rt, is_watched },
     );
     match written {
-        Ok(is_whole) => {
+        Ok(ending) => {
             keep(rt, draft).map_err(|fault| fault_at(page, fault))?;
-            if is_whole { Ok(()) } else { Err(Fault::Early) }
+            answer_of(stream, ending)
         }
         Err(error) => {
             discard(rt, draft);

@@ -1,6 +1,5 @@
 pub mod Engines
 pub mod InFront
-pub mod Known
 pub mod Tracing
 pub mod Arriving
 pub mod Output

@@ -1,5 +1,6 @@
 -- A run over a stream, record by record, and what is left of it.
 use Rattle.std.proofs.Common.{◌≡◌, refl, sym, ◌∙◌, ap, subst, ℕ, ◌+◌, ◌<◌, ◌≤◌, Bool, true, false, true≢false, ◌==◌, nat_lt, List, [], ◌∷◌, ◌++◌, length, take, drop, map, length-append, length-take, append_assoc, append-nil, Option, Some, None, option_map, Result, Ok, Err, arith}
+use Rattle.std.specs.Option.{option_or}
 use Rattle.std.specs.List.{concat}
 use Rattle.std.proofs.lemmas.List.{take-append-drop, take_all}
 use Rattle.lc_model.specs.Device.{Sink}
@@ -28,17 +29,17 @@ use Rattle.flight_core.specs.Front.{part_of}
 use Rattle.flight_core.specs.Going.{IsHandled, MeetsNone, NoneIsHeld}
 use Rattle.flight_core.specs.Records.{Held}
 use Rattle.flight_core.specs.Run.{members_of}
+use Rattle.flight_core.proofs.Known.{all_not_other, known_first, party_known, still_known}
 use Rattle.flight_stock.specs.Stock.{names_of}
 use Rattle.run_course.specs.declared.ending.Ending.{Ending}
 use Rattle.run_course.specs.declared.ending.Ending.TheVariants as ended
 use Rattle.run_course.specs.declared.error.CourseError.{CourseError}
 use Rattle.run_course.specs.declared.handled.Handled.{Handled}
 use Rattle.run_course.specs.declared.handled.Handled.TheVariants as handled
-use Rattle.run_course.specs.Stepping.{HasStepped, BeginsWith, engine_among, engine_of, otherwise, told_of}
+use Rattle.run_course.specs.Stepping.{HasStepped, BeginsWith, engine_among, engine_of, told_of}
 use Rattle.run_course.specs.declared.behind.RuleStanding.{RuleStanding}
 use Rattle.run_course.specs.Trace.{HasRun, IsStanding, Part, Traced, ending_by, engine_in, moment_in, parts_from, size_in_front, standing_in}
 use Rattle.run_course.proofs.InFront.{IsAllOf, all_of, long_size, none_of, part_of_all, short_size}
-use Rattle.run_course.proofs.Known.{known_first, party_known, still_known}
 
 -- ---- so far
 
@@ -249,7 +250,7 @@ begun sources schedule stream it is = record {
   of_texts = ap (λ (h : Held). h.texts) is.begun.held;
   files = refl;
   is_open = is.begun.is_open;
-  known = known_first schedule it.host (members_of is.stock) is.begun.host is.profile;
+  known = known_first it.host (members_of is.stock) is.begun.host (all_not_other schedule (members_of is.stock) is.profile);
   writes = refl;
   ends = refl;
   stands = refl;
@@ -279,7 +280,7 @@ has_run sources schedule stream it h t is done =
 same_engine : (seats : List (Option Object)) → engine_among seats ≡ engine_in (map (option_map member_of) seats)
 same_engine [] = refl
 same_engine (None ∷ seats) = same_engine seats
-same_engine (Some o ∷ seats) = ap (λ own. otherwise (engine_of (Some o)) own) (same_engine seats)
+same_engine (Some o ∷ seats) = ap (λ own. option_or (engine_of (Some o)) own) (same_engine seats)
 
 pub standing : (sources : List (List ℕ)) (schedule : Schedule) (stream : List ℕ) (rule : ℕ) (t : Traced) (h : Hosted) (checker : Option LcOwn) (found : RuleStanding) →
     HasRun sources schedule stream t (executive_in h) → checker ≡ engine_among h.seats → found ≡ standing_in checker rule → IsStanding sources schedule stream rule found

@@ -1,5 +1,6 @@
 -- A run that goes record by record. This project's own.
 use Rattle.std.specs.Prelude.{◌≡◌, ℕ, Bool, List, [], ◌∷◌, Option, Some, None, Result, Ok, Err, ⊤}
+use Rattle.std.specs.Option.{option_or}
 use Rattle.lc_model.specs.Kept.Summary.{LcOwn, AppState, LcState, SchState, CounterState, Other}
 use Rattle.app_host.specs.Hosted.{Object}
 use Rattle.flight_core.specs.declared.halt.Halt.{Halt}
@@ -77,12 +78,7 @@ abbrev pub engine_of : Option Object → Option LcOwn
 engine_of None = None
 engine_of (Some object) = engine_by object.state
 
--- the first of two, where there is one
-abbrev pub otherwise : Option LcOwn → Option LcOwn → Option LcOwn
-otherwise None other = other
-otherwise (Some own) other = Some own
-
 -- that of the least seat with a Limit Checker
 abbrev pub engine_among : List (Option Object) → Option LcOwn
 engine_among [] = None
-engine_among (place ∷ others) = otherwise (engine_of place) (engine_among others)
+engine_among (place ∷ others) = option_or (engine_of place) (engine_among others)

@@ -1,6 +1,7 @@
 -- What each record of a stream leads to, as the definitions have it. This project's own.
 use Rattle.std.specs.Prelude.{◌≡◌, ℕ, zero, suc, ◌+◌, ◌&&◌, List, [], ◌∷◌, ◌++◌, drop, length, map, min, nat_le, nat_lt, slice_get, take, Option, Some, None, if◌then◌else◌}
 use Rattle.std.specs.List.{AllByRecursion, concat}
+use Rattle.std.specs.Option.{option_or}
 use Rattle.lc_model.specs.declared.record.Moment.{Moment}
 use Rattle.lc_model.specs.Bytes.{u16_at}
 use Rattle.lc_model.specs.Packet.{length_offset, primary_header_size}
@@ -20,7 +21,7 @@ use Rattle.app_host.specs.Shared.{on_board}
 use Rattle.flight_core.specs.Brought.{meanings_of}
 use Rattle.flight_core.specs.Compiled.{AreAllCompiled}
 use Rattle.flight_stock.specs.Stock.{own_names}
-use Rattle.run_course.specs.Stepping.{engine_by, otherwise}
+use Rattle.run_course.specs.Stepping.{engine_by}
 use Rattle.run_course.specs.declared.behind.RuleStanding.{RuleStanding}
 use Rattle.run_course.specs.declared.behind.RuleStanding.TheVariants as standing
 use Rattle.run_course.specs.declared.ending.Ending.{Ending}
@@ -89,7 +90,7 @@ engine_at (Some member) = engine_by member.state
 
 abbrev pub engine_in : List (Option Member) → Option LcOwn
 engine_in [] = None
-engine_in (place ∷ others) = otherwise (engine_at place) (engine_in others)
+engine_in (place ∷ others) = option_or (engine_at place) (engine_in others)
 
 -- a rule by its point, where there is one
 abbrev pub standing_by : Option (Point Tally) → RuleStanding

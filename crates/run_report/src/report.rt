@@ -36,7 +36,7 @@ fn bytes_of<'t>(alloc: Global, sources: &[Source<'_, 't>]) -> Result<Vec<&'t [u8
 ///
 /// What the page has is said in page/DATA.md: the run is stepped through once, and the account of it is taken behind each
 /// record, in memory that the run's length doesn't change; `progress` is told of about twenty parts of the stream. A stream
-/// that ends early has a page, which says so, and so does the answer: whether the stream has an end.
+/// that ends early has a page, which says so, and so does the answer: how the run ended.
 ///
 /// Errors: `Rules` with the first text that doesn't compile, numbered from 0, before anything is written; `Memory`; `Write`,
 /// where the writer fails. What was written before stands.
@@ -46,7 +46,7 @@ pub fn write_page<W: Write, P: Progress>(
     run: &Run<'_, '_>,
     out: &mut W,
     progress: &mut P,
-) -> Result<bool, ReportError> {
+) -> Result<Ending, ReportError> {
     let texts = bytes_of(alloc, run.texts)?;
     let (telling, ending) = tell_run(alloc, schedule, texts.as_slice(), run.stream.text, progress)?;
     put(out, page_front::TEXT)?;
@@ -54,5 +54,5 @@ pub fn write_page<W: Write, P: Progress>(
     put(out, page_script_0::TEXT)?;
     put(out, page_script_1::TEXT)?;
     put(out, page_script_2::TEXT)?;
-    Ok(matches!(ending, Ending::Whole { .. }))
+    Ok(ending)
 }

@@ -22,8 +22,12 @@ pub enum Fault<'a> {
     Value(&'a str, &'a str),
     /// A table file with a fault, which its listing says.
     Table,
-    /// A stream or packets that end early, which the listing or the page says.
+    /// A stream or packets that end early, which the listing says.
     Early,
+    /// A stream that ends early, by its file's name, and where.
+    Stream(&'a str, RunError),
+    /// Packets that end early, by their file's name: behind how many, and how many bytes are no whole packet.
+    Packets(&'a str, u64, usize),
     /// A schedule or a script that is refused, and what is said of it.
     Lines(String),
     /// A rule text that is refused, by its file's name.
@@ -90,8 +94,8 @@ impl Fault<'_> {
             Fault::Rules(..) | Fault::Differs | Fault::Unmet => 1,
             Fault::Words(_) | Fault::NoText | Fault::Value(..) => 2,
             Fault::File(..) => 3,
-            Fault::Early => 4,
-            Fault::Run(error) => status_of_run(*error),
+            Fault::Early | Fault::Packets(..) => 4,
+            Fault::Run(error) | Fault::Stream(_, error) => status_of_run(*error),
             Fault::Memory => 5,
         }
     }
@@ -109,6 +113,11 @@ impl Display for Fault<'_> {
             Fault::Rules(name, error) => writeln!(f, "{name}: {error}"),
             Fault::Judgement(name, error) => writeln!(f, "{name}: {error}"),
             Fault::Run(error) => writeln!(f, "{error}"),
+            Fault::Stream(name, error) => writeln!(f, "{name}: {error}"),
+            Fault::Packets(name, number, left) => writeln!(
+                f,
+                "{name}: cut behind packet {number}: {left} bytes are no whole packet"
+            ),
             Fault::File(name, why) => writeln!(f, "cannot use {name}: {why}"),
             Fault::Memory => writeln!(f, "no memory"),
         }

@@ -1,6 +1,6 @@
--- Objects of this profile are known: at first, and behind each record.
-use Rattle.std.proofs.Common.{◌≡◌, ◌≢◌, refl, sym, ap, subst, ℕ, zero, suc, ◌==◌, Bool, true, false, cond, List, [], ◌∷◌, map, replicate, get_or, Option, Some, None, option_map, arith}
-use Rattle.std.specs.Prelude.{All, Contains, find, slice_index_or, IfSome, IsTrue}
+-- Objects that are known: at first, and behind each record.
+use Rattle.std.proofs.Common.{◌≡◌, ◌≢◌, refl, sym, ap, subst, ℕ, zero, suc, ◌==◌, Bool, true, false, cond, List, [], ◌∷◌, map, replicate, get_or, Option, Some, None, arith}
+use Rattle.std.specs.Prelude.{option_map, All, Contains, find, slice_index_or, IfSome, IsTrue}
 use Rattle.std.specs.List.{AllByRecursion, list_any}
 use Rattle.std.proofs.lemmas.List.Elements.{All-head, All-tail, All-contains}
 use Rattle.lc_model.specs.Name.{Name, is_named}
@@ -30,10 +30,14 @@ not_other schedule member spare other = by_state member.state other spare
     by_state (CounterState count) e is = absurd (cc e)
     by_state Other e is = is
 
-spares_known : (schedule : Schedule) (stock : List Object) → AllByRecursion (IsSpare (as_bytes layouts) schedule) (map member_of stock) → All IsKnown stock
-spares_known schedule [] all k d less = absurd (omega (arith, less))
-spares_known schedule (spare ∷ stock) all zero d less = not_other schedule (member_of spare) all.0
-spares_known schedule (spare ∷ stock) all (suc k) d less = spares_known schedule stock all.1 k d (omega (arith, less))
+pub all_not_other : (schedule : Schedule) (members : List Member) → AllByRecursion (IsSpare (as_bytes layouts) schedule) members → AllByRecursion (λ (member : Member). member.state ≢ Other) members
+all_not_other schedule [] all = tt
+all_not_other schedule (member ∷ members) all = (not_other schedule member all.0, all_not_other schedule members all.1)
+
+spares_known : (stock : List Object) → AllByRecursion (λ (member : Member). member.state ≢ Other) (map member_of stock) → All IsKnown stock
+spares_known [] all k d less = absurd (omega (arith, less))
+spares_known (spare ∷ stock) all zero d less = all.0
+spares_known (spare ∷ stock) all (suc k) d less = spares_known stock all.1 k d (omega (arith, less))
 
 no_seat : (n : ℕ) (seats : List (Option Object)) (seat : ℕ) → map (option_map member_of) seats ≡ replicate n None → object_at seat seats ≡ None
 no_seat n [] seat is = refl
@@ -42,9 +46,9 @@ no_seat (suc n) (None ∷ seats) zero is = refl
 no_seat (suc n) (None ∷ seats) (suc seat) is = let rest : map (option_map member_of) seats ≡ replicate n None = cc is in no_seat n seats seat rest
 no_seat (suc n) (Some o ∷ seats) seat is = let clash : Some (member_of o) ≡ None = cc is in absurd (cc clash)
 
-pub known_first : (schedule : Schedule) (h : Hosted) (members : List Member) → in_numbers h ≡ first_host members → AllByRecursion (IsSpare (as_bytes layouts) schedule) members → AreAllKnown h
-known_first schedule h members is all = record {
-  spares = spares_known schedule h.stock (subst (AllByRecursion (IsSpare (as_bytes layouts) schedule)) (sym (ap (λ (x : model.Host (List ℕ)). x.executive.stock) is)) all);
+pub known_first : (h : Hosted) (members : List Member) → in_numbers h ≡ first_host members → AllByRecursion (λ (member : Member). member.state ≢ Other) members → AreAllKnown h
+known_first h members is all = record {
+  spares = spares_known h.stock (subst (AllByRecursion (λ (member : Member). member.state ≢ Other)) (sym (ap (λ (x : model.Host (List ℕ)). x.executive.stock) is)) all);
   seated = λ seat. subst (λ o. IfSome o IsKnown) (sym (no_seat 8 h.seats seat (ap (λ (x : model.Host (List ℕ)). x.executive.seats) is))) tt;
 }
 
@@ -84,6 +88,6 @@ party_known Waiting h all = record { waiting = λ seat some. all.seated seat; sc
 party_known Holders h all = λ seat some. all.seated seat
 party_known (Only leaving coming) h all = (seat_known leaving h.seats all.seated, spare_known coming h.stock all.spares)
 
--- where none is new, all stay known
+-- and where none is new, all are
 pub still_known : (old new : List Object) → All IsKnown old → All (Contains old) new → All IsKnown new
 still_known old new all among k d less = All-contains IsKnown old (get_or new k d) all (among k d less)
