@@ -3,3 +3,4 @@ pub mod Expected
 pub mod Reading
 pub mod Judged
 pub mod Arrivals
+pub mod Untried

@@ -1,5 +1,9 @@
 //! Why a script isn't tried.
 
+ghost use Rattle.std.specs.Prelude.{◌≡◌};
+ghost use Rattle.run_expectations.specs.Untried.{IsOwn, of_course, of_reading, of_scenario, of_script};
+ghost use Rattle.run_expectations.specs.declared.error.TrialError.TheVariants.{Memory};
+
 use crate::reading::ReadError;
 use rpn_compiler::CompileError;
 use run_course::CourseError;
@@ -33,6 +37,8 @@ pub enum TrialError {
 }
 
 impl From<ScenarioError> for TrialError {
+    ghost from_gives = { λ error e. e ≡ of_scenario error };
+
     fn from(error: ScenarioError) -> TrialError {
         match error {
             ScenarioError::Memory => TrialError::Memory,
@@ -42,6 +48,8 @@ impl From<ScenarioError> for TrialError {
 }
 
 impl From<ReadError> for TrialError {
+    ghost from_gives = { λ error e. e ≡ of_reading error };
+
     fn from(error: ReadError) -> TrialError {
         match error {
             ReadError::Memory => TrialError::Memory,
@@ -51,6 +59,8 @@ impl From<ReadError> for TrialError {
 }
 
 impl From<ScriptError> for TrialError {
+    ghost from_gives = { λ error e. e ≡ of_script error };
+
     fn from(error: ScriptError) -> TrialError {
         match error {
             ScriptError::Memory => TrialError::Memory,
@@ -60,6 +70,8 @@ impl From<ScriptError> for TrialError {
 }
 
 impl From<CourseError> for TrialError {
+    ghost from_gives = { λ error e. e ≡ of_course error };
+
     fn from(error: CourseError) -> TrialError {
         match error {
             CourseError::Memory => TrialError::Memory,
@@ -69,18 +81,24 @@ impl From<CourseError> for TrialError {
 }
 
 impl From<AllocError> for TrialError {
+    ghost from_gives = { λ _ e. e ≡ Memory };
+
     fn from(_error: AllocError) -> TrialError {
         TrialError::Memory
     }
 }
 
 impl<T: Drop> From<AllocFailed<T>> for TrialError {
+    ghost from_gives = { λ _ e. e ≡ Memory };
+
     fn from(_error: AllocFailed<T>) -> TrialError {
         TrialError::Memory
     }
 }
 
 impl From<io::Error> for TrialError {
+    ghost from_gives = { λ _ e. IsOwn e };
+
     fn from(error: io::Error) -> TrialError {
         if error.kind() == ErrorKind::OutOfMemory {
             TrialError::Memory

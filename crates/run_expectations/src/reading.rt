@@ -8,6 +8,7 @@ ghost use Rattle.std.specs.List.{prefix_len};
 ghost use Rattle.stream_script.specs.Part.{is_blank, texts_of, words_of};
 ghost use Rattle.run_expectations.specs.Expected.{expected_of};
 ghost use Rattle.run_expectations.specs.Reading.{IsReadError, IsRefused, PlacedExpected, ReadFault, commented, expectations_in, is_expectation, line_expected, lines_expected, placed_of, silenced_in, silenced_line, with_expected};
+ghost use Rattle.run_expectations.specs.Untried.{read_error_at};
 ghost use Rattle.run_expectations.specs.declared.reading.LineFault.TheVariants as line;
 ghost use Rattle.run_expectations.specs.declared.reading.ReadError.TheVariants as error;
 
@@ -32,7 +33,9 @@ pub enum ReadError {
 
 impl ReadError {
     /// The error at the line of the scenario that says the plain script's line.
-    pub fn at(self, plain: &Plain) -> ReadError {
+    pub fn at(self, plain: &Plain) -> ReadError
+        ensures { result ≡ read_error_at plain.now.lines.items self }
+    {
         match self {
             ReadError::Line { n, fault } => ReadError::Line {
                 n: plain.line(n),

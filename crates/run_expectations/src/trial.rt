@@ -1,11 +1,12 @@
 //! A run of a script, and whether what it expects has come.
 
-ghost use Rattle.std.specs.Prelude.{◌≡◌, filter_map, map, Ok, IfOk};
+ghost use Rattle.std.specs.Prelude.{◌≡◌, filter_map, map, Ok, IfErr, IfOk};
 ghost use Rattle.std.specs.List.{AllByRecursion};
 ghost use Rattle.flight_core.specs.Compiled.{sources_of};
 ghost use Rattle.run_expectations.specs.Arrivals.{IsFound, IsJudged, IsNamed, IsNumbered, IsPlainTried, IsTried, StandsAt, arrival_of, placed_in, rule_in, rule_numbered};
 ghost use Rattle.run_expectations.specs.Expected.{expected_of};
 ghost use Rattle.run_expectations.specs.Reading.{expectations_in, placed_of};
+ghost use Rattle.run_expectations.specs.Untried.{IsNotFound, IsPlainUntried, IsUnexpected, IsUnsaid, IsUntried, plain_script_of, script_error_at};
 ghost use Rattle.stream_script.specs.Script.{script_in};
 
 use crate::error::TrialError;
@@ -95,11 +96,13 @@ struct Trial<'a, 't> {
 impl Trial<'_, '_> {
     /// How the rule with this number stands behind what the script says before a place.
     fn standing_at(&self, at: usize, rule: usize) -> Result<RuleStanding, TrialError>
-        ensures { IfOk result (StandsAt (sources_of self.now.plan.texts.now)
+        ensures stands { IfOk result (StandsAt (sources_of self.now.plan.texts.now)
             self.now.plan.schedule.now self.now.declared.now self.now.script.now at rule) }
+        ensures refused { IfErr result (IsNotFound (sources_of self.now.plan.texts.now)
+            self.now.script.now self.now.plain.now.lines.items) }
     {
         let (front, _) = self.script.split_at(at.min(self.script.len()));
-        let stream = read_script(self.alloc, front)?;
+        let stream = stream_of(self.alloc, self.plain, front)?;
         let standing = standing_of(
             self.alloc,
             self.plan.texts,
@@ -112,9 +115,11 @@ impl Trial<'_, '_> {
 
     /// How the rule of this name stands there.
     fn named_at(&self, at: usize, name: &[u8]) -> Result<RuleStanding, TrialError>
-        ensures { IfOk result (IsNumbered (sources_of self.now.plan.texts.now)
+        ensures stands { IfOk result (IsNumbered (sources_of self.now.plan.texts.now)
             self.now.plan.schedule.now self.now.declared.now self.now.script.now at
             (rule_numbered self.now.declared.now name.now)) }
+        ensures refused { IfErr result (IsNotFound (sources_of self.now.plan.texts.now)
+            self.now.script.now self.now.plain.now.lines.items) }
     {
         match self.declared.rule_number(name) {
             Some(rule) => self.standing_at(at, usize::from(rule)),
@@ -124,9 +129,11 @@ impl Trial<'_, '_> {
 
     /// How the rule stands that an expectation names.
     fn found(&self, placed: &Placed<'_>) -> Result<RuleStanding, TrialError>
-        ensures { IfOk result (IsNamed (sources_of self.now.plan.texts.now)
+        ensures stands { IfOk result (IsNamed (sources_of self.now.plan.texts.now)
             self.now.plan.schedule.now self.now.declared.now self.now.script.now placed.now.at
             (rule_in (expected_of placed.now.expectation))) }
+        ensures refused { IfErr result (IsNotFound (sources_of self.now.plan.texts.now)
+            self.now.script.now self.now.plain.now.lines.items) }
     {
         match placed.expectation {
             Expectation::Comes(_) | Expectation::Absent(_) => Ok(RuleStanding::NoRule),
@@ -141,6 +148,8 @@ impl Trial<'_, '_> {
         ensures found { IfOk result (λ judged. AllByRecursion (IsFound
             (sources_of self.now.plan.texts.now) self.now.plan.schedule.now
             self.now.declared.now self.now.script.now) judged.items) }
+        ensures refused { IfErr result (IsNotFound (sources_of self.now.plan.texts.now)
+            self.now.script.now self.now.plain.now.lines.items) }
     {
         let mut judged = Vec::new(self.alloc);
         for placed in expectations {
@@ -189,7 +198,9 @@ fn tell<W: Write>(
 }
 
 /// An error of a plain script, at the line of the scenario that says it.
-pub fn script_error_at(plain: &Plain, error: ScriptError) -> ScriptError {
+pub fn script_error_at(plain: &Plain, error: ScriptError) -> ScriptError
+    ensures { result ≡ script_error_at plain.now.lines.items error }
+{
     match error {
         ScriptError::Line { n, reason } => ScriptError::Line {
             n: plain.line(n),
@@ -199,9 +210,10 @@ pub fn script_error_at(plain: &Plain, error: ScriptError) -> ScriptError {
     }
 }
 
-/// The stream of a plain script without its expectations.
+/// The stream of a plain script without its expectations, or of what stands in front of one of them.
 fn stream_of(alloc: Global, plain: &Plain, quiet: &[u8]) -> Result<Vec<u8>, TrialError>
-    ensures { IfOk result (λ stream. script_in quiet.now ≡ Ok stream.items) }
+    ensures said { IfOk result (λ stream. script_in quiet.now ≡ Ok stream.items) }
+    ensures refused { IfErr result (IsUnsaid quiet.now plain.now.lines.items) }
 {
     match read_script(alloc, quiet) {
         Ok(stream) => Ok(stream),
@@ -211,8 +223,10 @@ fn stream_of(alloc: Global, plain: &Plain, quiet: &[u8]) -> Result<Vec<u8>, Tria
 
 /// The expectations of a plain script.
 fn expectations_of<'p>(alloc: Global, plain: &'p Plain) -> Result<Vec<Placed<'p>>, TrialError>
-    ensures { IfOk result (λ found. expectations_in plain.now.text.items ≡
+    ensures said { IfOk result (λ found. expectations_in plain.now.text.items ≡
         Ok (map placed_of found.items)) }
+    ensures refused { IfErr result
+        (IsUnexpected plain.now.text.items plain.now.lines.items) }
 {
     match read_expectations(alloc, plain.text.as_slice()) {
         Ok(expectations) => Ok(expectations),
@@ -228,9 +242,11 @@ fn judge<W: Write>(
     arrivals: &[Arrival],
     out: &mut W,
 ) -> Result<Tried, TrialError>
-    ensures { IfOk result (λ tried. IsJudged (sources_of trial.now.plan.texts.now)
+    ensures judged { IfOk result (λ tried. IsJudged (sources_of trial.now.plan.texts.now)
         trial.now.plan.schedule.now trial.now.declared.now trial.now.script.now
         (map placed_of expectations.now) arrivals.now tried) }
+    ensures refused { IfErr result (IsNotFound (sources_of trial.now.plan.texts.now)
+        trial.now.script.now trial.now.plain.now.lines.items) }
 {
     let judged = trial.judged(expectations)?;
     let unmet = unmet_of(trial.alloc, arrivals, judged.as_slice())?;
@@ -257,8 +273,10 @@ fn try_plain<W: Write>(
     plain: &Plain,
     out: &mut W,
 ) -> Result<Tried, TrialError>
-    ensures { IfOk result (λ tried. IsPlainTried (sources_of plan.entry.texts.now)
+    ensures tried { IfOk result (λ tried. IsPlainTried (sources_of plan.entry.texts.now)
         plan.entry.schedule.now declared.now plain.now.text.items tried) }
+    ensures refused { IfErr result (IsPlainUntried (sources_of plan.entry.texts.now)
+        (plain_script_of plain.now)) }
 {
     let expectations = expectations_of(alloc, plain)?;
     let quiet = silenced(alloc, plain.text.as_slice())?;
@@ -301,8 +319,9 @@ pub fn try_scenario<W: Write>(
     plan: Plan<'_>,
     out: &mut W,
 ) -> Result<Tried, TrialError>
-    ensures { IfOk result (IsTried (sources_of plan.entry.texts.now) plan.entry.schedule.now
+    ensures tried { IfOk result (IsTried (sources_of plan.entry.texts.now) plan.entry.schedule.now
         scenario.now) }
+    ensures refused { IfErr result (IsUntried (sources_of plan.entry.texts.now) scenario.now) }
 {
     // For the texts' sake alone: one that doesn't compile declares nothing.
     let _nothing = trace_of(alloc, plan.texts, plan.schedule, &[])?;

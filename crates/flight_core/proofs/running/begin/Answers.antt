@@ -2,7 +2,8 @@ use Rattle.std.proofs.Common.{refl, sym, subst}
 use Rattle.flight_core.specs.Brought.{AreWhole}
 use Rattle.flight_core.specs.Compiled.{sources_of, AreAllCompiled}
 use Rattle.flight_core.proofs.Fitting.{named, none_named, refused, taken}
-use Rattle.flight_core.proofs.Outset.{all_not_other, whole_files, is_run}
+use Rattle.flight_core.proofs.Known.{all_not_other}
+use Rattle.flight_core.proofs.Outset.{whole_files, is_run}
 use Rattle.flight_core.proofs.Reasons.{answers_for, none_answered}
 use Rattle.flight_core.proofs.running.begin.Goals as goal
 

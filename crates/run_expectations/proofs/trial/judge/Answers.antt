@@ -3,8 +3,8 @@ use Rattle.flight_core.specs.Compiled.{sources_of}
 use Rattle.run_expectations.proofs.TrialSteps.{judged_so}
 use Rattle.run_expectations.proofs.trial.judge.Goals as goal
 
-pub returns : goal.returns
-returns g c =
+pub returns-clause-judged : goal.returns-clause-judged
+returns-clause-judged g c =
     judged_so (sources_of c.args.trial.now.plan.texts.now) c.args.trial.now.plan.schedule.now c.args.trial.now.declared.now c.args.trial.now.script.now
     c.args.expectations.now c.args.arrivals.now c.in_ok-judged.judged.items c.in_ok-unmet.unmet.items c.len.result
     c.in_ok-judged.ensures.each c.in_ok-judged.ensures.found (search rules) (search rules)
