@@ -1,15 +1,21 @@
 -- What a trial comes to.
-use Rattle.std.proofs.Common.{◌≡◌, refl, sym, ◌∙◌, ap, ℕ, List, [], ◌∷◌, length, map}
+use Rattle.std.proofs.Common.{◌≡◌, refl, sym, ◌∙◌, ap, ℕ, List, [], ◌∷◌, length, map, Result, Ok, Err}
+use Rattle.std.specs.Prelude.{IfErr}
 use Rattle.std.specs.List.{AllByRecursion}
 use Rattle.std.proofs.lemmas.List.{length-map}
 use Rattle.lc_model.specs.Host.Schedule.{Schedule}
-use Rattle.scenario_words.specs.Declarations.{Declarations}
+use Rattle.scenario_words.specs.Declarations.{Declarations, AreDeclared, nothing_declared}
+use Rattle.scenario_words.specs.Plain.{PlainScript, plain_in}
+use Rattle.run_expectations.specs.declared.error.TrialError.{TrialError}
+use Rattle.run_expectations.specs.declared.error.TrialError.TheVariants as trial
+use Rattle.run_expectations.specs.declared.trial.Tried.{Tried}
 use Rattle.run_expectations.specs.declared.expectation.Arrival.{Arrival}
 use Rattle.run_expectations.specs.declared.reading.Placed.{Placed}
 use Rattle.run_expectations.specs.declared.verdict.Judged.{Judged}
 use Rattle.run_expectations.specs.Arrivals.{IsFound, IsJudged, placed_in}
 use Rattle.run_expectations.specs.Judged.{unmet_of}
 use Rattle.run_expectations.specs.Reading.{placed_of}
+use Rattle.run_expectations.specs.Untried.{IsPlainUntried, IsUntried}
 
 each_placed : (judged : List Judged) → map (λ (one : Judged). placed_of one.placed) judged ≡ map placed_of (map placed_in judged)
 each_placed [] = refl
@@ -25,3 +31,14 @@ judged_so sources schedule declared script expectations came judged unmet count 
   counted = sym (length-map expectations placed_of);
   counts = counts ∙ ap length those;
 }
+
+-- why a plain script isn't tried is why the scenario isn't that is short for it
+pub untried : (sources : List (List ℕ)) (text : List ℕ) (declared : Declarations) (plain : PlainScript) (result : Result Tried TrialError) →
+    AreDeclared sources nothing_declared declared → plain_in declared text ≡ Ok plain → IfErr result (IsPlainUntried sources plain) → IfErr result (IsUntried sources text)
+untried sources text declared plain (Ok tried) declares short why = tt
+untried sources text declared plain (Err trial.Memory) declares short why = tt
+untried sources text declared plain (Err trial.Write) declares short why = tt
+untried sources text declared plain (Err (trial.Rules number error)) declares short why = why
+untried sources text declared plain (Err (trial.Scenario error)) declares short why = absurd why
+untried sources text declared plain (Err (trial.Script error)) declares short why = (plain, record { declared = declared; declares = declares; short = short }, why)
+untried sources text declared plain (Err (trial.Expectation error)) declares short why = (plain, record { declared = declared; declares = declares; short = short }, why)
