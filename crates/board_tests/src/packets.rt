@@ -66,14 +66,7 @@ fn a_rules_event(rt: HostRuntime) {
     };
     let text = b"low volts: AP = 0, FailCount = 2, RTS = 7";
     let mut out = Vec::with_capacity(rt.alloc(), PACKET_SIZE).expect(&rt, "out of memory");
-    events.send(
-        Some(seat),
-        moment,
-        1001,
-        EventKind::Error,
-        text,
-        &mut out,
-    );
+    events.send(Some(seat), moment, 1001, EventKind::Error, text, &mut out);
     is_event(&rt, out.as_slice(), RULE_EVENT);
 }
 

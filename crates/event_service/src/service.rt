@@ -126,9 +126,7 @@ impl Events {
         ensures room { vec_capacity out.old ≤ vec_capacity out.new }
     {
         match from {
-            None => self
-                .host
-                .ask(&mut self.sent, moment, id, kind, text, out),
+            None => self.host.ask(&mut self.sent, moment, id, kind, text, out),
             Some(seat) => match &mut self.places[seat.index()] {
                 None => {}
                 Some(sender) => sender.ask(&mut self.sent, moment, id, kind, text, out),
