@@ -3,6 +3,7 @@ mod Halves
 mod Ranges
 mod LowBytes
 mod Grouping
+mod Chains
 mod Reacting
 mod OperandsWaiting
 mod Running

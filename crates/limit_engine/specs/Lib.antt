@@ -7,6 +7,7 @@ pub mod Ids
 pub mod Bytes
 pub mod Ranges
 pub mod Grouped
+pub mod Chained
 pub mod Sampling
 pub mod Running
 pub mod Shared
