@@ -1,6 +1,6 @@
 -- The bits of a byte: what is said of sets of seats is computed for each of the 256 bytes.
 use Rattle.std.proofs.Common.{◌≡◌, ◌∙◌, ap, refl, ℕ, zero, suc, ◌*◌, ◌-◌, ◌<◌, ◌^◌, ◌%◌, ◌==◌, Bool, true, false, not, ◌&&◌, ◌||◌, List, [], ◌∷◌, arith, bit_and, bit_or, count_by, min, max}
-use Rattle.std.specs.Prelude.{slice_set, Option, Some, None}
+use Rattle.std.specs.Prelude.{slice_set, slice_index_or, Option, Some, None}
 use Rattle.std.specs.List.{list_any, position_from}
 use Rattle.std.specs.Int.{bit_at, trailing_zeros, w8}
 use Rattle.std.proofs.lemmas.Nat.Bits.{bit_at_and, bit_at_or, bit_at-lt}
@@ -60,6 +60,12 @@ pub seats_without : (bits seat : ℕ) → bits < 256 → seat < 8 → seats_in (
 seats_without bits seat byte eight =
     let p : ℕ → ℕ → Bool = λ s b. same (seats_in (bit_and b (255 - 1 * 2 ^ s % 256))) (slice_set (seats_in b) s false) in
     same_is _ _ (each_below (p seat) 256 (each_below (λ s. passes (p s) 256) 8 refl seat eight) bits byte)
+
+-- whether a seat is in the set
+pub seat_inside : (bits seat : ℕ) → bits < 256 → seat < 8 → not (bit_and bits (1 * 2 ^ seat % 256) == 0) ≡ slice_index_or (seats_in bits) seat false
+seat_inside bits seat byte eight =
+    let p : ℕ → ℕ → Bool = λ s b. is_equal (not (bit_and b (1 * 2 ^ s % 256) == 0)) (slice_index_or (seats_in b) s false) in
+    same_bool _ _ (each_below (p seat) 256 (each_below (λ s. passes (p s) 256) 8 refl seat eight) bits byte)
 
 -- how many seats there are
 pub seats_counted : (bits : ℕ) → bits < 256 → ones bits ≡ count_by is_in (seats_in bits)

@@ -1,8 +1,10 @@
 -- What the calls of the model come to, where it is known whether the seat has a pipe.
-use Rattle.std.proofs.Common.{◌≡◌, refl, ℕ, ◌<◌, Bool, true, false, List, [], ◌∷◌, ◌++◌, length, arith}
-use Rattle.std.specs.Prelude.{Option, Some, None, is_some, nat_lt}
-use Rattle.lc_model.specs.Services.Bus.{Queue, Bus, pipe_at, after, with_pipe, new_pipe, pipe_added, is_subscribed, subscribed}
-use Rattle.packet_bus.specs.Inside.{changed}
+use Rattle.std.proofs.Common.{◌≡◌, refl, ℕ, ◌<◌, true, false, List, [], ◌∷◌, ◌++◌, length, arith}
+use Rattle.std.specs.Prelude.{Option, Some, None, is_some, nat_lt, option_map}
+use Rattle.lc_model.specs.Services.Bus.{Queue, Bus, pipe_at, after, with_pipe, new_pipe, pipe_added, subscribed}
+use Rattle.packet_bus.specs.Slots.{PooledPacket}
+use Rattle.packet_bus.specs.Line.{Line, hears_mid}
+use Rattle.packet_bus.specs.Inside.{changed, hears_in, queue_over}
 
 -- a pipe that is new
 pub added_is : (seat : ℕ) (bus : Bus) → is_some (pipe_at seat bus) ≡ false → with_pipe seat bus new_pipe ≡ after bus (pipe_added seat bus)
@@ -16,9 +18,10 @@ added_is seat bus none = by_pipe (pipe_at seat bus) refl none
 abbrev pub subscribed_too : ℕ → Queue → Queue
 subscribed_too mid queue = record queue { subscriptions = queue.subscriptions ++ mid ∷ [] }
 
-abbrev pub hears_in : ℕ → Option Queue → Bool
-hears_in mid None = false
-hears_in mid (Some queue) = is_subscribed mid queue
+-- a place has the subscriptions of its pipe
+pub heard_in : (pool : List PooledPacket) (mid : ℕ) (place : Option Line) → hears_in mid (option_map (queue_over pool) place) ≡ hears_mid mid place
+heard_in pool mid None = refl
+heard_in pool mid (Some line) = refl
 
 abbrev pub subscriptions_in : Option Queue → List ℕ
 subscriptions_in None = []

@@ -1,6 +1,6 @@
 -- A bus without pipes.
 use Rattle.std.proofs.Common.{◌≡◌, ◌∙◌, ap, sym, refl, ℕ, zero, suc, length, map, replicate, arith}
-use Rattle.std.specs.Prelude.{None, slice_index_or}
+use Rattle.std.specs.Prelude.{None}
 use Rattle.lc_model.proofs.Facts.{same_at}
 use Rattle.packet_bus.specs.Slots.{PooledPacket, slot_at, no_packet}
 use Rattle.packet_bus.specs.Line.{hears_mid}

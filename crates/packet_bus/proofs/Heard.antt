@@ -1,8 +1,8 @@
 -- Who hears a message id, where the subscriptions of one seat change.
-use Rattle.std.proofs.Common.{◌≡◌, ◌≢◌, ◌∙◌, ap, sym, refl, ℕ, ◌<◌, ◌==◌, Bool, true, false, not, ◌&&◌, ◌||◌, List, [], ◌∷◌, ◌++◌, length, filter, arith, length-set}
+use Rattle.std.proofs.Common.{◌≡◌, ◌≢◌, ◌∙◌, ap, sym, refl, ℕ, ◌<◌, ◌==◌, Bool, true, false, not, ◌&&◌, ◌||◌, List, [], ◌∷◌, ◌++◌, length, filter, map, arith, length-set}
 use Rattle.std.specs.Prelude.{Option, Some, None, option_map, slice_set, slice_index_or, is_some}
 use Rattle.std.specs.List.{list_any}
-use Rattle.std.proofs.lemmas.List.{map-set, get_or-set_same, get_or-set_other, get_or_default}
+use Rattle.std.proofs.lemmas.List.{map-set, get_or-set_same, get_or-set_other, get_or_default, get_or-map}
 use Rattle.std.proofs.lemmas.List.Folds.{list_any-append}
 use Rattle.std.proofs.lemmas.Map.Views.{any-filter_same}
 use Rattle.std.proofs.Math.Seq.{map-set_same}
@@ -15,12 +15,12 @@ use Rattle.packet_bus.proofs.Places.{resubscribed}
 -- ---- one list of subscriptions
 
 -- with one more at its end
-one_more : (mid other : ℕ) (mids : List ℕ) → list_any (λ o. mid == o) (mids ++ other ∷ []) ≡ (list_any (λ o. mid == o) mids || mid == other)
+pub one_more : (mid other : ℕ) (mids : List ℕ) → list_any (λ o. mid == o) (mids ++ other ∷ []) ≡ (list_any (λ o. mid == o) mids || mid == other)
 one_more mid other mids =
     list_any-append (λ o. mid == o) mids (other ∷ []) ∙ ap (λ b. list_any (λ o. mid == o) mids || b) (or_false (mid == other))
 
 -- with one less
-one_less : (mid other : ℕ) (mids : List ℕ) →
+pub one_less : (mid other : ℕ) (mids : List ℕ) →
     list_any (λ o. mid == o) (filter (λ o. not (other == o)) mids) ≡ (not (other == mid) && list_any (λ o. mid == o) mids)
 one_less mid other mids =
     any-filter_same (λ o. mid == o) (λ o. not (other == o)) (not (other == mid)) (λ o is. let same : mid ≡ o = grind (arith, is) in ap (λ n. not (other == n)) (sym same)) mids
@@ -47,6 +47,15 @@ hears_others_still mid other (Some line) not_same =
     ∙ ap (λ b. not b && list_any (λ o. other == o) line.subscriptions) (test_unequal mid other (λ e. not_same (sym e)))
 
 -- ---- the rows
+
+-- a row says who hears its message id
+pub row_says : (places : List (Option Line)) (pool : List PooledPacket) (audience : List (List Bool)) (ready full : List Bool) → IsBus places pool audience ready full →
+    (seat mid : ℕ) (row : List Bool) → seat < 8 → mid < 8192 → row ≡ slice_index_or audience mid row → slice_index_or row seat false ≡ hears_mid mid (place_at places seat)
+row_says places pool audience ready full bus seat mid row below less look =
+    let in_audience : mid < length audience = omega (arith, less, bus.rows) in
+    let in_places : seat < length places = omega (arith, below, bus.eight) in
+    let is : row ≡ map (hears_mid mid) places = look ∙ get_or_default audience mid row nobody in_audience ∙ bus.heard mid less in
+    ap (λ (seats : List Bool). slice_index_or seats seat false) is ∙ get_or-map (hears_mid mid) places seat None false in_places
 
 module _ (places : List (Option Line)) (pool : List PooledPacket) (audience : List (List Bool)) (ready full : List Bool) (bus : IsBus places pool audience ready full) (seat : ℕ)
     (below : seat < 8) (place : Option Line) (slots : slots_in place ≡ slots_in (place_at places seat)) where

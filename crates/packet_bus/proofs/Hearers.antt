@@ -1,5 +1,5 @@
 -- The seat whose pipe alone hears a packet.
-use Rattle.std.proofs.Common.{◌≡◌, ◌∙◌, ap₂, sym, refl, ℕ, ◌+◌, ◌==◌, List, [], ◌∷◌, map, arith, count_by}
+use Rattle.std.proofs.Common.{◌≡◌, ◌∙◌, ap₂, sym, refl, ℕ, ◌+◌, ◌==◌, List, [], ◌∷◌, map, count_by}
 use Rattle.std.specs.Prelude.{Bool, Option, Some, None, option_map, if◌then◌else◌}
 use Rattle.std.specs.List.{position_from}
 use Rattle.lc_model.specs.Packet.{message_id}

@@ -2,6 +2,7 @@ pub mod Bits
 pub mod Slots
 pub mod Places
 pub mod Heard
+mod Once
 pub mod Calls
 pub mod Delivered
 pub mod Counted

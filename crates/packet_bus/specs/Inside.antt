@@ -1,8 +1,8 @@
 -- What the parts of the bus are together (this project's own).
-use Rattle.std.specs.Prelude.{◌≡◌, ℕ, ◌<◌, ◌≤◌, Bool, true, false, List, [], ◌∷◌, length, map, replicate, slice_index_or, slice_set, Option, None, is_some, option_map}
+use Rattle.std.specs.Prelude.{◌≡◌, ℕ, ◌<◌, ◌≤◌, Bool, true, false, List, [], ◌∷◌, length, map, replicate, slice_index_or, slice_set, Option, None, is_some, option_map, Some}
 use Rattle.std.specs.List.{flat_map}
 use Rattle.lc_model.specs.Packet.{header_fault}
-use Rattle.lc_model.specs.Services.Bus.{Publication, Queue, Bus, pipe_at}
+use Rattle.lc_model.specs.Services.Bus.{Publication, Queue, Bus, pipe_at, is_subscribed}
 use Rattle.packet_bus.specs.Slots.{PooledPacket, slot_at, occurrences}
 use Rattle.packet_bus.specs.Line.{Line, slots_in, has_slots, is_long, hears_mid, with_slot}
 
@@ -60,6 +60,11 @@ pub record IsBus (places : List (Option Line)) (pool : List PooledPacket) (audie
 -- the pipe of a seat changes
 abbrev pub changed : ℕ → (Queue → Queue) → Bus → Bus
 changed seat change bus = slice_set bus seat (option_map change (pipe_at seat bus))
+
+-- whether a pipe is subscribed to a message id
+abbrev pub hears_in : ℕ → Option Queue → Bool
+hears_in mid None = false
+hears_in mid (Some queue) = is_subscribed mid queue
 
 -- a pipe without packets, and without subscriptions
 abbrev pub without_packets : Queue → Queue

@@ -1,5 +1,5 @@
 -- The pipe of a seat, as it is kept (this project's own).
-use Rattle.std.specs.Prelude.{◌≡◌, ℕ, ◌≤◌, ◌==◌, Bool, true, false, not, List, [], ◌∷◌, ◌++◌, length, drop, filter, slice_get, Option, Some, None}
+use Rattle.std.specs.Prelude.{◌≡◌, ℕ, ◌≤◌, ◌==◌, Bool, true, false, not, List, [], ◌∷◌, ◌++◌, length, drop, filter, slice_get, Option, Some, None, ⊤}
 use Rattle.std.specs.List.{list_any}
 use Rattle.circular_buffer.specs.Buffer.{Buffer}
 
@@ -17,11 +17,17 @@ abbrev pub line_if : Bool → List ℕ → List ℕ → Option Line
 line_if true subscriptions slots = Some (record { subscriptions = subscriptions; slots = slots })
 line_if false subscriptions slots = None
 
+-- each message id stands there once
+abbrev pub AreOnce : List ℕ → Type 0
+AreOnce [] = ⊤
+AreOnce (mid ∷ mids) = (list_any (λ other. mid == other) mids ≡ false) × AreOnce mids
+
 -- the parts have room for the most that there may be, and there is nothing where there is no pipe
 pub record IsPlace (is_open : Bool) (subscriptions : List ℕ) (waiting : Buffer ℕ) (room : ℕ) : Type 0 where
   pub depth : waiting.capacity ≡ 72
   pub short : length waiting.items ≤ 72
   pub few : length subscriptions ≤ 256
+  pub once : AreOnce subscriptions
   pub has_room : 256 ≤ room
   pub closed : is_open ≡ false → (subscriptions ≡ []) × (waiting.items ≡ [])
 

@@ -9,7 +9,7 @@ ghost use Rattle.packet_bus.specs.Error.{refusal_in};
 ghost use Rattle.packet_bus.specs.declared.error.BusError.TheVariants.{Memory};
 ghost use Rattle.packet_bus.specs.Line.{behind_first, first_slot, has_slots, is_long, slots_in, with_slot};
 ghost use Rattle.packet_bus.specs.Hearers.{only_hearer};
-ghost use Rattle.packet_bus.specs.Inside.{changed, delivered, nobody, no_lines, place_at, without_packets, without_subscriptions, HaveRoom};
+ghost use Rattle.packet_bus.specs.Inside.{changed, delivered, hears_in, nobody, no_lines, place_at, without_packets, without_subscriptions, HaveRoom};
 ghost use Rattle.packet_bus.specs.Filled.{filled};
 ghost use Rattle.packet_bus.specs.Seats.{is_in};
 ghost use Rattle.packet_bus.specs.Slots.{slot_at, used_slots};
@@ -238,10 +238,10 @@ impl Bus {
         if !self.has_pipe(seat) {
             return Err(BusError::NoPipe);
         }
-        let at = seat.index();
-        if self.places[at].is_subscribed(mid) {
+        if self.is_subscribed(seat, mid) {
             return Ok(());
         }
+        let at = seat.index();
         if self.places[at].subscriptions() == 256 {
             return Err(BusError::TooManySubscriptions);
         }
@@ -370,6 +370,17 @@ impl Bus {
         ensures eight { length self.now ≡ seat_count }
     {
         self.places[seat.index()].is_open()
+    }
+
+    /// Whether a seat's pipe is subscribed to a message id. The rows say so of each id that a packet can have.
+    fn is_subscribed(&self, seat: Seat, mid: u16) -> bool
+        ensures { result ≡ hears_in mid (pipe_at seat self.now) }
+    {
+        if (mid as usize) < MESSAGE_IDS {
+            self.audience[mid as usize].contains(seat)
+        } else {
+            self.places[seat.index()].is_subscribed(mid)
+        }
     }
 
     /// Takes the oldest packet of a seat into the front of a buffer, and answers how many bytes it has.

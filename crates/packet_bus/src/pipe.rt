@@ -1,6 +1,7 @@
 //! The pipe of one seat (cFE user's guide, software bus services).
 
-ghost use Rattle.std.specs.Prelude.{◌≡◌, ◌<◌, ◌≤◌, true, false, length, is_some, option_map, Some, None, IfOk};
+ghost use Rattle.std.specs.Prelude.{◌≡◌, ◌<◌, ◌≤◌, ◌==◌, true, false, length, is_some, option_map, Some, None, IfOk, IfSome};
+ghost use Rattle.std.specs.List.{position_from};
 ghost use Rattle.lc_model.specs.Services.Bus.{most_subscriptions};
 ghost use Rattle.packet_bus.specs.Line.{Line, new_line, mids_in, slots_in, first_slot, behind_first, with_slot, with_subscription, without_subscription, is_long, has_slots, hears_mid, first_mid};
 
@@ -32,6 +33,14 @@ impl Model for Place {
 
     ghost invariant = { λ p. IsPlace p.is_open p.subscriptions.items p.waiting
         (vec_capacity p.subscriptions) };
+}
+
+/// Where a message id stands first.
+fn place_of(mid: u16, mids: &[u16]) -> Option<usize>
+    ensures place { result ≡ position_from (λ other. mid == other) 0 mids.now }
+    ensures inside { IfSome result (λ at. at < length mids.now) }
+{
+    mids.iter().position(|other| mid == *other)
 }
 
 impl Place {
@@ -117,10 +126,11 @@ impl Place {
         self.subscriptions.first().copied()
     }
 
-    /// Subscribes to a message id. There is room.
+    /// Subscribes to a message id, to which it is not subscribed. There is room.
     pub fn subscribe(&mut self, mid: u16)
         requires open { is_some self.old ≡ true }
         requires room { length (mids_in self.old) < most_subscriptions }
+        requires anew { hears_mid mid self.old ≡ false }
         ensures { self.new ≡ option_map (with_subscription mid) self.old }
     {
         self.subscriptions.push_reserved(mid);
@@ -130,6 +140,9 @@ impl Place {
     pub fn unsubscribe(&mut self, mid: u16)
         ensures { self.new ≡ option_map (without_subscription mid) self.old }
     {
-        self.subscriptions.retain(|other| !(mid == *other));
+        // It stands there once, and mostly in front: subscriptions end in the order in which they began.
+        if let Some(at) = place_of(mid, self.subscriptions.as_slice()) {
+            self.subscriptions.remove(at);
+        }
     }
 }

@@ -40,6 +40,13 @@ impl SeatSet {
         SeatSet { bits: self.bits }
     }
 
+    pub fn contains(&self, seat: Seat) -> bool
+        ensures inside { result ≡ slice_index_or self.now seat false }
+        ensures below { seat < seat_count }
+    {
+        self.bits & 1 << seat.index() != 0
+    }
+
     pub fn insert(&mut self, seat: Seat)
         ensures { self.new ≡ slice_set self.old seat true }
     {

@@ -3,21 +3,16 @@ use Rattle.std.specs.Prelude.{option_map, Option, Some, None, slice_set, is_some
 use Rattle.lc_model.specs.Services.Bus.{Queue, pipe_at}
 use Rattle.packet_bus.specs.Slots.{PooledPacket}
 use Rattle.packet_bus.specs.Line.{Line, slots_in, mids_in, hears_mid, with_subscription}
-use Rattle.packet_bus.specs.Inside.{place_at, queue_over}
+use Rattle.packet_bus.specs.Inside.{place_at, queue_over, hears_in}
 use Rattle.packet_bus.proofs.Places.{in_places, is_place_at, shown_new, pipe_is, has_queue}
 use Rattle.packet_bus.proofs.Heard.{hears_more, hears_others_too, heard_anew, heard_as_before}
-use Rattle.packet_bus.proofs.Calls.{subscribed_is, subscribed_too, hears_in, subscriptions_in}
+use Rattle.packet_bus.proofs.Calls.{subscribed_is, subscribed_too, heard_in, subscriptions_in}
 use Rattle.packet_bus.proofs.bus.Bus.subscribe.Goals as goal
 
 -- the slots stay
 slots_stay : (mid : ℕ) (place : Option Line) → slots_in (option_map (with_subscription mid) place) ≡ slots_in place
 slots_stay mid None = refl
 slots_stay mid (Some line) = refl
-
--- a place has the subscriptions of its pipe
-heard_in : (pool : List PooledPacket) (mid : ℕ) (place : Option Line) → hears_in mid (option_map (queue_over pool) place) ≡ hears_mid mid place
-heard_in pool mid None = refl
-heard_in pool mid (Some line) = refl
 
 same_subscriptions : (pool : List PooledPacket) (place : Option Line) → subscriptions_in (option_map (queue_over pool) place) ≡ mids_in place
 same_subscriptions pool None = refl
@@ -57,14 +52,13 @@ returns-then-mid-lt-MESSAGE_IDS-clause-after c =
     let at = c.index-at.result in
     let in_seats = in_places _ _ _ _ _ c.self.invariant at c.index-at.ensures.below in
     let pool = c.self.inside.pool in
-    let first = pipe_is pool c.self.inside.places.items c.args.self.now c.args.seat at c.index.result.now in_seats c.index.ensures c.index-at.ensures.value c.self.view_is in
-    let second = pipe_is pool c.self.inside.places.items c.args.self.now c.args.seat at c.index-2.result.now in_seats c.index-2.ensures c.index-at.ensures.value c.self.view_is in
+    let second = pipe_is pool c.self.inside.places.items c.args.self.now c.args.seat at c.index.result.now in_seats c.index.ensures c.index-at.ensures.value c.self.view_is in
     let count : length (subscriptions_in (pipe_at c.args.seat c.args.self.now)) ≡ c.subscriptions.result =
-    ap (λ (queue : Option Queue). length (subscriptions_in queue)) (sym second) ∙ ap length (same_subscriptions pool c.index-2.result.now) ∙ sym c.subscriptions.ensures.count in
+    ap (λ (queue : Option Queue). length (subscriptions_in queue)) (sym second) ∙ ap length (same_subscriptions pool c.index.result.now) ∙ sym c.subscriptions.ensures.count in
     shown_new pool c.self.inside.places.items c.args.self.now c.args.seat at c.index_mut.result.now c.subscribe.new.self (with_subscription c.args.mid) (subscribed_too c.args.mid) in_seats
     c.index_mut.ensures.value c.index-at.ensures.value c.self.view_is c.subscribe.ensures (λ line. refl)
     ∙ subscribed_is c.args.seat c.args.mid c.args.self.now (sym c.has_pipe.ensures.has ∙ c.if-not-has_pipe.false)
-    (ap (hears_in c.args.mid) (sym first) ∙ heard_in pool c.args.mid c.index.result.now ∙ sym c.is_subscribed.ensures ∙ c.if-is_subscribed.false)
+    (sym c.is_subscribed.ensures ∙ c.if-is_subscribed.false)
     (omega (arith, count, c.subscriptions.ensures.few, c.if-subscriptions-eq256.false))
 
 pub returns-else-mid-lt-MESSAGE_IDS-clause-after : goal.returns-else-mid-lt-MESSAGE_IDS-clause-after
@@ -72,12 +66,19 @@ returns-else-mid-lt-MESSAGE_IDS-clause-after c =
     let at = c.index-at.result in
     let in_seats = in_places _ _ _ _ _ c.self.invariant at c.index-at.ensures.below in
     let pool = c.self.inside.pool in
-    let first = pipe_is pool c.self.inside.places.items c.args.self.now c.args.seat at c.index.result.now in_seats c.index.ensures c.index-at.ensures.value c.self.view_is in
-    let second = pipe_is pool c.self.inside.places.items c.args.self.now c.args.seat at c.index-2.result.now in_seats c.index-2.ensures c.index-at.ensures.value c.self.view_is in
+    let second = pipe_is pool c.self.inside.places.items c.args.self.now c.args.seat at c.index.result.now in_seats c.index.ensures c.index-at.ensures.value c.self.view_is in
     let count : length (subscriptions_in (pipe_at c.args.seat c.args.self.now)) ≡ c.subscriptions.result =
-    ap (λ (queue : Option Queue). length (subscriptions_in queue)) (sym second) ∙ ap length (same_subscriptions pool c.index-2.result.now) ∙ sym c.subscriptions.ensures.count in
+    ap (λ (queue : Option Queue). length (subscriptions_in queue)) (sym second) ∙ ap length (same_subscriptions pool c.index.result.now) ∙ sym c.subscriptions.ensures.count in
     shown_new pool c.self.inside.places.items c.args.self.now c.args.seat at c.index_mut.result.now c.subscribe.new.self (with_subscription c.args.mid) (subscribed_too c.args.mid) in_seats
     c.index_mut.ensures.value c.index-at.ensures.value c.self.view_is c.subscribe.ensures (λ line. refl)
     ∙ subscribed_is c.args.seat c.args.mid c.args.self.now (sym c.has_pipe.ensures.has ∙ c.if-not-has_pipe.false)
-    (ap (hears_in c.args.mid) (sym first) ∙ heard_in pool c.args.mid c.index.result.now ∙ sym c.is_subscribed.ensures ∙ c.if-is_subscribed.false)
+    (sym c.is_subscribed.ensures ∙ c.if-is_subscribed.false)
     (omega (arith, count, c.subscriptions.ensures.few, c.if-subscriptions-eq256.false))
+
+pub subscribe-requires-clause-anew : goal.subscribe-requires-clause-anew
+subscribe-requires-clause-anew c =
+    let at = c.index-at.result in
+    let in_seats = in_places _ _ _ _ _ c.self.invariant at c.index-at.ensures.below in
+    let pool = c.self.inside.pool in
+    let pipe = pipe_is pool c.self.inside.places.items c.args.self.now c.args.seat at c.index_mut.result.now in_seats c.index_mut.ensures.value c.index-at.ensures.value c.self.view_is in
+    sym (heard_in pool c.args.mid c.index_mut.result.now) ∙ ap (hears_in c.args.mid) pipe ∙ sym c.is_subscribed.ensures ∙ c.if-is_subscribed.false
