@@ -1,1 +1,3 @@
+pub mod Arriving
+pub mod Found
 pub mod Stands
