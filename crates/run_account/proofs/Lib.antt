@@ -1,3 +1,5 @@
 pub mod Arriving
 pub mod Found
+pub mod KeptEnds
+pub mod Sends
 pub mod Stands

@@ -9,6 +9,7 @@ mod bands;
 mod brought;
 mod ends;
 mod figures;
+pub mod laws;
 mod packets;
 mod place;
 mod plans;
