@@ -1,3 +1,4 @@
+pub mod Again
 pub mod Arriving
 pub mod Found
 pub mod KeptEnds

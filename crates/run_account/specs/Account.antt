@@ -199,6 +199,10 @@ before_with stands rule (before ∷ more) = stand_at rule stands ∷ before_with
 abbrev pub stood_so : Place → Option LcMode → List Stand → Account → Account
 stood_so place mode stands a = record a { before = before_with stands 0 a.before; bands = stood place mode a.bands }
 
+-- where they stand as behind the record before, only the mode is new
+abbrev pub stood_again : Place → Option LcMode → Account → Account
+stood_again place mode a = record a { bands = stood place mode a.bands }
+
 -- ---- a run
 
 -- a record of a run: its place, its bytes, the packets that it led to, and how the Limit Checker stands behind it: its mode, where one

@@ -1,21 +1,22 @@
 -- What the account of a whole run is, by all packets and records of the run. This project's own.
-use Rattle.std.specs.Prelude.{◌≡◌, ℕ, ◌+◌, ◌-◌, ◌^◌, List, [], ◌∷◌, ◌++◌, filter_map, length, map, min, replicate, take, drop, Option, Some, None}
+use Rattle.std.specs.Prelude.{◌≡◌, ℕ, ◌+◌, ◌-◌, ◌^◌, List, [], ◌∷◌, ◌++◌, filter_map, length, map, min, replicate, take, drop, Option, Some, None, ⊤}
 use Rattle.packet_listing.specs.Told as told
 use Rattle.packet_listing.specs.Told.{told_in}
 use Rattle.run_account.specs.declared.ends.Left.{Left}
 use Rattle.run_account.specs.declared.place.Place.{Place}
+use Rattle.run_account.specs.declared.place.Stand.{Stand}
 use Rattle.run_account.specs.declared.texts.Field.{Field}
 use Rattle.run_account.specs.About.{rule_of}
-use Rattle.run_account.specs.Account.{Account, Step, account_behind}
+use Rattle.run_account.specs.Account.{Account, Step, account_behind, account_with, before_with, come, stood_again, written}
 use Rattle.run_account.specs.Bands.{nothing_in_force}
 use Rattle.run_account.specs.Ends.{Ends, kept, no_items}
 use Rattle.run_account.specs.Fields.{unseen}
 use Rattle.run_account.specs.Figures.{none, one_more}
 use Rattle.run_account.specs.Packets.{packets_of}
 use Rattle.run_account.specs.Plans.{Planned}
-use Rattle.run_account.specs.Samples.{no_row}
+use Rattle.run_account.specs.Samples.{Row, no_row}
 use Rattle.run_account.specs.Sent.{Said, events_kept, nothing_sent}
-use Rattle.run_account.specs.Standing.{absent}
+use Rattle.run_account.specs.Standing.{absent, stand_at}
 
 -- nothing is told yet of runs of texts with these rules, in so many lanes, which compare these fields
 abbrev pub nothing_told : List (List Planned) → ℕ → List Field → Account
@@ -111,7 +112,26 @@ ends_of record_of front back items = record {
   left = left_by record_of (between front back items) None;
 }
 
+-- ---- rules that stand as before
+
+-- each of these rows, from the rule of this number on, ends with so many failures as the rule has by these stands
+abbrev pub AreCounted : List Stand → ℕ → List Row → Type 0
+AreCounted stands rule [] = ⊤
+AreCounted stands rule (row ∷ rows) = (row.fails ≡ (stand_at rule stands).fails) × AreCounted stands (rule + 1) rows
+
+-- behind the last record the rules stood so
+pub record StoodLast (stands : List Stand) (a : Account) : Type 0 where
+  pub rows : AreCounted stands 0 a.rows
+  pub before : before_with stands 0 a.before ≡ a.before
+
 -- ---- the laws
+
+-- behind a record the rules stood as they stood there. Where they stand so behind the next one, too, no sample of it counts, and only
+-- the mode is new
+pub record StandAgain : Type 0 where
+  pub behind : (step : Step) (a : Account) → StoodLast step.stands (account_with step a)
+  pub again : (step : Step) (a : Account) → StoodLast step.stands a →
+      account_with step a ≡ stood_again step.place step.mode (written step.written step.place step.stands (come step.bytes step.place a))
 
 -- the account of a run has the first 1,000 of all its events, and the last 1,000, and how many are left out between them, of the
 -- records from one to another

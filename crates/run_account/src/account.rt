@@ -1,7 +1,7 @@
 //! The account of a run: taken record by record, in memory that doesn't grow with the run.
 
 ghost use Rattle.std.specs.Prelude.{◌≡◌, IfOk, OnOk, replicate};
-ghost use Rattle.run_account.specs.Account.{account_of, before_with, brought_by, come, rows_with, sampled, stood_so};
+ghost use Rattle.run_account.specs.Account.{account_of, before_with, brought_by, come, rows_with, sampled, stood_again, stood_so};
 ghost use Rattle.run_account.specs.Brought.{brings_of};
 ghost use Rattle.run_account.specs.Run.{TellsNothing};
 ghost use Rattle.run_account.specs.Samples.{no_row};
@@ -196,6 +196,15 @@ impl<'a> Account<'a> {
             stood_so place mode stands.now (account_of self.old)) }
     {
         take_stands(stands, &mut self.before);
+        self.bands.stand(place, mode)
+    }
+
+    /// The mode behind a record behind which all rules stand as behind the one before: there `sample` would do nothing, and `stand`
+    /// no more than this (`laws::rules_that_stand_as_before`). Out of memory is the only error.
+    pub fn stand_again(&mut self, place: Place, mode: Option<LcMode>) -> Result<(), AllocError>
+        ensures { OnOk result (account_of self.new ≡
+            stood_again place mode (account_of self.old)) }
+    {
         self.bands.stand(place, mode)
     }
 }

@@ -305,7 +305,7 @@ impl Bands {
     }
 
     /// The mode behind a record. Out of memory is the only error.
-    pub(crate) fn stand(&mut self, place: Place, mode: Option<LcMode>) -> Result<(), AllocError>
+    pub fn stand(&mut self, place: Place, mode: Option<LcMode>) -> Result<(), AllocError>
         ensures { OnOk result (self.new ≡ stood place mode self.old) }
     {
         self.take_mode(place, mode)?;

@@ -115,10 +115,11 @@ impl<'a> Account<'a> {
         ensures { OnOk result (account_of self.new ≡ told_by place event.entry.sender.now
             event.entry.id event.entry.kind event.entry.text.now (account_of self.old)) }
     {
+        let number = self.figures.packets;
         let sender = Vec::from_slice(self.alloc, event.sender)?;
         let text = Vec::from_slice(self.alloc, event.text)?;
         self.sending.event(Told {
-            packet: self.figures.packets,
+            packet: number,
             place,
             rule: rule_of(event.sender, event.id, event.text),
             sender,
