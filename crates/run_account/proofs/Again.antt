@@ -1,6 +1,7 @@
 -- Rules that stand as behind the record before.
 use Rattle.std.proofs.Common.{◌≡◌, ℕ, ◌+◌, Bool, true, false, List, [], ◌∷◌, refl, ap, sym, ◌∙◌, subst, Option, Some, None, if◌then◌else◌, bytes_eq}
 use Rattle.std.specs.Prelude.{not, ◌==◌}
+use Rattle.lc_model.specs.declared.mode.LcMode.{LcMode}
 use Rattle.lc_model.specs.declared.rule.EventKind.{EventKind}
 use Rattle.lc_model.specs.Name.{lc_name}
 use Rattle.lc_model.proofs.Facts.{test_equal, tested_equal}
@@ -114,20 +115,24 @@ behind_one step a =
       before = before_again step.stands 0 after.before;
     }
 
-again_one : (step : Step) (a : Account) → StoodLast step.stands a →
-    account_with step a ≡ stood_again step.place step.mode (written step.written step.place step.stands (come step.bytes step.place a))
-again_one step a last =
-    let came : Account = come step.bytes step.place a in
-    let rules : of_rules came ≡ of_rules a = come_keeps (brings step.bytes) step.place a in
-    let counted : AreCounted step.stands 0 came.rows = subst (λ (rules : OfRules). AreCounted step.stands 0 rules.rows) (sym rules) last.rows in
-    let same : sampled step.place step.stands came ≡ came =
-    λ i. record came { rows = rows_again step.place step.stands came.plans came.bands.text came.seen 0 came.rows counted i } in
-    let after : Account = written step.written step.place step.stands came in
-    let stood_there : before_with step.stands 0 after.before ≡ after.before =
-    subst (λ (rules : OfRules). before_with step.stands 0 rules.before ≡ rules.before)
-    (sym (written_keeps step.written step.place step.stands came ∙ rules)) last.before in
-    ap (λ (now : Account). stood_so step.place step.mode step.stands (written step.written step.place step.stands now)) same
-    ∙ (λ i. record after { before = stood_there i; bands = stood step.place step.mode after.bands })
+comes_one : (stands : List Stand) (bytes : List ℕ) (place : Place) (a : Account) → StoodLast stands a → StoodLast stands (come bytes place a)
+comes_one stands bytes place a last =
+    let same : of_rules a ≡ of_rules (come bytes place a) = sym (come_keeps (brings bytes) place a) in
+    record {
+      rows = subst (λ (rules : OfRules). AreCounted stands 0 rules.rows) same last.rows;
+      before = subst (λ (rules : OfRules). before_with stands 0 rules.before ≡ rules.before) same last.before;
+    }
+
+again_one : (stands : List Stand) (bytes : List ℕ) (place : Place) (mode : Option LcMode) (a : Account) → StoodLast stands a →
+    stood_so place mode stands (written bytes place stands (sampled place stands a)) ≡ stood_again place mode (written bytes place stands a)
+again_one stands bytes place mode a last =
+    let same : sampled place stands a ≡ a =
+    λ i. record a { rows = rows_again place stands a.plans a.bands.text a.seen 0 a.rows last.rows i } in
+    let after : Account = written bytes place stands a in
+    let stood_there : before_with stands 0 after.before ≡ after.before =
+    subst (λ (rules : OfRules). before_with stands 0 rules.before ≡ rules.before) (sym (written_keeps bytes place stands a)) last.before in
+    ap (λ (now : Account). stood_so place mode stands (written bytes place stands now)) same
+    ∙ (λ i. record after { before = stood_there i; bands = stood place mode after.bands })
 
 pub stand_again : StandAgain
-stand_again = record { behind = behind_one; again = again_one }
+stand_again = record { behind = behind_one; comes = comes_one; again = again_one }

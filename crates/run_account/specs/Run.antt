@@ -1,5 +1,6 @@
 -- What the account of a whole run is, by all packets and records of the run. This project's own.
 use Rattle.std.specs.Prelude.{◌≡◌, ℕ, ◌+◌, ◌-◌, ◌^◌, List, [], ◌∷◌, ◌++◌, filter_map, length, map, min, replicate, take, drop, Option, Some, None, ⊤}
+use Rattle.lc_model.specs.declared.mode.LcMode.{LcMode}
 use Rattle.packet_listing.specs.Told as told
 use Rattle.packet_listing.specs.Told.{told_in}
 use Rattle.run_account.specs.declared.ends.Left.{Left}
@@ -7,7 +8,7 @@ use Rattle.run_account.specs.declared.place.Place.{Place}
 use Rattle.run_account.specs.declared.place.Stand.{Stand}
 use Rattle.run_account.specs.declared.texts.Field.{Field}
 use Rattle.run_account.specs.About.{rule_of}
-use Rattle.run_account.specs.Account.{Account, Step, account_behind, account_with, before_with, come, stood_again, written}
+use Rattle.run_account.specs.Account.{Account, Step, account_behind, account_with, before_with, come, sampled, stood_again, stood_so, written}
 use Rattle.run_account.specs.Bands.{nothing_in_force}
 use Rattle.run_account.specs.Ends.{Ends, kept, no_items}
 use Rattle.run_account.specs.Fields.{unseen}
@@ -126,12 +127,13 @@ pub record StoodLast (stands : List Stand) (a : Account) : Type 0 where
 
 -- ---- the laws
 
--- behind a record the rules stood as they stood there. Where they stand so behind the next one, too, no sample of it counts, and only
--- the mode is new
+-- behind a record the rules stood as they stood there, also once the next one came. Where they stand so behind that one, too, no sample
+-- of it counts, and only the mode is new
 pub record StandAgain : Type 0 where
   pub behind : (step : Step) (a : Account) → StoodLast step.stands (account_with step a)
-  pub again : (step : Step) (a : Account) → StoodLast step.stands a →
-      account_with step a ≡ stood_again step.place step.mode (written step.written step.place step.stands (come step.bytes step.place a))
+  pub comes : (stands : List Stand) (bytes : List ℕ) (place : Place) (a : Account) → StoodLast stands a → StoodLast stands (come bytes place a)
+  pub again : (stands : List Stand) (bytes : List ℕ) (place : Place) (mode : Option LcMode) (a : Account) → StoodLast stands a →
+      stood_so place mode stands (written bytes place stands (sampled place stands a)) ≡ stood_again place mode (written bytes place stands a)
 
 -- the account of a run has the first 1,000 of all its events, and the last 1,000, and how many are left out between them, of the
 -- records from one to another

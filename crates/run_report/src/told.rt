@@ -3,7 +3,9 @@
 use crate::json::{put, put_comma, put_optional, put_text};
 use crate::rules::level_word;
 use lc_model::LcMode;
-use run_account::{Account, Bands, Ends, How, Left, Met, Part, Place, Request, Sample, Told, verdict};
+use run_account::{
+    Account, Bands, Ends, How, Left, Met, Part, Place, Request, Sample, Told, verdict,
+};
 use std::io::{self, Write};
 
 fn put_place<W: Write>(out: &mut W, place: Place) -> io::Result<()> {

@@ -12,9 +12,9 @@ returns-clause-told c = λ lanes tells.
       «record» = c.next-place.ensures.number i;
       time = (c.next-place.ensures.time ∙ ap (λ ticks. pos ticks -ℤ pos c.next-place.new.self.start) c.ticks_in.ensures.ticks) i;
     } in
-    let stands : c.as_slice.result.now ≡ stands_of (engine_among (host_in c.args.stepping.now).host.seats) =
-    c.as_slice.ensures.value ∙ c.in_ok-look.ensures in
+    let stands : c.as_slice-stands.result.now ≡ stands_of (engine_among (host_in c.args.stepping.now).host.seats) =
+    c.as_slice-stands.ensures.value ∙ c.in_ok-look.ensures in
     subst (λ (at : Place). OnOk c.stand-2.result (LanesTell c.stand-2.new.self
     (stood_more at (stands_of (engine_among (host_in c.args.stepping.now).host.seats)) 0 lanes))) place
     (subst (λ (these : List Stand). OnOk c.stand-2.result (LanesTell c.stand-2.new.self (stood_more c.next-place.result these 0 lanes))) stands
-    (c.stand-2.ensures lanes (c.in_ok-come.ensures lanes tells)))
+    (c.stand-2.ensures lanes (c.in_ok-tell_values.ensures lanes tells)))
