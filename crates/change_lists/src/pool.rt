@@ -50,8 +50,8 @@ impl Pool {
     fn longest(&self) -> (usize, usize) {
         let mut longest = (0, 0);
         for (number, list) in self.lists.iter().enumerate() {
-            if list.entries().len() > longest.1 {
-                longest = (number, list.entries().len());
+            if list.count() > longest.1 {
+                longest = (number, list.count());
             }
         }
         longest
@@ -67,7 +67,7 @@ impl Pool {
             return Ok(false);
         }
         self.lists[number].halve(self.alloc)?;
-        let after = self.lists[number].entries().len();
+        let after = self.lists[number].count();
         self.count = self.count.saturating_sub(before).saturating_add(after);
         Ok(true)
     }
@@ -93,9 +93,9 @@ impl Pool {
         if number >= self.lists.len() {
             return Ok(());
         }
-        let before = self.lists[number].entries().len();
+        let before = self.lists[number].count();
         self.lists[number].add(entry)?;
-        let after = self.lists[number].entries().len();
+        let after = self.lists[number].count();
         self.count = self.count.saturating_sub(before).saturating_add(after);
         self.make_room()
     }
