@@ -1,18 +1,19 @@
 -- Lists that are told one more, and lists that are widened.
-use Rattle.std.proofs.Common.{◌≡◌, ℕ, List, [], ◌∷◌, ◌++◌, true, false, Bool, refl, ap, sym, ◌∙◌, subst, ◌*◌, ◌/◌, ◌-◌, ◌+◌, ◌^◌, ◌≤◌, ◌<◌, arith, suc, pow-suc, Result, Ok, Err, OnOk}
+use Rattle.std.proofs.Common.{◌≡◌, ℕ, List, [], ◌∷◌, ◌++◌, true, false, Bool, ap, sym, ◌∙◌, subst, ◌*◌, ◌/◌, ◌-◌, ◌+◌, ◌^◌, ◌≤◌, ◌<◌, arith, suc, pow-suc, Result, Ok, Err, OnOk}
 use Rattle.std.proofs.Math.Nat.{div-div-eq-div-mul}
 use Rattle.change_lists.specs.declared.entry.Entry.{Entry}
 use Rattle.change_lists.specs.declared.changes.Changes.{Changes}
 use Rattle.change_lists.specs.Changes.{is_said_last, changes, reduced}
+use Rattle.change_lists.specs.Laws.{ToldAgain}
 use Rattle.change_lists.specs.Telling.{Tells, entry_count, width_of}
 use Rattle.change_lists.proofs.Reduced.{IsWider, twice}
-use Rattle.change_lists.proofs.Said.{last_reduced, said_last, not_said_last}
+use Rattle.change_lists.proofs.Said.{last_of_changes, last_reduced, said_last, not_said_last}
 
 -- what the list says last is what was told last
 said_so : (list : Changes) (told : List Entry) (entry : Entry) (b : Bool) → is_said_last list.entries.items entry ≡ b → Tells list told → is_said_last (changes told) entry ≡ b
 said_so list told entry b said tells = sym (last_reduced (width_of list) (changes told) entry) ∙ ap (λ entries. is_said_last entries entry) (sym tells.entries) ∙ said
 
-told_last : (list : Changes) (told : List Entry) (entry : Entry) → is_said_last (changes told) entry ≡ true → Tells list told → Tells list (told ++ entry ∷ [])
+pub told_last : (list : Changes) (told : List Entry) (entry : Entry) → is_said_last (changes told) entry ≡ true → Tells list told → Tells list (told ++ entry ∷ [])
 told_last list told entry said tells = record {
   entries = tells.entries ∙ ap (reduced (width_of list)) (sym (said_last told entry said));
   widest = tells.widest;
@@ -21,6 +22,9 @@ told_last list told entry said tells = record {
 
 pub told_again : (list : Changes) (told : List Entry) (entry : Entry) → is_said_last list.entries.items entry ≡ true → Tells list told → Tells list (told ++ entry ∷ [])
 told_again list told entry said tells = told_last list told entry (said_so list told entry true said tells) tells
+
+pub told_again_is_told : ToldAgain
+told_again_is_told list told entry said tells = told_last list told entry (last_of_changes told entry ∙ said) tells
 
 pub told_new : (old new : Changes) (told : List Entry) (entry : Entry) → is_said_last old.entries.items entry ≡ false → new.doublings ≡ old.doublings →
     new.entries.items ≡ reduced (width_of old) (changes told ++ entry ∷ []) → (64 ≤ old.doublings → entry_count old ≤ 2 → entry_count new ≤ 2) →

@@ -41,7 +41,8 @@ fn widened(alloc: Global, doublings: u32, entries: &[Entry]) -> Result<Vec<Entry
 impl Changes {
     /// Nothing told.
     pub fn new(alloc: Global) -> Changes
-        ensures { Tells result [] }
+        ensures told { Tells result [] }
+        ensures doublings { doublings_of result ≡ 0 }
     {
         Changes {
             doublings: 0,

@@ -1,4 +1,4 @@
-use Rattle.std.proofs.Common.{◌≡◌, ◌∙◌, ◌++◌, ◌∷◌, [], ap, sym, refl}
+use Rattle.std.proofs.Common.{◌∙◌, ap, sym, refl}
 use Rattle.change_lists.specs.Changes.{changes, is_said_last}
 use Rattle.change_lists.proofs.Grown.{on_ok_both, told_again, told_new}
 use Rattle.change_lists.proofs.changes.Changes.add.Goals as goal

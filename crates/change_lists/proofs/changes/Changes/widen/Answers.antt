@@ -1,4 +1,4 @@
-use Rattle.std.proofs.Common.{◌≡◌, ◌∙◌, ◌+◌, ◌^◌, ap, refl}
+use Rattle.std.proofs.Common.{◌∙◌, ◌+◌, ◌^◌, ap, refl}
 use Rattle.change_lists.specs.Changes.{reduced}
 use Rattle.change_lists.proofs.Grown.{told_wide}
 use Rattle.change_lists.proofs.changes.Changes.widen.Goals as goal
