@@ -4,10 +4,11 @@ use Rattle.std.proofs.lemmas.List.{append_assoc}
 use Rattle.change_lists.specs.declared.entry.Entry.{Entry}
 use Rattle.change_lists.specs.declared.changes.Changes.{Changes}
 use Rattle.change_lists.specs.Telling.{AllTell, lists_of, told_to}
-use Rattle.run_report.specs.declared.place.Place.{Place}
-use Rattle.run_report.specs.declared.place.Stand.{Stand}
+use Rattle.run_account.specs.declared.place.Place.{Place}
+use Rattle.run_account.specs.declared.place.Stand.{Stand}
 use Rattle.run_report.specs.declared.lists.Lists.{Lists}
-use Rattle.run_report.specs.Model.{LanesTell, Step, lanes_from, nothing_told, stand_at, stood, stood_more}
+use Rattle.run_account.specs.Standing.{stand_at}
+use Rattle.run_report.specs.Model.{LanesTell, Step, lanes_from, nothing_told, stood, stood_more}
 
 -- ---- nothing told
 

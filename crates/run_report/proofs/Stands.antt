@@ -5,19 +5,9 @@ use Rattle.lc_model.specs.declared.mode.ApResult.{ApResult}
 use Rattle.lc_model.specs.declared.mode.ApMode.{ApMode}
 use Rattle.lc_model.specs.Kept.Summary.{Tally}
 use Rattle.lc_model.specs.LimitChecker.Steps.{Point}
-use Rattle.run_report.specs.declared.place.Stand.{Stand}
-use Rattle.run_report.specs.Model.{absent, bit_of_result, bit_of_state, stand_at, stand_of}
-
-pub at_some : (stands : List Stand) (rule : ℕ) (stand : Stand) → rule < length stands → ((other : Stand) → stand ≡ get_or stands rule other) →
-    stand_at rule stands ≡ stand
-at_some [] rule stand within is = absurd (omega arith)
-at_some (one ∷ stands) zero stand within is = sym (is one)
-at_some (one ∷ stands) (suc rule) stand within is = at_some stands rule stand (omega arith) is
-
-pub at_none : (stands : List Stand) (rule : ℕ) → length stands ≤ rule → stand_at rule stands ≡ absent
-at_none [] rule beyond = refl
-at_none (one ∷ stands) zero beyond = absurd (omega arith)
-at_none (one ∷ stands) (suc rule) beyond = at_none stands rule (omega arith)
+use Rattle.run_account.specs.declared.place.Stand.{Stand}
+use Rattle.run_account.specs.Standing.{bit_of_result, bit_of_state}
+use Rattle.run_report.specs.Model.{stand_of}
 
 -- one rule more is looked at
 pub next_stand : (points : List (Point Tally)) (n : ℕ) (last : Option ApResult) (state : ApMode) (fails : ℕ) →

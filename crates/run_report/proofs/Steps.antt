@@ -7,10 +7,11 @@ use Rattle.change_lists.specs.declared.entry.Entry.{Entry}
 use Rattle.flight_core.specs.Feeding.{Feeding}
 use Rattle.run_course.specs.Stepping.{HasStepped, engine_among}
 use Rattle.run_course.specs.declared.handled.Handled.TheVariants as handled
-use Rattle.run_report.specs.declared.place.Place.{Place}
-use Rattle.run_report.specs.declared.place.Stand.{Stand}
+use Rattle.run_account.specs.declared.place.Place.{Place}
+use Rattle.run_account.specs.declared.place.Stand.{Stand}
 use Rattle.run_report.specs.declared.lists.Lists.{Lists}
-use Rattle.run_report.specs.Model.{HasTold, LanesTell, Step, Went, bytes_of, lanes_from, place_of, stand_at, stands_of, start_of, stood, stood_more, ticks_of, told_from, told_of}
+use Rattle.run_account.specs.Standing.{stand_at}
+use Rattle.run_report.specs.Model.{HasTold, LanesTell, Step, Went, bytes_of, lanes_from, place_of, stands_of, start_of, stood, stood_more, ticks_of, told_from, told_of}
 
 -- the host goes through one record more
 pub went_more : (first old new : Feeding) (steps : List Step) (bytes written : List ℕ) → Went first steps old → HasStepped bytes old new written (Ok handled.Whole) →

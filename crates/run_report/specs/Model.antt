@@ -1,9 +1,5 @@
 -- What a page tells of a run: how the Limit Checker stands behind each record, rule by rule (page/DATA.md). This project's own.
 use Rattle.std.specs.Prelude.{◌≡◌, ℕ, zero, suc, ◌+◌, ◌*◌, ◌^◌, ◌<◌, List, [], ◌∷◌, ◌++◌, length, map, ℤ, pos, ◌-ℤ◌, nat_lt, if◌then◌else◌, Option, Some, None, Result, Ok, slice_get}
-use Rattle.lc_model.specs.declared.mode.ApResult.{ApResult}
-use Rattle.lc_model.specs.declared.mode.ApResult.TheVariants.{Pass, Stale, Error, Fail}
-use Rattle.lc_model.specs.declared.mode.ApMode.{ApMode}
-use Rattle.lc_model.specs.declared.mode.ApMode.TheVariants.{Active, Passive, Disabled, PermOff}
 use Rattle.lc_model.specs.Bytes.{u16_at, u32_at}
 use Rattle.lc_model.specs.Host.Stream.{header_size}
 use Rattle.lc_model.specs.Kept.Summary.{LcOwn, Tally}
@@ -16,8 +12,9 @@ use Rattle.run_course.specs.declared.ending.Ending.{Ending}
 use Rattle.run_course.specs.declared.ending.Ending.TheVariants.{Whole, NoRecord, Cut, Bound}
 use Rattle.change_lists.specs.declared.entry.Entry.{Entry}
 use Rattle.change_lists.specs.Telling.{AllTell, lists_of}
-use Rattle.run_report.specs.declared.place.Place.{Place}
-use Rattle.run_report.specs.declared.place.Stand.{Stand}
+use Rattle.run_account.specs.declared.place.Place.{Place}
+use Rattle.run_account.specs.declared.place.Stand.{Stand}
+use Rattle.run_account.specs.Standing.{bit_of_result, bit_of_state, stand_at}
 use Rattle.run_report.specs.declared.lists.Lists.{Lists}
 
 -- ---- a run
@@ -35,21 +32,6 @@ Went old (step ∷ steps) new = HasStepped step.bytes old step.host step.written
 
 -- ---- how a rule stands
 
--- the bit of its last result: the worse, the higher
-abbrev pub bit_of_result : Option ApResult → ℕ
-bit_of_result None = 2
-bit_of_result (Some Pass) = 4
-bit_of_result (Some Stale) = 8
-bit_of_result (Some Error) = 16
-bit_of_result (Some Fail) = 32
-
--- the bit of its state
-abbrev pub bit_of_state : ApMode → ℕ
-bit_of_state Active = 1
-bit_of_state Passive = 2
-bit_of_state Disabled = 4
-bit_of_state PermOff = 8
-
 -- with how many failures in a row
 abbrev pub stand_of : Point Tally → Stand
 stand_of point = record { result = bit_of_result point.past.last; state = bit_of_state point.state; fails = point.past.run }
@@ -58,15 +40,6 @@ stand_of point = record { result = bit_of_result point.past.last; state = bit_of
 abbrev pub stands_of : Option LcOwn → List Stand
 stands_of None = []
 stands_of (Some engine) = map stand_of engine.points
-
--- there is no such rule
-abbrev pub absent : Stand
-absent = record { result = 1; state = 0; fails = 0 }
-
-abbrev pub stand_at : ℕ → List Stand → Stand
-stand_at rule [] = absent
-stand_at zero (stand ∷ stands) = stand
-stand_at (suc rule) (stand ∷ stands) = stand_at rule stands
 
 -- ---- lanes
 

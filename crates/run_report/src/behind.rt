@@ -4,9 +4,9 @@ ghost use Rattle.std.specs.Prelude.{◌≡◌, [], OnOk, map};
 ghost use Rattle.run_course.specs.Stepping.{IsAtRest, engine_among, host_in};
 ghost use Rattle.run_report.specs.Model.{stand_of, stands_of};
 
-use crate::place::{Stand, result_bit, state_bit};
 use lc_model::LcMode;
 use limit_engine::Engine;
+use run_account::{Stand, result_bit, state_bit};
 use run_course::Stepping;
 use std::alloc::{AllocError, Global};
 

@@ -3,10 +3,11 @@
 ghost use Rattle.std.specs.Prelude.{◌≡◌, ◌<◌, List, OnOk, IfOk, ◌++◌, []};
 ghost use Rattle.change_lists.specs.declared.entry.Entry.{Entry as Told};
 ghost use Rattle.change_lists.specs.Telling.{AllTell, lists_of, told_to};
-ghost use Rattle.run_report.specs.Model.{LanesTell, nothing_told, stand_at, stood_more};
+ghost use Rattle.run_report.specs.Model.{LanesTell, nothing_told, stood_more};
 
-use crate::place::{ABSENT, Place, Stand};
+use crate::entry::stand_entry;
 use change_lists::{Changes, Entry, Pool};
+use run_account::{Place, Stand, stand_in};
 use std::alloc::{AllocError, Global};
 
 /// The most entries of all lists.
@@ -28,16 +29,6 @@ fn push_all(pool: &mut Pool, count: usize) -> Result<(), AllocError>
         pool.push()?;
     }
     Ok(())
-}
-
-/// How a rule stands, if there is one of this number.
-fn stand_in(stands: &[Stand], rule: usize) -> Stand
-    ensures { result ≡ stand_at rule stands.now }
-{
-    match stands.get(rule) {
-        Some(stand) => *stand,
-        None => ABSENT,
-    }
 }
 
 impl Lists {
@@ -88,7 +79,7 @@ impl Lists {
             OnOk result (LanesTell self.new (stood_more place stands.now 0 lanes)) }
     {
         for rule in 0..self.lanes {
-            let entry = place.stand(stand_in(stands, rule));
+            let entry = stand_entry(place, stand_in(stands, rule));
             self.stand_one(rule, entry)?;
         }
         Ok(())

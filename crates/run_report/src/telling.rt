@@ -7,14 +7,14 @@ ghost use Rattle.flight_core.specs.Feeding.{Feeding};
 ghost use Rattle.run_course.specs.Stepping.{IsAtRest, BeginsWith, engine_among, host_in};
 ghost use Rattle.run_report.specs.Model.{HasTold, LanesTell, Tells, place_of, stands_of, stood_more, ticks_of};
 
-use crate::account::Account;
 use crate::behind::Behind;
-use crate::clock::Clock;
+use crate::clock::{Clock, ticks_in};
+use crate::entry::value_entry;
 use crate::error::ReportError;
 use crate::lists::Lists;
-use crate::place::ticks_in;
 use crate::progress::Progress;
 use lc_model::stream::{HEADER, body_size};
+use run_account::{Account, Place, Seen};
 use run_course::{Ending, Handled, Stepping};
 use std::alloc::{AllocError, Global};
 use tick_scheduler::Schedule;
@@ -43,13 +43,26 @@ fn first_record(stream: &[u8]) -> (&[u8], &[u8])
     stream.split_at(size)
 }
 
+/// The fields that a packet of this place brought have new values.
+fn tell_values(seen: &[Seen<'_>], place: Place, lists: &mut Lists) -> Result<(), AllocError>
+    ensures { (lanes : List (List Told)) → LanesTell lists.old lanes →
+        OnOk result (LanesTell lists.new lanes) }
+{
+    for (field, seen) in seen.iter().enumerate() {
+        if seen.met.place == Some(place) {
+            lists.value(field, value_entry(place, seen.met))?;
+        }
+    }
+    Ok(())
+}
+
 impl<'a> Telling<'a> {
     /// Of no record, for runs of these texts, which compile.
     fn new(alloc: Global, texts: &[&'a [u8]]) -> Result<Telling<'a>, ReportError>
         ensures { IfOk result (λ telling. HasTold telling.lists telling.clock.start []) }
     {
         let account = Account::new(alloc, texts)?;
-        let lists = Lists::new(alloc, account.lanes, account.fields.len())?;
+        let lists = Lists::new(alloc, account.lanes, account.seen.len())?;
         Ok(Telling {
             clock: Clock::new(),
             lists,
@@ -71,12 +84,14 @@ impl<'a> Telling<'a> {
             (stands_of (engine_among (host_in stepping.now).host.seats)) 0 lanes)) }
     {
         let place = self.clock.next(number, ticks_in(record));
-        self.account.come(record, place, &mut self.lists)?;
+        self.account.come(record, place)?;
+        tell_values(self.account.seen.as_slice(), place, &mut self.lists)?;
         self.behind.look(stepping)?;
-        self.account.sample(place, &self.behind)?;
-        self.account.write(stepping.written(), place, &self.behind)?;
-        self.account.stand(place, &self.behind)?;
-        self.lists.stand(place, self.behind.rules.as_slice())
+        let stands = self.behind.rules.as_slice();
+        self.account.sample(place, stands)?;
+        self.account.write(stepping.written(), place, stands)?;
+        self.account.stand(place, self.behind.mode, stands)?;
+        self.lists.stand(place, stands)
     }
 }
 

@@ -1,12 +1,9 @@
 //! What was sent, and the bands, of a page's data.
 
-use crate::account::Account;
-use crate::bands::{Bands, How};
 use crate::json::{put, put_comma, put_optional, put_text};
-use crate::place::{Place, mode_word};
 use crate::rules::level_word;
-use crate::samples::{Met, Part, Sample, verdict};
-use crate::sent::{Left, Request, Told};
+use lc_model::LcMode;
+use run_account::{Account, Bands, How, Left, Met, Part, Place, Request, Sample, Told, verdict};
 use std::io::{self, Write};
 
 fn put_place<W: Write>(out: &mut W, place: Place) -> io::Result<()> {
@@ -36,6 +33,16 @@ pub fn put_tables<W: Write>(out: &mut W, bands: &Bands) -> io::Result<()> {
         write!(out, ",\"{how}\"]")?;
     }
     Ok(())
+}
+
+/// The word for a mode, or for no Limit Checker.
+fn mode_word(mode: Option<LcMode>) -> &'static str {
+    match mode {
+        None => "absent",
+        Some(LcMode::Active) => "active",
+        Some(LcMode::Passive) => "passive",
+        Some(LcMode::Disabled) => "disabled",
+    }
 }
 
 /// Writes the modes.

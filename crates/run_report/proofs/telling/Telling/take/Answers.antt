@@ -1,8 +1,8 @@
 use Rattle.std.proofs.Common.{◌≡◌, ◌∙◌, sym, subst, ap, pos, ◌-ℤ◌, List}
 use Rattle.std.specs.Prelude.{OnOk}
 use Rattle.run_course.specs.Stepping.{engine_among, host_in}
-use Rattle.run_report.specs.declared.place.Place.{Place}
-use Rattle.run_report.specs.declared.place.Stand.{Stand}
+use Rattle.run_account.specs.declared.place.Place.{Place}
+use Rattle.run_account.specs.declared.place.Stand.{Stand}
 use Rattle.run_report.specs.Model.{LanesTell, place_of, stands_of, stood_more}
 use Rattle.run_report.proofs.telling.Telling.take.Goals as goal
 

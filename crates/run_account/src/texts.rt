@@ -1,17 +1,9 @@
 //! Rule texts as a page has them: their rules, and the fields that these compare.
 
-use crate::error::ReportError;
 use lc_model::FieldType;
 use rule_lexer::{Token, TokenKind, lex};
 use rule_parser::{Comparison, Expression, FieldItem, Item, RuleFile, RuleItem, parse};
 use std::alloc::{AllocError, Global};
-
-/// A file, with the name under which a page speaks of it.
-#[derive(Clone, Copy, Debug)]
-pub struct Source<'n, 't> {
-    pub name: &'n str,
-    pub text: &'t [u8],
-}
 
 /// A rule text that compiles.
 #[derive(Drop)]
@@ -34,12 +26,12 @@ pub struct Field<'a> {
 }
 
 /// Reads a text that compiles.
-pub fn read_text<'a>(alloc: Global, source: &'a [u8]) -> Result<Text<'a>, ReportError> {
+pub fn read_text<'a>(alloc: Global, source: &'a [u8]) -> Result<Text<'a>, AllocError> {
     let Ok(tokens) = lex(alloc, source) else {
-        return Err(ReportError::Memory);
+        return Err(AllocError);
     };
     let Ok(file) = parse(alloc, source, tokens.as_slice()) else {
-        return Err(ReportError::Memory);
+        return Err(AllocError);
     };
     Ok(Text {
         source,

@@ -1,8 +1,8 @@
 //! The samples that count for a request: those in which a rule failed in a row.
 
 use crate::place::{Place, Stand};
+use crate::seen::{Met, NOTHING, Seen};
 use crate::texts::{Field, Text, compare, place_of};
-use crate::values::value_in;
 use lc_model::CmpOp;
 use std::alloc::{AllocError, Global};
 
@@ -15,19 +15,6 @@ pub struct Part {
     pub number: i64,
     pub at: usize,
 }
-
-/// What a comparison met: the value, where its packet reached it, and the packet's place, where one came.
-#[derive(Clone, Copy, Debug)]
-pub struct Met {
-    pub value: Option<i64>,
-    pub place: Option<Place>,
-}
-
-/// No packet came.
-pub const NOTHING: Met = Met {
-    value: None,
-    place: None,
-};
 
 /// What a rule's comparisons met in a sample in which it failed.
 #[derive(Debug, Drop)]
@@ -76,6 +63,14 @@ pub fn parts_of(
     Ok(rules)
 }
 
+/// What is met of the field of this number.
+fn met_of(seen: &[Seen<'_>], field: usize) -> Met {
+    match seen.get(field) {
+        Some(seen) => seen.met,
+        None => NOTHING,
+    }
+}
+
 impl Row {
     pub fn new(alloc: Global) -> Row {
         Row {
@@ -101,7 +96,7 @@ impl Row {
         place: Place,
         stand: Stand,
         parts: &[Part],
-        met: &[Met],
+        seen: &[Seen<'_>],
     ) -> Result<(), AllocError> {
         if stand.fails == self.fails {
             return Ok(());
@@ -115,7 +110,7 @@ impl Row {
         }
         let mut found = self.room(alloc);
         for part in parts {
-            found.push(met.get(part.field).copied().unwrap_or(NOTHING))?;
+            found.push(met_of(seen, part.field))?;
         }
         self.samples.push(Sample { place, met: found })?;
         Ok(())
@@ -141,13 +136,5 @@ pub fn verdict(part: Part, met: Met) -> &'static str {
         (Some(_), None) => "error",
         (Some(_), Some(value)) if holds(part.op, value, part.number) => "true",
         (Some(_), Some(_)) => "false",
-    }
-}
-
-/// What a packet says of a field.
-pub fn met_in(field: &Field<'_>, packet: &[u8], place: Place) -> Met {
-    Met {
-        value: value_in(field, packet),
-        place: Some(place),
     }
 }

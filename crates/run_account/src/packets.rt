@@ -1,9 +1,9 @@
 //! The packets that a record led to, as the account has them.
 
-use crate::account::{Account, count};
+use crate::account::Account;
 use crate::bands::How;
-use crate::behind::Behind;
-use crate::place::{ABSENT, ACTIVE, FAIL, PASSIVE, Place};
+use crate::figures::count;
+use crate::place::{ACTIVE, FAIL, PASSIVE, Place, Stand, stand_in};
 use crate::samples::Sample;
 use crate::sent::{Request, Told};
 use lc_model::packet::first_packet;
@@ -58,10 +58,10 @@ fn count_of(packet: &[u8]) -> u16 {
 impl<'a> Account<'a> {
     /// The rule that requests this sequence: the first from one on that is of this sequence, as far as the text in force is
     /// known, and in this record became passive by a failure.
-    fn requesting(&self, from: usize, sequence: u16, behind: &Behind) -> Option<usize> {
+    fn requesting(&self, from: usize, sequence: u16, stands: &[Stand]) -> Option<usize> {
         for rule in from..self.lanes {
-            let now = behind.rules.get(rule).copied().unwrap_or(ABSENT);
-            let before = self.before.get(rule).copied().unwrap_or(ABSENT);
+            let now = stand_in(stands, rule);
+            let before = stand_in(self.before.as_slice(), rule);
             let has_asked = now.state == PASSIVE && now.result == FAIL && before.state == ACTIVE;
             if has_asked && self.may_request(rule, sequence) {
                 return Some(rule);
@@ -103,10 +103,10 @@ impl<'a> Account<'a> {
         place: Place,
         from: usize,
         sequence: u16,
-        behind: &Behind,
+        stands: &[Stand],
     ) -> Result<usize, AllocError> {
         count(&mut self.figures.requests);
-        let rule = self.requesting(from, sequence, behind);
+        let rule = self.requesting(from, sequence, stands);
         let (counted, samples) = match rule {
             Some(rule) => self.counted(rule)?,
             None => (0, Vec::new(self.alloc)),
@@ -151,7 +151,7 @@ impl<'a> Account<'a> {
         &mut self,
         packets: &[u8],
         place: Place,
-        behind: &Behind,
+        stands: &[Stand],
     ) -> Result<(), AllocError> {
         let mut rest = packets;
         let mut from = 0usize;
@@ -162,7 +162,7 @@ impl<'a> Account<'a> {
             count(&mut self.figures.packets);
             match read_packet(packet) {
                 Some(Sent::Request(sequence)) => {
-                    from = self.request(packet, place, from, sequence, behind)?;
+                    from = self.request(packet, place, from, sequence, stands)?;
                 }
                 Some(Sent::Event(event)) => self.event(place, &event)?,
                 Some(Sent::Housekeeping { .. }) => count(&mut self.figures.housekeeping),
