@@ -1,5 +1,5 @@
 -- What a page tells of a run: how the Limit Checker stands behind each record, rule by rule (page/DATA.md). This project's own.
-use Rattle.std.specs.Prelude.{◌≡◌, ℕ, zero, suc, ◌+◌, ◌*◌, ◌^◌, ◌<◌, List, [], ◌∷◌, ◌++◌, length, map, ℤ, pos, ◌-ℤ◌, nat_lt, if◌then◌else◌, Option, Some, None, Result, Ok, slice_get}
+use Rattle.std.specs.Prelude.{◌≡◌, ℕ, zero, suc, ◌+◌, ◌*◌, ◌^◌, ◌<◌, true, List, [], ◌∷◌, ◌++◌, length, map, ℤ, pos, ◌-ℤ◌, nat_lt, if◌then◌else◌, Option, Some, None, Result, Ok, slice_get}
 use Rattle.lc_model.specs.Bytes.{u16_at, u32_at}
 use Rattle.lc_model.specs.Host.Stream.{header_size}
 use Rattle.lc_model.specs.Kept.Summary.{LcOwn, Tally}
@@ -11,10 +11,12 @@ use Rattle.run_course.specs.declared.handled.Handled.TheVariants as handled
 use Rattle.run_course.specs.declared.ending.Ending.{Ending}
 use Rattle.run_course.specs.declared.ending.Ending.TheVariants.{Whole, NoRecord, Cut, Bound}
 use Rattle.change_lists.specs.declared.entry.Entry.{Entry}
-use Rattle.change_lists.specs.Telling.{AllTell, lists_of}
+use Rattle.change_lists.specs.Changes.{is_said_last}
+use Rattle.change_lists.specs.Telling.{PoolTells, most_of}
 use Rattle.run_account.specs.declared.place.Place.{Place}
 use Rattle.run_account.specs.declared.place.Stand.{Stand}
 use Rattle.run_account.specs.Standing.{bit_of_result, bit_of_state, stand_at}
+use Rattle.run_report.specs.declared.behind.Behind.{Behind}
 use Rattle.run_report.specs.declared.lists.Lists.{Lists}
 
 -- ---- a run
@@ -91,19 +93,34 @@ abbrev pub nothing_told : ℕ → List (List Entry)
 nothing_told zero = []
 nothing_told (suc count) = [] ∷ nothing_told count
 
--- the lists of the lanes tell this: they stand in front of those of the fields
+-- each of these was told last that its rule, from this one on, stands so
+abbrev pub SaidLast : Place → ℕ → List Stand → List (List Entry) → Type 0
+SaidLast place rule stands [] = Unit {0}
+SaidLast place rule stands (told ∷ more) = (is_said_last told (stood place (stand_at rule stands)) ≡ true) × SaidLast place (suc rule) stands more
+
+-- the most entries of all lists
+abbrev pub most_entries : ℕ
+most_entries = 22528
+
+-- the lists of the lanes tell this: they stand in front of those of the fields, and all have room together
 pub record LanesTell (lists : Lists) (lanes : List (List Entry)) : Type 0 where
   pub values : List (List Entry)
   pub lanes_are : length lanes ≡ lists.lanes
-  pub all : AllTell (lists_of lists.pool) (lanes ++ values)
+  pub most : most_of lists.pool ≡ most_entries
+  pub all : PoolTells lists.pool (lanes ++ values)
+
+-- where the rules were looked at, the lanes were told last that they stand as they did
+abbrev pub IsKept : Behind → List (List Entry) → Type 0
+IsKept behind lanes = behind.looked ≡ true → (place : Place) → SaidLast place 0 behind.rules.items lanes
 
 -- ---- a whole run
 
 -- all this is told of these records
-pub record HasTold (lists : Lists) (start : ℕ) (steps : List Step) : Type 0 where
+pub record HasTold (lists : Lists) (behind : Behind) (start : ℕ) (steps : List Step) : Type 0 where
   pub first : start ≡ start_of steps
   pub small : start < 2 ^ 48
   pub lanes : LanesTell lists (lanes_from 0 lists.lanes steps)
+  pub kept : IsKept behind (lanes_from 0 lists.lanes steps)
 
 -- the bytes of all records, one behind the other
 abbrev pub bytes_of : List Step → List ℕ

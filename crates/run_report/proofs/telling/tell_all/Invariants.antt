@@ -8,5 +8,5 @@ invariant-loop g l = record {
   ready : IsAtRest l.stepping;
   number : l.number ≡ l.counter;
   left : l.counter + length l.rest ≤ length l.stream;
-  told : SoFar (host_in l.initial.stepping) (host_in l.stepping) l.stream l.rest l.telling.lists l.telling.clock.start l.number;
+  told : SoFar (host_in l.initial.stepping) (host_in l.stepping) l.stream l.rest l.telling.lists l.telling.behind l.telling.clock.start l.number;
 }

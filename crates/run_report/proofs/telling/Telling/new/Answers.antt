@@ -1,4 +1,5 @@
 use Rattle.std.proofs.Common.{◌≡◌, ◌∙◌, sym, subst, ap, arith}
+use Rattle.std.proofs.lemmas.Bool.{false≢true}
 use Rattle.run_report.specs.Model.{LanesTell, nothing_told}
 use Rattle.run_report.proofs.Lanes.{length_nothing, nothing_of_lanes}
 use Rattle.run_report.proofs.telling.Telling.new.Goals as goal
@@ -11,4 +12,5 @@ returns c =
       first = c.new-3.ensures;
       small = omega (arith, c.new-3.ensures);
       lanes = subst (LanesTell c.in_ok-lists.lists) (ap nothing_told count ∙ sym (nothing_of_lanes 0 c.in_ok-lists.lists.lanes)) tells;
+      kept = λ looked. absurd (false≢true (sym c.new-4.ensures ∙ looked));
     }
