@@ -78,13 +78,17 @@ pub record SoFar (first now : Feeding) (stream rest : List ℕ) (lists : Lists) 
 pub nothing_so_far : (first : Feeding) (stream : List ℕ) (lists : Lists) (behind : Behind) (start : ℕ) → HasTold lists behind start [] → SoFar first first stream stream lists behind start 0
 nothing_so_far first stream lists behind start told = record { steps = []; count = refl; went = refl; bytes = refl; told = told }
 
+-- what a record behind so many others tells
+abbrev pub TellsNow : Lists → Behind → ℕ → List ℕ → Feeding → List (List Entry) → ℕ → Type 0
+TellsNow lists behind start bytes host lanes count =
+    LanesTell lists (stood_more (place_of start (count + 1) bytes) (stands_of (engine_among host.host.seats)) 0 lanes)
+    × IsKept behind (stood_more (place_of start (count + 1) bytes) (stands_of (engine_among host.host.seats)) 0 lanes)
+
 -- one record more
 pub next_so_far : (first old new : Feeding) (stream rest bytes left written : List ℕ) (lists after : Lists) (behind behind_it : Behind) (start now number : ℕ) →
     SoFar first old stream rest lists behind start number → HasStepped bytes old new written (Ok handled.Whole) → bytes ++ left ≡ rest →
     now ≡ (if number + 1 == 1 then ticks_of bytes else start) → now < 2 ^ 48 →
-    ((lanes : List (List Entry)) → LanesTell lists lanes → IsKept behind lanes →
-    LanesTell after (stood_more (place_of now (number + 1) bytes) (stands_of (engine_among new.host.seats)) 0 lanes)
-    × IsKept behind_it (stood_more (place_of now (number + 1) bytes) (stands_of (engine_among new.host.seats)) 0 lanes)) →
+    ((lanes : List (List Entry)) → LanesTell lists lanes → IsKept behind lanes → TellsNow after behind_it now bytes new lanes number) →
     SoFar first new stream left after behind_it now (number + 1)
 next_so_far first old new stream rest bytes left written lists after behind behind_it start now number so stepped parts begins small adds = record {
   steps = so.steps ++ step ∷ [];
@@ -106,13 +110,8 @@ next_so_far first old new stream rest bytes left written lists after behind behi
   begins_so : now ≡ (if length so.steps + 1 == 1 then ticks_of bytes else start_of so.steps)
   begins_so = begins ∙ (λ i. if sym so.count i + 1 == 1 then ticks_of bytes else so.told.first i)
 
-  abbrev Now : ℕ → Type 0
-  Now count =
-      LanesTell after (stood_more (place_of now (count + 1) bytes) (stands_of (engine_among new.host.seats)) 0 (lanes_from 0 lists.lanes so.steps))
-      × IsKept behind_it (stood_more (place_of now (count + 1) bytes) (stands_of (engine_among new.host.seats)) 0 (lanes_from 0 lists.lanes so.steps))
-
-  told_now : Now (length so.steps)
-  told_now = subst Now (sym so.count) (adds (lanes_from 0 lists.lanes so.steps) so.told.lanes so.told.kept)
+  told_now : TellsNow after behind_it now bytes new (lanes_from 0 lists.lanes so.steps) (length so.steps)
+  told_now = subst (TellsNow after behind_it now bytes new (lanes_from 0 lists.lanes so.steps)) (sym so.count) (adds (lanes_from 0 lists.lanes so.steps) so.told.lanes so.told.kept)
 
   same_lanes : lists.lanes ≡ after.lanes
   same_lanes = sym (sym told_now.0.lanes_are

@@ -1,17 +1,20 @@
 use Rattle.std.proofs.Common.{◌≡◌, ◌∙◌, sym, subst, ap, pos, ◌-ℤ◌, List}
 use Rattle.run_course.specs.Stepping.{engine_among, host_in}
 use Rattle.run_account.specs.declared.place.Stand.{Stand}
+use Rattle.run_report.specs.declared.clock.Clock.{Clock}
 use Rattle.run_report.specs.Model.{SaidLast, place_of, stands_of}
 use Rattle.run_report.proofs.Lanes.{told_and_kept}
 use Rattle.run_report.proofs.telling.Telling.take.Goals as goal
 
 pub returns-clause-told : goal.returns-clause-told
 returns-clause-told c = λ lanes tells kept.
-    let place : c.next-place.result ≡ place_of c.next-place.new.self.start c.args.number c.args.record.now = λ i. record {
+    let here : c.next-place.result ≡ place_of c.next-place.new.self.start c.args.number c.args.record.now = λ i. record {
       «record» = c.next-place.ensures.number i;
       time = (c.next-place.ensures.time ∙ ap (λ ticks. pos ticks -ℤ pos c.next-place.new.self.start) c.ticks_in.ensures.ticks) i;
     } in
-    told_and_kept c.take_behind.result c.look.new.self c.take_behind.new.self.behind c.next-place.result (place_of c.next-place.new.self.start c.args.number c.args.record.now)
+    let place : c.next-place.result ≡ place_of c.take_behind.new.self.clock.start c.args.number c.args.record.now =
+    here ∙ ap (λ (clock : Clock). place_of clock.start c.args.number c.args.record.now) (sym c.take_behind.ensures.clock) in
+    told_and_kept c.take_behind.result c.look.new.self c.take_behind.new.self.behind c.next-place.result (place_of c.take_behind.new.self.clock.start c.args.number c.args.record.now)
     (stands_of (engine_among (host_in c.args.stepping.now).host.seats)) c.take_behind.new.self.lists lanes
     c.take_behind.ensures.behind place c.in_ok-is_new.ensures.rules
     (c.take_behind.ensures.told lanes (c.in_ok-tell_values.ensures lanes tells)
