@@ -1,10 +1,14 @@
 //! How many there were of what.
 
+ghost use Rattle.std.specs.Prelude.{◌≡◌};
+ghost use Rattle.run_account.specs.Brought.{brings_of};
+ghost use Rattle.run_account.specs.Figures.{none, one_more, with_event, with_record};
+
 use crate::brought::Brought;
 use lc_model::EventKind;
 
-/// How many there were of what.
-#[derive(Clone, Copy, Debug)]
+/// How many there were of what. Counts stop at the greatest number of 64 bits.
+#[derive(Clone, Copy)]
 pub struct Figures {
     pub records: u64,
     pub telemetry: u64,
@@ -21,42 +25,54 @@ pub struct Figures {
     pub other: u64,
 }
 
-/// Nothing yet.
-pub const NONE: Figures = Figures {
-    records: 0,
-    telemetry: 0,
-    commands: 0,
-    ticks: 0,
-    files: 0,
-    packets: 0,
-    requests: 0,
-    housekeeping: 0,
-    critical: 0,
-    error: 0,
-    info: 0,
-    debug: 0,
-    other: 0,
-};
-
 /// One more.
-pub fn count(number: &mut u64) {
+pub(crate) fn count(number: &mut u64)
+    ensures { number.new ≡ one_more number.old }
+{
     *number = number.saturating_add(1);
 }
 
 impl Figures {
+    /// Nothing yet.
+    pub(crate) fn new() -> Figures
+        ensures { result ≡ none }
+    {
+        Figures {
+            records: 0,
+            telemetry: 0,
+            commands: 0,
+            ticks: 0,
+            files: 0,
+            packets: 0,
+            requests: 0,
+            housekeeping: 0,
+            critical: 0,
+            error: 0,
+            info: 0,
+            debug: 0,
+            other: 0,
+        }
+    }
+
     /// Counts a record.
-    pub fn take(&mut self, brought: Brought<'_>) {
+    pub(crate) fn take(&mut self, brought: Brought<'_>)
+        ensures { self.new ≡ with_record (brings_of brought.entry) self.old }
+    {
         count(&mut self.records);
         match brought {
             Brought::Telemetry(_) => count(&mut self.telemetry),
             Brought::Tick => count(&mut self.ticks),
-            Brought::Command | Brought::Load(_) => count(&mut self.commands),
-            Brought::File(_) | Brought::Half(..) => count(&mut self.files),
+            Brought::Command => count(&mut self.commands),
+            Brought::Load(_) => count(&mut self.commands),
+            Brought::File(_) => count(&mut self.files),
+            Brought::Half(..) => count(&mut self.files),
         }
     }
 
     /// Counts an event of this type.
-    pub fn take_event(&mut self, kind: EventKind) {
+    pub(crate) fn take_event(&mut self, kind: EventKind)
+        ensures { self.new ≡ with_event kind self.old }
+    {
         match kind {
             EventKind::Debug => count(&mut self.debug),
             EventKind::Information => count(&mut self.info),

@@ -1,33 +1,80 @@
 //! The samples that count for a request: those in which a rule failed in a row.
 
+ghost use Rattle.std.specs.Prelude.{◌≡◌, ◌++◌, ◌∷◌, [], length, IfOk, OnOk};
+ghost use Rattle.lc_model.specs.Field.{compares};
+ghost use Rattle.run_account.specs.Samples.{in_row, met_by_parts, no_row, row_with, sampled_more, with_room};
+
 use crate::place::{Place, Stand};
-use crate::seen::{Met, NOTHING, Seen};
-use crate::texts::{Field, Text, compare, place_of};
+use crate::plans::Part;
+use crate::seen::{Met, Seen, met_of};
 use lc_model::CmpOp;
 use std::alloc::{AllocError, Global};
+use std::marker::Model;
 
-/// A comparison of a rule, by the place of its field.
-#[derive(Clone, Copy, Debug)]
-pub struct Part {
-    pub field: usize,
-    pub op: CmpOp,
-    /// The number, and the byte of the text at which it stands.
-    pub number: i64,
-    pub at: usize,
-}
-
-/// What a rule's comparisons met in a sample in which it failed.
-#[derive(Debug, Drop)]
+/// What a rule's comparisons met in a sample in which it failed. Contracts see all (`Sampled`).
+#[derive(Drop)]
 pub struct Sample {
-    pub place: Place,
-    pub met: Vec<Met>,
+    place: Place,
+    met: Vec<Met>,
 }
 
-/// The first three and the last three samples of a row.
-#[derive(Debug, Drop)]
-pub struct Row {
-    pub fails: u16,
-    pub samples: Vec<Sample>,
+impl Model for Sample {
+    ghost use Rattle.run_account.specs.Samples.{Sampled};
+
+    ghost Value = { Sampled };
+
+    ghost view = { λ s. record { place = s.place; met = s.met.items } };
+}
+
+impl Sample {
+    /// Where the sample was.
+    pub fn place(&self) -> Place
+        ensures { result ≡ self.now.place }
+    {
+        self.place
+    }
+
+    /// What the rule's comparisons met, from the left.
+    pub fn met(&self) -> &[Met]
+        ensures { result.now ≡ self.now.met }
+    {
+        self.met.as_slice()
+    }
+
+    /// The same sample. Out of memory is the only error.
+    pub(crate) fn same(&self, alloc: Global) -> Result<Sample, AllocError>
+        ensures { IfOk result (λ sample. sample ≡ self.now) }
+    {
+        let met = Vec::from_slice(alloc, self.met.as_slice())?;
+        Ok(Sample {
+            place: self.place,
+            met,
+        })
+    }
+
+    /// Its room for what is met.
+    fn into_room(self) -> Vec<Met>
+        ensures { result.items ≡ [] }
+    {
+        let mut met = self.met;
+        met.clear();
+        met
+    }
+}
+
+/// How often a rule failed in a row, and the first three and the last three samples in which it did. Contracts see all (`Row`).
+#[derive(Drop)]
+pub(crate) struct Row {
+    fails: u16,
+    samples: Vec<Sample>,
+}
+
+impl Model for Row {
+    ghost use Rattle.run_account.specs.Samples.{Row};
+
+    ghost Value = { Row };
+
+    ghost view = { λ r. record { fails = r.fails; samples = r.samples.items } };
 }
 
 /// How many of a row's samples are kept at its front, and at all.
@@ -35,90 +82,110 @@ const FRONT: usize = 3;
 
 const ALL: usize = 6;
 
-/// The comparisons of a text's rules.
-pub fn parts_of(
-    alloc: Global,
-    text: &Text<'_>,
-    fields: &[Field<'_>],
-) -> Result<Vec<Vec<Part>>, AllocError> {
-    let mut rules = Vec::new(alloc);
-    for number in 0..text.rule_count() {
-        let mut parts = Vec::new(alloc);
-        let mut comparisons = Vec::new(alloc);
-        if let Some(rule) = text.rule(number) {
-            compare(&rule.condition, &mut comparisons)?;
-        }
-        for comparison in &comparisons {
-            if let Some(field) = text.field(comparison.field.text) {
-                parts.push(Part {
-                    field: place_of(fields, &field).unwrap_or(0),
-                    op: comparison.op,
-                    number: comparison.value.value,
-                    at: comparison.value.at,
-                })?;
-            }
-        }
-        rules.push(parts)?;
+/// What these comparisons meet. Out of memory is the only error.
+fn meet(room: Vec<Met>, parts: &[Part], all: &[Seen<'_>]) -> Result<Vec<Met>, AllocError>
+    requires { room.items ≡ [] }
+    ensures { IfOk result (λ met. met.items ≡ met_by_parts parts.now all.now) }
+{
+    let mut met = room;
+    for part in parts {
+        met.push(met_of(all, part.field))?;
     }
-    Ok(rules)
+    Ok(met)
 }
 
-/// What is met of the field of this number.
-fn met_of(seen: &[Seen<'_>], field: usize) -> Met {
-    match seen.get(field) {
-        Some(seen) => seen.met,
-        None => NOTHING,
+/// Makes room for one more, and answers room for what it meets.
+fn make_room(alloc: Global, samples: &mut Vec<Sample>) -> Vec<Met>
+    ensures room { result.items ≡ [] }
+    ensures samples { samples.new.items ≡ with_room samples.old.items }
+{
+    if samples.len() < ALL {
+        return Vec::new(alloc);
+    }
+    samples.remove(FRONT).into_room()
+}
+
+/// One more sample, in which these comparisons meet what is known of fields. Out of memory is the only error.
+fn add_sample(
+    alloc: Global,
+    samples: &mut Vec<Sample>,
+    place: Place,
+    parts: &[Part],
+    all: &[Seen<'_>],
+) -> Result<(), AllocError>
+    ensures { OnOk result (samples.new.items ≡
+        sampled_more place (met_by_parts parts.now all.now) samples.old.items) }
+{
+    let room = make_room(alloc, samples);
+    let met = meet(room, parts, all)?;
+    samples.push(Sample { place, met })?;
+    Ok(())
+}
+
+/// The samples of the row that the last one is of: a first failure begins one.
+fn begin_row(samples: &mut Vec<Sample>, fails: u16, before: u16)
+    ensures { samples.new.items ≡
+        in_row fails (record { fails = before; samples = samples.old.items }) }
+{
+    if fails < before || fails == 1 {
+        samples.clear();
     }
 }
 
 impl Row {
-    pub fn new(alloc: Global) -> Row {
+    pub(crate) fn new(alloc: Global) -> Row
+        ensures { result ≡ no_row }
+    {
         Row {
             fails: 0,
             samples: Vec::new(alloc),
         }
     }
 
-    /// The room of a sample that goes, or new room.
-    fn room(&mut self, alloc: Global) -> Vec<Met> {
-        if self.samples.len() >= ALL {
-            let mut met = self.samples.remove(FRONT).met;
-            met.clear();
-            return met;
-        }
-        Vec::new(alloc)
+    /// How often the rule failed in a row.
+    pub(crate) fn fails(&self) -> u16
+        ensures { result ≡ self.now.fails }
+    {
+        self.fails
     }
 
-    /// How the rule stands behind a record: where it failed once more, what its comparisons met is kept.
-    pub fn take(
+    pub(crate) fn samples(&self) -> &[Sample]
+        ensures { result.now ≡ self.now.samples }
+    {
+        self.samples.as_slice()
+    }
+
+    /// How the rule stands behind a record: where it failed once more, what its comparisons met is kept. Out of memory is the only
+    /// error.
+    pub(crate) fn take(
         &mut self,
         alloc: Global,
         place: Place,
         stand: Stand,
         parts: &[Part],
-        seen: &[Seen<'_>],
-    ) -> Result<(), AllocError> {
+        all: &[Seen<'_>],
+    ) -> Result<(), AllocError>
+        ensures { OnOk result (self.new ≡
+            row_with place stand (met_by_parts parts.now all.now) self.old) }
+    {
         if stand.fails == self.fails {
             return Ok(());
         }
-        if stand.fails < self.fails || stand.fails == 1 {
-            self.samples.clear();
-        }
-        self.fails = stand.fails;
         if stand.fails == 0 {
+            self.fails = 0;
+            self.samples.clear();
             return Ok(());
         }
-        let mut found = self.room(alloc);
-        for part in parts {
-            found.push(met_of(seen, part.field))?;
-        }
-        self.samples.push(Sample { place, met: found })?;
-        Ok(())
+        begin_row(&mut self.samples, stand.fails, self.fails);
+        self.fails = stand.fails;
+        add_sample(alloc, &mut self.samples, place, parts, all)
     }
 }
 
 /// What a comparison makes of a value.
-fn holds(op: CmpOp, value: i64, number: i64) -> bool {
+fn holds(op: CmpOp, value: i64, number: i64) -> bool
+    ensures { result ≡ compares op value number }
+{
     match op {
         CmpOp::Less => value < number,
         CmpOp::LessOrEqual => value <= number,

@@ -20,9 +20,20 @@ pub struct Field<'a> {
     pub packet: &'a [u8],
     pub mid: u16,
     pub kind: FieldType,
-    pub at: usize,
+    pub at: u32,
+    /// The mask as the text has it, where it writes one.
     pub mask: Option<i64>,
+    /// The bits that count: all of the type where there is no mask.
+    pub bits: u32,
     pub stale: i64,
+}
+
+/// The bits of a field that count.
+fn bits_of(field: FieldItem<'_>) -> u32 {
+    match field.mask {
+        Some(mask) => u32::try_from(mask.value).unwrap_or(field.kind.full_mask()),
+        None => field.kind.full_mask(),
+    }
 }
 
 /// Reads a text that compiles.
@@ -96,8 +107,9 @@ impl<'a> Text<'a> {
             packet: field.packet.text,
             mid: self.mid_of(field.packet.text),
             kind: field.kind,
-            at: usize::try_from(field.offset.value).unwrap_or(0),
+            at: u32::try_from(field.offset.value).unwrap_or(0),
             mask: field.mask.map(|mask| mask.value),
+            bits: bits_of(field),
             stale: field.stale.map_or(0, |stale| stale.value),
         }
     }

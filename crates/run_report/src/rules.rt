@@ -178,9 +178,9 @@ pub fn put_texts<W: Write>(out: &mut W, account: &Account<'_>) -> io::Result<()>
         put(out, "{\"rules\":[")?;
         for place in 0..text.rule_count() {
             put_comma(out, place)?;
-            let parts = account.parts.get(number).and_then(|rules| rules.get(place));
-            if let (Some(rule), Some(parts)) = (text.rule(place), parts) {
-                put_rule(out, text, rule, parts.as_slice())?;
+            if let Some(rule) = text.rule(place) {
+                let in_text = u16::try_from(number).ok();
+                put_rule(out, text, rule, account.parts(in_text, place))?;
             }
         }
         put(out, "]}")?;

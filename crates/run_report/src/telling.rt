@@ -95,7 +95,7 @@ impl<'a> Telling<'a> {
     {
         let stands = self.behind.rules.as_slice();
         self.account.write(written, place, stands)?;
-        self.account.bands.stand(place, self.behind.mode)?;
+        self.account.stand_again(place, self.behind.mode)?;
         self.lists.stand_again(place, stands);
         Ok(())
     }
