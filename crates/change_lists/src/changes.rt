@@ -81,7 +81,8 @@ impl Changes {
     /// The entries by columns that are twice as wide.
     fn widen(&mut self, alloc: Global) -> Result<(), AllocError>
         requires { self.old.doublings < 64 }
-        ensures told { (told : List Told) → Tells self.old told → OnOk result (Tells self.new told) }
+        ensures told { (told : List Told) → Tells self.old told →
+            OnOk result (Tells self.new told) }
         ensures doublings { OnOk result (self.new.doublings ≡ self.old.doublings + 1) }
     {
         let doublings = self.doublings + 1;
@@ -92,7 +93,8 @@ impl Changes {
 
     /// Widens the columns until at most half of the entries are left, or two.
     pub fn halve(&mut self, alloc: Global) -> Result<(), AllocError>
-        ensures told { (told : List Told) → Tells self.old told → OnOk result (Tells self.new told) }
+        ensures told { (told : List Told) → Tells self.old told →
+            OnOk result (Tells self.new told) }
         ensures least { (told : List Told) → Tells self.old told →
             OnOk result (IsLeast (changes told) (max (entry_count self.old / 2) 2)
             (doublings_of self.old) (doublings_of self.new)) }
