@@ -2,7 +2,6 @@
 use Rattle.std.proofs.Common.{◌≡◌, ℕ, ◌+◌, Bool, true, false, List, [], ◌∷◌, refl, ap, sym, ◌∙◌, subst, Option, Some, None, if◌then◌else◌, bytes_eq}
 use Rattle.std.specs.Prelude.{not, ◌==◌}
 use Rattle.lc_model.specs.declared.mode.LcMode.{LcMode}
-use Rattle.lc_model.specs.declared.rule.EventKind.{EventKind}
 use Rattle.lc_model.specs.Name.{lc_name}
 use Rattle.lc_model.proofs.Facts.{test_equal, tested_equal}
 use Rattle.packet_listing.specs.Told as told
@@ -12,7 +11,7 @@ use Rattle.run_account.specs.declared.place.Place.{Place}
 use Rattle.run_account.specs.declared.place.Stand.{Stand}
 use Rattle.run_account.specs.declared.seen.Met.{Met}
 use Rattle.run_account.specs.declared.seen.Seen.{Seen}
-use Rattle.run_account.specs.Account.{Account, Reading, Step, account_with, before_with, come, come_by, enforced_so, in_force_by, read, read_all, read_by, rows_with, said, sampled, started_with_tables, stood_again, stood_so, written}
+use Rattle.run_account.specs.Account.{Account, Reading, Step, account_with, before_with, come, come_by, enforced_so, in_force_by, read, read_all, read_by, rows_with, sampled, started_with_tables, stood_again, stood_so, written}
 use Rattle.run_account.specs.Bands.{stood}
 use Rattle.run_account.specs.Brought.{Brings, Command, File, Half, Load, Telemetry, Tick, brings}
 use Rattle.run_account.specs.Figures.{with_event, with_packet}

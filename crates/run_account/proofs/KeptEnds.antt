@@ -1,10 +1,10 @@
 -- The first and the last of a list, as they are kept one by one.
-use Rattle.std.proofs.Common.{◌≡◌, ℕ, zero, suc, ◌+◌, ◌-◌, ◌<◌, ◌≤◌, Bool, true, false, nat_lt, List, [], ◌∷◌, ◌++◌, length, take, drop, refl, ap, sym, ◌∙◌, subst, Option, Some, None, append_assoc, length-append, length-drop, arith, if◌then◌else◌}
+use Rattle.std.proofs.Common.{◌≡◌, ℕ, suc, ◌+◌, ◌-◌, ◌<◌, ◌≤◌, Bool, true, false, nat_lt, List, [], ◌∷◌, ◌++◌, length, take, drop, refl, ap, sym, ◌∙◌, subst, Option, Some, None, append_assoc, length-append, length-drop, arith}
 use Rattle.std.proofs.lemmas.List.{drop-append-le, drop_all, length-take-le, take-append-drop, take-append-le, take_all, append-nil}
 use Rattle.std.proofs.Math.Seq.{drop-append_seam, take-append_seam}
 use Rattle.lc_model.proofs.Facts.{test_less, test_not_less, tested_less, tested_not_less}
 use Rattle.run_account.specs.declared.ends.Left.{Left}
-use Rattle.run_account.specs.Ends.{Ends, added, first_item, gone, kept, leaves, left_with, no_items}
+use Rattle.run_account.specs.Ends.{Ends, kept, left_with, no_items}
 use Rattle.run_account.specs.Run.{all_kept, between, ends_of, last_of, left_by}
 
 pub all_kept-append : {T : Type 0} (record_of : T → ℕ) (xs ys : List T) (e : Ends T) →

@@ -1,5 +1,5 @@
 -- The events and the number of packets of an account, record by record.
-use Rattle.std.proofs.Common.{◌≡◌, ℕ, Bool, true, false, List, [], ◌∷◌, ◌++◌, refl, ap, sym, ◌∙◌, Option, Some, None, if◌then◌else◌, bytes_eq, codes, arith}
+use Rattle.std.proofs.Common.{◌≡◌, ℕ, Bool, true, false, List, [], ◌∷◌, refl, ap, sym, ◌∙◌, Option, Some, None, if◌then◌else◌, bytes_eq, arith}
 use Rattle.std.specs.Prelude.{not, ◌==◌, filter_map}
 use Rattle.std.proofs.lemmas.List.Elements.{filter_map-append}
 use Rattle.std.specs.List.{cons_option}
@@ -12,16 +12,14 @@ use Rattle.run_account.specs.declared.bands.How.TheVariants as how
 use Rattle.run_account.specs.declared.figures.Figures.{Figures}
 use Rattle.run_account.specs.declared.place.Place.{Place}
 use Rattle.run_account.specs.declared.place.Stand.{Stand}
-use Rattle.run_account.specs.declared.texts.Field.{Field}
 use Rattle.run_account.specs.About.{rule_of}
-use Rattle.run_account.specs.Account.{Account, Reading, Step, account_behind, account_with, asked_by, come_by, enforced_so, in_force_by, read, read_all, read_by, requested_by, rule_asking, said, sampled, started_with_tables, written}
-use Rattle.run_account.specs.Asking.{Counted, counted_by, row_asked}
+use Rattle.run_account.specs.Account.{Account, Reading, Step, account_behind, account_with, come_by, enforced_so, in_force_by, read, read_all, read_by, rule_asking, said, sampled, started_with_tables}
+use Rattle.run_account.specs.Asking.{counted_by, row_asked}
 use Rattle.run_account.specs.Brought.{Brings, Command, File, Half, Load, Telemetry, Tick, brings}
-use Rattle.run_account.specs.Ends.{Ends, kept, no_items}
+use Rattle.run_account.specs.Ends.{Ends, kept}
 use Rattle.run_account.specs.Figures.{one_more, with_event, with_packet}
 use Rattle.run_account.specs.Packets.{packets_of}
-use Rattle.run_account.specs.Plans.{Planned}
-use Rattle.run_account.specs.Run.{Packet, TellsEvents, all_kept, ends_of, event_by, event_in, events_of, nothing_told, number_behind, numbered, packets_from}
+use Rattle.run_account.specs.Run.{Packet, TellsEvents, all_kept, event_by, event_in, events_of, nothing_told, number_behind, numbered, packets_from}
 use Rattle.run_account.specs.Samples.{Row}
 use Rattle.run_account.specs.Sent.{Said, Sending, events_kept}
 use Rattle.run_account.proofs.KeptEnds.{all_kept-append, kept_of}

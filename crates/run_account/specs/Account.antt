@@ -1,6 +1,6 @@
 -- The account of a run, record by record, as plain data: what each record brings, what counts of its samples, what it led to, and how
 -- the rules stand behind it. This project's own.
-use Rattle.std.specs.Prelude.{ℕ, ◌+◌, ◌%◌, List, [], ◌∷◌, codes, bytes_eq, fold, length, map, nat_lt, not, ◌==◌, if◌then◌else◌, Option, Some, None}
+use Rattle.std.specs.Prelude.{ℕ, ◌+◌, ◌%◌, List, [], ◌∷◌, codes, bytes_eq, length, map, nat_lt, not, ◌==◌, if◌then◌else◌, Option, Some, None}
 use Rattle.lc_model.specs.declared.mode.LcMode.{LcMode}
 use Rattle.lc_model.specs.declared.rule.EventKind.{EventKind}
 use Rattle.lc_model.specs.Bytes.{u16_at}
@@ -13,7 +13,6 @@ use Rattle.run_account.specs.declared.bands.How.TheVariants as how
 use Rattle.run_account.specs.declared.figures.Figures.{Figures}
 use Rattle.run_account.specs.declared.place.Place.{Place}
 use Rattle.run_account.specs.declared.place.Stand.{Stand}
-use Rattle.run_account.specs.declared.plans.Part.{Part}
 use Rattle.run_account.specs.declared.seen.Seen.{Seen}
 use Rattle.run_account.specs.declared.account.Account.{Account as Held}
 use Rattle.run_account.specs.About.{rule_of}

@@ -1,5 +1,5 @@
 -- The first and the last so many of a list, and how many between them are left out. This project's own.
-use Rattle.std.specs.Prelude.{ℕ, ◌+◌, ◌-◌, List, [], ◌∷◌, ◌++◌, length, map, take, drop, nat_lt, if◌then◌else◌, Option, Some, None, option_map}
+use Rattle.std.specs.Prelude.{ℕ, List, [], ◌∷◌, ◌++◌, length, drop, nat_lt, if◌then◌else◌, Option, Some, None, option_map}
 use Rattle.run_account.specs.declared.ends.Left.{Left}
 use Rattle.run_account.specs.Figures.{one_more}
 

@@ -1,5 +1,5 @@
 -- What is known of the fields that rules compare. This project's own; a field's value is the rule language's (lc_model's Field).
-use Rattle.std.specs.Prelude.{ℕ, List, [], length, map, nat_lt, ◌==◌, if◌then◌else◌, Option, Some, None, ℤ, pos, slice_get}
+use Rattle.std.specs.Prelude.{ℕ, List, length, map, nat_lt, ◌==◌, if◌then◌else◌, Option, Some, None, ℤ, pos, slice_get}
 use Rattle.lc_model.specs.declared.field.CmpOp.TheVariants.{Equal}
 use Rattle.lc_model.specs.declared.field.Term.{Term}
 use Rattle.lc_model.specs.Field.{value_of}

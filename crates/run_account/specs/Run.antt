@@ -1,5 +1,5 @@
 -- What the account of a whole run is, by all packets and records of the run. This project's own.
-use Rattle.std.specs.Prelude.{◌≡◌, ℕ, ◌+◌, ◌-◌, ◌^◌, List, [], ◌∷◌, ◌++◌, filter_map, length, map, min, replicate, take, drop, Option, Some, None, ⊤}
+use Rattle.std.specs.Prelude.{◌≡◌, ℕ, ◌+◌, ◌-◌, List, [], ◌∷◌, ◌++◌, filter_map, length, map, replicate, take, drop, Option, Some, None, ⊤}
 use Rattle.lc_model.specs.declared.mode.LcMode.{LcMode}
 use Rattle.packet_listing.specs.Told as told
 use Rattle.packet_listing.specs.Told.{told_in}
@@ -10,7 +10,7 @@ use Rattle.run_account.specs.declared.texts.Field.{Field}
 use Rattle.run_account.specs.About.{rule_of}
 use Rattle.run_account.specs.Account.{Account, Step, account_behind, account_with, before_with, come, sampled, stood_again, stood_so, written}
 use Rattle.run_account.specs.Bands.{nothing_in_force}
-use Rattle.run_account.specs.Ends.{Ends, kept, no_items}
+use Rattle.run_account.specs.Ends.{Ends, kept}
 use Rattle.run_account.specs.Fields.{unseen}
 use Rattle.run_account.specs.Figures.{none, one_more}
 use Rattle.run_account.specs.Packets.{packets_of}

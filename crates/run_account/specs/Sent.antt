@@ -1,5 +1,5 @@
 -- What a run sent: its requests and its events, of which the first and the last are kept. This project's own.
-use Rattle.std.specs.Prelude.{ℕ, ◌+◌, Bool, false, ◌&&◌, List, [], length, map, min, nat_le, ◌-◌, true, ◌==◌, if◌then◌else◌, Option, Some, None, is_none, option_map}
+use Rattle.std.specs.Prelude.{ℕ, ◌+◌, Bool, false, ◌&&◌, List, length, map, min, nat_le, ◌-◌, true, ◌==◌, if◌then◌else◌, Option, Some, None, is_none, option_map}
 use Rattle.std.specs.Ordering.{int_eq}
 use Rattle.std.specs.List.{sum}
 use Rattle.lc_model.specs.declared.rule.EventKind.{EventKind}

@@ -1,4 +1,4 @@
-use Rattle.std.proofs.Common.{◌≡◌, ◌-◌, ◌≤◌}
+use Rattle.std.proofs.Common.{◌≡◌, ◌-◌}
 use Rattle.run_account.specs.Asking.{first_from, may_ask}
 use Rattle.run_account.proofs.asking.asking.Given as goal
 
