@@ -15,7 +15,7 @@ use Rattle.run_report.specs.declared.lists.Lists.{Lists}
 use Rattle.std.specs.Prelude.{Result, OnOk}
 use Rattle.std.proofs.lemmas.Result.{on_ok_weaker}
 use Rattle.run_account.specs.Standing.{stand_at}
-use Rattle.run_report.specs.Model.{IsKept, LanesTell, SaidLast, Step, lanes_from, nothing_told, stood, stood_more}
+use Rattle.run_report.specs.Model.{IsKept, LanesTell, SaidLast, lanes_from, nothing_told, stood, stood_more}
 
 -- ---- nothing told
 

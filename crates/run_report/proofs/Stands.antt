@@ -1,5 +1,5 @@
 -- How rules stand, as they are looked up.
-use Rattle.std.proofs.Common.{◌≡◌, ℕ, zero, suc, ◌+◌, ◌<◌, length, get_or, List, [], ◌∷◌, ◌++◌, refl, ap, sym, ◌∙◌, take, arith, Option, Some, None}
+use Rattle.std.proofs.Common.{◌≡◌, ℕ, zero, suc, ◌+◌, ◌<◌, length, get_or, List, [], ◌∷◌, ◌++◌, refl, ap, sym, ◌∙◌, take, arith, Option, Some}
 use Rattle.std.specs.Prelude.{map, slice_get, unwrap_or, option_map}
 use Rattle.lc_model.specs.declared.mode.ApResult.{ApResult}
 use Rattle.lc_model.specs.declared.mode.ApMode.{ApMode}

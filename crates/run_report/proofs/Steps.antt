@@ -1,5 +1,5 @@
 -- Records that are told one after the other.
-use Rattle.std.proofs.Common.{◌≡◌, ℕ, zero, suc, ◌+◌, ◌<◌, ◌≤◌, ◌^◌, List, [], ◌∷◌, ◌++◌, length, length-append, refl, ap, sym, ◌∙◌, subst, arith, ℤ, pos, ◌-ℤ◌, if◌then◌else◌, Option, Some, None, Result, Ok}
+use Rattle.std.proofs.Common.{◌≡◌, ℕ, zero, suc, ◌+◌, ◌<◌, ◌^◌, List, [], ◌∷◌, ◌++◌, length, length-append, refl, ap, sym, ◌∙◌, subst, arith, if◌then◌else◌, Ok}
 use Rattle.std.specs.Prelude.{◌==◌, Bool, false}
 use Rattle.std.proofs.lemmas.Bool.Decides.{nat_tests}
 use Rattle.std.proofs.lemmas.List.{append_assoc, append-nil}
@@ -7,8 +7,6 @@ use Rattle.change_lists.specs.declared.entry.Entry.{Entry}
 use Rattle.flight_core.specs.Feeding.{Feeding}
 use Rattle.run_course.specs.Stepping.{HasStepped, engine_among}
 use Rattle.run_course.specs.declared.handled.Handled.TheVariants as handled
-use Rattle.run_account.specs.declared.place.Place.{Place}
-use Rattle.run_account.specs.declared.place.Stand.{Stand}
 use Rattle.run_report.specs.declared.behind.Behind.{Behind}
 use Rattle.run_report.specs.declared.lists.Lists.{Lists}
 use Rattle.run_report.proofs.Lanes.{length_stood}

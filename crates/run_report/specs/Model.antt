@@ -1,5 +1,5 @@
 -- What a page tells of a run: how the Limit Checker stands behind each record, rule by rule (page/DATA.md). This project's own.
-use Rattle.std.specs.Prelude.{◌≡◌, ℕ, zero, suc, ◌+◌, ◌*◌, ◌^◌, ◌<◌, true, List, [], ◌∷◌, ◌++◌, length, map, ℤ, pos, ◌-ℤ◌, nat_lt, if◌then◌else◌, Option, Some, None, Result, Ok, slice_get}
+use Rattle.std.specs.Prelude.{◌≡◌, ℕ, zero, suc, ◌+◌, ◌*◌, ◌^◌, ◌<◌, true, List, [], ◌∷◌, ◌++◌, length, map, pos, ◌-ℤ◌, nat_lt, if◌then◌else◌, Option, Some, None, Ok}
 use Rattle.lc_model.specs.declared.mode.LcMode.{LcMode}
 use Rattle.lc_model.specs.Bytes.{u16_at, u32_at}
 use Rattle.lc_model.specs.Host.Stream.{header_size}

@@ -1,5 +1,4 @@
 use Rattle.std.proofs.Common.{◌∙◌, sym, Some}
-use Rattle.run_account.specs.declared.place.Stand.{Stand}
 use Rattle.run_report.proofs.Stands.{stand_is}
 use Rattle.run_report.proofs.behind.stand_in.Goals as goal
 

@@ -1,4 +1,4 @@
-use Rattle.std.proofs.Common.{◌≡◌, ◌∙◌, refl, ◌++◌, [], subst, sym, List, arith, suc, ◌+◌}
+use Rattle.std.proofs.Common.{◌≡◌, ◌∙◌, refl, ◌++◌, subst, sym, arith, suc, ◌+◌}
 use Rattle.std.proofs.lemmas.List.{append-nil}
 use Rattle.change_lists.specs.Telling.{PoolTells}
 use Rattle.run_report.specs.Model.{nothing_told}

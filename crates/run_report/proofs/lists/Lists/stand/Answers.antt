@@ -1,8 +1,7 @@
-use Rattle.std.proofs.Common.{◌≡◌, ◌∙◌, ap, refl, subst, sym, arith, List}
+use Rattle.std.proofs.Common.{◌∙◌, ap, refl, subst, sym, arith}
 use Rattle.change_lists.specs.Telling.{told_to}
 use Rattle.change_lists.specs.declared.entry.Entry.{Entry}
-use Rattle.run_account.specs.Standing.{stand_at}
-use Rattle.run_report.specs.Model.{LanesTell, stood, stood_more}
+use Rattle.run_report.specs.Model.{LanesTell, stood}
 use Rattle.run_report.proofs.Lanes.{all_stood, next_stood, none_stood, stood_some}
 use Rattle.run_report.proofs.lists.Lists.stand.Goals as goal
 

@@ -3,8 +3,7 @@ use Rattle.run_course.specs.Stepping.{engine_among, host_in}
 use Rattle.run_account.specs.declared.place.Stand.{Stand}
 use Rattle.std.proofs.lemmas.Result.{on_ok_weaker}
 use Rattle.run_course.specs.Stepping.{written_by}
-use Rattle.run_account.specs.Account.{Account, account_of, come}
-use Rattle.run_account.specs.Run as run
+use Rattle.run_account.specs.Account.{account_of}
 use Rattle.run_report.specs.declared.clock.Clock.{Clock}
 use Rattle.run_report.specs.Model.{SaidLast, place_of, stands_of}
 use Rattle.run_report.proofs.Accounts.{record_taken, still_stands}
