@@ -1,11 +1,10 @@
 -- Joining is associative.
-use Rattle.std.proofs.Common.{◌≡◌, ℕ, ◌+◌, ◌-◌, ◌^◌, ℤ, min, refl, ap, arith, bit_or}
+use Rattle.std.proofs.Common.{◌≡◌, ℕ, ◌+◌, ◌-◌, ◌^◌, ℤ, min, arith, bit_or}
 use Rattle.std.proofs.lemmas.Nat.Bits.{bit_at_or, same_from_bits}
 use Rattle.std.proofs.lemmas.Int.{ints, clamps}
 use Rattle.std.specs.Int.{int_min, int_max}
-use Rattle.change_lists.specs.declared.entry.Told.{Told}
 use Rattle.change_lists.specs.declared.entry.Entry.{Entry}
-use Rattle.change_lists.specs.Changes.{both, joined}
+use Rattle.change_lists.specs.Changes.{joined}
 
 pub bits_thrice : (a b c : ℕ) → bit_or (bit_or a b) c ≡ bit_or a (bit_or b c)
 bits_thrice a b c =

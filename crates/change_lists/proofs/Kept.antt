@@ -1,5 +1,5 @@
 -- What reducing by columns keeps of each column.
-use Rattle.std.proofs.Common.{◌≡◌, ℕ, List, [], ◌∷◌, Bool, true, false, ◌-◌, ◌/◌, ◌&&◌, ◌*◌, ℤ, refl, ap, sym, ◌∙◌, subst, bit_or, Some, if◌then◌else◌}
+use Rattle.std.proofs.Common.{◌≡◌, ℕ, List, [], ◌∷◌, Bool, true, false, ◌-◌, ◌/◌, ◌&&◌, ◌*◌, refl, ap, sym, ◌∙◌, subst, bit_or, Some, if◌then◌else◌}
 use Rattle.std.specs.Prelude.{nat_eq, unwrap_or}
 use Rattle.std.specs.Int.{int_min, int_max}
 use Rattle.std.proofs.lemmas.Bool.{eqb-true}

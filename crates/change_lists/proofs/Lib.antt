@@ -4,4 +4,6 @@ pub mod Placed
 pub mod Said
 pub mod Grown
 pub mod Lists
+pub mod Counts
+pub mod Room
 pub mod Kept

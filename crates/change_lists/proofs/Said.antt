@@ -1,7 +1,10 @@
 -- What is told once more, and what isn't.
 use Rattle.std.proofs.Common.{◌≡◌, ℕ, List, [], ◌∷◌, ◌++◌, Bool, true, false, refl, ap, sym, ◌∙◌, if◌then◌else◌, ◌&&◌, Some, length, ◌-◌, suc, arith}
-use Rattle.std.specs.Prelude.{slice_get}
-use Rattle.std.proofs.lemmas.Bool.{cond-true, cond-false, false≢true}
+use Rattle.std.specs.Prelude.{nat_eq, slice_get}
+use Rattle.std.specs.Ordering.{int_eq}
+use Rattle.std.proofs.lemmas.Bool.Decides.{Decides-int_eq}
+use Rattle.std.proofs.lemmas.Bool.{and_parts, cond-true, cond-false, eqb-true, false≢true}
+use Rattle.change_lists.specs.declared.entry.Told.{Told}
 use Rattle.change_lists.specs.declared.entry.Entry.{Entry}
 use Rattle.change_lists.proofs.Reduced.{out}
 use Rattle.change_lists.specs.Changes.{is_said_again, is_said_last, is_one_column, changes_behind, changes, in_front, reduced, joined}
@@ -66,3 +69,36 @@ last_is (one ∷ []) last entry is = grind arith
 last_is (one ∷ other ∷ entries) last entry is = last_is (other ∷ entries) last entry (is ∙ ap (slice_get (one ∷ other ∷ entries)) (suc_first (length entries))) where
   suc_first : (n : ℕ) → suc (suc n) - 1 ≡ suc (suc n - 1)
   suc_first n = omega arith
+
+-- ---- what is told again
+
+same_told : (one other : Told) → is_said_again one other ≡ true → one ≡ other
+same_told one other said =
+    let results : (nat_eq one.results other.results ≡ true) × ((nat_eq one.states other.states && (int_eq one.low other.low && int_eq one.high other.high)) ≡ true) =
+    and_parts _ _ said in
+    let states : (nat_eq one.states other.states ≡ true) × ((int_eq one.low other.low && int_eq one.high other.high) ≡ true) = and_parts _ _ results.1 in
+    let values : (int_eq one.low other.low ≡ true) × (int_eq one.high other.high ≡ true) = and_parts _ _ states.1 in
+    λ i. record {
+      results = eqb-true _ _ results.0 i;
+      states = eqb-true _ _ states.0 i;
+      low = (Decides-int_eq one.low other.low).0 values.0 i;
+      high = (Decides-int_eq one.high other.high).0 values.1 i;
+    }
+
+front_same : (one next : Entry) (told : List Entry) (entry : Entry) → one.told ≡ next.told → is_said_last (one ∷ told) entry ≡ is_said_last (next ∷ told) entry
+front_same one next [] entry same = ap (λ told. is_said_again told entry.told) same
+front_same one next (other ∷ told) entry same = refl
+
+-- the last change says what was told last
+last_changed : (one : Entry) (told : List Entry) (entry : Entry) → is_said_last (one ∷ changes_behind one told) entry ≡ is_said_last (one ∷ told) entry
+last_changed one [] entry = refl
+last_changed one (next ∷ told) entry = by_test (last_changed one told entry) (last_changed next told entry) (is_said_again one.told next.told) refl where
+  by_test : is_said_last (one ∷ changes_behind one told) entry ≡ is_said_last (one ∷ told) entry →
+      is_said_last (next ∷ changes_behind next told) entry ≡ is_said_last (next ∷ told) entry → (b : Bool) → b ≡ is_said_again one.told next.told →
+      is_said_last (one ∷ (if b then changes_behind one told else next ∷ changes_behind next told)) entry ≡ is_said_last (next ∷ told) entry
+  by_test said new true again = said ∙ front_same one next told entry (same_told one.told next.told (sym again))
+  by_test said new false again = new
+
+pub last_of_changes : (told : List Entry) (entry : Entry) → is_said_last (changes told) entry ≡ is_said_last told entry
+last_of_changes [] entry = refl
+last_of_changes (one ∷ told) entry = last_changed one told entry

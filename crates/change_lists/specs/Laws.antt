@@ -1,8 +1,10 @@
 -- What reducing by columns keeps of each column. This project's own.
-use Rattle.std.specs.Prelude.{◌≡◌, ℕ, List, [], ◌∷◌, ◌-◌, ◌/◌, ◌*◌, ℤ, bit_or, nat_eq, if◌then◌else◌, Option, Some, None}
+use Rattle.std.specs.Prelude.{◌≡◌, ℕ, true, List, [], ◌∷◌, ◌++◌, ◌-◌, ◌/◌, ◌*◌, ℤ, bit_or, nat_eq, if◌then◌else◌, Option, Some, None}
 use Rattle.std.specs.Int.{int_min, int_max}
 use Rattle.change_lists.specs.declared.entry.Entry.{Entry}
-use Rattle.change_lists.specs.Changes.{reduced}
+use Rattle.change_lists.specs.declared.changes.Changes.{Changes}
+use Rattle.change_lists.specs.Changes.{is_said_last, reduced}
+use Rattle.change_lists.specs.Telling.{Tells}
 
 -- those that begin in a column, from 0
 abbrev pub in_column : ℕ → ℕ → List Entry → List Entry
@@ -55,3 +57,7 @@ KeepsLast = (width at : ℕ) (entries : List Entry) → last_of (in_column width
 
 abbrev pub KeepsWider : Type 0
 KeepsWider = (width : ℕ) (entries : List Entry) → reduced (width * 2) (reduced width entries) ≡ reduced (width * 2) entries
+
+-- a list that tells this tells as well what was told last once more
+abbrev pub ToldAgain : Type 0
+ToldAgain = (list : Changes) (told : List Entry) (entry : Entry) → is_said_last told entry ≡ true → Tells list told → Tells list (told ++ entry ∷ [])

@@ -1,18 +1,18 @@
 //! The changes of what is told of one rule or of one field.
 
-ghost use Rattle.std.specs.Prelude.{◌≡◌, ◌<◌, ◌++◌, ◌∷◌, [], List, OnOk, IfOk};
+ghost use Rattle.std.specs.Prelude.{◌≡◌, ◌<◌, ◌≤◌, ◌+◌, ◌/◌, ◌^◌, ◌++◌, ◌∷◌, [], List, OnOk, IfOk, length, max};
 ghost use Rattle.change_lists.specs.declared.entry.Entry.{Entry as Told};
 ghost use Rattle.change_lists.specs.Changes.{changes, is_said_last, reduced};
-ghost use Rattle.change_lists.specs.Telling.{Tells, width_of};
+ghost use Rattle.change_lists.specs.Telling.{IsLeast, Tells, doublings_of, entry_count, width_of};
 
 use crate::columns::place;
 use crate::entry::Entry;
 use std::alloc::{AllocError, Global};
 
-/// The changes of one list, reduced by columns of records.
+/// The changes of one list, reduced by columns of records, of which each has two to the power of `doublings`.
 #[derive(Debug, Drop)]
 pub struct Changes {
-    width: u64,
+    doublings: u32,
     entries: Vec<Entry>,
 }
 
@@ -26,14 +26,14 @@ fn is_said(entries: &[Entry], entry: Entry) -> bool
     }
 }
 
-/// These by columns of this width.
-fn widened(alloc: Global, width: u64, entries: &[Entry]) -> Result<Vec<Entry>, AllocError>
-    requires { 0 < width }
-    ensures { IfOk result (λ wide. wide.items ≡ reduced width entries.now) }
+/// These by columns whose width was doubled so often.
+fn widened(alloc: Global, doublings: u32, entries: &[Entry]) -> Result<Vec<Entry>, AllocError>
+    ensures entries { IfOk result (λ wide. wide.items ≡ reduced (2 ^ doublings) entries.now) }
+    ensures few { 64 ≤ doublings → IfOk result (λ wide. length wide.items ≤ 2) }
 {
     let mut wide = Vec::new(alloc);
     for entry in entries {
-        place(width, &mut wide, *entry)?;
+        place(doublings, &mut wide, *entry)?;
     }
     Ok(wide)
 }
@@ -41,19 +41,20 @@ fn widened(alloc: Global, width: u64, entries: &[Entry]) -> Result<Vec<Entry>, A
 impl Changes {
     /// Nothing told.
     pub fn new(alloc: Global) -> Changes
-        ensures { Tells result [] }
+        ensures told { Tells result [] }
+        ensures doublings { doublings_of result ≡ 0 }
     {
         Changes {
-            width: 1,
+            doublings: 0,
             entries: Vec::new(alloc),
         }
     }
 
-    /// How many records a column has.
-    pub fn width(&self) -> u64
-        ensures { result ≡ width_of self.now }
+    /// How many entries there are.
+    pub fn count(&self) -> usize
+        ensures { result ≡ entry_count self.now }
     {
-        self.width
+        self.entries.len()
     }
 
     /// The changes, by columns of this width.
@@ -66,34 +67,40 @@ impl Changes {
 
     /// Adds what is so from a record on, unless it was so before.
     pub fn add(&mut self, entry: Entry) -> Result<(), AllocError>
-        ensures { (told : List Told) → Tells self.old told →
+        ensures told { (told : List Told) → Tells self.old told →
             OnOk result (Tells self.new (told ++ entry ∷ [])) }
+        ensures count { OnOk result (entry_count self.new ≤ entry_count self.old + 1) }
+        ensures doublings { OnOk result (doublings_of self.new ≡ doublings_of self.old) }
     {
         if is_said(self.entries.as_slice(), entry) {
             return Ok(());
         }
-        place(self.width.max(1), &mut self.entries, entry)
+        place(self.doublings, &mut self.entries, entry)
     }
 
     /// The entries by columns that are twice as wide.
     fn widen(&mut self, alloc: Global) -> Result<(), AllocError>
-        ensures { (told : List Told) → Tells self.old told → OnOk result (Tells self.new told) }
+        requires { self.old.doublings < 64 }
+        ensures told { (told : List Told) → Tells self.old told →
+            OnOk result (Tells self.new told) }
+        ensures doublings { OnOk result (self.new.doublings ≡ self.old.doublings + 1) }
     {
-        if self.width > u64::MAX / 2 {
-            return Ok(());
-        }
-        let width = self.width * 2;
-        self.entries = widened(alloc, width.max(1), self.entries.as_slice())?;
-        self.width = width;
+        let doublings = self.doublings + 1;
+        self.entries = widened(alloc, doublings, self.entries.as_slice())?;
+        self.doublings = doublings;
         Ok(())
     }
 
     /// Widens the columns until at most half of the entries are left, or two.
     pub fn halve(&mut self, alloc: Global) -> Result<(), AllocError>
-        ensures { (told : List Told) → Tells self.old told → OnOk result (Tells self.new told) }
+        ensures told { (told : List Told) → Tells self.old told →
+            OnOk result (Tells self.new told) }
+        ensures least { (told : List Told) → Tells self.old told →
+            OnOk result (IsLeast (changes told) (max (entry_count self.old / 2) 2)
+            (doublings_of self.old) (doublings_of self.new)) }
     {
         let most = (self.entries.len() / 2).max(2);
-        for _ in 0..64 {
+        for _doublings in self.doublings..64 {
             if self.entries.len() <= most {
                 return Ok(());
             }

@@ -1,26 +1,38 @@
 //! Entries by columns of records.
 
-ghost use Rattle.std.specs.Prelude.{◌≡◌, ◌<◌, ◌++◌, ◌∷◌, [], List, OnOk};
+ghost use Rattle.std.specs.Prelude.{◌≡◌, ◌≤◌, ◌+◌, ◌-◌, ◌/◌, ◌^◌, ◌++◌, ◌∷◌, [], List, OnOk, IsTrue, length};
 ghost use Rattle.change_lists.specs.Changes.{is_one_column as in_one_column, is_third as third_of, reduced};
 ghost use Rattle.change_lists.specs.declared.entry.Entry.{Entry as Told};
 
 use crate::entry::Entry;
 use std::alloc::AllocError;
 
-/// Whether two records, which count from 1, lie in one column of this width.
-fn is_one_column(width: u64, one: u64, other: u64) -> bool
-    requires { 0 < width }
-    ensures { result ≡ in_one_column width one other }
+/// The column of a record, which counts from 1, where the width was doubled so often.
+fn column(doublings: u32, number: u64) -> u64
+    ensures column { result ≡ (number - 1) / 2 ^ doublings }
+    ensures one { 64 ≤ doublings → result ≡ 0 }
 {
-    one.saturating_sub(1) / width == other.saturating_sub(1) / width
+    if doublings >= 64 {
+        return 0;
+    }
+    number.saturating_sub(1) >> doublings
+}
+
+/// Whether two records lie in one column.
+fn is_one_column(doublings: u32, one: u64, other: u64) -> bool
+    ensures column { result ≡ in_one_column (2 ^ doublings) one other }
+    ensures all { 64 ≤ doublings → IsTrue result }
+{
+    column(doublings, one) == column(doublings, other)
 }
 
 /// Whether an entry begins in the column in which the two in front of it begin.
-fn is_third(width: u64, one: Entry, other: Entry, entry: Entry) -> bool
-    requires { 0 < width }
-    ensures { result ≡ third_of width one other entry }
+fn is_third(doublings: u32, one: Entry, other: Entry, entry: Entry) -> bool
+    ensures third { result ≡ third_of (2 ^ doublings) one other entry }
+    ensures all { 64 ≤ doublings → IsTrue result }
 {
-    is_one_column(width, one.from, entry.from) && is_one_column(width, other.from, entry.from)
+    is_one_column(doublings, one.from, entry.from)
+        && is_one_column(doublings, other.from, entry.from)
 }
 
 /// Adds two entries.
@@ -33,10 +45,12 @@ fn push_both(entries: &mut Vec<Entry>, one: Entry, other: Entry) -> Result<(), A
 }
 
 /// Adds an entry behind those of its column: of three the first two become one.
-pub fn place(width: u64, entries: &mut Vec<Entry>, entry: Entry) -> Result<(), AllocError>
-    requires { 0 < width }
-    ensures { (told : List Told) → entries.old.items ≡ reduced width told →
-        OnOk result (entries.new.items ≡ reduced width (told ++ entry ∷ [])) }
+pub fn place(doublings: u32, entries: &mut Vec<Entry>, entry: Entry) -> Result<(), AllocError>
+    ensures reduced { (told : List Told) → entries.old.items ≡ reduced (2 ^ doublings) told →
+        OnOk result (entries.new.items ≡ reduced (2 ^ doublings) (told ++ entry ∷ [])) }
+    ensures count { OnOk result (length entries.new.items ≤ length entries.old.items + 1) }
+    ensures few { 64 ≤ doublings → length entries.old.items ≤ 2 →
+        OnOk result (length entries.new.items ≤ 2) }
 {
     let Some(other) = entries.pop() else {
         entries.push(entry)?;
@@ -45,7 +59,7 @@ pub fn place(width: u64, entries: &mut Vec<Entry>, entry: Entry) -> Result<(), A
     let Some(one) = entries.pop() else {
         return push_both(entries, other, entry);
     };
-    if is_third(width, one, other, entry) {
+    if is_third(doublings, one, other, entry) {
         return push_both(entries, one.joined(other), entry);
     }
     entries.push(one)?;

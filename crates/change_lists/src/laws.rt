@@ -1,6 +1,6 @@
 //! What reducing by columns keeps of each column.
 
-ghost use Rattle.change_lists.specs.Laws.{KeepsGreatest, KeepsLast, KeepsLeast, KeepsResults, KeepsStates, KeepsWider};
+ghost use Rattle.change_lists.specs.Laws.{KeepsGreatest, KeepsLast, KeepsLeast, KeepsResults, KeepsStates, KeepsWider, ToldAgain};
 
 /// Each bit of a result is there that was there, and none more.
 pub fn no_result_is_lost()
@@ -30,4 +30,9 @@ pub fn the_last_stands()
 /// Entries that are reduced, and then by columns that are twice as wide, are those reduced by the wider ones at once.
 pub fn the_width_says_it_all()
     ensures { KeepsWider }
+{}
+
+/// What is told again changes nothing: a list tells that, too.
+pub fn told_again_is_told()
+    ensures { ToldAgain }
 {}

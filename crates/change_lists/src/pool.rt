@@ -1,8 +1,8 @@
 //! All lists together, which have only so much room.
 
-ghost use Rattle.std.specs.Prelude.{◌≡◌, ◌<◌, ◌++◌, ◌∷◌, [], List, OnOk, length};
+ghost use Rattle.std.specs.Prelude.{◌≡◌, ◌<◌, ◌-◌, ◌^◌, ◌++◌, ◌∷◌, [], List, OnOk, length};
 ghost use Rattle.change_lists.specs.declared.entry.Entry.{Entry as Told};
-ghost use Rattle.change_lists.specs.Telling.{AllTell, lists_of, told_to};
+ghost use Rattle.change_lists.specs.Telling.{HaveWidthsOf, IsLongest, IsReduced, MakesRoom, NearlyTells, PoolTells, count_at, lists_of, most_of, told_to};
 
 use crate::changes::Changes;
 use crate::entry::Entry;
@@ -20,7 +20,9 @@ pub struct Pool {
 impl Pool {
     /// No lists, which may have so many entries together.
     pub fn new(alloc: Global, most: usize) -> Pool
-        ensures { AllTell (lists_of result) [] }
+        requires { most < 2 ^ 64 - 1 }
+        ensures told { PoolTells result [] }
+        ensures most { most_of result ≡ most }
     {
         Pool {
             alloc,
@@ -32,8 +34,10 @@ impl Pool {
 
     /// One list more, to which nothing was told.
     pub fn push(&mut self) -> Result<(), AllocError>
-        ensures { (told : List (List Told)) → AllTell (lists_of self.old) told →
-            OnOk result (AllTell (lists_of self.new) (told ++ [] ∷ [])) }
+        ensures told { (told : List (List Told)) → PoolTells self.old told →
+            OnOk result (PoolTells self.new (told ++ [] ∷ [])) }
+        ensures same { OnOk result (HaveWidthsOf (lists_of self.old) (lists_of self.new)) }
+        ensures most { most_of self.new ≡ most_of self.old }
     {
         self.lists.push(Changes::new(self.alloc))?;
         Ok(())
@@ -46,57 +50,70 @@ impl Pool {
         self.lists.as_slice()
     }
 
-    /// The number of the longest list, the first of them, and its entries.
-    fn longest(&self) -> (usize, usize) {
-        let mut longest = (0, 0);
-        for (number, list) in self.lists.iter().enumerate() {
-            if list.entries().len() > longest.1 {
-                longest = (number, list.entries().len());
+    /// The number of the longest list, the first of them, and how many entries it has.
+    fn longest(&self) -> (usize, usize)
+        ensures longest { IsLongest result.0 (lists_of self.now) }
+        ensures count { result.1 ≡ count_at result.0 (lists_of self.now) }
+    {
+        let mut longest = 0;
+        let mut most = 0;
+        for number in 0..self.lists.len() {
+            let count = self.lists[number].count();
+            if count > most {
+                longest = number;
+                most = count;
             }
         }
-        longest
+        (longest, most)
     }
 
-    /// Reduces the longest list, where there are too many entries. Answers whether it did.
-    fn reduce(&mut self) -> Result<bool, AllocError>
-        ensures { (told : List (List Told)) → AllTell (lists_of self.old) told →
-            OnOk result (AllTell (lists_of self.new) told) }
+    /// Reduces the longest list, where there isn't room.
+    fn reduce(&mut self) -> Result<(), AllocError>
+        ensures reduced { (told : List (List Told)) → NearlyTells self.old told →
+            OnOk result (PoolTells self.new told ×
+            IsReduced (most_of self.old) told (lists_of self.old) (lists_of self.new)) }
+        ensures most { most_of self.new ≡ most_of self.old }
     {
+        if self.count <= self.most {
+            return Ok(());
+        }
         let (number, before) = self.longest();
-        if self.count <= self.most || before <= 2 || number >= self.lists.len() {
-            return Ok(false);
+        if before <= 2 || number >= self.lists.len() {
+            return Ok(());
         }
         self.lists[number].halve(self.alloc)?;
-        let after = self.lists[number].entries().len();
+        let after = self.lists[number].count();
         self.count = self.count.saturating_sub(before).saturating_add(after);
-        Ok(true)
+        Ok(())
     }
 
-    /// Reduces the longest lists while there are too many entries.
-    fn make_room(&mut self) -> Result<(), AllocError>
-        ensures { (told : List (List Told)) → AllTell (lists_of self.old) told →
-            OnOk result (AllTell (lists_of self.new) told) }
+    /// Adds to a list what is so from a record on, whether there is room or not.
+    fn come(&mut self, number: usize, entry: Entry) -> Result<(), AllocError>
+        ensures told { (told : List (List Told)) → PoolTells self.old told →
+            OnOk result (NearlyTells self.new (told_to number entry told)) }
+        ensures same { OnOk result (HaveWidthsOf (lists_of self.old) (lists_of self.new)) }
+        ensures most { most_of self.new ≡ most_of self.old }
     {
-        for _ in 0..self.lists.len() {
-            if !self.reduce()? {
-                return Ok(());
-            }
+        if number >= self.lists.len() {
+            return Ok(());
         }
+        let before = self.lists[number].count();
+        self.lists[number].add(entry)?;
+        let after = self.lists[number].count();
+        self.count = self.count.saturating_sub(before).saturating_add(after);
         Ok(())
     }
 
     /// Adds to a list what is so from a record on, unless it was so before.
     pub fn add(&mut self, number: usize, entry: Entry) -> Result<(), AllocError>
-        ensures { (told : List (List Told)) → AllTell (lists_of self.old) told →
-            OnOk result (AllTell (lists_of self.new) (told_to number entry told)) }
+        ensures told { (told : List (List Told)) → PoolTells self.old told →
+            OnOk result (PoolTells self.new (told_to number entry told)) }
+        ensures room { (told : List (List Told)) → PoolTells self.old told →
+            OnOk result (MakesRoom (most_of self.old) (told_to number entry told)
+            (lists_of self.old) (lists_of self.new)) }
+        ensures most { most_of self.new ≡ most_of self.old }
     {
-        if number >= self.lists.len() {
-            return Ok(());
-        }
-        let before = self.lists[number].entries().len();
-        self.lists[number].add(entry)?;
-        let after = self.lists[number].entries().len();
-        self.count = self.count.saturating_sub(before).saturating_add(after);
-        self.make_room()
+        self.come(number, entry)?;
+        self.reduce()
     }
 }

@@ -1,13 +1,21 @@
 -- Lanes, in front of the lists of fields.
-use Rattle.std.proofs.Common.{◌≡◌, ℕ, zero, suc, ◌+◌, ◌-◌, ◌<◌, ◌≤◌, List, [], ◌∷◌, ◌++◌, length, refl, ap, sym, ◌∙◌, subst, arith}
+use Rattle.std.proofs.Common.{◌≡◌, ℕ, zero, suc, ◌+◌, ◌-◌, ◌<◌, ◌≤◌, List, [], ◌∷◌, ◌++◌, length, refl, ap, sym, ◌∙◌, subst, arith, true}
+use Rattle.std.proofs.lemmas.Bool.Decides.{nat_tests}
 use Rattle.std.proofs.lemmas.List.{append_assoc}
 use Rattle.change_lists.specs.declared.entry.Entry.{Entry}
 use Rattle.change_lists.specs.declared.changes.Changes.{Changes}
-use Rattle.change_lists.specs.Telling.{AllTell, lists_of, told_to}
-use Rattle.run_report.specs.declared.place.Place.{Place}
-use Rattle.run_report.specs.declared.place.Stand.{Stand}
+use Rattle.change_lists.specs.declared.pool.Pool.{Pool}
+use Rattle.change_lists.specs.Changes.{is_said_last, is_said_again}
+use Rattle.change_lists.specs.Laws.{ToldAgain}
+use Rattle.change_lists.specs.Telling.{AllTell, PoolTells, lists_of, most_of, told_to}
+use Rattle.run_account.specs.declared.place.Place.{Place}
+use Rattle.run_account.specs.declared.place.Stand.{Stand}
+use Rattle.run_report.specs.declared.behind.Behind.{Behind}
 use Rattle.run_report.specs.declared.lists.Lists.{Lists}
-use Rattle.run_report.specs.Model.{LanesTell, Step, lanes_from, nothing_told, stand_at, stood, stood_more}
+use Rattle.std.specs.Prelude.{Result, OnOk}
+use Rattle.std.proofs.lemmas.Result.{on_ok_weaker}
+use Rattle.run_account.specs.Standing.{stand_at}
+use Rattle.run_report.specs.Model.{IsKept, LanesTell, SaidLast, lanes_from, nothing_told, stood, stood_more}
 
 -- ---- nothing told
 
@@ -15,10 +23,10 @@ pub nothing_more : (count : ℕ) → nothing_told count ++ [] ∷ [] ≡ nothing
 nothing_more zero = refl
 nothing_more (suc count) = ap (λ told. [] ∷ told) (nothing_more count)
 
-pub one_more_told : (lists : List Changes) (told : List (List Entry)) (count : ℕ) → AllTell lists ((told ++ nothing_told count) ++ [] ∷ []) →
-    AllTell lists (told ++ nothing_told (suc count))
-one_more_told lists told count all =
-    subst (AllTell lists) (append_assoc told (nothing_told count) ([] ∷ []) ∙ ap (λ more. told ++ more) (nothing_more count)) all
+pub one_more_told : (pool : Pool) (told : List (List Entry)) (count : ℕ) → PoolTells pool ((told ++ nothing_told count) ++ [] ∷ []) →
+    PoolTells pool (told ++ nothing_told (suc count))
+one_more_told pool told count all =
+    subst (PoolTells pool) (append_assoc told (nothing_told count) ([] ∷ []) ∙ ap (λ more. told ++ more) (nothing_more count)) all
 
 pub length_nothing : (count : ℕ) → length (nothing_told count) ≡ count
 length_nothing zero = refl
@@ -48,21 +56,23 @@ length_told zero entry (told ∷ lanes) = refl
 length_told (suc n) entry (told ∷ lanes) = grind (arith, length_told n entry lanes)
 
 -- a field is told more
-pub value_told : (old new : Lists) (n : ℕ) (entry : Entry) (lanes : List (List Entry)) → old.lanes ≤ n → new.lanes ≡ old.lanes →
-    (tells : LanesTell old lanes) → AllTell (lists_of new.pool) (told_to n entry (lanes ++ tells.values)) → LanesTell new lanes
-value_told old new n entry lanes behind same tells all = record {
+pub value_told : (old new : Lists) (n : ℕ) (entry : Entry) (lanes : List (List Entry)) → old.lanes ≤ n → new.lanes ≡ old.lanes → most_of new.pool ≡ most_of old.pool →
+    (tells : LanesTell old lanes) → PoolTells new.pool (told_to n entry (lanes ++ tells.values)) → LanesTell new lanes
+value_told old new n entry lanes behind same bound tells all = record {
   values = told_to (n - length lanes) entry tells.values;
   lanes_are = tells.lanes_are ∙ sym same;
-  all = subst (AllTell (lists_of new.pool)) (told_behind n entry lanes tells.values (omega (arith, tells.lanes_are))) all;
+  most = bound ∙ tells.most;
+  all = subst (PoolTells new.pool) (told_behind n entry lanes tells.values (omega (arith, tells.lanes_are))) all;
 }
 
 -- a rule is told more
-pub lane_told : (old new : Lists) (n : ℕ) (entry : Entry) (lanes : List (List Entry)) → n < old.lanes → new.lanes ≡ old.lanes →
-    (tells : LanesTell old lanes) → AllTell (lists_of new.pool) (told_to n entry (lanes ++ tells.values)) → LanesTell new (told_to n entry lanes)
-lane_told old new n entry lanes within same tells all = record {
+pub lane_told : (old new : Lists) (n : ℕ) (entry : Entry) (lanes : List (List Entry)) → n < old.lanes → new.lanes ≡ old.lanes → most_of new.pool ≡ most_of old.pool →
+    (tells : LanesTell old lanes) → PoolTells new.pool (told_to n entry (lanes ++ tells.values)) → LanesTell new (told_to n entry lanes)
+lane_told old new n entry lanes within same bound tells all = record {
   values = tells.values;
   lanes_are = length_told n entry lanes ∙ tells.lanes_are ∙ sym same;
-  all = subst (AllTell (lists_of new.pool)) (told_in_front n entry lanes tells.values (omega (arith, tells.lanes_are))) all;
+  most = bound ∙ tells.most;
+  all = subst (PoolTells new.pool) (told_in_front n entry lanes tells.values (omega (arith, tells.lanes_are))) all;
 }
 
 -- ---- all rules told more
@@ -90,3 +100,57 @@ next_stood zero place stands rule at (told ∷ lanes) is within =
     ∙ ap (λ more. (told ++ stood place (stand_at rule stands) ∷ []) ∷ more) (sym (none_stood place stands (suc rule) lanes))
 next_stood (suc n) place stands rule at (told ∷ lanes) is within =
     ap (λ more. (told ++ stood place (stand_at rule stands) ∷ []) ∷ more) (next_stood n place stands (suc rule) at lanes (omega (arith, is)) (omega arith))
+
+-- ---- what is told again
+
+all_again : ToldAgain → (lists : List Changes) (place : Place) (stands : List Stand) (rule : ℕ) (lanes values : List (List Entry)) → AllTell lists (lanes ++ values) →
+    SaidLast place rule stands lanes → AllTell lists (stood_more place stands rule lanes ++ values)
+all_again again lists place stands rule [] values all said = all
+all_again again [] place stands rule (told ∷ lanes) values all said = absurd all
+all_again again (list ∷ lists) place stands rule (told ∷ lanes) values all said =
+    (again list told (stood place (stand_at rule stands)) said.0 all.0, all_again again lists place stands (suc rule) lanes values all.1 said.1)
+
+pub length_stood : (place : Place) (stands : List Stand) (rule : ℕ) (lanes : List (List Entry)) → length (stood_more place stands rule lanes) ≡ length lanes
+length_stood place stands rule [] = refl
+length_stood place stands rule (told ∷ lanes) = grind (arith, length_stood place stands (suc rule) lanes)
+
+pub lanes_again : ToldAgain → (lists : Lists) (place : Place) (stands : List Stand) (lanes : List (List Entry)) → LanesTell lists lanes → SaidLast place 0 stands lanes →
+    LanesTell lists (stood_more place stands 0 lanes)
+lanes_again again lists place stands lanes tells said = record {
+  values = tells.values;
+  lanes_are = length_stood place stands 0 lanes ∙ tells.lanes_are;
+  most = tells.most;
+  all = record {
+    all = all_again again (lists_of lists.pool) place stands 0 lanes tells.values tells.all.all said;
+    count = tells.all.count;
+    small = tells.all.small;
+    room = tells.all.room;
+    few = tells.all.few;
+  };
+}
+
+-- what was told last
+last_told : (told : List Entry) (last entry : Entry) → is_said_last (told ++ last ∷ []) entry ≡ is_said_again last.told entry.told
+last_told [] last entry = refl
+last_told (one ∷ []) last entry = refl
+last_told (one ∷ other ∷ told) last entry = last_told (other ∷ told) last entry
+
+said_itself : (place other : Place) (stand : Stand) → is_said_again (stood place stand).told (stood other stand).told ≡ true
+said_itself place other stand = grind (arith, nat_tests)
+
+pub said_now : (place other : Place) (stands : List Stand) (rule : ℕ) (lanes : List (List Entry)) → SaidLast other rule stands (stood_more place stands rule lanes)
+said_now place other stands rule [] = tt
+said_now place other stands rule (told ∷ lanes) = (
+  last_told told (stood place (stand_at rule stands)) (stood other (stand_at rule stands)) ∙ said_itself place other (stand_at rule stands),
+  said_now place other stands (suc rule) lanes,
+)
+
+-- what a record tells, and what was told last then
+pub told_and_kept : {E : Type 0} (result : Result (Unit {0}) E) (old new : Behind) (place now : Place) (stands : List Stand) (lists : Lists) (lanes : List (List Entry)) →
+    new ≡ old → place ≡ now → old.rules.items ≡ stands → OnOk result (LanesTell lists (stood_more place old.rules.items 0 lanes)) →
+    OnOk result (LanesTell lists (stood_more now stands 0 lanes) × IsKept new (stood_more now stands 0 lanes))
+told_and_kept result old new place now stands lists lanes stays same are told =
+    subst (λ (behind : Behind). OnOk result (LanesTell lists (stood_more now stands 0 lanes) × IsKept behind (stood_more now stands 0 lanes))) (sym stays)
+    (subst (λ (at : Place). OnOk result (LanesTell lists (stood_more at stands 0 lanes) × IsKept old (stood_more at stands 0 lanes))) same
+    (subst (λ (these : List Stand). OnOk result (LanesTell lists (stood_more place these 0 lanes) × IsKept old (stood_more place these 0 lanes))) are
+    (on_ok_weaker result (λ tells. (tells, λ looked other. said_now place other old.rules.items 0 lanes)) told)))

@@ -1,3 +1,4 @@
+pub mod Accounts
 pub mod Lanes
 pub mod Stands
 pub mod Steps

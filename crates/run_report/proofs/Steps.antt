@@ -1,5 +1,5 @@
 -- Records that are told one after the other.
-use Rattle.std.proofs.Common.{◌≡◌, ℕ, zero, suc, ◌+◌, ◌<◌, ◌≤◌, ◌^◌, List, [], ◌∷◌, ◌++◌, length, length-append, refl, ap, sym, ◌∙◌, subst, arith, ℤ, pos, ◌-ℤ◌, if◌then◌else◌, Option, Some, None, Result, Ok}
+use Rattle.std.proofs.Common.{◌≡◌, ℕ, zero, suc, ◌+◌, ◌<◌, ◌^◌, List, [], ◌∷◌, ◌++◌, length, length-append, refl, ap, sym, ◌∙◌, subst, arith, if◌then◌else◌, Ok}
 use Rattle.std.specs.Prelude.{◌==◌, Bool, false}
 use Rattle.std.proofs.lemmas.Bool.Decides.{nat_tests}
 use Rattle.std.proofs.lemmas.List.{append_assoc, append-nil}
@@ -7,10 +7,13 @@ use Rattle.change_lists.specs.declared.entry.Entry.{Entry}
 use Rattle.flight_core.specs.Feeding.{Feeding}
 use Rattle.run_course.specs.Stepping.{HasStepped, engine_among}
 use Rattle.run_course.specs.declared.handled.Handled.TheVariants as handled
-use Rattle.run_report.specs.declared.place.Place.{Place}
-use Rattle.run_report.specs.declared.place.Stand.{Stand}
+use Rattle.run_report.specs.declared.behind.Behind.{Behind}
 use Rattle.run_report.specs.declared.lists.Lists.{Lists}
-use Rattle.run_report.specs.Model.{HasTold, LanesTell, Step, Went, bytes_of, lanes_from, place_of, stand_at, stands_of, start_of, stood, stood_more, ticks_of, told_from, told_of}
+use Rattle.run_report.proofs.Lanes.{length_stood}
+use Rattle.run_account.specs.Standing.{stand_at}
+use Rattle.run_account.specs.Account.{Account}
+use Rattle.run_report.proofs.Accounts.{account_more}
+use Rattle.run_report.specs.Model.{HasTaken, HasTold, IsKept, KeepsStands, LanesTell, Step, Went, bytes_of, lanes_from, place_of, stands_of, start_of, stood, stood_more, ticks_of, told_from, told_of}
 
 -- the host goes through one record more
 pub went_more : (first old new : Feeding) (steps : List Step) (bytes written : List ℕ) → Went first steps old → HasStepped bytes old new written (Ok handled.Whole) →
@@ -57,10 +60,6 @@ lanes_more rule zero steps step start is = refl
 lanes_more rule (suc count) steps step start is =
     λ i. told_of_more rule steps step start is i ∷ lanes_more (suc rule) count steps step start is i
 
-length_stood : (place : Place) (stands : List Stand) (rule : ℕ) (lanes : List (List Entry)) → length (stood_more place stands rule lanes) ≡ length lanes
-length_stood place stands rule [] = refl
-length_stood place stands rule (told ∷ lanes) = grind (arith, length_stood place stands (suc rule) lanes)
-
 counted : (steps : List Step) (step : Step) (number : ℕ) → length steps ≡ number → length (steps ++ step ∷ []) ≡ number + 1
 counted steps step number is = omega (arith, length-append steps (step ∷ []))
 
@@ -69,33 +68,44 @@ joined_bytes front bytes behind =
     ap (λ more. (front ++ more) ++ behind) (append-nil bytes) ∙ append_assoc front bytes behind
 
 -- what was told so far of a stream, of which these bytes are left
-pub record SoFar (first now : Feeding) (stream rest : List ℕ) (lists : Lists) (start number : ℕ) : Type 0 where
+pub record SoFar (first now : Feeding) (stream rest : List ℕ) (lists : Lists) (behind : Behind) (a : Account) (start number : ℕ) : Type 0 where
   pub steps : List Step
   pub count : length steps ≡ number
   pub went : Went first steps now
   pub bytes : bytes_of steps ++ rest ≡ stream
-  pub told : HasTold lists start steps
+  pub told : HasTold lists behind a start steps
 
-pub nothing_so_far : (first : Feeding) (stream : List ℕ) (lists : Lists) (start : ℕ) → HasTold lists start [] → SoFar first first stream stream lists start 0
-nothing_so_far first stream lists start told = record { steps = []; count = refl; went = refl; bytes = refl; told = told }
+pub nothing_so_far : (first : Feeding) (stream : List ℕ) (lists : Lists) (behind : Behind) (a : Account) (start : ℕ) → HasTold lists behind a start [] →
+    SoFar first first stream stream lists behind a start 0
+nothing_so_far first stream lists behind a start told = record { steps = []; count = refl; went = refl; bytes = refl; told = told }
+
+-- what a record behind so many others tells
+abbrev pub TellsNow : Lists → Behind → ℕ → List ℕ → Feeding → List (List Entry) → ℕ → Type 0
+TellsNow lists behind start bytes host lanes count =
+    LanesTell lists (stood_more (place_of start (count + 1) bytes) (stands_of (engine_among host.host.seats)) 0 lanes)
+    × IsKept behind (stood_more (place_of start (count + 1) bytes) (stands_of (engine_among host.host.seats)) 0 lanes)
 
 -- one record more
-pub next_so_far : (first old new : Feeding) (stream rest bytes behind written : List ℕ) (lists after : Lists) (start now number : ℕ) →
-    SoFar first old stream rest lists start number → HasStepped bytes old new written (Ok handled.Whole) → bytes ++ behind ≡ rest →
+pub next_so_far : (first old new : Feeding) (stream rest bytes left written : List ℕ) (lists after : Lists) (behind behind_it : Behind) (a after_it : Account) (start now number : ℕ) →
+    SoFar first old stream rest lists behind a start number → HasStepped bytes old new written (Ok handled.Whole) → bytes ++ left ≡ rest →
     now ≡ (if number + 1 == 1 then ticks_of bytes else start) → now < 2 ^ 48 →
-    ((lanes : List (List Entry)) → LanesTell lists lanes →
-    LanesTell after (stood_more (place_of now (number + 1) bytes) (stands_of (engine_among new.host.seats)) 0 lanes)) →
-    SoFar first new stream behind after now (number + 1)
-next_so_far first old new stream rest bytes behind written lists after start now number so stepped parts begins small adds = record {
+    ((lanes : List (List Entry)) → LanesTell lists lanes → IsKept behind lanes → TellsNow after behind_it now bytes new lanes number) →
+    (KeepsStands behind a → HasTaken (record { bytes = bytes; host = new; written = written }) now (number + 1) behind_it a after_it) →
+    SoFar first new stream left after behind_it after_it now (number + 1)
+next_so_far first old new stream rest bytes left written lists after behind behind_it a after_it start now number so stepped parts begins small adds takes = record {
   steps = so.steps ++ step ∷ [];
   count = counted so.steps step number so.count;
   went = went_more first old new so.steps bytes written so.went stepped;
-  bytes = ap (λ front. front ++ behind) (bytes_more so.steps step) ∙ joined_bytes (bytes_of so.steps) bytes behind ∙ ap (λ more. bytes_of so.steps ++ more) parts ∙ so.bytes;
+  bytes = ap (λ front. front ++ left) (bytes_more so.steps step) ∙ joined_bytes (bytes_of so.steps) bytes left ∙ ap (λ more. bytes_of so.steps ++ more) parts ∙ so.bytes;
   told = record {
     first = started so.steps step now begins_so;
     small = small;
     lanes = subst (λ count. LanesTell after (lanes_from 0 count (so.steps ++ step ∷ []))) same_lanes
-        (subst (LanesTell after) (lanes_more 0 lists.lanes so.steps step now begins_so) told_now);
+        (subst (LanesTell after) (lanes_more 0 lists.lanes so.steps step now begins_so) told_now.0);
+    kept = subst (λ count. IsKept behind_it (lanes_from 0 count (so.steps ++ step ∷ []))) same_lanes
+        (subst (IsKept behind_it) (lanes_more 0 lists.lanes so.steps step now begins_so) told_now.1);
+    is_account = account_more so.steps step now a after_it so.told.is_account begins_so taken_now.taken;
+    stood_last = taken_now.stood_last;
   };
 } where
   step : Step
@@ -104,11 +114,13 @@ next_so_far first old new stream rest bytes behind written lists after start now
   begins_so : now ≡ (if length so.steps + 1 == 1 then ticks_of bytes else start_of so.steps)
   begins_so = begins ∙ (λ i. if sym so.count i + 1 == 1 then ticks_of bytes else so.told.first i)
 
-  told_now : LanesTell after (stood_more (place_of now (length so.steps + 1) bytes) (stands_of (engine_among new.host.seats)) 0 (lanes_from 0 lists.lanes so.steps))
-  told_now = subst (λ count. LanesTell after (stood_more (place_of now (count + 1) bytes) (stands_of (engine_among new.host.seats)) 0 (lanes_from 0 lists.lanes so.steps)))
-      (sym so.count) (adds (lanes_from 0 lists.lanes so.steps) so.told.lanes)
+  taken_now : HasTaken step now (length so.steps + 1) behind_it a after_it
+  taken_now = subst (λ count. HasTaken step now (count + 1) behind_it a after_it) (sym so.count) (takes so.told.stood_last)
+
+  told_now : TellsNow after behind_it now bytes new (lanes_from 0 lists.lanes so.steps) (length so.steps)
+  told_now = subst (TellsNow after behind_it now bytes new (lanes_from 0 lists.lanes so.steps)) (sym so.count) (adds (lanes_from 0 lists.lanes so.steps) so.told.lanes so.told.kept)
 
   same_lanes : lists.lanes ≡ after.lanes
-  same_lanes = sym (sym told_now.lanes_are
+  same_lanes = sym (sym told_now.0.lanes_are
       ∙ length_stood (place_of now (length so.steps + 1) bytes) (stands_of (engine_among new.host.seats)) 0 (lanes_from 0 lists.lanes so.steps)
       ∙ so.told.lanes.lanes_are)

@@ -1,9 +1,6 @@
 -- What a page tells of a run: how the Limit Checker stands behind each record, rule by rule (page/DATA.md). This project's own.
-use Rattle.std.specs.Prelude.{◌≡◌, ℕ, zero, suc, ◌+◌, ◌*◌, ◌^◌, ◌<◌, List, [], ◌∷◌, ◌++◌, length, map, ℤ, pos, ◌-ℤ◌, nat_lt, if◌then◌else◌, Option, Some, None, Result, Ok, slice_get}
-use Rattle.lc_model.specs.declared.mode.ApResult.{ApResult}
-use Rattle.lc_model.specs.declared.mode.ApResult.TheVariants.{Pass, Stale, Error, Fail}
-use Rattle.lc_model.specs.declared.mode.ApMode.{ApMode}
-use Rattle.lc_model.specs.declared.mode.ApMode.TheVariants.{Active, Passive, Disabled, PermOff}
+use Rattle.std.specs.Prelude.{◌≡◌, ℕ, zero, suc, ◌+◌, ◌*◌, ◌^◌, ◌<◌, true, List, [], ◌∷◌, ◌++◌, length, map, pos, ◌-ℤ◌, nat_lt, if◌then◌else◌, Option, Some, None, Ok}
+use Rattle.lc_model.specs.declared.mode.LcMode.{LcMode}
 use Rattle.lc_model.specs.Bytes.{u16_at, u32_at}
 use Rattle.lc_model.specs.Host.Stream.{header_size}
 use Rattle.lc_model.specs.Kept.Summary.{LcOwn, Tally}
@@ -15,9 +12,17 @@ use Rattle.run_course.specs.declared.handled.Handled.TheVariants as handled
 use Rattle.run_course.specs.declared.ending.Ending.{Ending}
 use Rattle.run_course.specs.declared.ending.Ending.TheVariants.{Whole, NoRecord, Cut, Bound}
 use Rattle.change_lists.specs.declared.entry.Entry.{Entry}
-use Rattle.change_lists.specs.Telling.{AllTell, lists_of}
-use Rattle.run_report.specs.declared.place.Place.{Place}
-use Rattle.run_report.specs.declared.place.Stand.{Stand}
+use Rattle.change_lists.specs.Changes.{is_said_last}
+use Rattle.change_lists.specs.Telling.{PoolTells, most_of}
+use Rattle.run_account.specs.declared.place.Place.{Place}
+use Rattle.run_account.specs.declared.place.Stand.{Stand}
+use Rattle.run_account.specs.declared.texts.Field.{Field}
+use Rattle.run_account.specs.Account as account
+use Rattle.run_account.specs.Account.{Account, account_behind}
+use Rattle.run_account.specs.Plans.{Planned}
+use Rattle.run_account.specs.Run as run
+use Rattle.run_account.specs.Standing.{bit_of_result, bit_of_state, stand_at}
+use Rattle.run_report.specs.declared.behind.Behind.{Behind}
 use Rattle.run_report.specs.declared.lists.Lists.{Lists}
 
 -- ---- a run
@@ -35,21 +40,6 @@ Went old (step ∷ steps) new = HasStepped step.bytes old step.host step.written
 
 -- ---- how a rule stands
 
--- the bit of its last result: the worse, the higher
-abbrev pub bit_of_result : Option ApResult → ℕ
-bit_of_result None = 2
-bit_of_result (Some Pass) = 4
-bit_of_result (Some Stale) = 8
-bit_of_result (Some Error) = 16
-bit_of_result (Some Fail) = 32
-
--- the bit of its state
-abbrev pub bit_of_state : ApMode → ℕ
-bit_of_state Active = 1
-bit_of_state Passive = 2
-bit_of_state Disabled = 4
-bit_of_state PermOff = 8
-
 -- with how many failures in a row
 abbrev pub stand_of : Point Tally → Stand
 stand_of point = record { result = bit_of_result point.past.last; state = bit_of_state point.state; fails = point.past.run }
@@ -58,15 +48,6 @@ stand_of point = record { result = bit_of_result point.past.last; state = bit_of
 abbrev pub stands_of : Option LcOwn → List Stand
 stands_of None = []
 stands_of (Some engine) = map stand_of engine.points
-
--- there is no such rule
-abbrev pub absent : Stand
-absent = record { result = 1; state = 0; fails = 0 }
-
-abbrev pub stand_at : ℕ → List Stand → Stand
-stand_at rule [] = absent
-stand_at zero (stand ∷ stands) = stand
-stand_at (suc rule) (stand ∷ stands) = stand_at rule stands
 
 -- ---- lanes
 
@@ -118,19 +99,85 @@ abbrev pub nothing_told : ℕ → List (List Entry)
 nothing_told zero = []
 nothing_told (suc count) = [] ∷ nothing_told count
 
--- the lists of the lanes tell this: they stand in front of those of the fields
+-- each of these was told last that its rule, from this one on, stands so
+abbrev pub SaidLast : Place → ℕ → List Stand → List (List Entry) → Type 0
+SaidLast place rule stands [] = Unit {0}
+SaidLast place rule stands (told ∷ more) = (is_said_last told (stood place (stand_at rule stands)) ≡ true) × SaidLast place (suc rule) stands more
+
+-- the most entries of all lists
+abbrev pub most_entries : ℕ
+most_entries = 22528
+
+-- the lists of the lanes tell this: they stand in front of those of the fields, and all have room together
 pub record LanesTell (lists : Lists) (lanes : List (List Entry)) : Type 0 where
   pub values : List (List Entry)
   pub lanes_are : length lanes ≡ lists.lanes
-  pub all : AllTell (lists_of lists.pool) (lanes ++ values)
+  pub most : most_of lists.pool ≡ most_entries
+  pub all : PoolTells lists.pool (lanes ++ values)
+
+-- where the rules were looked at, the lanes were told last that they stand as they did
+abbrev pub IsKept : Behind → List (List Entry) → Type 0
+IsKept behind lanes = behind.looked ≡ true → (place : Place) → SaidLast place 0 behind.rules.items lanes
+
+-- ---- the account of a run
+
+-- the mode of the Limit Checker that runs
+abbrev pub mode_of : Option LcOwn → Option LcMode
+mode_of None = None
+mode_of (Some engine) = Some engine.mode
+
+-- the record of this number, in a run whose first record is of this time, as its account takes it: its place, its bytes, the packets
+-- that the host wrote, and how the Limit Checker that runs stands behind it
+abbrev pub taken_of : (start number : ℕ) → Step → account.Step
+taken_of start number step = record {
+  place = place_of start number step.bytes;
+  bytes = step.bytes;
+  written = step.written;
+  mode = mode_of (engine_among step.host.host.seats);
+  stands = stands_of (engine_among step.host.host.seats);
+}
+
+-- .. and those behind it
+abbrev pub taken_from : (start number : ℕ) → List Step → List account.Step
+taken_from start number [] = []
+taken_from start number (step ∷ steps) = taken_of start number step ∷ taken_from start (number + 1) steps
+
+-- those of a whole run
+abbrev pub all_taken : List Step → List account.Step
+all_taken steps = taken_from (start_of steps) 1 steps
+
+-- the account is that of these records, in a run of texts with some rules, in so many lanes, which compare these fields
+pub record IsAccountOf (steps : List Step) (a : Account) : Type 0 where
+  pub plans : List (List Planned)
+  pub lanes : ℕ
+  pub fields : List Field
+  pub is : a ≡ account_behind (run.nothing_told plans lanes fields) (all_taken steps)
+
+-- where the rules were looked at, they stood so behind the last record
+abbrev pub KeepsStands : Behind → Account → Type 0
+KeepsStands behind a = behind.looked ≡ true → run.StoodLast behind.rules.items a
+
+-- the account behind what a record led to, once it came
+abbrev pub led_to : List ℕ → Place → Behind → Account → Account
+led_to written place behind a =
+    account.stood_so place behind.mode behind.rules.items
+    (account.written written place behind.rules.items (account.sampled place behind.rules.items a))
+
+-- the record of this number was taken into the account
+pub record HasTaken (step : Step) (start number : ℕ) (behind : Behind) (old new : Account) : Type 0 where
+  pub taken : new ≡ account.account_with (taken_of start number step) old
+  pub stood_last : KeepsStands behind new
 
 -- ---- a whole run
 
 -- all this is told of these records
-pub record HasTold (lists : Lists) (start : ℕ) (steps : List Step) : Type 0 where
+pub record HasTold (lists : Lists) (behind : Behind) (a : Account) (start : ℕ) (steps : List Step) : Type 0 where
   pub first : start ≡ start_of steps
   pub small : start < 2 ^ 48
   pub lanes : LanesTell lists (lanes_from 0 lists.lanes steps)
+  pub kept : IsKept behind (lanes_from 0 lists.lanes steps)
+  pub is_account : IsAccountOf steps a
+  pub stood_last : KeepsStands behind a
 
 -- the bytes of all records, one behind the other
 abbrev pub bytes_of : List Step → List ℕ
@@ -154,8 +201,9 @@ EndsSo (Cut n) steps host rest = (n ≡ length steps + 1) × StopsAt host rest h
 EndsSo Bound steps host rest = ⊥
 
 -- a run over a stream by a host that was so at first, as its page tells it: the records in front of the stream are handled, each as the host
--- itself handles it, and each rule's lane has the changes of how the rule stood behind each of them, reduced by columns
-pub record Tells (stream : List ℕ) (first : Feeding) (lists : Lists) (ending : Ending) : Type 0 where
+-- itself handles it, each rule's lane has the changes of how the rule stood behind each of them, reduced by columns, and the account is that
+-- of these records
+pub record Tells (stream : List ℕ) (first : Feeding) (lists : Lists) (a : Account) (ending : Ending) : Type 0 where
   pub steps : List Step
   pub host : Feeding
   pub rest : List ℕ
@@ -163,3 +211,4 @@ pub record Tells (stream : List ℕ) (first : Feeding) (lists : Lists) (ending :
   pub bytes : bytes_of steps ++ rest ≡ stream
   pub ends : EndsSo ending steps host rest
   pub lanes : LanesTell lists (lanes_from 0 lists.lanes steps)
+  pub is_account : IsAccountOf steps a

@@ -1,8 +1,10 @@
 //! The times of records.
 
 ghost use Rattle.std.specs.Prelude.{◌≡◌, ◌<◌, ◌^◌, ◌==◌, ◌-ℤ◌, pos, if◌then◌else◌};
+ghost use Rattle.run_report.specs.Model.{ticks_of};
 
-use crate::place::Place;
+use lc_model::stream::{HEADER, moment_of};
+use run_account::Place;
 
 /// The time of the first record, that of the last one less that of the first, and whether none is before the one in front of it.
 #[derive(Clone, Copy, Debug, PartialEq, Eq)]
@@ -10,6 +12,18 @@ pub struct Clock {
     pub start: u64,
     pub end: i64,
     pub is_ordered: bool,
+}
+
+/// The time of a record in 1/65,536 s; 0 where its header isn't whole.
+pub fn ticks_in(record: &[u8]) -> u64
+    ensures ticks { result ≡ ticks_of record.now }
+    ensures small { result < 2 ^ 48 }
+{
+    if record.len() < HEADER {
+        return 0;
+    }
+    let moment = moment_of(record);
+    u64::from(moment.seconds) * 65_536 + u64::from(moment.subseconds)
 }
 
 /// One time less another.

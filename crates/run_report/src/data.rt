@@ -1,13 +1,13 @@
 //! The data of a page, as page/DATA.md says it.
 
-use crate::account::Figures;
 use crate::json::{put, put_comma, put_text};
 use crate::report::Run;
 use crate::rules::{put_fields, put_lanes, put_texts};
+use crate::source::Source;
 use crate::telling::Telling;
-use crate::texts::Source;
 use crate::told::{put_modes, put_sent, put_tables};
 use lc_model::VERSION;
+use run_account::Figures;
 use run_course::Ending;
 use sha2::{Digest, Sha256};
 use std::io::{self, Write};

@@ -2,33 +2,26 @@
 //! own HTML, style and script, which tools/page_constants makes of page/.
 #![tactic(auto)]
 
-mod account;
-mod bands;
 mod behind;
-mod brought;
 mod clock;
 mod data;
+mod entry;
 mod error;
 mod json;
 mod lists;
-mod packets;
 mod page_front;
 mod page_script_0;
 mod page_script_1;
 mod page_script_2;
-mod place;
 mod progress;
 mod report;
 mod rules;
-mod samples;
-mod sent;
+mod source;
 mod telling;
-mod texts;
 mod told;
-mod values;
 
 pub use error::ReportError;
 pub use progress::{Progress, Silent};
 pub use report::{Run, write_page};
+pub use source::Source;
 pub use telling::{Telling, tell_run};
-pub use texts::Source;

@@ -2,11 +2,13 @@
 
 ghost use Rattle.std.specs.Prelude.{◌≡◌, ◌<◌, List, OnOk, IfOk, ◌++◌, []};
 ghost use Rattle.change_lists.specs.declared.entry.Entry.{Entry as Told};
-ghost use Rattle.change_lists.specs.Telling.{AllTell, lists_of, told_to};
-ghost use Rattle.run_report.specs.Model.{LanesTell, nothing_told, stand_at, stood_more};
+ghost use Rattle.change_lists.specs.Telling.{PoolTells, most_of, told_to};
+ghost use Rattle.run_report.specs.Model.{LanesTell, SaidLast, nothing_told, stood_more};
 
-use crate::place::{ABSENT, Place, Stand};
+use crate::entry::stand_entry;
+use change_lists::laws::told_again_is_told;
 use change_lists::{Changes, Entry, Pool};
+use run_account::{Place, Stand, stand_in};
 use std::alloc::{AllocError, Global};
 
 /// The most entries of all lists.
@@ -21,23 +23,14 @@ pub struct Lists {
 
 /// So many lists more, to which nothing was told.
 fn push_all(pool: &mut Pool, count: usize) -> Result<(), AllocError>
-    ensures { (told : List (List Told)) → AllTell (lists_of pool.old) told →
-        OnOk result (AllTell (lists_of pool.new) (told ++ nothing_told count)) }
+    ensures told { (told : List (List Told)) → PoolTells pool.old told →
+        OnOk result (PoolTells pool.new (told ++ nothing_told count)) }
+    ensures most { most_of pool.new ≡ most_of pool.old }
 {
     for _ in 0..count {
         pool.push()?;
     }
     Ok(())
-}
-
-/// How a rule stands, if there is one of this number.
-fn stand_in(stands: &[Stand], rule: usize) -> Stand
-    ensures { result ≡ stand_at rule stands.now }
-{
-    match stands.get(rule) {
-        Some(stand) => *stand,
-        None => ABSENT,
-    }
 }
 
 impl Lists {
@@ -88,9 +81,18 @@ impl Lists {
             OnOk result (LanesTell self.new (stood_more place stands.now 0 lanes)) }
     {
         for rule in 0..self.lanes {
-            let entry = place.stand(stand_in(stands, rule));
+            let entry = stand_entry(place, stand_in(stands, rule));
             self.stand_one(rule, entry)?;
         }
         Ok(())
+    }
+
+    /// How all rules stand from a record on, where they stand as was told last: nothing changes.
+    pub fn stand_again(&self, place: Place, stands: &[Stand])
+        ensures { (lanes : List (List Told)) → LanesTell self.now lanes →
+            SaidLast place 0 stands.now lanes →
+            LanesTell self.now (stood_more place stands.now 0 lanes) }
+    {
+        told_again_is_told();
     }
 }

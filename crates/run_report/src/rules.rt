@@ -1,13 +1,10 @@
 //! The texts and fields of a page's data.
 
-use crate::account::Account;
 use crate::json::{put, put_comma, put_optional, put_text};
-use crate::samples::Part;
-use crate::texts::{Field, Text};
-use crate::values::type_word;
 use change_lists::{Changes, Entry};
 use lc_model::{ApMode, CmpOp, EventKind};
 use rule_parser::{Expression, ReportItem, RuleItem};
+use run_account::{Account, Field, Part, Text, type_word};
 use std::io::{self, Write};
 
 /// The word for a type of events, as rule texts have it.
@@ -181,9 +178,9 @@ pub fn put_texts<W: Write>(out: &mut W, account: &Account<'_>) -> io::Result<()>
         put(out, "{\"rules\":[")?;
         for place in 0..text.rule_count() {
             put_comma(out, place)?;
-            let parts = account.parts.get(number).and_then(|rules| rules.get(place));
-            if let (Some(rule), Some(parts)) = (text.rule(place), parts) {
-                put_rule(out, text, rule, parts.as_slice())?;
+            if let Some(rule) = text.rule(place) {
+                let in_text = u16::try_from(number).ok();
+                put_rule(out, text, rule, account.parts(in_text, place))?;
             }
         }
         put(out, "]}")?;
@@ -244,20 +241,18 @@ pub fn put_fields<W: Write>(
     account: &Account<'_>,
     values: &[Changes],
 ) -> io::Result<()> {
-    for (number, field) in account.fields.iter().enumerate() {
+    for (number, seen) in account.seen.iter().enumerate() {
         put_comma(out, number)?;
-        put_field(out, field)?;
-        if let Some(seen) = account.seen.get(number) {
-            let packets = seen.packets;
-            write!(out, "\"packets\":{packets},\"last\":")?;
-            match seen.last {
-                Some(last) => {
-                    let record = last.record;
-                    let time = last.time;
-                    write!(out, "[{record},{time}]")?;
-                }
-                None => put(out, "null")?,
+        put_field(out, &seen.field)?;
+        let packets = seen.packets;
+        write!(out, "\"packets\":{packets},\"last\":")?;
+        match seen.last {
+            Some(last) => {
+                let record = last.record;
+                let time = last.time;
+                write!(out, "[{record},{time}]")?;
             }
+            None => put(out, "null")?,
         }
         put(out, ",\"values\":[")?;
         if let Some(list) = values.get(number) {

@@ -1,20 +1,23 @@
 //! From a stream to what its page tells.
 
-ghost use Rattle.std.specs.Prelude.{◌≡◌, ◌<◌, ◌==◌, ◌^◌, ◌++◌, [], List, OnOk, IfOk, length, if◌then◌else◌};
+ghost use Rattle.std.specs.Prelude.{◌≡◌, ◌<◌, ◌==◌, ◌^◌, ◌++◌, [], List, false, OnOk, IfOk, length, if◌then◌else◌};
 ghost use Rattle.change_lists.specs.declared.entry.Entry.{Entry as Told};
 ghost use Rattle.flight_core.specs.Compiled.{sources_of};
 ghost use Rattle.flight_core.specs.Feeding.{Feeding};
-ghost use Rattle.run_course.specs.Stepping.{IsAtRest, BeginsWith, engine_among, host_in};
-ghost use Rattle.run_report.specs.Model.{HasTold, LanesTell, Tells, place_of, stands_of, stood_more, ticks_of};
+ghost use Rattle.run_course.specs.Stepping.{IsAtRest, BeginsWith, engine_among, host_in, written_by};
+ghost use Rattle.run_account.specs.Account.{account_of};
+ghost use Rattle.run_account.specs.Run as run;
+ghost use Rattle.run_report.specs.Model.{HasTaken, HasTold, IsKept, KeepsStands, LanesTell, SaidLast, Tells, led_to, place_of, stands_of, stood_more, ticks_of};
 
-use crate::account::Account;
 use crate::behind::Behind;
-use crate::clock::Clock;
+use crate::clock::{Clock, ticks_in};
+use crate::entry::value_entry;
 use crate::error::ReportError;
 use crate::lists::Lists;
-use crate::place::ticks_in;
 use crate::progress::Progress;
 use lc_model::stream::{HEADER, body_size};
+use run_account::laws::rules_that_stand_as_before;
+use run_account::{Account, Place, Seen};
 use run_course::{Ending, Handled, Stepping};
 use std::alloc::{AllocError, Global};
 use tick_scheduler::Schedule;
@@ -43,19 +46,85 @@ fn first_record(stream: &[u8]) -> (&[u8], &[u8])
     stream.split_at(size)
 }
 
+/// The fields that a packet of this place brought have new values.
+fn tell_values(seen: &[Seen<'_>], place: Place, lists: &mut Lists) -> Result<(), AllocError>
+    ensures { (lanes : List (List Told)) → LanesTell lists.old lanes →
+        OnOk result (LanesTell lists.new lanes) }
+{
+    for (field, seen) in seen.iter().enumerate() {
+        if seen.met.place == Some(place) {
+            lists.value(field, value_entry(place, seen.met))?;
+        }
+    }
+    Ok(())
+}
+
 impl<'a> Telling<'a> {
     /// Of no record, for runs of these texts, which compile.
     fn new(alloc: Global, texts: &[&'a [u8]]) -> Result<Telling<'a>, ReportError>
-        ensures { IfOk result (λ telling. HasTold telling.lists telling.clock.start []) }
+        ensures { IfOk result (λ telling. HasTold telling.lists telling.behind
+            (account_of telling.account) telling.clock.start []) }
     {
         let account = Account::new(alloc, texts)?;
-        let lists = Lists::new(alloc, account.lanes, account.fields.len())?;
+        let lists = Lists::new(alloc, account.lanes, account.seen.len())?;
         Ok(Telling {
             clock: Clock::new(),
             lists,
             behind: Behind::new(alloc),
             account,
         })
+    }
+
+    /// A record behind which rules stand otherwise than before, or the first.
+    fn take_new(&mut self, place: Place, written: &[u8]) -> Result<(), AllocError>
+        ensures clock { self.new.clock ≡ self.old.clock }
+        ensures behind { self.new.behind ≡ self.old.behind }
+        ensures told { (lanes : List (List Told)) → LanesTell self.old.lists lanes → OnOk result
+            (LanesTell self.new.lists (stood_more place self.old.behind.rules.items 0 lanes)) }
+        ensures account { OnOk result (account_of self.new.account ≡
+            led_to written.now place self.old.behind (account_of self.old.account)) }
+    {
+        let stands = self.behind.rules.as_slice();
+        self.account.sample(place, stands)?;
+        self.account.write(written, place, stands)?;
+        self.account.stand(place, self.behind.mode, stands)?;
+        self.lists.stand(place, stands)
+    }
+
+    /// A record behind which all rules stand as before: no sample counts, and what stood in front of the next one is known.
+    fn take_same(&mut self, place: Place, written: &[u8]) -> Result<(), AllocError>
+        ensures clock { self.new.clock ≡ self.old.clock }
+        ensures behind { self.new.behind ≡ self.old.behind }
+        ensures told { (lanes : List (List Told)) → LanesTell self.old.lists lanes →
+            SaidLast place 0 self.old.behind.rules.items lanes → OnOk result
+            (LanesTell self.new.lists (stood_more place self.old.behind.rules.items 0 lanes)) }
+        ensures account { run.StoodLast self.old.behind.rules.items (account_of self.old.account) →
+            OnOk result (account_of self.new.account ≡
+            led_to written.now place self.old.behind (account_of self.old.account)) }
+    {
+        rules_that_stand_as_before();
+        let stands = self.behind.rules.as_slice();
+        self.account.write(written, place, stands)?;
+        self.account.stand_again(place, self.behind.mode)?;
+        self.lists.stand_again(place, stands);
+        Ok(())
+    }
+
+    /// What a record leads to, behind which the rules were looked at.
+    fn take_behind(&mut self, place: Place, written: &[u8], is_new: bool) -> Result<(), AllocError>
+        ensures clock { self.new.clock ≡ self.old.clock }
+        ensures behind { self.new.behind ≡ self.old.behind }
+        ensures told { (lanes : List (List Told)) → LanesTell self.old.lists lanes →
+            (is_new ≡ false → SaidLast place 0 self.old.behind.rules.items lanes) → OnOk result
+            (LanesTell self.new.lists (stood_more place self.old.behind.rules.items 0 lanes)) }
+        ensures account { (is_new ≡ false → run.StoodLast self.old.behind.rules.items (account_of self.old.account)) →
+            OnOk result (account_of self.new.account ≡
+            led_to written.now place self.old.behind (account_of self.old.account)) }
+    {
+        if is_new {
+            return self.take_new(place, written);
+        }
+        self.take_same(place, written)
     }
 
     /// A record that was handled.
@@ -66,17 +135,24 @@ impl<'a> Telling<'a> {
             (if number == 1 then ticks_of record.now else self.old.clock.start) }
         ensures small { self.new.clock.start < 2 ^ 48 }
         ensures told { (lanes : List (List Told)) → LanesTell self.old.lists lanes →
-            OnOk result (LanesTell self.new.lists (stood_more
-            (place_of self.new.clock.start number record.now)
-            (stands_of (engine_among (host_in stepping.now).host.seats)) 0 lanes)) }
+            IsKept self.old.behind lanes →
+            let more = stood_more (place_of self.new.clock.start number record.now)
+            (stands_of (engine_among (host_in stepping.now).host.seats)) 0 lanes in
+            OnOk result (LanesTell self.new.lists more × IsKept self.new.behind more) }
+        ensures account { KeepsStands self.old.behind (account_of self.old.account) → OnOk result
+            (HasTaken (record {
+              bytes = record.now;
+              host = host_in stepping.now;
+              written = written_by stepping.now;
+            }) self.new.clock.start number self.new.behind
+            (account_of self.old.account) (account_of self.new.account)) }
     {
+        rules_that_stand_as_before();
         let place = self.clock.next(number, ticks_in(record));
-        self.account.come(record, place, &mut self.lists)?;
-        self.behind.look(stepping)?;
-        self.account.sample(place, &self.behind)?;
-        self.account.write(stepping.written(), place, &self.behind)?;
-        self.account.stand(place, &self.behind)?;
-        self.lists.stand(place, self.behind.rules.as_slice())
+        self.account.come(record, place)?;
+        tell_values(self.account.seen.as_slice(), place, &mut self.lists)?;
+        let is_new = self.behind.look(stepping)?;
+        self.take_behind(place, stepping.written(), is_new)
     }
 }
 
@@ -88,10 +164,12 @@ fn tell_all<P: Progress>(
     progress: &mut P,
 ) -> Result<Ending, ReportError>
     requires rest { IsAtRest stepping.old }
-    requires nothing { HasTold telling.old.lists telling.old.clock.start [] }
+    requires nothing { HasTold telling.old.lists telling.old.behind
+        (account_of telling.old.account) telling.old.clock.start [] }
     ensures rest { IsAtRest stepping.new }
     ensures told { IfOk result
-        (λ ending. Tells stream.now (host_in stepping.old) telling.new.lists ending) }
+        (λ ending. Tells stream.now (host_in stepping.old) telling.new.lists
+        (account_of telling.new.account) ending) }
 {
     let step = stream.len() / TOLD;
     let mut told = step;
@@ -143,7 +221,7 @@ pub fn tell_run<'a, P: Progress>(
 ) -> Result<(Telling<'a>, Ending), ReportError>
     ensures { IfOk result (λ told. (first : Feeding) ×
         BeginsWith (sources_of texts.now) schedule.now first ×
-        Tells stream.now first told.0.lists told.1) }
+        Tells stream.now first told.0.lists (account_of told.0.account) told.1) }
 {
     let mut stepping = Stepping::new(alloc, texts, schedule)?;
     let mut telling = Telling::new(alloc, texts)?;

@@ -1,12 +1,11 @@
 //! What was sent, and the bands, of a page's data.
 
-use crate::account::Account;
-use crate::bands::{Bands, How};
 use crate::json::{put, put_comma, put_optional, put_text};
-use crate::place::{Place, mode_word};
 use crate::rules::level_word;
-use crate::samples::{Met, Part, Sample, verdict};
-use crate::sent::{Left, Request, Told};
+use lc_model::LcMode;
+use run_account::{
+    Account, Bands, Ends, How, Left, Met, Part, Place, Request, Sample, Told, verdict,
+};
 use std::io::{self, Write};
 
 fn put_place<W: Write>(out: &mut W, place: Place) -> io::Result<()> {
@@ -26,25 +25,35 @@ fn how_word(how: Option<How>) -> &'static str {
 
 /// Writes which tables were in force.
 pub fn put_tables<W: Write>(out: &mut W, bands: &Bands) -> io::Result<()> {
-    for (number, (place, text, how)) in bands.tables.iter().enumerate() {
+    for (number, from) in bands.tables().iter().enumerate() {
         put_comma(out, number)?;
         put(out, "[")?;
-        put_place(out, *place)?;
+        put_place(out, from.place)?;
         put(out, ",")?;
-        put_optional(out, text.map(i64::from))?;
-        let how = how_word(*how);
+        put_optional(out, from.text.map(i64::from))?;
+        let how = how_word(from.how);
         write!(out, ",\"{how}\"]")?;
     }
     Ok(())
 }
 
+/// The word for a mode, or for no Limit Checker.
+fn mode_word(mode: Option<LcMode>) -> &'static str {
+    match mode {
+        None => "absent",
+        Some(LcMode::Active) => "active",
+        Some(LcMode::Passive) => "passive",
+        Some(LcMode::Disabled) => "disabled",
+    }
+}
+
 /// Writes the modes.
 pub fn put_modes<W: Write>(out: &mut W, bands: &Bands) -> io::Result<()> {
-    for (number, (place, mode)) in bands.modes.iter().enumerate() {
+    for (number, from) in bands.modes().iter().enumerate() {
         put_comma(out, number)?;
         put(out, "[")?;
-        put_place(out, *place)?;
-        let mode = match *mode {
+        put_place(out, from.place)?;
+        let mode = match from.mode {
             Some(mode) => mode_word(mode),
             None => "untold",
         };
@@ -70,9 +79,9 @@ fn put_met<W: Write>(out: &mut W, part: Part, met: Met) -> io::Result<()> {
 
 fn put_sample<W: Write>(out: &mut W, sample: &Sample, parts: &[Part]) -> io::Result<()> {
     put(out, "[")?;
-    put_place(out, sample.place)?;
+    put_place(out, sample.place())?;
     put(out, ",[")?;
-    for (number, (part, met)) in parts.iter().zip(sample.met.iter()).enumerate() {
+    for (number, (part, met)) in parts.iter().zip(sample.met().iter()).enumerate() {
         put_comma(out, number)?;
         put_met(out, *part, *met)?;
     }
@@ -81,15 +90,8 @@ fn put_sample<W: Write>(out: &mut W, sample: &Sample, parts: &[Part]) -> io::Res
 
 /// The comparisons of the rule of a request.
 fn parts_of<'a>(account: &'a Account<'_>, request: &Request) -> &'a [Part] {
-    let (Some(text), Some(rule)) = (request.text, request.rule) else {
-        return &[];
-    };
-    match account
-        .parts
-        .get(usize::from(text))
-        .and_then(|rules| rules.get(rule))
-    {
-        Some(parts) => parts.as_slice(),
+    match request.rule {
+        Some(rule) => account.parts(request.text, rule),
         None => &[],
     }
 }
@@ -175,22 +177,38 @@ fn put_some_events<W: Write>(out: &mut W, events: &[Told], before: usize) -> io:
     Ok(())
 }
 
-/// Writes requests and events, with how many are left out.
-pub fn put_sent<W: Write>(out: &mut W, account: &Account<'_>) -> io::Result<()> {
-    let requests = &account.sending.requests;
+/// Writes all requests that are kept, the newest last.
+fn put_requests<W: Write>(out: &mut W, account: &Account<'_>) -> io::Result<()> {
+    let requests = account.sending.requests();
     let (from, before) = requests.last();
-    put(out, "\"requests\":[")?;
-    put_some_requests(out, account, requests.first.as_slice(), 0)?;
+    put_some_requests(out, account, requests.first(), 0)?;
     put_some_requests(out, account, from, 1)?;
     put_some_requests(out, account, before, 1)?;
-    put(out, "],\"requests_left_out\":")?;
-    put_left(out, requests.left)?;
-    let events = &account.sending.events;
+    match account.sending.newest() {
+        Some(newest) => {
+            put_comma(out, requests.first().len())?;
+            put_request(out, account, newest)
+        }
+        None => Ok(()),
+    }
+}
+
+/// Writes all events that are kept.
+fn put_events<W: Write>(out: &mut W, events: &Ends<Told>) -> io::Result<()> {
     let (from, before) = events.last();
-    put(out, ",\"events\":[")?;
-    put_some_events(out, events.first.as_slice(), 0)?;
+    put_some_events(out, events.first(), 0)?;
     put_some_events(out, from, 1)?;
-    put_some_events(out, before, 1)?;
+    put_some_events(out, before, 1)
+}
+
+/// Writes requests and events, with how many are left out.
+pub fn put_sent<W: Write>(out: &mut W, account: &Account<'_>) -> io::Result<()> {
+    put(out, "\"requests\":[")?;
+    put_requests(out, account)?;
+    put(out, "],\"requests_left_out\":")?;
+    put_left(out, account.sending.requests().left())?;
+    put(out, ",\"events\":[")?;
+    put_events(out, account.sending.events())?;
     put(out, "],\"events_left_out\":")?;
-    put_left(out, events.left)
+    put_left(out, account.sending.events().left())
 }

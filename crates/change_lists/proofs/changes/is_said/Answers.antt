@@ -1,4 +1,4 @@
-use Rattle.std.proofs.Common.{◌≡◌, ◌∙◌, sym}
+use Rattle.std.proofs.Common.{◌∙◌, sym}
 use Rattle.change_lists.proofs.Said.{last_is}
 use Rattle.change_lists.proofs.changes.is_said.Goals as goal
 

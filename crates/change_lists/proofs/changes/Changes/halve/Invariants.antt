@@ -1,7 +1,12 @@
-use Rattle.std.proofs.Common.{List}
+use Rattle.std.proofs.Common.{ℕ, List, ◌≡◌, ◌≤◌, ◌<◌, ◌^◌, length}
 use Rattle.change_lists.specs.declared.entry.Entry.{Entry}
+use Rattle.change_lists.specs.Changes.{changes, reduced}
 use Rattle.change_lists.specs.Telling.{Tells}
 use Rattle.change_lists.proofs.changes.Changes.halve.Given as goal
 
-abbrev pub invariant-loop : goal.invariant-loop
-invariant-loop l = (told : List Entry) → Tells l.initial.self told → Tells l.self told
+abbrev pub invariant-loop-doublings : goal.invariant-loop-doublings
+invariant-loop-doublings l =
+    (l.self.doublings ≡ l._doublings) × (l.initial.self.doublings ≤ l._doublings)
+    × ((told : List Entry) → Tells l.initial.self told → Tells l.self told)
+    × ((told : List Entry) → Tells l.initial.self told → (fewer : ℕ) → l.initial.self.doublings ≤ fewer → fewer < l._doublings →
+    l.most < length (reduced (2 ^ fewer) (changes told)))

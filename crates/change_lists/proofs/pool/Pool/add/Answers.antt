@@ -1,15 +1,18 @@
-use Rattle.std.proofs.Common.{arith}
-use Rattle.change_lists.specs.Telling.{told_to}
-use Rattle.change_lists.proofs.Lists.{all_told, all_beyond}
+use Rattle.std.proofs.Common.{subst}
+use Rattle.std.proofs.lemmas.Result.{on_ok_weaker}
+use Rattle.change_lists.specs.Telling.{IsReduced, lists_of, told_to}
 use Rattle.change_lists.proofs.pool.Pool.add.Goals as goal
 
-pub returns-then-number-len : goal.returns-then-number-len
-returns-then-number-len c = λ told all.
-    all_beyond c.args.self.now.lists.items told c.args.number c.args.entry (omega (arith, c.args.self.now.lists.ok.0, c.if-number-len.true, c.len.ensures)) all
+pub returns-clause-told : goal.returns-clause-told
+returns-clause-told c = λ told tells.
+    on_ok_weaker c.reduce.result (λ reduced. reduced.0) (c.reduce.ensures.reduced (told_to c.args.number c.args.entry told) (c.in_ok-come.ensures.told told tells))
 
-pub returns : goal.returns
-returns c = λ told all.
-    c.make_room.ensures (told_to c.args.number c.args.entry told)
-    (all_told c.args.self.now.lists.items told c.args.number c.index_mut.result.now c.add.new.self c.args.entry
-    (omega (arith, c.args.self.now.lists.ok.0, c.if-number-len.false, c.len.ensures)) c.index_mut.ensures.value
-    (λ it tells. c.in_ok-add.ensures it tells) all)
+pub returns-clause-room : goal.returns-clause-room
+returns-clause-room c = λ told tells.
+    on_ok_weaker c.reduce.result (λ reduced. record {
+      between = lists_of c.come.new.self;
+      tell = (c.in_ok-come.ensures.told told tells).all;
+      same = c.in_ok-come.ensures.same;
+      made = subst (λ most. IsReduced most (told_to c.args.number c.args.entry told) (lists_of c.come.new.self) (lists_of c.reduce.new.self)) c.in_ok-come.ensures.most reduced.1;
+    })
+    (c.reduce.ensures.reduced (told_to c.args.number c.args.entry told) (c.in_ok-come.ensures.told told tells))

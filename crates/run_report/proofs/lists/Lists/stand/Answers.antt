@@ -1,7 +1,7 @@
-use Rattle.std.proofs.Common.{◌≡◌, ◌∙◌, ap, refl, subst, sym, arith, List}
+use Rattle.std.proofs.Common.{◌∙◌, ap, refl, subst, sym, arith}
 use Rattle.change_lists.specs.Telling.{told_to}
 use Rattle.change_lists.specs.declared.entry.Entry.{Entry}
-use Rattle.run_report.specs.Model.{LanesTell, stand_at, stood, stood_more}
+use Rattle.run_report.specs.Model.{LanesTell, stood}
 use Rattle.run_report.proofs.Lanes.{all_stood, next_stood, none_stood, stood_some}
 use Rattle.run_report.proofs.lists.Lists.stand.Goals as goal
 
@@ -17,7 +17,7 @@ loop-rule-preserved c = record {
   told = λ lanes tells.
       subst (LanesTell c.stand_one.new.self)
       (ap (λ (entry : Entry). told_to c.loop-rule.rule entry (stood_some c.loop-rule.rule c.args.place c.args.stands.now 0 lanes))
-      (c.stand-entry.ensures ∙ ap (stood c.args.place) c.stand_in.ensures)
+      (c.stand_entry-entry.ensures ∙ ap (stood c.args.place) c.stand_in.ensures)
       ∙ next_stood c.loop-rule.rule c.args.place c.args.stands.now 0 c.loop-rule.rule lanes (omega arith)
       (omega (arith, tells.lanes_are, c.loop-rule-test.true))
       ∙ ap (λ n. stood_some n c.args.place c.args.stands.now 0 lanes) (omega arith))

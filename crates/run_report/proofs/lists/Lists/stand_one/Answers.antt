@@ -6,5 +6,5 @@ use Rattle.run_report.proofs.lists.Lists.stand_one.Goals as goal
 pub returns-clause-told : goal.returns-clause-told
 returns-clause-told c = λ lanes tells. on_ok_weaker c.add.result
     (λ all. lane_told c.args.self.now (record { pool = c.add.new.self; lanes = c.args.self.now.lanes }) c.args.rule c.args.entry lanes
-    c.requires refl tells all)
-    (c.add.ensures (lanes ++ tells.values) tells.all)
+    c.requires refl c.add.ensures.most tells all)
+    (c.add.ensures.told (lanes ++ tells.values) tells.all)

@@ -1,5 +1,8 @@
 use Rattle.std.proofs.Common.{◌≡◌, ◌∙◌, sym, subst, ap, arith}
+use Rattle.std.proofs.lemmas.Bool.{false≢true}
+use Rattle.run_account.specs.Account.{account_of}
 use Rattle.run_report.specs.Model.{LanesTell, nothing_told}
+use Rattle.run_report.proofs.Accounts.{of_nothing}
 use Rattle.run_report.proofs.Lanes.{length_nothing, nothing_of_lanes}
 use Rattle.run_report.proofs.telling.Telling.new.Goals as goal
 
@@ -11,4 +14,7 @@ returns c =
       first = c.new-3.ensures;
       small = omega (arith, c.new-3.ensures);
       lanes = subst (LanesTell c.in_ok-lists.lists) (ap nothing_told count ∙ sym (nothing_of_lanes 0 c.in_ok-lists.lists.lanes)) tells;
+      is_account = of_nothing (account_of c.in_ok-account.account) c.in_ok-account.ensures;
+      stood_last = λ looked. absurd (false≢true (sym c.new-4.ensures ∙ looked));
+      kept = λ looked. absurd (false≢true (sym c.new-4.ensures ∙ looked));
     }

@@ -1,20 +1,44 @@
 use Rattle.std.proofs.Common.{◌≡◌, ◌∙◌, sym, subst, ap, pos, ◌-ℤ◌, List}
-use Rattle.std.specs.Prelude.{OnOk}
 use Rattle.run_course.specs.Stepping.{engine_among, host_in}
-use Rattle.run_report.specs.declared.place.Place.{Place}
-use Rattle.run_report.specs.declared.place.Stand.{Stand}
-use Rattle.run_report.specs.Model.{LanesTell, place_of, stands_of, stood_more}
+use Rattle.run_account.specs.declared.place.Stand.{Stand}
+use Rattle.std.proofs.lemmas.Result.{on_ok_weaker}
+use Rattle.run_course.specs.Stepping.{written_by}
+use Rattle.run_account.specs.Account.{account_of}
+use Rattle.run_report.specs.declared.clock.Clock.{Clock}
+use Rattle.run_report.specs.Model.{SaidLast, place_of, stands_of}
+use Rattle.run_report.proofs.Accounts.{record_taken, still_stands}
+use Rattle.run_report.proofs.Lanes.{told_and_kept}
 use Rattle.run_report.proofs.telling.Telling.take.Goals as goal
 
 pub returns-clause-told : goal.returns-clause-told
-returns-clause-told c = λ lanes tells.
-    let place : c.next-place.result ≡ place_of c.next-place.new.self.start c.args.number c.args.record.now = λ i. record {
+returns-clause-told c = λ lanes tells kept.
+    let here : c.next-place.result ≡ place_of c.next-place.new.self.start c.args.number c.args.record.now = λ i. record {
       «record» = c.next-place.ensures.number i;
       time = (c.next-place.ensures.time ∙ ap (λ ticks. pos ticks -ℤ pos c.next-place.new.self.start) c.ticks_in.ensures.ticks) i;
     } in
-    let stands : c.as_slice.result.now ≡ stands_of (engine_among (host_in c.args.stepping.now).host.seats) =
-    c.as_slice.ensures.value ∙ c.in_ok-look.ensures in
-    subst (λ (at : Place). OnOk c.stand-2.result (LanesTell c.stand-2.new.self
-    (stood_more at (stands_of (engine_among (host_in c.args.stepping.now).host.seats)) 0 lanes))) place
-    (subst (λ (these : List Stand). OnOk c.stand-2.result (LanesTell c.stand-2.new.self (stood_more c.next-place.result these 0 lanes))) stands
-    (c.stand-2.ensures lanes (c.in_ok-come.ensures lanes tells)))
+    let place : c.next-place.result ≡ place_of c.take_behind.new.self.clock.start c.args.number c.args.record.now =
+    here ∙ ap (λ (clock : Clock). place_of clock.start c.args.number c.args.record.now) (sym c.take_behind.ensures.clock) in
+    told_and_kept c.take_behind.result c.look.new.self c.take_behind.new.self.behind c.next-place.result (place_of c.take_behind.new.self.clock.start c.args.number c.args.record.now)
+    (stands_of (engine_among (host_in c.args.stepping.now).host.seats)) c.take_behind.new.self.lists lanes
+    c.take_behind.ensures.behind place c.in_ok-is_new.ensures.rules
+    (c.take_behind.ensures.told lanes (c.in_ok-tell_values.ensures lanes tells)
+    (λ same. subst (λ (rules : List Stand). SaidLast c.next-place.result 0 rules lanes) (sym (c.in_ok-is_new.ensures.same same))
+    (kept (c.in_ok-is_new.ensures.looked same) c.next-place.result)))
+
+pub returns-clause-account : goal.returns-clause-account
+returns-clause-account c = λ stood.
+    let here : c.next-place.result ≡ place_of c.next-place.new.self.start c.args.number c.args.record.now = λ i. record {
+      «record» = c.next-place.ensures.number i;
+      time = (c.next-place.ensures.time ∙ ap (λ ticks. pos ticks -ℤ pos c.next-place.new.self.start) c.ticks_in.ensures.ticks) i;
+    } in
+    let place : c.next-place.result ≡ place_of c.take_behind.new.self.clock.start c.args.number c.args.record.now =
+    here ∙ ap (λ (clock : Clock). place_of clock.start c.args.number c.args.record.now) (sym c.take_behind.ensures.clock) in
+    on_ok_weaker c.take_behind.result
+    (λ led. record_taken c.rules_that_stand_as_before.ensures c.args.record.now (host_in c.args.stepping.now) c.written.result.now (written_by c.args.stepping.now)
+    c.take_behind.new.self.clock.start c.args.number c.next-place.result c.look.new.self c.take_behind.new.self.behind
+    (account_of c.args.self.now.account) (account_of c.come.new.self) (account_of c.take_behind.new.self.account)
+    place c.in_ok-come.ensures c.in_ok-is_new.ensures.mode c.in_ok-is_new.ensures.rules c.written.ensures c.take_behind.ensures.behind led)
+    (c.take_behind.ensures.account
+    (λ same. still_stands c.rules_that_stand_as_before.ensures c.args.record.now c.next-place.result c.args.self.now.behind c.look.new.self
+    (account_of c.args.self.now.account) (account_of c.come.new.self) c.in_ok-come.ensures (c.in_ok-is_new.ensures.same same)
+    (stood (c.in_ok-is_new.ensures.looked same))))

@@ -1,0 +1,45 @@
+-- The rule that an event is about, as the Limit Checker's own words tell it (`actionpoint 3`, `: AP = 3`). This project's own.
+use Rattle.std.specs.Prelude.{ℕ, ◌+◌, ◌-◌, ◌*◌, Bool, not, ◌&&◌, List, [], ◌∷◌, length, take, drop, fold, codes, bytes_eq, nat_le, nat_lt, ◌==◌, if◌then◌else◌, Option, Some, None}
+use Rattle.std.specs.Char.{is_ascii_digit}
+use Rattle.std.specs.List.{prefix_len}
+use Rattle.lc_model.specs.Name.{lc_name}
+
+-- a digit more, of numbers of at most five digits
+abbrev pub digit_more : Option ℕ → ℕ → Option ℕ
+digit_more None digit = None
+digit_more (Some n) digit = if nat_lt n 10000 then Some (n * 10 + (digit - 48)) else None
+
+abbrev pub number_of : List ℕ → Option ℕ
+number_of digits = if length digits == 0 then None else fold digit_more (Some 0) digits
+
+-- the digits in front of a text
+abbrev pub digits_in_front : List ℕ → List ℕ
+digits_in_front text = take (prefix_len is_ascii_digit text) text
+
+-- the number in front of a text
+abbrev pub number_in_front : List ℕ → Option ℕ
+number_in_front text = number_of (digits_in_front text)
+
+-- whether a text begins with these words
+abbrev pub begins : List ℕ → List ℕ → Bool
+begins words text = nat_le (length words) (length text) && bytes_eq (take (length words) text) words
+
+-- the number behind these words where the text begins with them, else what was found before
+abbrev pub found_in_front : List ℕ → Option ℕ → List ℕ → Option ℕ
+found_in_front words found text = if begins words text then number_in_front (drop (length words) text) else found
+
+-- the number behind the last place where these words stand
+abbrev pub found_behind : List ℕ → Option ℕ → List ℕ → Option ℕ
+found_behind words found [] = found
+found_behind words found (b ∷ text) = found_behind words (found_in_front words found (b ∷ text)) text
+
+abbrev pub number_behind : List ℕ → List ℕ → Option ℕ
+number_behind words text = found_behind words None text
+
+-- the rule that the event of this sender with this number and text is about
+abbrev pub rule_of : List ℕ → ℕ → List ℕ → Option ℕ
+rule_of sender id text =
+    if not (bytes_eq sender lc_name) then None
+    else if nat_le 3 id && nat_le id 6 then number_behind (codes "actionpoint ") text
+    else if nat_le 1000 id then number_behind (codes ": AP = ") text
+    else None

@@ -1,0 +1,14 @@
+pub mod About
+pub mod Account
+pub mod Asking
+pub mod Bands
+pub mod Brought
+pub mod Ends
+pub mod Fields
+pub mod Figures
+pub mod Packets
+pub mod Plans
+pub mod Run
+pub mod Samples
+pub mod Sent
+pub mod Standing

@@ -1,0 +1,143 @@
+-- What the account of a whole run is, by all packets and records of the run. This project's own.
+use Rattle.std.specs.Prelude.{◌≡◌, ℕ, ◌+◌, ◌-◌, List, [], ◌∷◌, ◌++◌, filter_map, length, map, replicate, take, drop, Option, Some, None, ⊤}
+use Rattle.lc_model.specs.declared.mode.LcMode.{LcMode}
+use Rattle.packet_listing.specs.Told as told
+use Rattle.packet_listing.specs.Told.{told_in}
+use Rattle.run_account.specs.declared.ends.Left.{Left}
+use Rattle.run_account.specs.declared.place.Place.{Place}
+use Rattle.run_account.specs.declared.place.Stand.{Stand}
+use Rattle.run_account.specs.declared.texts.Field.{Field}
+use Rattle.run_account.specs.About.{rule_of}
+use Rattle.run_account.specs.Account.{Account, Step, account_behind, account_with, before_with, come, sampled, stood_again, stood_so, written}
+use Rattle.run_account.specs.Bands.{nothing_in_force}
+use Rattle.run_account.specs.Ends.{Ends, kept}
+use Rattle.run_account.specs.Fields.{unseen}
+use Rattle.run_account.specs.Figures.{none, one_more}
+use Rattle.run_account.specs.Packets.{packets_of}
+use Rattle.run_account.specs.Plans.{Planned}
+use Rattle.run_account.specs.Samples.{Row, no_row}
+use Rattle.run_account.specs.Sent.{Said, events_kept, nothing_sent}
+use Rattle.run_account.specs.Standing.{absent, stand_at}
+
+-- nothing is told yet of runs of texts with these rules, in so many lanes, which compare these fields
+abbrev pub nothing_told : List (List Planned) → ℕ → List Field → Account
+nothing_told plans lanes fields = record {
+  plans = plans;
+  lanes = lanes;
+  seen = map unseen fields;
+  rows = replicate lanes no_row;
+  before = replicate lanes absent;
+  bands = nothing_in_force;
+  sending = nothing_sent;
+  figures = none;
+}
+
+-- nothing is told yet, of runs of some texts
+pub record TellsNothing (a : Account) : Type 0 where
+  pub fields : List Field
+  pub is : a ≡ nothing_told a.plans a.lanes fields
+
+-- ---- all packets of a run
+
+-- a packet of a run: its number, the place of the record that led to it, and its bytes
+pub record Packet : Type 0 where
+  pub number : ℕ
+  pub place : Place
+  pub bytes : List ℕ
+
+-- the packets of one record, behind so many
+abbrev pub numbered : ℕ → Place → List (List ℕ) → List Packet
+numbered before place [] = []
+numbered before place (bytes ∷ more) = record { number = one_more before; place = place; bytes = bytes } ∷ numbered (one_more before) place more
+
+-- how many there are then
+abbrev pub number_behind : ℕ → List (List ℕ) → ℕ
+number_behind before [] = before
+number_behind before (bytes ∷ more) = number_behind (one_more before) more
+
+-- the packets of these records, behind so many
+abbrev pub packets_from : ℕ → List Step → List Packet
+packets_from before [] = []
+packets_from before (step ∷ steps) =
+    numbered before step.place (packets_of step.written) ++ packets_from (number_behind before (packets_of step.written)) steps
+
+-- all packets of a run, counted from 1
+abbrev pub packets_sent : List Step → List Packet
+packets_sent steps = packets_from 0 steps
+
+-- ---- all events of a run
+
+-- the event that a packet is, if it is one
+abbrev pub event_by : ℕ → Place → Option told.Told → Option Said
+event_by number place (Some (told.Event moment sender id kind text)) =
+    Some (record { packet = number; place = place; rule = rule_of sender id text; sender = sender; id = id; kind = kind; text = text })
+event_by number place (Some (told.Request sequence)) = None
+event_by number place (Some (told.Housekeeping mode count rules)) = None
+event_by number place None = None
+
+abbrev pub event_in : Packet → Option Said
+event_in packet = event_by packet.number packet.place (told_in packet.bytes)
+
+abbrev pub events_of : List Step → List Said
+events_of steps = filter_map event_in (packets_sent steps)
+
+-- ---- what is kept of a list
+
+-- each of these is added, one after the other
+abbrev pub all_kept : {T : Type 0} → (T → ℕ) → List T → Ends T → Ends T
+all_kept record_of [] e = e
+all_kept record_of (item ∷ items) e = all_kept record_of items (kept record_of item e)
+
+-- the last so many
+abbrev pub last_of : {T : Type 0} → ℕ → List T → List T
+last_of count items = drop (length items - count) items
+
+-- what is left out: how many, and from which record to which
+abbrev pub left_by : {T : Type 0} → (T → ℕ) → List T → Option Left → Option Left
+left_by record_of [] left = left
+left_by record_of (item ∷ items) None = left_by record_of items (Some (record { count = 1; from = record_of item; to = record_of item }))
+left_by record_of (item ∷ items) (Some left) =
+    left_by record_of items (Some (record { count = one_more left.count; from = left.from; to = record_of item }))
+
+-- those between the first and the last
+abbrev pub between : {T : Type 0} → (front back : ℕ) → List T → List T
+between front back items = take (length items - front - back) (drop front items)
+
+-- the first and the last of a list, and what is left out between them
+abbrev pub ends_of : {T : Type 0} → (T → ℕ) → (front back : ℕ) → List T → Ends T
+ends_of record_of front back items = record {
+  front = front;
+  back = back;
+  first = take front items;
+  last = last_of back (drop front items);
+  left = left_by record_of (between front back items) None;
+}
+
+-- ---- rules that stand as before
+
+-- each of these rows, from the rule of this number on, ends with so many failures as the rule has by these stands
+abbrev pub AreCounted : List Stand → ℕ → List Row → Type 0
+AreCounted stands rule [] = ⊤
+AreCounted stands rule (row ∷ rows) = (row.fails ≡ (stand_at rule stands).fails) × AreCounted stands (rule + 1) rows
+
+-- behind the last record the rules stood so
+pub record StoodLast (stands : List Stand) (a : Account) : Type 0 where
+  pub rows : AreCounted stands 0 a.rows
+  pub before : before_with stands 0 a.before ≡ a.before
+
+-- ---- the laws
+
+-- behind a record the rules stood as they stood there, also once the next one came. Where they stand so behind that one, too, no sample
+-- of it counts, and only the mode is new
+pub record StandAgain : Type 0 where
+  pub behind : (step : Step) (a : Account) → StoodLast step.stands (account_with step a)
+  pub comes : (stands : List Stand) (bytes : List ℕ) (place : Place) (a : Account) → StoodLast stands a → StoodLast stands (come bytes place a)
+  pub again : (stands : List Stand) (bytes : List ℕ) (place : Place) (mode : Option LcMode) (a : Account) → StoodLast stands a →
+      stood_so place mode stands (written bytes place stands (sampled place stands a)) ≡ stood_again place mode (written bytes place stands a)
+
+-- the account of a run has the first 1,000 of all its events, and the last 1,000, and how many are left out between them, of the
+-- records from one to another
+abbrev pub TellsEvents : Type 0
+TellsEvents = (plans : List (List Planned)) (lanes : ℕ) (fields : List Field) (steps : List Step) →
+    (account_behind (nothing_told plans lanes fields) steps).sending.events
+    ≡ ends_of (λ (event : Said). event.place.«record») events_kept events_kept (events_of steps)

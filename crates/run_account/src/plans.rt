@@ -1,0 +1,158 @@
+//! The rules of texts, as far as requests and samples need them.
+
+ghost use Rattle.std.specs.Prelude.{◌≡◌, Some, option_map, slice_get};
+ghost use Rattle.run_account.specs.Plans.{may_by, parts_by, planned_at};
+
+use crate::texts::{Field, Text, compare, place_of};
+use lc_model::CmpOp;
+use std::alloc::{AllocError, Global};
+use std::marker::Model;
+
+/// A comparison of a rule, by the number of its field.
+#[derive(Clone, Copy)]
+pub struct Part {
+    pub field: usize,
+    pub op: CmpOp,
+    /// The number, and the byte of the text at which it stands.
+    pub number: i64,
+    pub at: usize,
+}
+
+/// A rule: the sequence that it requests, and its comparisons, from the left.
+#[derive(Drop)]
+pub(crate) struct RulePlan {
+    sequence: i64,
+    parts: Vec<Part>,
+}
+
+impl Model for RulePlan {
+    ghost use Rattle.run_account.specs.Plans.{Planned};
+
+    ghost Value = { Planned };
+
+    ghost view = { λ p. record { sequence = p.sequence; parts = p.parts.items } };
+}
+
+/// The rules of a text.
+#[derive(Drop)]
+pub(crate) struct Plan {
+    rules: Vec<RulePlan>,
+}
+
+impl Model for Plan {
+    ghost use Rattle.std.specs.Prelude.{List};
+    ghost use Rattle.run_account.specs.Plans.{Planned};
+
+    ghost Value = { List Planned };
+
+    ghost view = { λ p. p.rules.items };
+}
+
+impl RulePlan {
+    fn parts(&self) -> &[Part]
+        ensures { result.now ≡ self.now.parts }
+    {
+        self.parts.as_slice()
+    }
+
+    /// Whether the rule requests this sequence.
+    fn requests(&self, sequence: u16) -> bool
+        ensures { result ≡ may_by sequence (Some self.now) }
+    {
+        self.sequence == i64::from(sequence)
+    }
+}
+
+impl Plan {
+    /// The rule of this number.
+    fn rule(&self, number: usize) -> Option<&RulePlan>
+        ensures { option_map (λ rule. rule.now) result ≡ slice_get self.now number }
+    {
+        self.rules.get(number)
+    }
+}
+
+/// The rule of this number in the text of this number.
+fn planned_at(plans: &[Plan], text: Option<u16>, rule: usize) -> Option<&RulePlan>
+    ensures { option_map (λ rule. rule.now) result ≡ planned_at plans.now text rule }
+{
+    match text {
+        None => None,
+        Some(text) => match plans.get(usize::from(text)) {
+            None => None,
+            Some(plan) => plan.rule(rule),
+        },
+    }
+}
+
+/// The comparisons of the rule of this number in the text of this number.
+pub(crate) fn parts_at(plans: &[Plan], text: Option<u16>, rule: usize) -> &[Part]
+    ensures { result.now ≡ parts_by (planned_at plans.now text rule) }
+{
+    match planned_at(plans, text, rule) {
+        None => &[],
+        Some(rule) => rule.parts(),
+    }
+}
+
+/// Whether the rule of this number in the text of this number may have requested a sequence: one that isn't known may.
+pub(crate) fn may_request(plans: &[Plan], text: Option<u16>, rule: usize, sequence: u16) -> bool
+    ensures { result ≡ may_by sequence (planned_at plans.now text rule) }
+{
+    match planned_at(plans, text, rule) {
+        None => true,
+        Some(rule) => rule.requests(sequence),
+    }
+}
+
+/// The comparisons of a rule.
+fn parts_of(
+    alloc: Global,
+    text: &Text<'_>,
+    number: usize,
+    fields: &[Field<'_>],
+) -> Result<Vec<Part>, AllocError> {
+    let mut parts = Vec::new(alloc);
+    let mut comparisons = Vec::new(alloc);
+    if let Some(rule) = text.rule(number) {
+        compare(&rule.condition, &mut comparisons)?;
+    }
+    for comparison in &comparisons {
+        if let Some(field) = text.field(comparison.field.text) {
+            parts.push(Part {
+                field: place_of(fields, &field).unwrap_or(0),
+                op: comparison.op,
+                number: comparison.value.value,
+                at: comparison.value.at,
+            })?;
+        }
+    }
+    Ok(parts)
+}
+
+/// The rules of a text, which compares these fields. Out of memory is the only error.
+fn plan_of(alloc: Global, text: &Text<'_>, fields: &[Field<'_>]) -> Result<Plan, AllocError> {
+    let mut rules = Vec::new(alloc);
+    for number in 0..text.rule_count() {
+        let sequence = match text.rule(number) {
+            Some(rule) => rule.sequence.value,
+            None => 0,
+        };
+        let parts = parts_of(alloc, text, number, fields)?;
+        rules.push(RulePlan { sequence, parts })?;
+    }
+    Ok(Plan { rules })
+}
+
+/// The rules of texts, which compare these fields. Out of memory is the only error.
+pub(crate) fn plans_of(
+    alloc: Global,
+    texts: &[Text<'_>],
+    fields: &[Field<'_>],
+) -> Result<Vec<Plan>, AllocError> {
+    let mut plans = Vec::new(alloc);
+    for text in texts {
+        plans.push(plan_of(alloc, text, fields)?)?;
+    }
+    Ok(plans)
+}
