@@ -1,6 +1,7 @@
 //! Pages that tests make of scripts, and what they read of them as bytes.
 
 use crate::claims::same;
+use run_course::Ending;
 use run_report::{Progress, ReportError, Run, Silent, Source, write_page};
 use std::alloc::{AllocError, Global};
 use std::io::Write;
@@ -57,7 +58,7 @@ pub fn page_of<'n, 't, R: Abort + AllocGlobal, W: Write, P: Progress>(
     stream: &'t [u8],
     out: &mut W,
     progress: &mut P,
-) -> Result<(), ReportError> {
+) -> Result<Ending, ReportError> {
     let plan: &[u8] = b"slots 1";
     let schedule = parse_schedule(rt.alloc(), plan).expect(rt, "a schedule");
     let run = Run {
@@ -72,7 +73,7 @@ pub fn page_of<'n, 't, R: Abort + AllocGlobal, W: Write, P: Progress>(
         texts: sources,
         epoch: None,
     };
-    write_page(rt.alloc(), &schedule, &run, out, progress).map(|_| ())
+    write_page(rt.alloc(), &schedule, &run, out, progress)
 }
 
 /// The answer over a stream, and what is written.
@@ -80,7 +81,7 @@ pub fn answer_over<R: Abort + AllocGlobal>(
     rt: &R,
     sources: &[Source<'_, '_>],
     stream: &[u8],
-) -> (Result<(), ReportError>, Vec<u8>) {
+) -> (Result<Ending, ReportError>, Vec<u8>) {
     let mut page = Vec::new(rt.alloc());
     let answer = page_of(rt, sources, stream, &mut page, &mut Silent);
     (answer, page)
