@@ -120,9 +120,9 @@ def full():
     """100,000 records with every list of the data at its bound."""
     fields, rules = {}, []
     for place in range(176):
-        fields[f"FIELD_WITH_A_LONG_NAME_NUMBER_{place:02}"[:32]] = field(f"P{place % 4}", 0x900 + place % 4, "i32be", 12 + 4 * (place // 4), 0)
+        fields[f"FIELD_WITH_A_VERY_LONG_NAME_{place:04}"] = field(f"P{place % 4}", 0x900 + place % 4, "i32be", 12 + 4 * (place // 4), 0)
     for place, name in enumerate(fields):
-        rules.append(Rule(f"RULE_{name}"[:32], f"{name} < -1000000000", 1, 60_000, 60_000, says="t" * 31, report=(0, 65_535, 65_535)))
+        rules.append(Rule(f"RULE_WITH_A_VERY_LONG_NAME_N{place:04}", f"{name} < -1000000000", 1, 60_000, 60_000, says="t" * 31, report=(0, 65_535, 65_535)))
     run = Course(fields, [rules], 2_000_000_000.5)
     run.started(0)
     packets = [[name for name in fields if fields[name]["packet"] == f"P{packet}"] for packet in range(4)]
