@@ -6,6 +6,10 @@ use Rattle.std.specs.Io.KnownBytes.{Keeps, append_known}
 use Rattle.lc_model.specs.Device.{Sink}
 use Rattle.lc_model.specs.declared.device.DeviceFault.{DeviceFault}
 
+-- the most bytes that are held
+abbrev pub most_gathered : ℕ
+most_gathered = 65536
+
 -- as a sink: what the device has, and behind it what is held
 abbrev pub with_held : Sink → List ℕ → Sink
 with_held device held = record { gained = append_known device.gained held; failed = device.failed }

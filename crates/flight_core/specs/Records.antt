@@ -11,7 +11,7 @@ pub record Held : Type 0 where
   pub is_bad : Bool
   pub texts : ℕ
 
--- the most bytes of a piece of the stream, and of output that is held until the next one is read
+-- the most bytes of a piece of the stream
 abbrev pub piece_size : ℕ
 piece_size = 8192
 

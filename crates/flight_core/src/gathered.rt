@@ -1,16 +1,15 @@
 //! Output is gathered, and comes to its device in few writes.
 
 ghost use Rattle.std.specs.Prelude.{◌≡◌, ◌≤◌, ℕ, List, [], length, Option, vec_capacity};
-ghost use Rattle.flight_core.specs.Gathered.{Gives, HasGrown, with_held};
-ghost use Rattle.flight_core.specs.Records.{piece_size};
+ghost use Rattle.flight_core.specs.Gathered.{Gives, HasGrown, most_gathered, with_held};
 
 use crate::outlet::Outlet;
 use crate::window::drop_front;
 use lc_model::{ByteSink, DeviceFault, write_all};
 use std::marker::{Brand, PhantomData};
 
-/// The most bytes that are held.
-pub(crate) const MOST_GATHERED: usize = 8192;
+/// The most bytes that are held: what a piece of the stream leads to where each of its records leads to an event.
+pub(crate) const MOST_GATHERED: usize = 65_536;
 
 /// What a device had when a run began, where that is known. No code reads it.
 pub(crate) trait Outset {
@@ -23,15 +22,15 @@ impl Outset for Brand {
     ghost had = { None };
 }
 
-/// A device, and the output that is held for it: what is written fills a piece of 8,192 bytes before the device is asked.
+/// A device, and the output that is held for it: what is written fills 65,536 bytes before the device is asked.
 /// Nothing is lost, and nothing is given twice.
 #[derive(Drop)]
 pub(crate) struct Gathered<W: ByteSink, S: Outset> {
     device: W,
     held: Vec<u8>,
     outset: PhantomData<S>,
-    ghost few: { length held.items ≤ piece_size },
-    ghost room: { piece_size ≤ vec_capacity held },
+    ghost few: { length held.items ≤ most_gathered },
+    ghost room: { most_gathered ≤ vec_capacity held },
     ghost grown: { HasGrown S.had (W.sink device).gained },
 }
 

@@ -50,7 +50,7 @@ fn gather<R: ByteSource, W: ByteSink, S: Outset, B: App>(
     (answer, out.into_device())
 }
 
-/// Runs as `run` does, with few writes to the device, which comes back: output is held until it fills 8,192 bytes. Before each
+/// Runs as `run` does, with few writes to the device, which comes back: output is held until it fills 65,536 bytes. Before each
 /// read of the stream, and before the answer, all output is with the device; where it fails, nothing is read any more, and
 /// `Write` has the bytes of the run that the device took. Each byte is given once.
 ///

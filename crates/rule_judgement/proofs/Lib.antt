@@ -14,6 +14,7 @@ pub mod ClassLaws
 pub mod StepLaws
 pub mod PairLaws
 pub mod SpareLaws
+pub mod OrderLaws
 pub mod SeenLaws
 pub mod LaidLaws
 pub mod BitLaws

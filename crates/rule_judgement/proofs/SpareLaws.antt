@@ -1,5 +1,5 @@
 -- Each comparison is told, or may be needed.
-use Rattle.std.proofs.Common.{◌≡◌, ℕ, zero, suc, ◌+◌, ◌≤◌, ◌<◌, Bool, true, false, List, [], ◌∷◌, ◌++◌, length, slice_get, get_or, refl, ap, sym, ◌∙◌, subst, arith, Some, inl, inr, ◌⊎◌, if◌then◌else◌}
+use Rattle.std.proofs.Common.{◌≡◌, ◌≢◌, ℕ, zero, suc, ◌+◌, ◌≤◌, ◌<◌, Bool, true, false, List, [], ◌∷◌, ◌++◌, length, slice_get, get_or, refl, ap, sym, ◌∙◌, subst, arith, Some, inl, inr, ◌⊎◌, if◌then◌else◌}
 use Rattle.std.specs.Prelude.{Contains, IsFalse, IfOk, Result, Ok, Err}
 use Rattle.std.specs.declared.alloc.AllocError.{AllocError}
 use Rattle.std.specs.List.{AllByRecursion}
@@ -10,6 +10,7 @@ use Rattle.lc_model.specs.Tables.Equation.{mentions, distinct, same_term}
 use Rattle.lc_model.specs.Rule.{NamedRule, rule_of, rules_of}
 use Rattle.lc_model.specs.declared.rule.Rule.{Rule}
 use Rattle.lc_model.proofs.LimitChecker.ResultLaws.{one_term}
+use Rattle.lc_model.proofs.Tables.WordsSpell.{equal_is_same}
 use Rattle.rule_judgement.specs.declared.finding.SpareComparison.{SpareComparison}
 use Rattle.rule_judgement.specs.Judgement.{HoldsForSome}
 use Rattle.rule_judgement.specs.Steps.{NamesAll, AreFewFor, AreFewByNames}
@@ -95,7 +96,7 @@ own_of rules i own t below is of =
 
 -- ---- all of a rule
 
-there : {A : Type 0} (xs : List A) (k : ℕ) (d : A) → k < length xs → slice_get xs k ≡ Some (get_or xs k d)
+pub there : {A : Type 0} (xs : List A) (k : ℕ) (d : A) → k < length xs → slice_get xs k ≡ Some (get_or xs k d)
 there [] k d below = absurd (omega arith)
 there (x ∷ xs) zero d below = refl
 there (x ∷ xs) (suc k) d below = there xs k d (omega arith)
@@ -104,6 +105,15 @@ pub same_there : (terms : List Term) (i at : ℕ) (d e : Term) → i < length te
     slice_get terms i ≡ slice_get terms at
 same_there terms i at d e i_below at_below same =
     there terms i d i_below ∙ ap Some (one_term (get_or terms i d) (get_or terms at e) same) ∙ sym (there terms at e at_below)
+
+pub apart_there : (terms : List Term) (i at : ℕ) (d e : Term) → i < length terms → at < length terms → same_term (get_or terms i d) (get_or terms at e) ≡ false →
+    slice_get terms i ≢ slice_get terms at
+apart_there terms i at d e i_below at_below apart same =
+    let both_are = sym (there terms i d i_below) ∙ same ∙ there terms at e at_below in
+    contradict (equal_is_same (get_or terms at e)) (subst (λ t. same_term t (get_or terms at e) ≡ false) (cc both_are) apart)
+  where
+    contradict : {b : Bool} → b ≡ true → b ≡ false → ⊥
+    contradict is_so is_not = let both_are = sym is_so ∙ is_not in cc
 
 got_is_inside : (terms : List Term) (k : ℕ) (t : Term) → slice_get terms k ≡ Some t → Contains terms t
 got_is_inside [] k t e = cc

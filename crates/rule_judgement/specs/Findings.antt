@@ -25,6 +25,7 @@ use Rattle.rule_judgement.specs.declared.finding.Relation.{Relation}
 use Rattle.rule_judgement.specs.declared.finding.Relation.TheVariants as relation
 use Rattle.rule_judgement.specs.declared.finding.PairJudgement.{PairJudgement}
 use Rattle.rule_judgement.specs.Judgement.{NeverFails, HoldsForSome, FailsWherever}
+use Rattle.rule_judgement.specs.Order.{AreOrdered}
 use Rattle.rule_judgement.specs.Steps.{AreFewFor, AreFewByNames}
 use Rattle.rule_judgement.specs.declared.fields.Field.{Field}
 use Rattle.rule_judgement.specs.Fields.{AreFieldsOf, field_number, read_one_field}
@@ -177,3 +178,18 @@ IsSettledAt rules pairs i j = (first second : NamedRule) → slice_get rules i �
 -- of all pairs of rules that are near
 abbrev pub AreSettled : List NamedRule → List PairJudgement → Type 0
 AreSettled rules pairs = (i j : ℕ) → i < j → IsSettledAt rules pairs i j
+
+-- ---- each pair once
+
+-- a pair of the rules of lesser numbers, by the second one, and where that is the same by the first one
+abbrev pub IsBefore : (first second : ℕ) → PairJudgement → Type 0
+IsBefore first second p = (p.second < second) ⊎ ((p.second ≡ second) × (p.first < first))
+
+-- each pair is told once, in that order
+abbrev pub AreInOrder : List PairJudgement → Type 0
+AreInOrder pairs = AreOrdered (λ (p q : PairJudgement). IsBefore q.first q.second p) pairs
+
+-- so, and all come before that of the rules of these numbers
+pub record AreBefore (pairs : List PairJudgement) (first second : ℕ) : Type 0 where
+  pub in_order : AreInOrder pairs
+  pub before : AllByRecursion (IsBefore first second) pairs

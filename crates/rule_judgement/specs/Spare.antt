@@ -1,5 +1,5 @@
 -- Comparisons that a rule can do without. This project's own.
-use Rattle.std.specs.Prelude.{◌≡◌, ℕ, ◌^◌, ◌<◌, Bool, true, false, List, slice_get, Contains, Some, if◌then◌else◌, ◌⊎◌}
+use Rattle.std.specs.Prelude.{◌≡◌, ◌≢◌, ℕ, ◌^◌, ◌<◌, Bool, true, false, List, [], ◌∷◌, ◌++◌, slice_get, Contains, Some, if◌then◌else◌, ◌⊎◌}
 use Rattle.std.specs.List.{AllByRecursion}
 use Rattle.lc_model.specs.declared.field.Term.{Term}
 use Rattle.lc_model.specs.Condition.{And, Or, Xor, Condition, Watch, Not, Join}
@@ -7,6 +7,7 @@ use Rattle.lc_model.specs.Rule.{NamedRule}
 use Rattle.lc_model.specs.Tables.Equation.{same_term, mentions}
 use Rattle.rule_judgement.specs.declared.finding.SpareComparison.{SpareComparison}
 use Rattle.rule_judgement.specs.Judgement.{NeverFails, HoldsForSome}
+use Rattle.rule_judgement.specs.Order.{AreOrdered}
 use Rattle.rule_judgement.specs.Steps.{AreFewFor}
 
 -- true, or false, wherever the comparison is known
@@ -65,3 +66,31 @@ AreToldUpTo rules spare i terms count = (k : ℕ) (t : Term) → k < count → s
 abbrev pub AreToldOrNeeded : List NamedRule → List SpareComparison → Type 0
 AreToldOrNeeded rules spare = (i : ℕ) (rule : NamedRule) → slice_get rules i ≡ Some rule →
     AllByRecursion (λ t. IsTold spare i t ⊎ MayBeNeeded rule.action.condition t) (mentions rule.action.condition)
+
+-- ---- each comparison once
+
+-- of a rule before, or of the same rule another comparison
+abbrev pub IsAnother : (s t : SpareComparison) → Type 0
+IsAnother s t = (s.rule < t.rule) ⊎ ((s.rule ≡ t.rule) × (s.term ≢ t.term))
+
+-- each comparison of a rule is told once, rule by rule
+abbrev pub AreOnce : List SpareComparison → Type 0
+AreOnce spare = AreOrdered IsAnother spare
+
+-- so, and all are of rules before the one of this number
+pub record AreOfRulesBefore (spare : List SpareComparison) (rule : ℕ) : Type 0 where
+  pub once : AreOnce spare
+  pub before : AllByRecursion (λ (s : SpareComparison). s.rule < rule) spare
+
+-- one of the first of these
+abbrev pub IsAmongFirst : List Term → ℕ → Term → Type 0
+IsAmongFirst terms count t = (k : ℕ) × (k < count) × (slice_get terms k ≡ Some t)
+
+-- so, and all are of rules before, or of this one and among its first comparisons
+pub record AreOfTermsBefore (spare : List SpareComparison) (rule : ℕ) (terms : List Term) (count : ℕ) : Type 0 where
+  pub once : AreOnce spare
+  pub before : AllByRecursion (λ (s : SpareComparison). (s.rule < rule) ⊎ ((s.rule ≡ rule) × IsAmongFirst terms count s.term)) spare
+
+-- nothing is told, or this comparison of the rule of this number
+abbrev pub IsToldAtMost : (old new : List SpareComparison) → ℕ → Term → Type 0
+IsToldAtMost old new rule t = (new ≡ old) ⊎ ((s : SpareComparison) × (s.rule ≡ rule) × (s.term ≡ t) × (new ≡ old ++ s ∷ []))

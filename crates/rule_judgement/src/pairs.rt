@@ -1,12 +1,12 @@
 //! Rules judged two by two.
 
-ghost use Rattle.std.specs.Prelude.{◌≡◌, ◌<◌, ℕ, Contains, IfOk, IfSome, IsFalse, IsTrue, None, OnOk, Some, false, length, true};
+ghost use Rattle.std.specs.Prelude.{◌≡◌, ◌+◌, ◌<◌, ℕ, Contains, IfOk, IfSome, IsFalse, IsTrue, None, OnOk, Some, false, length, true};
 ghost use Rattle.std.specs.List.{AllByRecursion};
 ghost use Rattle.lc_model.specs.Condition.{And, Join, Not, condition_of};
 ghost use Rattle.lc_model.specs.Rule.{rule_of, rules_of};
 ghost use Rattle.rule_judgement.specs.declared.finding.PairJudgement.{PairJudgement as Pair};
 ghost use Rattle.rule_judgement.specs.Fields.{read_one_field};
-ghost use Rattle.rule_judgement.specs.Findings.{AreSettled, IsPair, IsRelated, IsRelationSettled, IsSettledAt, MayDiffer, are_near, least_pair_steps};
+ghost use Rattle.rule_judgement.specs.Findings.{AreBefore, AreInOrder, AreSettled, IsPair, IsRelated, IsRelationSettled, IsSettledAt, MayDiffer, are_near, least_pair_steps};
 ghost use Rattle.rule_judgement.specs.Judgement.{FailsWherever, HoldsForSome, NeverFails};
 ghost use Rattle.rule_judgement.specs.Steps.{AreFewByNames};
 
@@ -137,6 +137,8 @@ fn judge_pair(
     ensures kept { OnOk result ((p : Pair) → Contains pairs.old.items p →
         Contains pairs.new.items p) }
     ensures settled { OnOk result (IsSettledAt (rules_of rules.now) pairs.new.items first second) }
+    ensures order { OnOk result (AreBefore pairs.old.items first second →
+        AreBefore pairs.new.items (first + 1) second) }
 {
     if !are_near(alloc, &rules[first], &rules[second])? {
         return Ok(());
@@ -166,6 +168,8 @@ fn judge_with_earlier(
         Contains pairs.new.items p) }
     ensures settled { OnOk result ((first : ℕ) → first < second →
         IsSettledAt (rules_of rules.now) pairs.new.items first second) }
+    ensures order { OnOk result (AreBefore pairs.old.items 0 second →
+        AreBefore pairs.new.items 0 (second + 1)) }
 {
     for first in 0..second {
         judge_pair(alloc, rules, first, second, steps, pairs)?;
@@ -174,10 +178,12 @@ fn judge_with_earlier(
 }
 
 /// The pairs of rules with one sequence or a common field of which it is found that one fails wherever the other does. Each
-/// pair is found that has at most eight different comparisons; of others as many as in `TEXT_STEPS` steps for all.
+/// pair is found that has at most eight different comparisons; of others as many as in `TEXT_STEPS` steps for all. Each is told
+/// once, in the order of the second rule, and of those with one second rule in that of the first.
 pub fn judge_pairs(alloc: Global, rules: &Rules) -> Result<Vec<PairJudgement>, AllocError>
     ensures sound { IfOk result (λ pairs. AllByRecursion (IsPair rules.now) pairs.items) }
     ensures settled { IfOk result (λ pairs. AreSettled rules.now pairs.items) }
+    ensures once { IfOk result (λ pairs. AreInOrder pairs.items) }
 {
     let rules = rules.as_slice();
     let mut steps = TEXT_STEPS;

@@ -1,6 +1,6 @@
 //! Comparisons that a rule can do without.
 
-ghost use Rattle.std.specs.Prelude.{◌≡◌, ◌⊎◌, ◌+◌, ◌<◌, ℕ, Contains, IfOk, IfSome, IsFalse, IsTrue, None, OnOk, Some, length, slice_get};
+ghost use Rattle.std.specs.Prelude.{◌≡◌, ◌≢◌, ◌⊎◌, ◌+◌, ◌<◌, ℕ, Contains, IfOk, IfSome, IsFalse, IsTrue, None, OnOk, Some, length, slice_get};
 ghost use Rattle.std.specs.List.{AllByRecursion};
 ghost use Rattle.lc_model.specs.declared.field.Term.{Term as Comparison};
 ghost use Rattle.lc_model.specs.Codes.{operator_code};
@@ -8,7 +8,7 @@ ghost use Rattle.lc_model.specs.Condition.{Join, Xor, condition_of};
 ghost use Rattle.lc_model.specs.Rule.{rules_of};
 ghost use Rattle.lc_model.specs.Tables.Equation.{mentions, same_term};
 ghost use Rattle.rule_judgement.specs.declared.finding.SpareComparison.{SpareComparison as Spare};
-ghost use Rattle.rule_judgement.specs.Spare.{AreToldOrNeeded, AreToldUpTo, CanDoWithout, IsOf, IsSpare, IsToldOrNeeded, MayBeNeeded, MayMatter, constant, least_spare_steps, replaced};
+ghost use Rattle.rule_judgement.specs.Spare.{AreOfRulesBefore, AreOfTermsBefore, AreOnce, AreToldOrNeeded, AreToldUpTo, CanDoWithout, IsOf, IsSpare, IsToldAtMost, IsToldOrNeeded, MayBeNeeded, MayMatter, constant, least_spare_steps, replaced};
 ghost use Rattle.rule_judgement.specs.Judgement.{HoldsForSome, NeverFails};
 ghost use Rattle.rule_judgement.specs.Steps.{AreFewByNames};
 
@@ -175,6 +175,7 @@ fn judge_term(
     ensures kept { OnOk result ((s : Spare) → Contains spare.old.items s →
         Contains spare.new.items s) }
     ensures told { OnOk result (IsToldOrNeeded (rules_of rules.now) spare.new.items rule term.now) }
+    ensures once { OnOk result (IsToldAtMost spare.old.items spare.new.items rule term.now) }
 {
     match taken_as(alloc, &rules[rule].cond, term, steps)? {
         Some(taken_as) => Ok(spare.push(SpareComparison {
@@ -189,8 +190,10 @@ fn judge_term(
 /// Whether an earlier one of the terms is the same.
 fn is_again(terms: &[Term], at: usize) -> bool
     requires { at < length terms.now }
-    ensures { IsTrue result →
+    ensures again { IsTrue result →
         (i : ℕ) × (i < at) × (slice_get terms.now i ≡ slice_get terms.now at) }
+    ensures first { IsFalse result →
+        (i : ℕ) → i < at → slice_get terms.now i ≢ slice_get terms.now at }
 {
     for i in 0..at {
         if are_one(&terms[i], &terms[at]) {
@@ -220,6 +223,8 @@ fn judge_at(
         Contains spare.new.items s) }
     ensures told { OnOk result (AreToldUpTo (rules_of rules.now) spare.old.items rule terms.now at →
         AreToldUpTo (rules_of rules.now) spare.new.items rule terms.now (at + 1)) }
+    ensures once { OnOk result (AreOfTermsBefore spare.old.items rule terms.now at →
+        AreOfTermsBefore spare.new.items rule terms.now (at + 1)) }
 {
     if is_again(terms, at) {
         return Ok(());
@@ -243,6 +248,8 @@ fn judge_terms(
         Contains spare.new.items s) }
     ensures told { OnOk result ((t : Comparison) → IsOf (rules_of rules.now) rule t →
         IsToldOrNeeded (rules_of rules.now) spare.new.items rule t) }
+    ensures once { OnOk result (AreOfRulesBefore spare.old.items rule →
+        AreOfRulesBefore spare.new.items (rule + 1)) }
 {
     let terms = mentioned(alloc, &rules[rule].cond)?;
     for at in 0..terms.len() {
@@ -252,10 +259,12 @@ fn judge_terms(
 }
 
 /// The comparisons of a text's rules without which these say the same, each taken as true or as false. Each is found of rules
-/// that have at most eight different comparisons; of others as many as in `TEXT_STEPS` steps for all.
+/// that have at most eight different comparisons; of others as many as in `TEXT_STEPS` steps for all. Each is told once, rule by
+/// rule.
 pub fn spare_comparisons(alloc: Global, rules: &Rules) -> Result<Vec<SpareComparison>, AllocError>
     ensures sound { IfOk result (λ spare. AllByRecursion (IsSpare rules.now) spare.items) }
     ensures told { IfOk result (λ spare. AreToldOrNeeded rules.now spare.items) }
+    ensures once { IfOk result (λ spare. AreOnce spare.items) }
 {
     let rules = rules.as_slice();
     let mut steps = TEXT_STEPS;

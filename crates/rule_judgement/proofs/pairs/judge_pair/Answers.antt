@@ -6,6 +6,7 @@ use Rattle.lc_model.specs.Condition.{condition_of}
 use Rattle.lc_model.specs.Rule.{rule_of, rules_of}
 use Rattle.rule_judgement.specs.Findings.{IsPair, IsRelated}
 use Rattle.rule_judgement.proofs.Each.{both, there_mapped}
+use Rattle.rule_judgement.proofs.OrderLaws.{none_comes, one_comes}
 use Rattle.rule_judgement.proofs.pairs.judge_pair.Goals as goal
 
 pub returns-in_ok-push-in-Some-clause-sound : goal.returns-in_ok-push-in-Some-clause-sound
@@ -36,3 +37,13 @@ returns-in-None-clause-settled c =
     none_is_settled c.args.rules.now c.args.first c.args.second c.index-rules-first-2.result c.index-rules-second-2.result c.args.pairs.now.items
     (omega (arith, c.requires.order, c.requires.inside)) c.requires.inside c.index-rules-first-2.is c.index-rules-second-2.is
     (rw c.in-None.is at c.in_ok-relation.ensures).settled
+
+pub returns-then-not-branch-clause-order : goal.returns-then-not-branch-clause-order
+returns-then-not-branch-clause-order c = λ are. none_comes c.args.pairs.now.items c.args.first c.args.second are
+
+pub returns-in_ok-push-in-Some-clause-order : goal.returns-in_ok-push-in-Some-clause-order
+returns-in_ok-push-in-Some-clause-order c = λ are.
+    one_comes c.args.pairs.now.items c.push.new.self.items _ c.args.first c.args.second refl refl c.in_ok-push-in-Some.ensures.items are
+
+pub returns-in-None-clause-order : goal.returns-in-None-clause-order
+returns-in-None-clause-order c = λ are. none_comes c.args.pairs.now.items c.args.first c.args.second are

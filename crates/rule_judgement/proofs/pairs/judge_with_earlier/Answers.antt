@@ -3,6 +3,7 @@ use Rattle.lc_model.specs.Rule.{rules_of}
 use Rattle.rule_judgement.specs.Findings.{IsSettledAt}
 use Rattle.rule_judgement.proofs.WalkLaws.{decided}
 use Rattle.rule_judgement.proofs.PairLaws.{settled_still}
+use Rattle.rule_judgement.proofs.OrderLaws.{second_is_done}
 use Rattle.rule_judgement.proofs.pairs.judge_with_earlier.Goals as goal
 
 pub loop-first-preserved : goal.loop-first-preserved
@@ -13,7 +14,11 @@ loop-first-preserved c = record {
       (λ same. subst (λ i. IsSettledAt (rules_of c.args.rules.now) c.judge_pair.new.pairs.items i c.args.second) (sym same) c.in_ok-judge_pair.ensures.settled)
       (λ other. settled_still (rules_of c.args.rules.now) c.loop-first.pairs.items c.judge_pair.new.pairs.items k c.args.second c.in_ok-judge_pair.ensures.kept
       (c.loop-first.invariant.settled k (omega (arith, below, other))));
+  order = λ are. c.in_ok-judge_pair.ensures.order (c.loop-first.invariant.order are);
 }
 
 pub returns-clause-settled : goal.returns-clause-settled
 returns-clause-settled c = λ first below. c.loop-first.invariant.settled first (omega (arith, below, c.loop-first-test.false))
+
+pub returns-clause-order : goal.returns-clause-order
+returns-clause-order c = λ are. second_is_done c.loop-first.pairs.items c.loop-first.first c.args.second (c.loop-first.invariant.order are)

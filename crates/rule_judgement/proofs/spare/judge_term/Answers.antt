@@ -1,4 +1,4 @@
-use Rattle.std.proofs.Common.{subst, sym, refl}
+use Rattle.std.proofs.Common.{subst, sym, refl, inl, inr}
 use Rattle.rule_judgement.proofs.SpareLaws.{own_of, pushed_is_told, needed_at}
 use Rattle.std.specs.List.{AllByRecursion}
 use Rattle.lc_model.specs.Condition.{condition_of}
@@ -34,3 +34,9 @@ pub returns-in-None-clause-told : goal.returns-in-None-clause-told
 returns-in-None-clause-told c =
     needed_at c.args.rules.now c.args.rule c.index-rules-rule.result c.args.term.now c.args.spare.now.items c.requires.inside c.index-rules-rule.is
     (c.in_ok-taken_as.ensures.needed c.in-None.is)
+
+pub returns-in_ok-push-in-Some-clause-once : goal.returns-in_ok-push-in-Some-clause-once
+returns-in_ok-push-in-Some-clause-once c = inr (_, refl, refl, c.in_ok-push-in-Some.ensures.items)
+
+pub returns-in-None-clause-once : goal.returns-in-None-clause-once
+returns-in-None-clause-once c = inl refl

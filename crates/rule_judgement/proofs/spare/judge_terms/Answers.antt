@@ -1,7 +1,8 @@
 use Rattle.std.proofs.Common.{arith, subst, sym, ◌+◌}
 use Rattle.lc_model.specs.Rule.{rules_of}
-use Rattle.rule_judgement.specs.Spare.{AreToldUpTo}
+use Rattle.rule_judgement.specs.Spare.{AreOfTermsBefore, AreToldUpTo}
 use Rattle.rule_judgement.proofs.SpareLaws.{own_at, all_told}
+use Rattle.rule_judgement.proofs.OrderLaws.{rule_begins, rule_is_done}
 use Rattle.rule_judgement.proofs.spare.judge_terms.Goals as goal
 
 pub judge_at-requires-clause-own : goal.judge_at-requires-clause-own
@@ -21,4 +22,18 @@ loop-at-preserved c = record {
   told = subst (λ terms. AreToldUpTo (rules_of c.args.rules.now) c.judge_at.new.spare.items c.args.rule terms (c.loop-at.at + 1)) c.deref.ensures.value
       (c.in_ok-judge_at.ensures.told (subst (λ terms. AreToldUpTo (rules_of c.args.rules.now) c.loop-at.spare.items c.args.rule terms c.loop-at.at)
       (sym c.deref.ensures.value) c.loop-at.invariant.told));
+  once = λ are. subst (λ terms. AreOfTermsBefore c.judge_at.new.spare.items c.args.rule terms (c.loop-at.at + 1)) c.deref.ensures.value
+      (c.in_ok-judge_at.ensures.once (subst (λ terms. AreOfTermsBefore c.loop-at.spare.items c.args.rule terms c.loop-at.at)
+      (sym c.deref.ensures.value) (c.loop-at.invariant.once are)));
+}
+
+pub returns-clause-once : goal.returns-clause-once
+returns-clause-once c = λ are. rule_is_done c.loop-at.spare.items c.args.rule c.in_ok-terms.terms.items c.loop-at.at (c.loop-at.invariant.once are)
+
+pub loop-at-init : goal.loop-at-init
+loop-at-init c = record {
+  sound = λ before. before;
+  kept = λ s has. has;
+  told = λ k t below. absurd (omega (arith, below));
+  once = λ are. rule_begins c.args.spare.now.items c.args.rule c.in_ok-terms.terms.items are;
 }

@@ -14,9 +14,13 @@ loop-rule-preserved c = record {
       (sym same) c.in_ok-judge_terms.ensures.told)
       (λ other t of. told_still (rules_of c.as_slice-rules.result.now) c.loop-rule.spare.items c.judge_terms.new.spare.items i t
       c.in_ok-judge_terms.ensures.kept (c.loop-rule.invariant.told i (omega (arith, below, other)) t of));
+  once = c.in_ok-judge_terms.ensures.once c.loop-rule.invariant.once;
 }
 
 pub returns-clause-told : goal.returns-clause-told
 returns-clause-told c =
     subst (λ rules. AreToldOrNeeded rules c.loop-rule.spare.items) c.as_slice-rules.ensures
     (all_are_told c.as_slice-rules.result.now c.loop-rule.spare.items c.loop-rule.rule c.loop-rule-test.false c.loop-rule.invariant.told)
+
+pub returns-clause-once : goal.returns-clause-once
+returns-clause-once c = c.loop-rule.invariant.once.once
