@@ -1,6 +1,7 @@
 //! The faults of an actionpoint's words: one pass finds them all, and then the least code is chosen.
 
-ghost use Rattle.std.specs.Prelude.{◌≡◌, ◌+◌, ◌<◌, ◌^◌, option_map};
+ghost use Rattle.std.specs.Prelude.{◌≡◌, ◌+◌, ◌<◌, ◌^◌, ◌==◌, ℕ, true, not, drop, fold, option_map};
+ghost use Rattle.std.specs.List.{list_all};
 ghost use Rattle.lc_model.specs.Tables.Image.{first_code, all_words};
 ghost use Rattle.table_validator.specs.Fault.{code_number};
 ghost use Rattle.table_validator.specs.Scan.{unread, word_read, scan_tests, word_tests};
@@ -56,6 +57,15 @@ impl WordScan {
         }
     }
 
+    /// Reads the words from this one on, all of them behind EQUAL.
+    fn read_behind(&mut self, entry: &ActionpointEntry<'_>, first: usize)
+        requires ended { self.old.ended ≡ true }
+        ensures { (watchpoints : ℕ) → self.new ≡ fold (word_read watchpoints) self.old
+            (drop first (all_words entry.now)) }
+    {
+        self.word_behind |= has_word_from(entry, first);
+    }
+
     /// The least code of what was met.
     fn fault(&self) -> Option<FaultCode>
         ensures { option_map code_number result ≡ first_code (scan_tests self.now) }
@@ -93,6 +103,21 @@ pub fn words_fault(entry: &ActionpointEntry<'_>, watchpoints: u16) -> Option<Fau
     let mut scan = WordScan::new();
     for number in 0..entry.word_count() {
         scan.read(entry.word(number), watchpoints);
+        if scan.ended {
+            scan.read_behind(entry, number + 1);
+            return scan.fault();
+        }
     }
     scan.fault()
+}
+
+/// Whether a word from this one on isn't 0. All are read, so that several are compared at once.
+fn has_word_from(entry: &ActionpointEntry<'_>, first: usize) -> bool
+    ensures { result ≡ not (list_all (◌==◌ 0) (drop first (all_words entry.now))) }
+{
+    let mut found = false;
+    for number in first..entry.word_count() {
+        found |= entry.word(number) != 0;
+    }
+    found
 }
