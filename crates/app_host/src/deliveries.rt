@@ -66,7 +66,7 @@ impl<B: App> Host<B> {
     }
 
     /// Writes what waits, be it nothing, behind so many bytes of this step, as `flush` says of it.
-    #[inline(never)]
+    #[inline(always)]
     fn write_waiting<W: ByteSink>(&mut self, out: &mut W, sent: u64) -> Result<u64, WriteFault>
         requires seated { AreSeated (shown B.meaning self.old).seats
             (shown B.meaning self.old).services }

@@ -1,6 +1,6 @@
 -- The fields of an event packet, laid one after the other over zeros.
 use Rattle.std.proofs.Common.{◌≡◌, ℕ, ◌+◌, ◌≤◌, ◌-◌, List, [], ◌++◌, length, replicate, refl, ap, sym, ◌∙◌, arith, length-append, append_assoc}
-use Rattle.std.proofs.lemmas.List.{replicate-append-replicate, drop-replicate}
+use Rattle.std.proofs.lemmas.List.{drop-replicate}
 use Rattle.std.proofs.Math.Seq.{take-append_seam, drop-append-add}
 use Rattle.lc_model.specs.Bytes.{u16, u32, zero_filled}
 use Rattle.lc_model.specs.declared.record.Moment.{Moment}
@@ -18,15 +18,6 @@ laid_next at left written field old new here is laid_is =
     laid_is ∙ (λ i. laid (sym here i) field (is i))
     ∙ (λ i. take-append_seam written (replicate left 0) i ++ (field ++ (drop-append-add written (replicate left 0) (length field) ∙ drop-replicate (length field) left 0) i))
     ∙ sym (append_assoc written field (replicate (left - length field) 0))
-
--- the zeros behind a short field fill it up
-filled_up : (size left rest : ℕ) (written field new : List ℕ) → length field ≤ size → left ≡ size + rest → new ≡ (written ++ field) ++ replicate (left - length field) 0 →
-    new ≡ ((written ++ field) ++ replicate (size - length field) 0) ++ replicate rest 0
-filled_up size left rest written field new fits all is =
-    let count : left - length field ≡ (size - length field) + rest = omega arith in
-    is ∙ ap (λ n. (written ++ field) ++ replicate n 0) count
-    ∙ ap (λ zeros. (written ++ field) ++ zeros) (sym (replicate-append-replicate (size - length field) rest 0))
-    ∙ sym (append_assoc (written ++ field) (replicate (size - length field) 0) (replicate rest 0))
 
 longer : (m n : ℕ) (written field : List ℕ) → length written ≡ m → length field ≡ n → length (written ++ field) ≡ m + n
 longer m n written field e f = length-append written field ∙ (λ i. e i + f i)
@@ -49,7 +40,7 @@ in_groups a b d e f g h i j k l m n = simp append_assoc
 pub written : (count : ℕ) (moment : Moment) (sender text : List ℕ) (id code : ℕ) (kind : EventKind) → code ≡ event_code kind → length sender ≤ 20 → length text ≤ 121 →
     (s₀ s₁ s₂ s₃ s₄ s₅ s₆ s₇ s₈ s₉ s₁₀ s₁₁ : List ℕ) → s₀ ≡ replicate 168 0 →
     s₁ ≡ laid 0 (u16 0x0808) s₀ → s₂ ≡ laid 2 (u16 (49152 + count)) s₁ → s₃ ≡ laid 4 (u16 161) s₂ → s₄ ≡ laid 6 (u32 moment.seconds) s₃ →
-    s₅ ≡ laid 10 (u16 moment.subseconds) s₄ → s₆ ≡ laid 12 sender s₅ → s₇ ≡ laid 32 (u16 id) s₆ → s₈ ≡ laid 34 (u16 code) s₇ → s₉ ≡ laid 36 (u32 66) s₈ →
+    s₅ ≡ laid 10 (u16 moment.subseconds) s₄ → s₆ ≡ laid 12 (zero_filled 20 sender) s₅ → s₇ ≡ laid 32 (u16 id) s₆ → s₈ ≡ laid 34 (u16 code) s₇ → s₉ ≡ laid 36 (u32 66) s₈ →
     s₁₀ ≡ laid 40 (u32 1) s₉ → s₁₁ ≡ laid 44 text s₁₀ → s₁₁ ≡ event_packet count moment sender id kind text
 written count moment sender text id code kind its_code short_name short_text s₀ s₁ s₂ s₃ s₄ s₅ s₆ s₇ s₈ s₉ s₁₀ s₁₁ e₀ e₁ e₂ e₃ e₄ e₅ e₆ e₇ e₈ e₉ e₁₀ e₁₁ =
     p₁₁ ∙ in_groups a b d e f sender (replicate (20 - length sender) 0) (u16 id) (u16 code) (u32 66) (u32 1) text (replicate (124 - length text) 0)
@@ -96,7 +87,9 @@ written count moment sender text id code kind its_code short_name short_text s�
     named = (header ++ sender) ++ replicate (20 - length sender) 0
 
     p₆ : s₆ ≡ named ++ replicate 136 0
-    p₆ = filled_up 20 156 136 header sender s₆ short_name refl (laid_next 12 156 header sender s₅ s₆ refl p₅ e₆)
+    p₆ =
+        laid_next 12 156 header (zero_filled 20 sender) s₅ s₆ refl p₅ e₆
+        ∙ (λ i. sym (append_assoc header sender (replicate (20 - length sender) 0)) i ++ replicate (156 - length-zero_filled 20 sender short_name i) 0)
 
     named_size : length named ≡ 32
     named_size = ap length (append_assoc header sender (replicate (20 - length sender) 0)) ∙ longer 12 20 header (zero_filled 20 sender) refl (length-zero_filled 20 sender short_name)

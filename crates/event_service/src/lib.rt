@@ -4,6 +4,7 @@
 
 mod error;
 mod filter;
+mod name;
 mod packet;
 mod sender;
 mod service;

@@ -5,10 +5,10 @@ ghost use Rattle.std.specs.Prelude.{◌≡◌, ◌+◌, ◌++◌, ◌<◌, ◌�
 ghost use Rattle.lc_model.specs.Bytes as model;
 ghost use Rattle.lc_model.specs.Codes.{event_code as code_of_kind};
 ghost use Rattle.lc_model.specs.Events.Outgoing.{event_packet, event_packet_size, longest_event_text};
-ghost use Rattle.lc_model.specs.Name.{app_name_size};
 ghost use Rattle.lc_model.specs.Packet.{count_end};
 ghost use Rattle.event_service.specs.Packet.{laid};
 
+use crate::name::SenderName;
 use byteorder::{BigEndian, ByteOrder};
 use lc_model::{EventKind, Moment};
 
@@ -36,14 +36,13 @@ pub(crate) fn append_packet(
     out: &mut Vec<u8>,
     count: u16,
     moment: Moment,
-    sender: &[u8],
+    sender: &SenderName,
     id: u16,
     kind: EventKind,
     text: &[u8],
 )
     requires room { length out.old.items + event_packet_size ≤ vec_capacity out.old }
     requires count { count < count_end }
-    requires sender { length sender.now ≤ app_name_size }
     requires text { length text.now ≤ longest_event_text }
     ensures packet { out.new.items ≡ out.old.items ++
         event_packet count moment sender.now id kind text.now }
@@ -69,14 +68,13 @@ fn lay(
     bytes: &mut [u8],
     count: u16,
     moment: Moment,
-    sender: &[u8],
+    sender: &SenderName,
     id: u16,
     kind: EventKind,
     text: &[u8],
 )
     requires blank { bytes.old ≡ replicate event_packet_size 0 }
     requires count { count < count_end }
-    requires sender { length sender.now ≤ app_name_size }
     requires text { length text.now ≤ longest_event_text }
     ensures packet { bytes.new ≡ event_packet count moment sender.now id kind text.now }
     ensures size { length bytes.new ≡ length bytes.old }
@@ -86,7 +84,7 @@ fn lay(
     put_u16(bytes, 4, PACKET_LENGTH);
     put_u32(bytes, 6, moment.seconds);
     put_u16(bytes, 10, moment.subseconds);
-    put(bytes, 12, sender);
+    put(bytes, 12, sender.field());
     put_u16(bytes, 32, id);
     put_u16(bytes, 34, event_code(kind));
     put_u32(bytes, 36, SPACECRAFT);

@@ -13,14 +13,11 @@ ghost use Rattle.event_service.specs.Packet.{with_packet};
 
 use crate::error::EventError;
 use crate::filter::Filters;
+use crate::name::SenderName;
 use crate::packet::append_packet;
 use crate::types::EventTypes;
-use arrayvec::ArrayVec;
 use lc_model::{EventKind, Moment};
 use std::marker::Model;
-
-/// The most bytes of a sender's name.
-pub(crate) const MAX_NAME: usize = 20;
 
 /// What changes the types or filters of a sender.
 #[derive(Clone, Copy, Debug)]
@@ -36,7 +33,7 @@ pub(crate) enum Change {
 /// A registered sender.
 #[derive(Debug, Drop)]
 pub(crate) struct Sender {
-    name: ArrayVec<u8, MAX_NAME>,
+    name: SenderName,
     types: EventTypes,
     filters: Filters,
 }
@@ -49,7 +46,7 @@ impl Model for Sender {
 
     ghost view = { λ s.
         record {
-          name = s.name.items;
+          name = s.name;
           events = record { on = bits_of s.types; filters = s.filters };
         } };
 }
@@ -60,10 +57,8 @@ impl Sender {
         requires { length name.now ≤ app_name_size }
         ensures { result ≡ record { name = name.now; events = new_sender } }
     {
-        let mut own_name = ArrayVec::new();
-        own_name.try_extend_from_slice(name).unwrap();
         Sender {
-            name: own_name,
+            name: SenderName::of(name),
             types: EventTypes::at_first(),
             filters: Filters::new(),
         }
@@ -105,7 +100,7 @@ impl Sender {
         if self.types.has(kind) && self.filters.ask(id) {
             let count = *sent;
             *sent = (count + 1) % 16384;
-            append_packet(out, count, moment, self.name.as_slice(), id, kind, text);
+            append_packet(out, count, moment, &self.name, id, kind, text);
         }
     }
 

@@ -13,6 +13,8 @@ use std::marker::Model;
 /// The most bytes of an event's text.
 pub const MAX_TEXT: usize = 121;
 
+const HEX_DIGITS: [u8; 16] = *b"0123456789abcdef";
+
 /// The text of an event, at most 121 bytes. Contracts see the bytes.
 #[derive(Debug, Drop)]
 pub struct EventText {
@@ -95,10 +97,5 @@ impl EventText {
 fn hex_digit(number: u16) -> u8
     ensures { result ≡ digit_glyph false (number % 16) }
 {
-    let digit = (number % 16) as u8;
-    if digit < 10 {
-        b'0' + digit
-    } else {
-        b'a' + (digit - 10)
-    }
+    HEX_DIGITS[usize::from(number % 16)]
 }

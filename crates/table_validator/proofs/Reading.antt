@@ -1,7 +1,8 @@
 -- What a pass over an entry's words leaves behind the last: the answers of the definitions' tests.
-use Rattle.std.proofs.Common.{◌≡◌, refl, sym, ◌∙◌, ap, subst, ℕ, suc, ◌+◌, ◌-◌, ◌<◌, Bool, true, false, not, cond, ◌&&◌, ◌||◌, nat_lt, ◌==◌, List, [], ◌∷◌, ◌++◌, length, take, drop, count_by, fold, arith, append-nil, append_assoc}
+use Rattle.std.proofs.Common.{◌≡◌, refl, sym, ◌∙◌, ap, subst, ℕ, suc, ◌+◌, ◌-◌, ◌<◌, Bool, true, false, not, cond, ◌&&◌, ◌||◌, nat_lt, ◌==◌, List, [], ◌∷◌, ◌++◌, length, take, drop, count_by, fold, get_or, arith, append-nil, append_assoc}
 use Rattle.std.specs.List.{list_any, list_all, position_or_len}
-use Rattle.std.proofs.lemmas.List.Sums.{sum_by-append}
+use Rattle.std.proofs.lemmas.List.{drop_more, take-append-drop}
+use Rattle.std.proofs.lemmas.List.Sums.{sum_by-append, fold-append}
 use Rattle.lc_model.specs.Tables.Equation.{equal_word, is_mention, is_binary, waiting}
 use Rattle.lc_model.specs.Tables.Image.{first_code, most_waiting, operands_of, with_words_before, words_before_equal, words_after_equal}
 use Rattle.lc_model.proofs.Tables.SoundWords.{unknown, missing, too_few, too_many}
@@ -83,6 +84,24 @@ behind : (count : ℕ) (ws : List ℕ) (b u v : Bool) (o : OperandCount) →
 behind count [] b u v o = ap (λ x. scan_behind x u v o) (sym (or_false b))
 behind count (w ∷ ws) b u v o =
     behind count ws (b || not (0 == w)) u v o ∙ ap (λ x. scan_behind x u v o) (or_and b (0 == w) (list_all (◌==◌ 0) ws))
+
+-- of the words behind EQUAL it counts alone whether one is not 0
+pub reads_behind : (count : ℕ) (scan : WordScan) (ws : List ℕ) → scan.ended ≡ true →
+    fold (word_read count) scan ws ≡ record scan { word_behind = scan.word_behind || not (list_all (◌==◌ 0) ws) }
+reads_behind count scan ws is =
+    subst (λ (e : Bool). fold (word_read count) (record scan { ended = e }) ws
+    ≡ record scan { ended = e; word_behind = scan.word_behind || not (list_all (◌==◌ 0) ws) }) (sym is)
+    (behind count ws scan.word_behind scan.unknown_word scan.unknown_watchpoint scan.operands)
+
+-- words that are read up to one, that one, and those behind it are all words
+pub read_to_the_end : (count : ℕ) (ws : List ℕ) (n : ℕ) (scan here all : WordScan) → n < length ws → scan ≡ fold (word_read count) unread (take n ws) →
+    here ≡ word_read count scan (get_or ws n 0) → all ≡ fold (word_read count) here (drop (n + 1) ws) → all ≡ fold (word_read count) unread ws
+read_to_the_end count ws n scan here all within before one rest =
+    rest ∙ ap (λ (s : WordScan). fold (word_read count) s (drop (n + 1) ws)) one
+    ∙ ap (fold (word_read count) scan) (sym (drop_more ws n 0 within))
+    ∙ ap (λ (s : WordScan). fold (word_read count) s (drop n ws)) before
+    ∙ sym (fold-append (word_read count) unread (take n ws) (drop n ws))
+    ∙ ap (fold (word_read count) unread) (take-append-drop n ws)
 
 -- behind one word that is not EQUAL
 abbrev scan_after : (count w : ℕ) (u v c d : Bool) (m j : ℕ) → WordScan

@@ -28,11 +28,15 @@ fn text_length(field: &[u8]) -> usize
     field.iter().take_while(|byte| is_text_byte(**byte)).count()
 }
 
-/// Whether all bytes are zero.
+/// Whether all bytes are zero. All are read, so that several are compared at once.
 fn are_zeros(bytes: &[u8]) -> bool
     ensures { result ≡ list_all (λ b. b == 0) bytes.now }
 {
-    bytes.iter().all(|byte| *byte == 0)
+    let mut are_zeros = true;
+    for byte in bytes {
+        are_zeros &= *byte == 0;
+    }
+    are_zeros
 }
 
 /// Whether a field holds a text that isn't too long, and then zeros.

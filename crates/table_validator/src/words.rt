@@ -1,6 +1,7 @@
 //! The faults of an actionpoint's words: one pass finds them all, and then the least code is chosen.
 
-ghost use Rattle.std.specs.Prelude.{◌≡◌, ◌+◌, ◌<◌, ◌^◌, option_map};
+ghost use Rattle.std.specs.Prelude.{◌≡◌, ◌+◌, ◌<◌, ◌^◌, ◌==◌, ℕ, true, false, not, drop, fold, option_map};
+ghost use Rattle.std.specs.List.{list_all};
 ghost use Rattle.lc_model.specs.Tables.Image.{first_code, all_words};
 ghost use Rattle.table_validator.specs.Fault.{code_number};
 ghost use Rattle.table_validator.specs.Scan.{unread, word_read, scan_tests, word_tests};
@@ -36,16 +37,13 @@ impl WordScan {
         }
     }
 
-    /// Reads one word more of an equation over so many watchpoints.
+    /// Reads one word more of an equation over so many watchpoints. Condition: EQUAL wasn't there.
     fn read(&mut self, word: u16, watchpoints: u16)
+        requires before_equal { self.old.ended ≡ false }
         requires mentions { self.old.operands.mentions + 1 < 2 ^ 64 }
         requires joins { self.old.operands.joins + 1 < 2 ^ 64 }
         ensures { self.new ≡ word_read watchpoints self.old word }
     {
-        if self.ended {
-            self.word_behind = self.word_behind || word != 0;
-            return;
-        }
         self.operands.count(word);
         if word == EQUAL {
             self.ended = true;
@@ -54,6 +52,15 @@ impl WordScan {
             self.unknown_watchpoint = self.unknown_watchpoint
                 || (is_mention(word) && watchpoints <= word);
         }
+    }
+
+    /// Reads the words from this one on, all of them behind EQUAL.
+    fn read_behind(&mut self, entry: &ActionpointEntry<'_>, first: usize)
+        requires ended { self.old.ended ≡ true }
+        ensures { (watchpoints : ℕ) → self.new ≡ fold (word_read watchpoints) self.old
+            (drop first (all_words entry.now)) }
+    {
+        self.word_behind |= has_word_from(entry, first);
     }
 
     /// The least code of what was met.
@@ -93,6 +100,21 @@ pub fn words_fault(entry: &ActionpointEntry<'_>, watchpoints: u16) -> Option<Fau
     let mut scan = WordScan::new();
     for number in 0..entry.word_count() {
         scan.read(entry.word(number), watchpoints);
+        if scan.ended {
+            scan.read_behind(entry, number + 1);
+            return scan.fault();
+        }
     }
     scan.fault()
+}
+
+/// Whether a word from this one on isn't 0. All are read, so that no jump stands between them.
+fn has_word_from(entry: &ActionpointEntry<'_>, first: usize) -> bool
+    ensures { result ≡ not (list_all (◌==◌ 0) (drop first (all_words entry.now))) }
+{
+    let mut found = false;
+    for number in first..entry.word_count() {
+        found |= entry.word(number) != 0;
+    }
+    found
 }
