@@ -83,6 +83,7 @@ impl<W: ByteSink, S: Outset> Gathered<W, S> {
 impl<W: ByteSink, S: Outset> ByteSink for Gathered<W, S> {
     ghost sink = { λ gathered. with_held (W.sink gathered.device) gathered.held.items };
 
+    #[inline(always)]
     fn write(&mut self, bytes: &[u8]) -> Result<usize, DeviceFault> {
         if self.held.len() == MOST_GATHERED {
             self.give()?;

@@ -58,6 +58,7 @@ pub trait ByteSink {
 }
 
 /// Writes all of the bytes. The error is the number of those that the sink took before a write failed.
+#[inline(always)]
 pub fn write_all<W: ByteSink>(writer: &mut W, bytes: &[u8]) -> Result<(), usize>
     ensures sent { OnOk result
         (Appends (W.sink writer.old).gained (W.sink writer.new).gained bytes.now) }
