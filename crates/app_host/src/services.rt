@@ -70,7 +70,7 @@ impl Services {
     }
 
     /// Asks for an event as `tell` does; contracts see by seats what the event services become, too.
-    #[inline(never)]
+    #[inline(always)]
     pub(crate) fn ask(&mut self, from: Option<Seat>, id: u16, kind: EventKind, text: &[u8])
         requires text { length text.now ≤ longest_event_text }
         requires room { length self.old.outgoing + event_packet_size ≤ outgoing_room }

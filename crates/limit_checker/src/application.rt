@@ -19,6 +19,7 @@ ghost use Rattle.limit_engine.specs.Engine.{without_tables};
 ghost use Rattle.limit_checker.specs.Application.{IsHome, MayHave, Answers};
 
 use crate::asked::AskedList;
+use crate::telling::tell;
 use crate::{command, reacting, standings, texts};
 use app_host::Services;
 use app_host::laws::seats_are_kept_by_the_rules;
@@ -64,11 +65,17 @@ impl Application {
         match command::obey(&mut self.engine, packet) {
             Ok(()) => {
                 let text = texts::command_done(function_code(packet));
-                services.tell(self.seat, 8, EventKind::Information, text.as_bytes());
+                tell(
+                    services,
+                    self.seat,
+                    8,
+                    EventKind::Information,
+                    text.as_bytes(),
+                );
             }
             Err(refused) => {
                 let text = texts::command_refused(&[u16::from(refused.code())]);
-                services.tell(self.seat, 9, EventKind::Error, text.as_bytes());
+                tell(services, self.seat, 9, EventKind::Error, text.as_bytes());
             }
         }
     }
@@ -111,7 +118,7 @@ impl Application {
             }
             Err(refusal) => {
                 let text = texts::command_refused(&[u16::from(refusal.code())]);
-                services.tell(self.seat, 9, EventKind::Error, text.as_bytes());
+                tell(services, self.seat, 9, EventKind::Error, text.as_bytes());
             }
         }
     }

@@ -34,14 +34,14 @@ impl Application {
         seats_are_kept_by_the_rules();
         telling_goes_on();
         let mid = message_id(packet);
-        if mid == mids::LC_COMMAND {
+        if is_telemetry(mid) {
+            self.telemetry(services, packet);
+        } else if mid == mids::LC_COMMAND {
             self.command(services, packet);
         } else if mid == mids::LC_HOUSEKEEPING_REQUEST {
             self.housekeeping(services, packet);
         } else if mid == mids::SAMPLE {
             self.sample(services, packet);
-        } else if is_telemetry(mid) {
-            self.telemetry(services, packet);
         }
     }
 }

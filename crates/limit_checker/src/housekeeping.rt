@@ -16,6 +16,7 @@ ghost use Rattle.limit_checker.specs.Sending.{MaySend, largest_renewal, largest_
 
 use crate::adoption::adopt;
 use crate::application::Application;
+use crate::telling::tell;
 use crate::texts;
 use crate::verdict::{Verdict, judge, tell_verdict};
 use app_host::Services;
@@ -77,7 +78,7 @@ fn tell_adoption(adopted: bool, from: &Option<Seat>, services: &mut Services)
     telling_goes_on();
     if adopted {
         let text = texts::tables_adopted();
-        services.tell(*from, 2, EventKind::Information, text.as_bytes());
+        tell(services, *from, 2, EventKind::Information, text.as_bytes());
     }
 }
 
@@ -135,7 +136,7 @@ impl Application {
             }
             Err(refusal) => {
                 let text = texts::command_refused(&[u16::from(refusal.code())]);
-                services.tell(self.seat, 9, EventKind::Error, text.as_bytes());
+                tell(services, self.seat, 9, EventKind::Error, text.as_bytes());
             }
         }
     }

@@ -12,6 +12,7 @@ mod housekeeping;
 mod reacting;
 mod standings;
 mod starting;
+mod telling;
 mod texts;
 mod verdict;
 

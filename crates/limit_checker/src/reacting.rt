@@ -10,6 +10,7 @@ ghost use Rattle.limit_engine.specs.Reactions.{failure_requests, requests_at, re
 ghost use Rattle.limit_engine.specs.declared.reaction.Failure.TheVariants.{Requested};
 ghost use Rattle.limit_checker.specs.Sending.{IsEventOf, MaySend, failure_size, largest_request, reactions_size, sizes, turn_size};
 
+use crate::telling::tell;
 use crate::texts;
 use app_host::Services;
 use app_host::laws::seats_are_kept_by_the_rules;
@@ -31,11 +32,11 @@ fn tell_turn(rule: u16, turn: Option<Turn>, from: &Option<Seat>, services: &mut 
         None => {}
         Some(Turn::ToFail) => {
             let text = texts::turned_to_fail(rule);
-            services.tell(*from, 5, EventKind::Information, text.as_bytes());
+            tell(services, *from, 5, EventKind::Information, text.as_bytes());
         }
         Some(Turn::ToPass) => {
             let text = texts::turned_to_pass(rule);
-            services.tell(*from, 6, EventKind::Information, text.as_bytes());
+            tell(services, *from, 6, EventKind::Information, text.as_bytes());
         }
     }
 }
@@ -55,7 +56,7 @@ fn request(rule: u16, run: u16, event: &RuleEvent<'_>, from: &Option<Seat>, serv
     telling_goes_on();
     services.request_sequence(event.sequence);
     let text = texts::rule_failed(event.text, rule, run, event.sequence);
-    services.tell(*from, event.id, event.kind, text.as_bytes());
+    tell(services, *from, event.id, event.kind, text.as_bytes());
 }
 
 /// What enough failures in a row lead to is sent.
@@ -81,11 +82,11 @@ fn tell_failure(
         Failure::Requested(run) => request(rule, run, event, from, services),
         Failure::LcPassive => {
             let text = texts::failed_lc_passive(rule);
-            services.tell(*from, 3, EventKind::Information, text.as_bytes());
+            tell(services, *from, 3, EventKind::Information, text.as_bytes());
         }
         Failure::Passive => {
             let text = texts::failed_passive(rule);
-            services.tell(*from, 4, EventKind::Information, text.as_bytes());
+            tell(services, *from, 4, EventKind::Information, text.as_bytes());
         }
     }
 }

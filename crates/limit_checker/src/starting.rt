@@ -16,6 +16,7 @@ ghost use Rattle.limit_checker.specs.Adoption.{are_matching, pair_of, IsSoundPai
 ghost use Rattle.limit_checker.specs.Starting.{new_wdt, new_adt, with_both, AreUnused, start_image, start_pair, IsDefault, AreDefaults, own_started, tables_started};
 
 use crate::adoption::{REQUESTS, belong_together};
+use crate::telling::tell;
 use crate::texts;
 use app_host::laws::seats_are_kept_by_the_rules;
 use app_host::{Services, subscribe_to};
@@ -143,5 +144,11 @@ pub(crate) fn take_seat(engine: &mut Engine, seat: Seat, services: &mut Services
     let has_tables = begin(engine, &mut services.tables, seat);
     subscribe_to(&mut services.bus, seat, &REQUESTS, engine.watchpoints());
     let text = texts::started(has_tables);
-    services.tell(Some(seat), 1, EventKind::Information, text.as_bytes());
+    tell(
+        services,
+        Some(seat),
+        1,
+        EventKind::Information,
+        text.as_bytes(),
+    );
 }

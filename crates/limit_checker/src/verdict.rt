@@ -11,6 +11,7 @@ ghost use Rattle.app_host.specs.Telling.{Tells};
 ghost use Rattle.limit_checker.specs.Sending.{MaySend};
 ghost use Rattle.limit_checker.specs.Housekeeping.{fault_on_board, requested_by, requests_of, validation, verdict_seen};
 
+use crate::telling::tell;
 use crate::texts;
 use app_host::Services;
 use app_host::laws::seats_are_kept_by_the_rules;
@@ -89,12 +90,12 @@ pub(crate) fn tell_verdict(
         Verdict::Unasked => {}
         Verdict::Sound => {
             let text = texts::table_valid(number_of(kind));
-            services.tell(*from, 10, EventKind::Information, text.as_bytes());
+            tell(services, *from, 10, EventKind::Information, text.as_bytes());
         }
         Verdict::Faulty(fault) => {
             let code = u16::from(fault.code.number());
             let text = texts::table_invalid(number_of(kind), code, fault.entry);
-            services.tell(*from, 11, EventKind::Error, text.as_bytes());
+            tell(services, *from, 11, EventKind::Error, text.as_bytes());
         }
     }
 }

@@ -111,7 +111,7 @@ pub fn words_fault(entry: &ActionpointEntry<'_>, watchpoints: u16) -> Option<Fau
     scan.fault()
 }
 
-/// Whether a word from this one on isn't 0. All are read, so that several are compared at once.
+/// Whether a word from this one on isn't 0. All are read, so that no jump stands between them.
 fn has_word_from(entry: &ActionpointEntry<'_>, first: usize) -> bool
     ensures { result ≡ not (list_all (◌==◌ 0) (drop first (all_words entry.now))) }
 {

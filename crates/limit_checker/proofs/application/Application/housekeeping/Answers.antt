@@ -26,9 +26,9 @@ returns-in-Ok-clause-answers c =
 
 pub returns-in-Err-clause-answers : goal.returns-in-Err-clause-answers
 returns-in-Err-clause-answers c =
-    refused_there c.args.self.now.seat c.args.self.now.engine c.args.packet.now c.args.services.now c.tell.new.self (refusal_number c.in-Err.refusal ∷ []) (Event lc_name 9 Error c.as_bytes.result.now)
+    refused_there c.args.self.now.seat c.args.self.now.engine c.args.packet.now c.args.services.now c.tell.new.services (refusal_number c.in-Err.refusal ∷ []) (Event lc_name 9 Error c.as_bytes.result.now)
     c.seats_are_kept_by_the_rules.ensures.telling_answers c.seats_are_kept_by_the_rules.ensures.telling_leaves c.seats_are_kept_by_the_rules.ensures.telling_settles
     c.requires.home c.requires.given c.requires.kind c.in-Err.ensures
     (ap (Event lc_name 9 Error) c.as_bytes.ensures.bytes ∙ c.command_refused-text.ensures ∙ ap (λ number. lc_command_refused (number ∷ [])) (c.from.ensures ∙ c.code.ensures))
-    (told_by_name c.seats_are_kept_by_the_rules.ensures.telling_is_by_name c.args.self.now.seat c.args.self.now.engine (λ name. Event name 9 Error c.as_bytes.result.now ∷ []) c.args.services.now c.tell.new.self c.requires.home c.tell.ensures.told)
+    (told_by_name c.seats_are_kept_by_the_rules.ensures.telling_is_by_name c.args.self.now.seat c.args.self.now.engine (λ name. Event name 9 Error c.as_bytes.result.now ∷ []) c.args.services.now c.tell.new.services c.requires.home c.tell.ensures.told)
     c.tell.ensures.size

@@ -11,12 +11,12 @@ use Rattle.limit_checker.proofs.application.Application.sample.Goals as goal
 
 pub returns-in-Err-clause-answers : goal.returns-in-Err-clause-answers
 returns-in-Err-clause-answers c =
-    sample_refused_is c.args.self.now.seat c.args.self.now.engine c.args.self.now.engine c.args.packet.now c.args.services.now c.tell.new.self
+    sample_refused_is c.args.self.now.seat c.args.self.now.engine c.args.self.now.engine c.args.packet.now c.args.services.now c.tell.new.services
     c.seats_are_kept_by_the_rules.ensures.telling_answers c.seats_are_kept_by_the_rules.ensures.telling_leaves c.seats_are_kept_by_the_rules.ensures.telling_settles
     c.requires.home c.requires.given c.requires.kind (refusal_number c.in-Err.refusal ∷ []) (sym (ap answer_of c.in-Err.is) ∙ c.sample_request.ensures) refl
     (Event lc_name 9 Error c.as_bytes.result.now)
     (ap (Event lc_name 9 Error) c.as_bytes.ensures.bytes ∙ c.command_refused-text.ensures ∙ ap (λ number. lc_command_refused (number ∷ [])) (c.from.ensures ∙ c.code.ensures))
-    (told_by_name c.seats_are_kept_by_the_rules.ensures.telling_is_by_name c.args.self.now.seat c.args.self.now.engine (λ name. Event name 9 Error c.as_bytes.result.now ∷ []) c.args.services.now c.tell.new.self c.requires.home c.tell.ensures.told)
+    (told_by_name c.seats_are_kept_by_the_rules.ensures.telling_is_by_name c.args.self.now.seat c.args.self.now.engine (λ name. Event name 9 Error c.as_bytes.result.now ∷ []) c.args.services.now c.tell.new.services c.requires.home c.tell.ensures.told)
     c.tell.ensures.size
 
 pub tell_all-requires-clause-sends : goal.tell_all-requires-clause-sends
