@@ -1,6 +1,6 @@
 //! The faults of an actionpoint's words: one pass finds them all, and then the least code is chosen.
 
-ghost use Rattle.std.specs.Prelude.{◌≡◌, ◌+◌, ◌<◌, ◌^◌, ◌==◌, ℕ, true, not, drop, fold, option_map};
+ghost use Rattle.std.specs.Prelude.{◌≡◌, ◌+◌, ◌<◌, ◌^◌, ◌==◌, ℕ, true, false, not, drop, fold, option_map};
 ghost use Rattle.std.specs.List.{list_all};
 ghost use Rattle.lc_model.specs.Tables.Image.{first_code, all_words};
 ghost use Rattle.table_validator.specs.Fault.{code_number};
@@ -37,16 +37,13 @@ impl WordScan {
         }
     }
 
-    /// Reads one word more of an equation over so many watchpoints.
+    /// Reads one word more of an equation over so many watchpoints. Condition: EQUAL wasn't there.
     fn read(&mut self, word: u16, watchpoints: u16)
+        requires before_equal { self.old.ended ≡ false }
         requires mentions { self.old.operands.mentions + 1 < 2 ^ 64 }
         requires joins { self.old.operands.joins + 1 < 2 ^ 64 }
         ensures { self.new ≡ word_read watchpoints self.old word }
     {
-        if self.ended {
-            self.word_behind = self.word_behind || word != 0;
-            return;
-        }
         self.operands.count(word);
         if word == EQUAL {
             self.ended = true;

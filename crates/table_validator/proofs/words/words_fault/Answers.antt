@@ -34,6 +34,7 @@ loop-number-preserved c = record {
       ∙ (λ i. word_read c.args.watchpoints (c.loop-number.invariant.read i) (c.word.ensures i))
       ∙ sym (fold_more (word_read c.args.watchpoints) unread (all_words c.args.entry.now) c.loop-number.number 0
       (let test = c.loop-number-test.true in let end = c.word_count-number-end.ensures in omega (arith, test, end)));
+  goes_on = c.if-scan.false;
   mentions = search rules;
   joins = search rules;
 }
