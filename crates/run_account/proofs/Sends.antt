@@ -184,5 +184,5 @@ run_sends (step ∷ steps) a =
     (sym (filter_map-append event_in own (others (number_behind a.figures.packets (packets_of step.written)))))
 
 pub tells_events : TellsEvents
-tells_events plans lanes fields steps =
-    run_sends steps (nothing_told plans lanes fields) ∙ kept_of record_of events_kept events_kept (events_of steps) (omega arith)
+tells_events texts steps =
+    run_sends steps (nothing_told texts) ∙ kept_of record_of events_kept events_kept (events_of steps) (omega arith)

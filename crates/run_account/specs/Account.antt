@@ -6,6 +6,7 @@ use Rattle.lc_model.specs.declared.rule.EventKind.{EventKind}
 use Rattle.lc_model.specs.Bytes.{u16_at}
 use Rattle.lc_model.specs.Name.{lc_name}
 use Rattle.lc_model.specs.Packet.{count_end}
+use Rattle.lc_model.specs.Text.Syntax.{Item}
 use Rattle.packet_listing.specs.Told as told
 use Rattle.packet_listing.specs.Told.{told_in}
 use Rattle.run_account.specs.declared.bands.How.{How}
@@ -26,10 +27,12 @@ use Rattle.run_account.specs.Plans.{Planned, parts_by, planned_at}
 use Rattle.run_account.specs.Samples.{Row, met_by_parts, row_with}
 use Rattle.run_account.specs.Sent.{Requested, Said, Sending, requested_more, said_more}
 use Rattle.run_account.specs.Standing.{stand_at}
+use Rattle.run_account.specs.Texts.{items_in}
 
 -- all that is told of a run
 pub record Account : Type 0 where
-  -- the rules of its texts, and how many lanes there are
+  -- the items of its texts, their rules, and how many lanes there are
+  pub texts : List (List Item)
   pub plans : List (List Planned)
   pub lanes : ℕ
   -- what is known of each field
@@ -44,6 +47,7 @@ pub record Account : Type 0 where
 -- as it is held
 abbrev pub account_of : Held → Account
 account_of held = record {
+  texts = map items_in held.texts.items;
   plans = held.plans.items;
   lanes = held.lanes;
   seen = held.seen.items;

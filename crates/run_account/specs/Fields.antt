@@ -1,5 +1,6 @@
 -- What is known of the fields that rules compare. This project's own; a field's value is the rule language's (lc_model's Field).
-use Rattle.std.specs.Prelude.{ℕ, List, length, map, nat_lt, ◌==◌, if◌then◌else◌, Option, Some, None, ℤ, pos, slice_get}
+use Rattle.std.specs.Prelude.{◌≡◌, ℕ, ◌<◌, Bool, false, ◌&&◌, List, [], ◌∷◌, length, map, nat_lt, ◌==◌, if◌then◌else◌, Option, Some, None, ℤ, pos, slice_get, ⊤}
+use Rattle.std.specs.Ordering.{int_eq}
 use Rattle.lc_model.specs.declared.field.CmpOp.TheVariants.{Equal}
 use Rattle.lc_model.specs.declared.field.Term.{Term}
 use Rattle.lc_model.specs.Field.{value_of}
@@ -8,6 +9,7 @@ use Rattle.run_account.specs.declared.place.Place.{Place}
 use Rattle.run_account.specs.declared.seen.Met.{Met}
 use Rattle.run_account.specs.declared.seen.Seen.{Seen}
 use Rattle.run_account.specs.declared.texts.Field.{Field}
+use Rattle.run_account.specs.Brought.{Brings, Telemetry}
 use Rattle.run_account.specs.Figures.{one_more}
 
 -- a comparison with the field: the number that it is compared with says nothing of its value
@@ -22,12 +24,16 @@ value_in field packet = value_of (term_of field) packet
 abbrev pub nothing : Met
 nothing = record { value = None; place = None }
 
+-- what a packet of this place says of the field
+abbrev pub met_in : Field → Place → List ℕ → Met
+met_in field place packet = record { value = value_in field packet; place = Some place }
+
 -- a packet of the field's message id came in this place
 abbrev pub seen_in : List ℕ → Place → Seen → Seen
 seen_in packet place seen = record seen {
   packets = one_more seen.packets;
   last = Some place;
-  met = record { value = value_in seen.field packet; place = Some place };
+  met = met_in seen.field place packet;
 }
 
 -- a packet came: it is one of the field's by its message id
@@ -53,3 +59,38 @@ met_by (Some seen) = seen.met
 
 abbrev pub met_of : List Seen → ℕ → Met
 met_of all number = met_by (slice_get all number)
+
+-- ---- what a record brings of the fields
+
+-- the value of the field in the packet that a record of this place brings, where it is one of the field's message id
+abbrev pub brought_of : Field → Place → Brings → Option Met
+brought_of field place (Telemetry packet) =
+    if nat_lt (length packet) 2 then None else if field.mid == message_id packet then Some (met_in field place packet) else None
+brought_of field place other = None
+
+-- .. of all of them
+abbrev pub all_brought : List Field → Place → Brings → List (Option Met)
+all_brought fields place brings = map (λ (field : Field). brought_of field place brings) fields
+
+abbrev pub is_place : Place → Place → Bool
+is_place one other = one.«record» == other.«record» && int_eq one.time other.time
+
+abbrev pub is_at : Place → Option Place → Bool
+is_at place None = false
+is_at place (Some other) = is_place other place
+
+-- what comparisons meet, where a packet of this place brought it
+abbrev pub come_in : Place → Seen → Option Met
+come_in place seen = if is_at place seen.met.place then Some seen.met else None
+
+-- this place is of a record in front of the one with this number
+abbrev pub IsBefore : ℕ → Option Place → Type 0
+IsBefore number None = ⊤
+IsBefore number (Some place) = place.«record» < number
+
+-- this is known of these fields in front of the record with this number
+abbrev pub AreKnown : ℕ → List Field → List Seen → Type 0
+AreKnown number [] [] = ⊤
+AreKnown number [] (seen ∷ all) = ⊥
+AreKnown number (field ∷ fields) [] = ⊥
+AreKnown number (field ∷ fields) (seen ∷ all) = (seen.field ≡ field) × IsBefore number seen.met.place × AreKnown number fields all

@@ -12,3 +12,4 @@ pub mod Run
 pub mod Samples
 pub mod Sent
 pub mod Standing
+pub mod Texts

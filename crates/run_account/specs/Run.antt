@@ -1,6 +1,7 @@
 -- What the account of a whole run is, by all packets and records of the run. This project's own.
 use Rattle.std.specs.Prelude.{◌≡◌, ℕ, ◌+◌, ◌-◌, List, [], ◌∷◌, ◌++◌, filter_map, length, map, replicate, take, drop, Option, Some, None, ⊤}
 use Rattle.lc_model.specs.declared.mode.LcMode.{LcMode}
+use Rattle.lc_model.specs.Text.Syntax.{Item}
 use Rattle.packet_listing.specs.Told as told
 use Rattle.packet_listing.specs.Told.{told_in}
 use Rattle.run_account.specs.declared.ends.Left.{Left}
@@ -11,31 +12,49 @@ use Rattle.run_account.specs.About.{rule_of}
 use Rattle.run_account.specs.Account.{Account, Step, account_behind, account_with, before_with, come, sampled, stood_again, stood_so, written}
 use Rattle.run_account.specs.Bands.{nothing_in_force}
 use Rattle.run_account.specs.Ends.{Ends, kept}
-use Rattle.run_account.specs.Fields.{unseen}
+use Rattle.run_account.specs.Brought.{brings}
+use Rattle.run_account.specs.Fields.{AreKnown, all_brought, come_in, unseen}
 use Rattle.run_account.specs.Figures.{none, one_more}
 use Rattle.run_account.specs.Packets.{packets_of}
 use Rattle.run_account.specs.Plans.{Planned}
 use Rattle.run_account.specs.Samples.{Row, no_row}
 use Rattle.run_account.specs.Sent.{Said, events_kept, nothing_sent}
 use Rattle.run_account.specs.Standing.{absent, stand_at}
+use Rattle.run_account.specs.Texts.{HaveItems, compared_of, fields_of, most_rules, texts_planned}
 
--- nothing is told yet of runs of texts with these rules, in so many lanes, which compare these fields
-abbrev pub nothing_told : List (List Planned) → ℕ → List Field → Account
-nothing_told plans lanes fields = record {
-  plans = plans;
-  lanes = lanes;
-  seen = map unseen fields;
-  rows = replicate lanes no_row;
-  before = replicate lanes absent;
+-- what is read of the texts of a run: the items of each, its rules, the most that a text has, and the fields that rules compare
+pub record OfTexts : Type 0 where
+  pub texts : List (List Item)
+  pub plans : List (List Planned)
+  pub lanes : ℕ
+  pub fields : List Field
+
+-- all of it is what the items say
+pub record AreRead (read : OfTexts) : Type 0 where
+  pub fields : map compared_of read.fields ≡ fields_of read.texts
+  pub plans : read.plans ≡ texts_planned (fields_of read.texts) read.texts
+  pub lanes : read.lanes ≡ most_rules read.texts
+
+-- nothing is told yet of runs of these texts
+abbrev pub nothing_told : OfTexts → Account
+nothing_told read = record {
+  texts = read.texts;
+  plans = read.plans;
+  lanes = read.lanes;
+  seen = map unseen read.fields;
+  rows = replicate read.lanes no_row;
+  before = replicate read.lanes absent;
   bands = nothing_in_force;
   sending = nothing_sent;
   figures = none;
 }
 
--- nothing is told yet, of runs of some texts
-pub record TellsNothing (a : Account) : Type 0 where
-  pub fields : List Field
-  pub is : a ≡ nothing_told a.plans a.lanes fields
+-- nothing is told yet of runs of texts of these bytes
+pub record TellsNothing (sources : List (List ℕ)) (a : Account) : Type 0 where
+  pub read : OfTexts
+  pub items : HaveItems sources read.texts
+  pub are_read : AreRead read
+  pub is : a ≡ nothing_told read
 
 -- ---- all packets of a run
 
@@ -135,9 +154,18 @@ pub record StandAgain : Type 0 where
   pub again : (stands : List Stand) (bytes : List ℕ) (place : Place) (mode : Option LcMode) (a : Account) → StoodLast stands a →
       stood_so place mode stands (written bytes place stands (sampled place stands a)) ≡ stood_again place mode (written bytes place stands a)
 
+-- of each field its account knows, behind each record that came, what that record brought of it: a value that a packet of the record's
+-- own place brought is that of the record, since what was known before is of records in front of it
+pub record FieldsCome : Type 0 where
+  pub begin : (texts : OfTexts) → AreKnown 1 texts.fields (nothing_told texts).seen
+  pub come : (fields : List Field) (bytes : List ℕ) (place : Place) (a : Account) → AreKnown place.«record» fields a.seen →
+      map (come_in place) (come bytes place a).seen ≡ all_brought fields place (brings bytes)
+  pub go_on : (fields : List Field) (step : Step) (a : Account) → AreKnown step.place.«record» fields a.seen →
+      AreKnown (step.place.«record» + 1) fields (account_with step a).seen
+
 -- the account of a run has the first 1,000 of all its events, and the last 1,000, and how many are left out between them, of the
 -- records from one to another
 abbrev pub TellsEvents : Type 0
-TellsEvents = (plans : List (List Planned)) (lanes : ℕ) (fields : List Field) (steps : List Step) →
-    (account_behind (nothing_told plans lanes fields) steps).sending.events
+TellsEvents = (texts : OfTexts) (steps : List Step) →
+    (account_behind (nothing_told texts) steps).sending.events
     ≡ ends_of (λ (event : Said). event.place.«record») events_kept events_kept (events_of steps)

@@ -1,10 +1,10 @@
 -- What a run sent: its requests and its events, of which the first and the last are kept. This project's own.
 use Rattle.std.specs.Prelude.{ℕ, ◌+◌, Bool, false, ◌&&◌, List, length, map, min, nat_le, ◌-◌, true, ◌==◌, if◌then◌else◌, Option, Some, None, is_none, option_map}
-use Rattle.std.specs.Ordering.{int_eq}
 use Rattle.std.specs.List.{sum}
 use Rattle.lc_model.specs.declared.rule.EventKind.{EventKind}
 use Rattle.run_account.specs.declared.place.Place.{Place}
 use Rattle.run_account.specs.Ends.{Ends, kept, no_items}
+use Rattle.run_account.specs.Fields.{is_place}
 use Rattle.run_account.specs.Samples.{Sampled}
 
 -- a request for a command sequence: the number of its packet, its place, the rule that made it, the text in force, the sequence, its
@@ -54,9 +54,6 @@ abbrev pub nothing_sent : Sending
 nothing_sent = record { requests = no_items requests_kept (requests_kept - 1); newest = None; events = no_items events_kept events_kept; parts = 0 }
 
 -- ---- events
-
-abbrev pub is_place : Place → Place → Bool
-is_place one other = one.«record» == other.«record» && int_eq one.time other.time
 
 abbrev pub is_rule : Option ℕ → Option ℕ → Bool
 is_rule None None = true

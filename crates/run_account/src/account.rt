@@ -1,11 +1,12 @@
 //! The account of a run: taken record by record, in memory that doesn't grow with the run.
 
-ghost use Rattle.std.specs.Prelude.{◌≡◌, IfOk, OnOk, replicate};
+ghost use Rattle.std.specs.Prelude.{◌≡◌, IfOk, OnOk, map, replicate};
 ghost use Rattle.run_account.specs.Account.{account_of, before_with, brought_by, come, rows_with, sampled, stood_again, stood_so};
 ghost use Rattle.run_account.specs.Brought.{brings_of};
 ghost use Rattle.run_account.specs.Run.{TellsNothing};
 ghost use Rattle.run_account.specs.Samples.{no_row};
 ghost use Rattle.run_account.specs.Standing.{absent};
+ghost use Rattle.run_account.specs.Texts.{HaveItems, items_in, most_rules, sources_of};
 
 use crate::bands::Bands;
 use crate::brought::{Brought, read_record};
@@ -38,7 +39,10 @@ pub struct Account<'a> {
 }
 
 /// The texts. Out of memory is the only error.
-fn texts_of<'a>(alloc: Global, sources: &[&'a [u8]]) -> Result<Vec<Text<'a>>, AllocError> {
+fn texts_of<'a>(alloc: Global, sources: &[&'a [u8]]) -> Result<Vec<Text<'a>>, AllocError>
+    ensures { IfOk result (λ texts.
+        HaveItems (sources_of sources.now) (map items_in texts.items)) }
+{
     let mut texts = Vec::new(alloc);
     for source in sources {
         texts.push(read_text(alloc, source)?)?;
@@ -47,7 +51,9 @@ fn texts_of<'a>(alloc: Global, sources: &[&'a [u8]]) -> Result<Vec<Text<'a>>, Al
 }
 
 /// The most rules of a text.
-fn most_rules(texts: &[Text<'_>]) -> usize {
+fn most_rules(texts: &[Text<'_>]) -> usize
+    ensures { result ≡ most_rules (map items_in texts.now) }
+{
     let mut most = 0usize;
     for text in texts {
         most = most.max(text.rule_count());
@@ -109,7 +115,7 @@ fn take_stands(stands: &[Stand], before: &mut [Stand])
 impl<'a> Account<'a> {
     /// Of no record, for runs of these texts, which compile. Out of memory is the only error.
     pub fn new(alloc: Global, sources: &[&'a [u8]]) -> Result<Account<'a>, AllocError>
-        ensures { IfOk result (λ it. TellsNothing (account_of it)) }
+        ensures { IfOk result (λ it. TellsNothing (sources_of sources.now) (account_of it)) }
     {
         let texts = texts_of(alloc, sources)?;
         let fields = fields_of(alloc, texts.as_slice())?;
@@ -137,8 +143,8 @@ impl<'a> Account<'a> {
         parts_at(self.plans.as_slice(), text, rule)
     }
 
-    /// A record comes: what it brings is counted and kept, in front of what it leads to. The fields that a packet brought are those
-    /// of `seen` whose `met` is of this place. Out of memory is the only error.
+    /// A record comes: what it brings is counted and kept, in front of what it leads to. What it brought of a field is told by
+    /// `Seen::come_in` (`laws::fields_that_come`). Out of memory is the only error.
     pub fn come(&mut self, bytes: &[u8], place: Place) -> Result<(), AllocError>
         ensures { OnOk result (account_of self.new ≡ come bytes.now place (account_of self.old)) }
     {

@@ -1,6 +1,6 @@
 //! What the account of a run is, by all that the run sent.
 
-ghost use Rattle.run_account.specs.Run.{StandAgain, TellsEvents};
+ghost use Rattle.run_account.specs.Run.{FieldsCome, StandAgain, TellsEvents};
 
 /// The account of a run has the first 1,000 of all its events and the last 1,000, each with its packet, counted over the whole run, and
 /// how many are left out between them, of the records from one to another.
@@ -11,4 +11,9 @@ pub fn the_ends_of_all_events()
 /// Where all rules stand as behind the record before, no sample counts, and only the mode is new.
 pub fn rules_that_stand_as_before()
     ensures { StandAgain }
+{}
+
+/// What an account knows of a field in the place of the record that came is what that record brought of it.
+pub fn fields_that_come()
+    ensures { FieldsCome }
 {}

@@ -1,19 +1,27 @@
 //! Places in a run, and how rules stand behind one.
 
 ghost use Rattle.std.specs.Prelude.{◌≡◌};
+ghost use Rattle.run_account.specs.Fields.{is_place};
 ghost use Rattle.run_account.specs.Standing.{bit_of_result, bit_of_state, stand_at};
 
 use lc_model::{ApMode, ApResult};
 
 /// A record, from 1, and its time in 1/65,536 s, less that of the first.
-#[derive(Clone, Copy, Debug, PartialEq, Eq)]
+#[derive(Clone, Copy)]
 pub struct Place {
     pub record: u64,
     pub time: i64,
 }
 
+/// Whether two places are one.
+pub(crate) fn is_place(one: Place, other: Place) -> bool
+    ensures { result ≡ is_place one other }
+{
+    one.record == other.record && one.time == other.time
+}
+
 /// How a rule stands: its result and its state as bits, and how often it failed in a row.
-#[derive(Clone, Copy, Debug, PartialEq, Eq)]
+#[derive(Clone, Copy)]
 pub struct Stand {
     pub result: u8,
     pub state: u8,

@@ -1,10 +1,13 @@
 //! The rules of texts, as far as requests and samples need them.
 
-ghost use Rattle.std.specs.Prelude.{◌≡◌, Some, option_map, slice_get};
+ghost use Rattle.std.specs.Prelude.{◌≡◌, IfOk, Some, map, option_map, slice_get};
+ghost use Rattle.rule_parser.specs.Syntax.{rule_of};
 ghost use Rattle.run_account.specs.Plans.{may_by, parts_by, planned_at};
+ghost use Rattle.run_account.specs.Texts.{compared_of, comparison_of, items_in, part_in, planned_of, text_planned, texts_planned};
 
-use crate::texts::{Field, Text, compare, place_of};
+use crate::texts::{Field, Text, comparisons_of, place_of};
 use lc_model::CmpOp;
+use rule_parser::{Comparison, Item, RuleItem};
 use std::alloc::{AllocError, Global};
 use std::marker::Model;
 
@@ -105,41 +108,68 @@ pub(crate) fn may_request(plans: &[Plan], text: Option<u16>, rule: usize, sequen
     }
 }
 
-/// The comparisons of a rule.
+/// A comparison by the number of its field among these, if it names one.
+fn part_of(text: &Text<'_>, comparison: &Comparison<'_>, fields: &[Field<'_>]) -> Option<Part>
+    ensures { result ≡ part_in (items_in text.now) (map compared_of fields.now)
+        (comparison_of comparison.now) }
+{
+    match text.field(comparison.field) {
+        Some(field) => Some(Part {
+            field: place_of(fields, &field).unwrap_or(0),
+            op: comparison.op,
+            number: comparison.value.value,
+            at: comparison.value.at,
+        }),
+        None => None,
+    }
+}
+
+/// The comparisons of a rule, from the left. Out of memory is the only error.
 fn parts_of(
     alloc: Global,
     text: &Text<'_>,
-    number: usize,
+    rule: &RuleItem<'_>,
     fields: &[Field<'_>],
-) -> Result<Vec<Part>, AllocError> {
+) -> Result<Vec<Part>, AllocError>
+    ensures { IfOk result (λ parts. parts.items ≡
+        (planned_of (items_in text.now) (map compared_of fields.now) (rule_of rule.now)).parts) }
+{
     let mut parts = Vec::new(alloc);
-    let mut comparisons = Vec::new(alloc);
-    if let Some(rule) = text.rule(number) {
-        compare(&rule.condition, &mut comparisons)?;
-    }
+    let comparisons = comparisons_of(alloc, rule)?;
     for comparison in &comparisons {
-        if let Some(field) = text.field(comparison.field.text) {
-            parts.push(Part {
-                field: place_of(fields, &field).unwrap_or(0),
-                op: comparison.op,
-                number: comparison.value.value,
-                at: comparison.value.at,
-            })?;
+        if let Some(part) = part_of(text, comparison, fields) {
+            parts.push(part)?;
         }
     }
     Ok(parts)
 }
 
+/// A rule of a text. Out of memory is the only error.
+fn rule_plan(
+    alloc: Global,
+    text: &Text<'_>,
+    rule: &RuleItem<'_>,
+    fields: &[Field<'_>],
+) -> Result<RulePlan, AllocError>
+    ensures { IfOk result (λ plan. plan ≡
+        planned_of (items_in text.now) (map compared_of fields.now) (rule_of rule.now)) }
+{
+    Ok(RulePlan {
+        sequence: rule.sequence.value,
+        parts: parts_of(alloc, text, rule, fields)?,
+    })
+}
+
 /// The rules of a text, which compares these fields. Out of memory is the only error.
-fn plan_of(alloc: Global, text: &Text<'_>, fields: &[Field<'_>]) -> Result<Plan, AllocError> {
+fn plan_of(alloc: Global, text: &Text<'_>, fields: &[Field<'_>]) -> Result<Plan, AllocError>
+    ensures { IfOk result (λ plan. plan ≡
+        text_planned (map compared_of fields.now) (items_in text.now)) }
+{
     let mut rules = Vec::new(alloc);
-    for number in 0..text.rule_count() {
-        let sequence = match text.rule(number) {
-            Some(rule) => rule.sequence.value,
-            None => 0,
-        };
-        let parts = parts_of(alloc, text, number, fields)?;
-        rules.push(RulePlan { sequence, parts })?;
+    for item in &text.file.items {
+        if let Item::Rule(rule) = item {
+            rules.push(rule_plan(alloc, text, rule, fields)?)?;
+        }
     }
     Ok(Plan { rules })
 }
@@ -149,7 +179,10 @@ pub(crate) fn plans_of(
     alloc: Global,
     texts: &[Text<'_>],
     fields: &[Field<'_>],
-) -> Result<Vec<Plan>, AllocError> {
+) -> Result<Vec<Plan>, AllocError>
+    ensures { IfOk result (λ plans. plans.items ≡
+        texts_planned (map compared_of fields.now) (map items_in texts.now)) }
+{
     let mut plans = Vec::new(alloc);
     for text in texts {
         plans.push(plan_of(alloc, text, fields)?)?;

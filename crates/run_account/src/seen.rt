@@ -1,10 +1,10 @@
 //! What is known of the fields: what packets said of them.
 
 ghost use Rattle.std.specs.Prelude.{◌≡◌, ◌≤◌, length, map, IfOk};
-ghost use Rattle.run_account.specs.Fields.{all_seen, forgotten, met_of, nothing, seen_by, seen_in, unseen};
+ghost use Rattle.run_account.specs.Fields.{all_seen, come_in, forgotten, met_of, nothing, seen_by, seen_in, unseen};
 
 use crate::figures::count;
-use crate::place::Place;
+use crate::place::{Place, is_place};
 use crate::texts::Field;
 use crate::values::value_in;
 use lc_model::packet::message_id;
@@ -62,8 +62,18 @@ impl<'a> Seen<'a> {
         requires { 2 ≤ length packet.now }
         ensures { self.new ≡ seen_by packet.now place self.old }
     {
-        if self.field.mid == message_id(packet) {
+        if self.field.mid == u32::from(message_id(packet)) {
             self.take(packet, place);
+        }
+    }
+
+    /// What comparisons meet of the field, where a packet of this place brought it.
+    pub fn come_in(&self, place: Place) -> Option<Met>
+        ensures { result ≡ come_in place self.now }
+    {
+        match self.met.place {
+            Some(other) if is_place(other, place) => Some(self.met),
+            _ => None,
         }
     }
 

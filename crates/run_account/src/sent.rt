@@ -3,10 +3,10 @@
 ghost use Rattle.std.specs.Prelude.{◌≡◌, ◌+◌, ◌-◌, ◌^◌, IfOk, OnOk, Some, length, map, min, nat_le, option_map};
 ghost use Rattle.run_account.specs.Ends.{kept};
 ghost use Rattle.run_account.specs.Samples.{Sampled};
-ghost use Rattle.run_account.specs.Sent.{Requested, Said, before_newest, hears, is_own, is_place, is_rule, most_parts, nothing_sent, parts_in, parts_with, requested_more, said_more};
+ghost use Rattle.run_account.specs.Sent.{Requested, Said, before_newest, hears, is_own, is_rule, most_parts, nothing_sent, parts_in, parts_with, requested_more, said_more};
 
 use crate::ends::Ends;
-use crate::place::Place;
+use crate::place::{Place, is_place};
 use crate::samples::Sample;
 use lc_model::EventKind;
 use std::alloc::{AllocError, Global};
@@ -81,13 +81,6 @@ impl Model for Told {
       kind = t.kind;
       text = t.text.items;
     } };
-}
-
-/// Whether two places are one.
-fn is_place(one: Place, other: Place) -> bool
-    ensures { result ≡ is_place one other }
-{
-    one.record == other.record && one.time == other.time
 }
 
 /// Whether two rules are one, or both are unknown.

@@ -1,5 +1,5 @@
 -- Lanes, in front of the lists of fields.
-use Rattle.std.proofs.Common.{◌≡◌, ℕ, zero, suc, ◌+◌, ◌-◌, ◌<◌, ◌≤◌, List, [], ◌∷◌, ◌++◌, length, refl, ap, sym, ◌∙◌, subst, arith, true}
+use Rattle.std.proofs.Common.{◌≡◌, ℕ, zero, suc, ◌+◌, ◌<◌, List, [], ◌∷◌, ◌++◌, length, refl, ap, sym, ◌∙◌, subst, arith, true}
 use Rattle.std.proofs.lemmas.Bool.Decides.{nat_tests}
 use Rattle.std.proofs.lemmas.List.{append_assoc}
 use Rattle.change_lists.specs.declared.entry.Entry.{Entry}
@@ -10,12 +10,9 @@ use Rattle.change_lists.specs.Laws.{ToldAgain}
 use Rattle.change_lists.specs.Telling.{AllTell, PoolTells, lists_of, most_of, told_to}
 use Rattle.run_account.specs.declared.place.Place.{Place}
 use Rattle.run_account.specs.declared.place.Stand.{Stand}
-use Rattle.run_report.specs.declared.behind.Behind.{Behind}
 use Rattle.run_report.specs.declared.lists.Lists.{Lists}
-use Rattle.std.specs.Prelude.{Result, OnOk}
-use Rattle.std.proofs.lemmas.Result.{on_ok_weaker}
 use Rattle.run_account.specs.Standing.{stand_at}
-use Rattle.run_report.specs.Model.{IsKept, LanesTell, SaidLast, lanes_from, nothing_told, stood, stood_more}
+use Rattle.run_report.specs.Model.{ListsTell, SaidLast, lanes_from, nothing_told, stood, stood_more}
 
 -- ---- nothing told
 
@@ -43,36 +40,18 @@ told_in_front n entry [] values within = absurd (omega arith)
 told_in_front zero entry (told ∷ lanes) values within = refl
 told_in_front (suc n) entry (told ∷ lanes) values within = ap (λ more. told ∷ more) (told_in_front n entry lanes values (omega arith))
 
-pub told_behind : (n : ℕ) (entry : Entry) (lanes values : List (List Entry)) → length lanes ≤ n → told_to n entry (lanes ++ values) ≡ lanes ++ told_to (n - length lanes) entry values
-told_behind n entry [] values behind = ap (λ number. told_to number entry values) (omega arith)
-told_behind zero entry (told ∷ lanes) values behind = absurd (omega arith)
-told_behind (suc n) entry (told ∷ lanes) values behind =
-    ap (λ more. told ∷ more) (told_behind n entry lanes values (omega arith)
-    ∙ ap (λ number. lanes ++ told_to number entry values) (omega arith))
-
 pub length_told : (n : ℕ) (entry : Entry) (lanes : List (List Entry)) → length (told_to n entry lanes) ≡ length lanes
 length_told n entry [] = refl
 length_told zero entry (told ∷ lanes) = refl
 length_told (suc n) entry (told ∷ lanes) = grind (arith, length_told n entry lanes)
 
--- a field is told more
-pub value_told : (old new : Lists) (n : ℕ) (entry : Entry) (lanes : List (List Entry)) → old.lanes ≤ n → new.lanes ≡ old.lanes → most_of new.pool ≡ most_of old.pool →
-    (tells : LanesTell old lanes) → PoolTells new.pool (told_to n entry (lanes ++ tells.values)) → LanesTell new lanes
-value_told old new n entry lanes behind same bound tells all = record {
-  values = told_to (n - length lanes) entry tells.values;
-  lanes_are = tells.lanes_are ∙ sym same;
-  most = bound ∙ tells.most;
-  all = subst (PoolTells new.pool) (told_behind n entry lanes tells.values (omega (arith, tells.lanes_are))) all;
-}
-
 -- a rule is told more
-pub lane_told : (old new : Lists) (n : ℕ) (entry : Entry) (lanes : List (List Entry)) → n < old.lanes → new.lanes ≡ old.lanes → most_of new.pool ≡ most_of old.pool →
-    (tells : LanesTell old lanes) → PoolTells new.pool (told_to n entry (lanes ++ tells.values)) → LanesTell new (told_to n entry lanes)
-lane_told old new n entry lanes within same bound tells all = record {
-  values = tells.values;
+pub lane_told : (old new : Lists) (n : ℕ) (entry : Entry) (lanes values : List (List Entry)) → n < old.lanes → new.lanes ≡ old.lanes → most_of new.pool ≡ most_of old.pool →
+    ListsTell old lanes values → PoolTells new.pool (told_to n entry (lanes ++ values)) → ListsTell new (told_to n entry lanes) values
+lane_told old new n entry lanes values within same bound tells all = record {
   lanes_are = length_told n entry lanes ∙ tells.lanes_are ∙ sym same;
   most = bound ∙ tells.most;
-  all = subst (PoolTells new.pool) (told_in_front n entry lanes tells.values (omega (arith, tells.lanes_are))) all;
+  all = subst (PoolTells new.pool) (told_in_front n entry lanes values (omega (arith, tells.lanes_are))) all;
 }
 
 -- ---- all rules told more
@@ -114,14 +93,13 @@ pub length_stood : (place : Place) (stands : List Stand) (rule : ℕ) (lanes : L
 length_stood place stands rule [] = refl
 length_stood place stands rule (told ∷ lanes) = grind (arith, length_stood place stands (suc rule) lanes)
 
-pub lanes_again : ToldAgain → (lists : Lists) (place : Place) (stands : List Stand) (lanes : List (List Entry)) → LanesTell lists lanes → SaidLast place 0 stands lanes →
-    LanesTell lists (stood_more place stands 0 lanes)
-lanes_again again lists place stands lanes tells said = record {
-  values = tells.values;
+pub lanes_again : ToldAgain → (lists : Lists) (place : Place) (stands : List Stand) (lanes values : List (List Entry)) → ListsTell lists lanes values →
+    SaidLast place 0 stands lanes → ListsTell lists (stood_more place stands 0 lanes) values
+lanes_again again lists place stands lanes values tells said = record {
   lanes_are = length_stood place stands 0 lanes ∙ tells.lanes_are;
   most = tells.most;
   all = record {
-    all = all_again again (lists_of lists.pool) place stands 0 lanes tells.values tells.all.all said;
+    all = all_again again (lists_of lists.pool) place stands 0 lanes values tells.all.all said;
     count = tells.all.count;
     small = tells.all.small;
     room = tells.all.room;
@@ -144,13 +122,3 @@ said_now place other stands rule (told ∷ lanes) = (
   last_told told (stood place (stand_at rule stands)) (stood other (stand_at rule stands)) ∙ said_itself place other (stand_at rule stands),
   said_now place other stands (suc rule) lanes,
 )
-
--- what a record tells, and what was told last then
-pub told_and_kept : {E : Type 0} (result : Result (Unit {0}) E) (old new : Behind) (place now : Place) (stands : List Stand) (lists : Lists) (lanes : List (List Entry)) →
-    new ≡ old → place ≡ now → old.rules.items ≡ stands → OnOk result (LanesTell lists (stood_more place old.rules.items 0 lanes)) →
-    OnOk result (LanesTell lists (stood_more now stands 0 lanes) × IsKept new (stood_more now stands 0 lanes))
-told_and_kept result old new place now stands lists lanes stays same are told =
-    subst (λ (behind : Behind). OnOk result (LanesTell lists (stood_more now stands 0 lanes) × IsKept behind (stood_more now stands 0 lanes))) (sym stays)
-    (subst (λ (at : Place). OnOk result (LanesTell lists (stood_more at stands 0 lanes) × IsKept old (stood_more at stands 0 lanes))) same
-    (subst (λ (these : List Stand). OnOk result (LanesTell lists (stood_more place these 0 lanes) × IsKept old (stood_more place these 0 lanes))) are
-    (on_ok_weaker result (λ tells. (tells, λ looked other. said_now place other old.rules.items 0 lanes)) told)))

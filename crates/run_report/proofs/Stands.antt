@@ -26,6 +26,13 @@ one_more [] n stand is = absurd (grind arith)
 one_more (one ∷ stands) zero stand is = λ i. unwrap_or (sym is i) stand ∷ []
 one_more (one ∷ stands) (suc n) stand is = ap (λ more. one ∷ more) (one_more stands n stand is)
 
+-- .. of those of an engine
+pub stands_more : (points : List (Point Tally)) (n : ℕ) (stand : Stand) (so_far after : List Stand) → after ≡ so_far ++ stand ∷ [] →
+    so_far ≡ take n (map stand_of points) → slice_get (map stand_of points) n ≡ Some stand → after ≡ take (n + 1) (map stand_of points)
+stands_more points n stand so_far after is so here =
+    let next : suc n ≡ n + 1 = omega arith in
+    is ∙ ap (λ stands. stands ++ stand ∷ []) so ∙ one_more (map stand_of points) n stand here ∙ ap (λ count. take count (map stand_of points)) next
+
 -- .. of two that are alike so far
 pub both_more : (stands others : List Stand) (n : ℕ) (stand other : Stand) → slice_get stands n ≡ Some stand → slice_get others n ≡ Some other → stand ≡ other →
     take n stands ≡ take n others → take (n + 1) stands ≡ take (n + 1) others

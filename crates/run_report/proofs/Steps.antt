@@ -1,7 +1,6 @@
 -- Records that are told one after the other.
 use Rattle.std.proofs.Common.{◌≡◌, ℕ, zero, suc, ◌+◌, ◌<◌, ◌^◌, List, [], ◌∷◌, ◌++◌, length, length-append, refl, ap, sym, ◌∙◌, subst, arith, if◌then◌else◌, Ok}
-use Rattle.std.specs.Prelude.{◌==◌, Bool, false}
-use Rattle.std.proofs.lemmas.Bool.Decides.{nat_tests}
+use Rattle.std.specs.Prelude.{◌==◌}
 use Rattle.std.proofs.lemmas.List.{append_assoc, append-nil}
 use Rattle.change_lists.specs.declared.entry.Entry.{Entry}
 use Rattle.flight_core.specs.Feeding.{Feeding}
@@ -9,11 +8,15 @@ use Rattle.run_course.specs.Stepping.{HasStepped, engine_among}
 use Rattle.run_course.specs.declared.handled.Handled.TheVariants as handled
 use Rattle.run_report.specs.declared.behind.Behind.{Behind}
 use Rattle.run_report.specs.declared.lists.Lists.{Lists}
-use Rattle.run_report.proofs.Lanes.{length_stood}
 use Rattle.run_account.specs.Standing.{stand_at}
 use Rattle.run_account.specs.Account.{Account}
+use Rattle.run_account.specs.Brought.{brings}
+use Rattle.run_account.specs.Fields.{AreKnown, all_brought}
+use Rattle.run_account.specs.Run.{OfTexts, nothing_told}
+use Rattle.run_account.specs.declared.texts.Field.{Field}
 use Rattle.run_report.proofs.Accounts.{account_more}
-use Rattle.run_report.specs.Model.{HasTaken, HasTold, IsKept, KeepsStands, LanesTell, Step, Went, bytes_of, lanes_from, place_of, stands_of, start_of, stood, stood_more, ticks_of, told_from, told_of}
+use Rattle.run_report.proofs.Values.{all_values_more, started}
+use Rattle.run_report.specs.Model.{HasTaken, HasTold, IsKept, KeepsStands, ListsTell, Step, Went, all_values, bytes_of, lanes_from, place_of, stands_of, start_of, stood, stood_more, ticks_of, told_from, told_of, values_more}
 
 -- the host goes through one record more
 pub went_more : (first old new : Feeding) (steps : List Step) (bytes written : List ℕ) → Went first steps old → HasStepped bytes old new written (Ok handled.Whole) →
@@ -35,13 +38,6 @@ told_more start number rule (one ∷ steps) step =
     ap (λ more. stood (place_of start number one.bytes) (stand_at rule (stands_of (engine_among one.host.host.seats))) ∷ more)
     (told_more start (number + 1) rule steps step
     ∙ ap (λ at. told_from start (number + 1) rule steps ++ stood (place_of start at step.bytes) (stand_at rule (stands_of (engine_among step.host.host.seats))) ∷ []) (omega arith))
-
--- by a run whose first record is of this time
-started : (steps : List Step) (step : Step) (start : ℕ) → start ≡ (if length steps + 1 == 1 then ticks_of step.bytes else start_of steps) → start ≡ start_of (steps ++ step ∷ [])
-started [] step start is = is
-started (one ∷ steps) step start is =
-    let more : (length (one ∷ steps) + 1 == 1) ≡ false = grind (arith, nat_tests) in
-    is ∙ ap (λ (b : Bool). if b then ticks_of step.bytes else ticks_of one.bytes) more
 
 told_of_more : (rule : ℕ) (steps : List Step) (step : Step) (start : ℕ) → start ≡ (if length steps + 1 == 1 then ticks_of step.bytes else start_of steps) →
     told_of rule steps ++ stood (place_of start (length steps + 1) step.bytes) (stand_at rule (stands_of (engine_among step.host.host.seats))) ∷ [] ≡ told_of rule (steps ++ step ∷ [])
@@ -68,31 +64,34 @@ joined_bytes front bytes behind =
     ap (λ more. (front ++ more) ++ behind) (append-nil bytes) ∙ append_assoc front bytes behind
 
 -- what was told so far of a stream, of which these bytes are left
-pub record SoFar (first now : Feeding) (stream rest : List ℕ) (lists : Lists) (behind : Behind) (a : Account) (start number : ℕ) : Type 0 where
+pub record SoFar (texts : OfTexts) (first now : Feeding) (stream rest : List ℕ) (lists : Lists) (behind : Behind) (a : Account) (start number : ℕ) : Type 0 where
   pub steps : List Step
   pub count : length steps ≡ number
   pub went : Went first steps now
   pub bytes : bytes_of steps ++ rest ≡ stream
-  pub told : HasTold lists behind a start steps
+  pub told : HasTold texts lists behind a start steps
 
-pub nothing_so_far : (first : Feeding) (stream : List ℕ) (lists : Lists) (behind : Behind) (a : Account) (start : ℕ) → HasTold lists behind a start [] →
-    SoFar first first stream stream lists behind a start 0
-nothing_so_far first stream lists behind a start told = record { steps = []; count = refl; went = refl; bytes = refl; told = told }
+pub nothing_so_far : (texts : OfTexts) (first : Feeding) (stream : List ℕ) (lists : Lists) (behind : Behind) (a : Account) (start : ℕ) →
+    HasTold texts lists behind a start [] → SoFar texts first first stream stream lists behind a start 0
+nothing_so_far texts first stream lists behind a start told = record { steps = []; count = refl; went = refl; bytes = refl; told = told }
 
 -- what a record behind so many others tells
-abbrev pub TellsNow : Lists → Behind → ℕ → List ℕ → Feeding → List (List Entry) → ℕ → Type 0
-TellsNow lists behind start bytes host lanes count =
-    LanesTell lists (stood_more (place_of start (count + 1) bytes) (stands_of (engine_among host.host.seats)) 0 lanes)
-    × IsKept behind (stood_more (place_of start (count + 1) bytes) (stands_of (engine_among host.host.seats)) 0 lanes)
+abbrev pub TellsNow : Lists → Behind → ℕ → List ℕ → Feeding → List Field → (lanes values : List (List Entry)) → ℕ → Type 0
+TellsNow lists behind start bytes host fields lanes values number =
+    ListsTell lists (stood_more (place_of start number bytes) (stands_of (engine_among host.host.seats)) 0 lanes)
+    (values_more (place_of start number bytes) (all_brought fields (place_of start number bytes) (brings bytes)) values)
+    × IsKept behind (stood_more (place_of start number bytes) (stands_of (engine_among host.host.seats)) 0 lanes)
 
 -- one record more
-pub next_so_far : (first old new : Feeding) (stream rest bytes left written : List ℕ) (lists after : Lists) (behind behind_it : Behind) (a after_it : Account) (start now number : ℕ) →
-    SoFar first old stream rest lists behind a start number → HasStepped bytes old new written (Ok handled.Whole) → bytes ++ left ≡ rest →
+pub next_so_far : (texts : OfTexts) (first old new : Feeding) (stream rest bytes left written : List ℕ) (lists after : Lists) (behind behind_it : Behind) (a after_it : Account)
+    (start now number : ℕ) →
+    SoFar texts first old stream rest lists behind a start number → HasStepped bytes old new written (Ok handled.Whole) → bytes ++ left ≡ rest →
     now ≡ (if number + 1 == 1 then ticks_of bytes else start) → now < 2 ^ 48 →
-    ((lanes : List (List Entry)) → LanesTell lists lanes → IsKept behind lanes → TellsNow after behind_it now bytes new lanes number) →
+    ((fields : List Field) (lanes values : List (List Entry)) → AreKnown (number + 1) fields a.seen → ListsTell lists lanes values → IsKept behind lanes →
+    TellsNow after behind_it now bytes new fields lanes values (number + 1)) →
     (KeepsStands behind a → HasTaken (record { bytes = bytes; host = new; written = written }) now (number + 1) behind_it a after_it) →
-    SoFar first new stream left after behind_it after_it now (number + 1)
-next_so_far first old new stream rest bytes left written lists after behind behind_it a after_it start now number so stepped parts begins small adds takes = record {
+    SoFar texts first new stream left after behind_it after_it now (number + 1)
+next_so_far texts first old new stream rest bytes left written lists after behind behind_it a after_it start now number so stepped parts begins small adds takes = record {
   steps = so.steps ++ step ∷ [];
   count = counted so.steps step number so.count;
   went = went_more first old new so.steps bytes written so.went stepped;
@@ -100,11 +99,11 @@ next_so_far first old new stream rest bytes left written lists after behind behi
   told = record {
     first = started so.steps step now begins_so;
     small = small;
-    lanes = subst (λ count. LanesTell after (lanes_from 0 count (so.steps ++ step ∷ []))) same_lanes
-        (subst (LanesTell after) (lanes_more 0 lists.lanes so.steps step now begins_so) told_now.0);
-    kept = subst (λ count. IsKept behind_it (lanes_from 0 count (so.steps ++ step ∷ []))) same_lanes
-        (subst (IsKept behind_it) (lanes_more 0 lists.lanes so.steps step now begins_so) told_now.1);
-    is_account = account_more so.steps step now a after_it so.told.is_account begins_so taken_now.taken;
+    lists_tell = subst (λ (lanes : List (List Entry)). ListsTell after lanes (all_values texts.fields (so.steps ++ step ∷ []))) more_lanes
+        (subst (ListsTell after lanes_now) (all_values_more texts.fields so.steps step now begins_so) told_now.0);
+    kept = subst (IsKept behind_it) more_lanes told_now.1;
+    is_account = account_more texts so.steps step now a after_it so.told.is_account begins_so taken_now.taken;
+    known = subst (λ count. AreKnown (count + 1) texts.fields after_it.seen) (sym (counted so.steps step (length so.steps) refl)) (taken_now.known texts.fields so.told.known);
     stood_last = taken_now.stood_last;
   };
 } where
@@ -117,10 +116,13 @@ next_so_far first old new stream rest bytes left written lists after behind behi
   taken_now : HasTaken step now (length so.steps + 1) behind_it a after_it
   taken_now = subst (λ count. HasTaken step now (count + 1) behind_it a after_it) (sym so.count) (takes so.told.stood_last)
 
-  told_now : TellsNow after behind_it now bytes new (lanes_from 0 lists.lanes so.steps) (length so.steps)
-  told_now = subst (TellsNow after behind_it now bytes new (lanes_from 0 lists.lanes so.steps)) (sym so.count) (adds (lanes_from 0 lists.lanes so.steps) so.told.lanes so.told.kept)
+  lanes_now : List (List Entry)
+  lanes_now = stood_more (place_of now (length so.steps + 1) bytes) (stands_of (engine_among new.host.seats)) 0 (lanes_from 0 texts.lanes so.steps)
 
-  same_lanes : lists.lanes ≡ after.lanes
-  same_lanes = sym (sym told_now.0.lanes_are
-      ∙ length_stood (place_of now (length so.steps + 1) bytes) (stands_of (engine_among new.host.seats)) 0 (lanes_from 0 lists.lanes so.steps)
-      ∙ so.told.lanes.lanes_are)
+  more_lanes : lanes_now ≡ lanes_from 0 texts.lanes (so.steps ++ step ∷ [])
+  more_lanes = lanes_more 0 texts.lanes so.steps step now begins_so
+
+  told_now : TellsNow after behind_it now bytes new texts.fields (lanes_from 0 texts.lanes so.steps) (all_values texts.fields so.steps) (length so.steps + 1)
+  told_now = subst (λ count. TellsNow after behind_it now bytes new texts.fields (lanes_from 0 texts.lanes so.steps) (all_values texts.fields so.steps) (count + 1)) (sym so.count)
+      (adds texts.fields (lanes_from 0 texts.lanes so.steps) (all_values texts.fields so.steps)
+      (subst (λ count. AreKnown (count + 1) texts.fields a.seen) so.count so.told.known) so.told.lists_tell so.told.kept)

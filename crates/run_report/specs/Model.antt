@@ -1,12 +1,14 @@
--- What a page tells of a run: how the Limit Checker stands behind each record, rule by rule (page/DATA.md). This project's own.
-use Rattle.std.specs.Prelude.{◌≡◌, ℕ, zero, suc, ◌+◌, ◌*◌, ◌^◌, ◌<◌, true, List, [], ◌∷◌, ◌++◌, length, map, pos, ◌-ℤ◌, nat_lt, if◌then◌else◌, Option, Some, None, Ok}
+-- What a page tells of a run: how the Limit Checker stands behind each record, rule by rule, the values of fields, and the account of
+-- the run (page/DATA.md). This project's own.
+use Rattle.std.specs.Prelude.{◌≡◌, ℕ, zero, suc, ◌+◌, ◌*◌, ◌^◌, ◌<◌, true, List, [], ◌∷◌, ◌++◌, length, map, pos, ◌-ℤ◌, negsuc, ℤ, nat_lt, if◌then◌else◌, Option, Some, None, Ok}
 use Rattle.lc_model.specs.declared.mode.LcMode.{LcMode}
 use Rattle.lc_model.specs.Bytes.{u16_at, u32_at}
+use Rattle.lc_model.specs.Host.Schedule.{Schedule}
 use Rattle.lc_model.specs.Host.Stream.{header_size}
 use Rattle.lc_model.specs.Kept.Summary.{LcOwn, Tally}
 use Rattle.lc_model.specs.LimitChecker.Steps.{Point}
 use Rattle.flight_core.specs.Feeding.{Feeding}
-use Rattle.run_course.specs.Stepping.{HasStepped, engine_among}
+use Rattle.run_course.specs.Stepping.{BeginsWith, HasStepped, engine_among}
 use Rattle.run_course.specs.declared.handled.Handled.{Handled}
 use Rattle.run_course.specs.declared.handled.Handled.TheVariants as handled
 use Rattle.run_course.specs.declared.ending.Ending.{Ending}
@@ -16,11 +18,15 @@ use Rattle.change_lists.specs.Changes.{is_said_last}
 use Rattle.change_lists.specs.Telling.{PoolTells, most_of}
 use Rattle.run_account.specs.declared.place.Place.{Place}
 use Rattle.run_account.specs.declared.place.Stand.{Stand}
+use Rattle.run_account.specs.declared.seen.Met.{Met}
 use Rattle.run_account.specs.declared.texts.Field.{Field}
 use Rattle.run_account.specs.Account as account
 use Rattle.run_account.specs.Account.{Account, account_behind}
-use Rattle.run_account.specs.Plans.{Planned}
+use Rattle.run_account.specs.Brought.{brings}
+use Rattle.run_account.specs.Fields.{AreKnown, brought_of}
 use Rattle.run_account.specs.Run as run
+use Rattle.run_account.specs.Run.{AreRead, OfTexts}
+use Rattle.run_account.specs.Texts.{HaveItems}
 use Rattle.run_account.specs.Standing.{bit_of_result, bit_of_state, stand_at}
 use Rattle.run_report.specs.declared.behind.Behind.{Behind}
 use Rattle.run_report.specs.declared.lists.Lists.{Lists}
@@ -108,12 +114,63 @@ SaidLast place rule stands (told ∷ more) = (is_said_last told (stood place (st
 abbrev pub most_entries : ℕ
 most_entries = 22528
 
--- the lists of the lanes tell this: they stand in front of those of the fields, and all have room together
-pub record LanesTell (lists : Lists) (lanes : List (List Entry)) : Type 0 where
-  pub values : List (List Entry)
+-- the lists tell this: those of the lanes stand in front of those of the fields, and all have room together
+pub record ListsTell (lists : Lists) (lanes values : List (List Entry)) : Type 0 where
   pub lanes_are : length lanes ≡ lists.lanes
   pub most : most_of lists.pool ≡ most_entries
   pub all : PoolTells lists.pool (lanes ++ values)
+
+-- ---- values of fields
+
+-- the greatest and the least number of 64 bits
+abbrev pub greatest : ℤ
+greatest = pos 9_223_372_036_854_775_807
+
+abbrev pub least : ℤ
+least = negsuc 9_223_372_036_854_775_807
+
+-- a field has this value from this place on; one that its packet is too short for is less than the least and more than the greatest
+abbrev pub valued : Place → Option ℤ → Entry
+valued place None = record {
+  from = place.«record»;
+  time = place.time;
+  told = record { results = 0; states = 0; low = greatest; high = least };
+  changes = 1;
+}
+valued place (Some value) = record {
+  from = place.«record»;
+  time = place.time;
+  told = record { results = 0; states = 0; low = value; high = value };
+  changes = 1;
+}
+
+-- what is told of a field in a place where this came of it
+abbrev pub value_told : Place → Option Met → List Entry
+value_told place None = []
+value_told place (Some met) = valued place met.value ∷ []
+
+-- what is told of a field by records, the first of which has this number: its value in each packet of its message id
+abbrev pub values_from : (start number : ℕ) → Field → List Step → List Entry
+values_from start number field [] = []
+values_from start number field (step ∷ steps) =
+    value_told (place_of start number step.bytes) (brought_of field (place_of start number step.bytes) (brings step.bytes))
+    ++ values_from start (number + 1) field steps
+
+-- .. by a whole run
+abbrev pub values_of : List Step → Field → List Entry
+values_of steps field = values_from (start_of steps) 1 field steps
+
+-- for each of these fields
+abbrev pub all_values : List Field → List Step → List (List Entry)
+all_values fields steps = map (values_of steps) fields
+
+-- what came of each field in this place is told
+abbrev pub values_more : Place → List (Option Met) → List (List Entry) → List (List Entry)
+values_more place [] values = values
+values_more place (met ∷ more) [] = []
+values_more place (met ∷ more) (told ∷ values) = (told ++ value_told place met) ∷ values_more place more values
+
+-- ---- what was told last
 
 -- where the rules were looked at, the lanes were told last that they stand as they did
 abbrev pub IsKept : Behind → List (List Entry) → Type 0
@@ -146,12 +203,9 @@ taken_from start number (step ∷ steps) = taken_of start number step ∷ taken_
 abbrev pub all_taken : List Step → List account.Step
 all_taken steps = taken_from (start_of steps) 1 steps
 
--- the account is that of these records, in a run of texts with some rules, in so many lanes, which compare these fields
-pub record IsAccountOf (steps : List Step) (a : Account) : Type 0 where
-  pub plans : List (List Planned)
-  pub lanes : ℕ
-  pub fields : List Field
-  pub is : a ≡ account_behind (run.nothing_told plans lanes fields) (all_taken steps)
+-- the account of these records, in a run of these texts
+abbrev pub account_by : OfTexts → List Step → Account
+account_by texts steps = account_behind (run.nothing_told texts) (all_taken steps)
 
 -- where the rules were looked at, they stood so behind the last record
 abbrev pub KeepsStands : Behind → Account → Type 0
@@ -166,17 +220,19 @@ led_to written place behind a =
 -- the record of this number was taken into the account
 pub record HasTaken (step : Step) (start number : ℕ) (behind : Behind) (old new : Account) : Type 0 where
   pub taken : new ≡ account.account_with (taken_of start number step) old
+  pub known : (fields : List Field) → AreKnown number fields old.seen → AreKnown (number + 1) fields new.seen
   pub stood_last : KeepsStands behind new
 
 -- ---- a whole run
 
--- all this is told of these records
-pub record HasTold (lists : Lists) (behind : Behind) (a : Account) (start : ℕ) (steps : List Step) : Type 0 where
+-- all this is told of these records, in a run of these texts
+pub record HasTold (texts : OfTexts) (lists : Lists) (behind : Behind) (a : Account) (start : ℕ) (steps : List Step) : Type 0 where
   pub first : start ≡ start_of steps
   pub small : start < 2 ^ 48
-  pub lanes : LanesTell lists (lanes_from 0 lists.lanes steps)
-  pub kept : IsKept behind (lanes_from 0 lists.lanes steps)
-  pub is_account : IsAccountOf steps a
+  pub lists_tell : ListsTell lists (lanes_from 0 texts.lanes steps) (all_values texts.fields steps)
+  pub kept : IsKept behind (lanes_from 0 texts.lanes steps)
+  pub is_account : a ≡ account_by texts steps
+  pub known : AreKnown (length steps + 1) texts.fields a.seen
   pub stood_last : KeepsStands behind a
 
 -- the bytes of all records, one behind the other
@@ -201,14 +257,24 @@ EndsSo (Cut n) steps host rest = (n ≡ length steps + 1) × StopsAt host rest h
 EndsSo Bound steps host rest = ⊥
 
 -- a run over a stream by a host that was so at first, as its page tells it: the records in front of the stream are handled, each as the host
--- itself handles it, each rule's lane has the changes of how the rule stood behind each of them, reduced by columns, and the account is that
--- of these records
-pub record Tells (stream : List ℕ) (first : Feeding) (lists : Lists) (a : Account) (ending : Ending) : Type 0 where
+-- itself handles it, each rule's lane has the changes of how the rule stood behind each of them, each field's list those of its values in the
+-- packets of its message id, all reduced by columns, and the account is that of these records
+pub record Tells (texts : OfTexts) (stream : List ℕ) (first : Feeding) (lists : Lists) (a : Account) (ending : Ending) : Type 0 where
   pub steps : List Step
   pub host : Feeding
   pub rest : List ℕ
   pub went : Went first steps host
   pub bytes : bytes_of steps ++ rest ≡ stream
   pub ends : EndsSo ending steps host rest
-  pub lanes : LanesTell lists (lanes_from 0 lists.lanes steps)
-  pub is_account : IsAccountOf steps a
+  pub lists_tell : ListsTell lists (lanes_from 0 texts.lanes steps) (all_values texts.fields steps)
+  pub is_account : a ≡ account_by texts steps
+
+-- .. of these texts under this schedule: the lanes are those of the texts' rules, the lists of values those of the fields that the rules
+-- compare, and the host is new at first, with the texts' files and this profile's applications in stock
+pub record TellsRun (sources : List (List ℕ)) (schedule : Schedule) (stream : List ℕ) (lists : Lists) (a : Account) (ending : Ending) : Type 0 where
+  pub read : OfTexts
+  pub items : HaveItems sources read.texts
+  pub are_read : AreRead read
+  pub first : Feeding
+  pub begins : BeginsWith sources schedule first
+  pub tells : Tells read stream first lists a ending

@@ -11,7 +11,7 @@ use run_course::Stepping;
 use std::alloc::{AllocError, Global};
 
 /// The mode, where a Limit Checker runs, and its rules, once they were looked at.
-#[derive(Debug, Drop)]
+#[derive(Drop)]
 pub struct Behind {
     pub mode: Option<LcMode>,
     pub rules: Vec<Stand>,

@@ -7,7 +7,7 @@ use lc_model::stream::{HEADER, moment_of};
 use run_account::Place;
 
 /// The time of the first record, that of the last one less that of the first, and whether none is before the one in front of it.
-#[derive(Clone, Copy, Debug, PartialEq, Eq)]
+#[derive(Clone, Copy)]
 pub struct Clock {
     pub start: u64,
     pub end: i64,

@@ -1,14 +1,16 @@
 //! What lists are told from a place on.
 
 ghost use Rattle.std.specs.Prelude.{◌≡◌};
-ghost use Rattle.run_report.specs.Model.{stood};
+ghost use Rattle.run_report.specs.Model.{stood, valued};
 
 use change_lists::{Entry, Told};
 use run_account::{Met, Place, Stand};
 
 /// A field has this value from here on. One that the packet is too short for is none, which is less than the least and more than
 /// the greatest.
-pub fn value_entry(place: Place, met: Met) -> Entry {
+pub fn value_entry(place: Place, met: Met) -> Entry
+    ensures { result ≡ valued place met.value }
+{
     let (low, high) = match met.value {
         Some(value) => (value, value),
         None => (i64::MAX, i64::MIN),

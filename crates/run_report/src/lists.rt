@@ -2,8 +2,8 @@
 
 ghost use Rattle.std.specs.Prelude.{◌≡◌, ◌<◌, List, OnOk, IfOk, ◌++◌, []};
 ghost use Rattle.change_lists.specs.declared.entry.Entry.{Entry as Told};
-ghost use Rattle.change_lists.specs.Telling.{PoolTells, most_of, told_to};
-ghost use Rattle.run_report.specs.Model.{LanesTell, SaidLast, nothing_told, stood_more};
+ghost use Rattle.change_lists.specs.Telling.{AllTell, PoolTells, most_of, told_to};
+ghost use Rattle.run_report.specs.Model.{ListsTell, SaidLast, nothing_told, stood_more};
 
 use crate::entry::stand_entry;
 use change_lists::laws::told_again_is_told;
@@ -36,7 +36,8 @@ fn push_all(pool: &mut Pool, count: usize) -> Result<(), AllocError>
 impl Lists {
     /// Of so many lanes and fields, of which nothing was told.
     pub fn new(alloc: Global, lanes: usize, fields: usize) -> Result<Lists, AllocError>
-        ensures { IfOk result (λ lists. LanesTell lists (nothing_told lanes)) }
+        ensures { IfOk result
+            (λ lists. ListsTell lists (nothing_told lanes) (nothing_told fields)) }
     {
         let mut pool = Pool::new(alloc, ENTRIES);
         push_all(&mut pool, lanes)?;
@@ -52,15 +53,18 @@ impl Lists {
     }
 
     /// The lists of the lanes, and those of the fields.
-    pub fn parts(&self) -> (&[Changes], &[Changes]) {
+    pub fn parts(&self) -> (&[Changes], &[Changes])
+        ensures { (lanes values : List (List Told)) → ListsTell self.now lanes values →
+            AllTell result.0.now lanes × AllTell result.1.now values }
+    {
         let lists = self.pool.lists();
         lists.split_at(self.lanes.min(lists.len()))
     }
 
-    /// A field has a value from a record on. Lanes stay as they are.
+    /// A field has a value from a record on.
     pub fn value(&mut self, field: usize, entry: Entry) -> Result<(), AllocError>
-        ensures { (lanes : List (List Told)) → LanesTell self.old lanes →
-            OnOk result (LanesTell self.new lanes) }
+        ensures { (lanes values : List (List Told)) → ListsTell self.old lanes values →
+            OnOk result (ListsTell self.new lanes (told_to field entry values)) }
     {
         self.pool.add(self.lanes.saturating_add(field), entry)
     }
@@ -69,16 +73,16 @@ impl Lists {
     fn stand_one(&mut self, rule: usize, entry: Entry) -> Result<(), AllocError>
         requires { rule < self.old.lanes }
         ensures count { self.new.lanes ≡ self.old.lanes }
-        ensures told { (lanes : List (List Told)) → LanesTell self.old lanes →
-            OnOk result (LanesTell self.new (told_to rule entry lanes)) }
+        ensures told { (lanes values : List (List Told)) → ListsTell self.old lanes values →
+            OnOk result (ListsTell self.new (told_to rule entry lanes) values) }
     {
         self.pool.add(rule, entry)
     }
 
     /// How all rules stand from a record on.
     pub fn stand(&mut self, place: Place, stands: &[Stand]) -> Result<(), AllocError>
-        ensures { (lanes : List (List Told)) → LanesTell self.old lanes →
-            OnOk result (LanesTell self.new (stood_more place stands.now 0 lanes)) }
+        ensures { (lanes values : List (List Told)) → ListsTell self.old lanes values →
+            OnOk result (ListsTell self.new (stood_more place stands.now 0 lanes) values) }
     {
         for rule in 0..self.lanes {
             let entry = stand_entry(place, stand_in(stands, rule));
@@ -89,9 +93,9 @@ impl Lists {
 
     /// How all rules stand from a record on, where they stand as was told last: nothing changes.
     pub fn stand_again(&self, place: Place, stands: &[Stand])
-        ensures { (lanes : List (List Told)) → LanesTell self.now lanes →
+        ensures { (lanes values : List (List Told)) → ListsTell self.now lanes values →
             SaidLast place 0 stands.now lanes →
-            LanesTell self.now (stood_more place stands.now 0 lanes) }
+            ListsTell self.now (stood_more place stands.now 0 lanes) values }
     {
         told_again_is_told();
     }

@@ -1,13 +1,17 @@
 //! From a stream to what its page tells.
 
-ghost use Rattle.std.specs.Prelude.{◌≡◌, ◌<◌, ◌==◌, ◌^◌, ◌++◌, [], List, false, OnOk, IfOk, length, if◌then◌else◌};
+ghost use Rattle.std.specs.Prelude.{◌≡◌, ◌<◌, ◌==◌, ◌^◌, ◌++◌, [], List, false, OnOk, IfOk, length, map, if◌then◌else◌};
 ghost use Rattle.change_lists.specs.declared.entry.Entry.{Entry as Told};
 ghost use Rattle.flight_core.specs.Compiled.{sources_of};
-ghost use Rattle.flight_core.specs.Feeding.{Feeding};
-ghost use Rattle.run_course.specs.Stepping.{IsAtRest, BeginsWith, engine_among, host_in, written_by};
+ghost use Rattle.run_course.specs.Stepping.{IsAtRest, engine_among, host_in, written_by};
 ghost use Rattle.run_account.specs.Account.{account_of};
+ghost use Rattle.run_account.specs.Brought.{brings};
+ghost use Rattle.run_account.specs.Fields.{AreKnown, all_brought, come_in};
+ghost use Rattle.run_account.specs.declared.texts.Field.{Field};
 ghost use Rattle.run_account.specs.Run as run;
-ghost use Rattle.run_report.specs.Model.{HasTaken, HasTold, IsKept, KeepsStands, LanesTell, SaidLast, Tells, led_to, place_of, stands_of, stood_more, ticks_of};
+ghost use Rattle.run_account.specs.Run.{AreRead, OfTexts};
+ghost use Rattle.run_account.specs.Texts.{HaveItems};
+ghost use Rattle.run_report.specs.Model.{HasTaken, HasTold, IsKept, KeepsStands, ListsTell, SaidLast, Tells, TellsRun, led_to, place_of, stands_of, stood_more, ticks_of, values_more};
 
 use crate::behind::Behind;
 use crate::clock::{Clock, ticks_in};
@@ -16,7 +20,7 @@ use crate::error::ReportError;
 use crate::lists::Lists;
 use crate::progress::Progress;
 use lc_model::stream::{HEADER, body_size};
-use run_account::laws::rules_that_stand_as_before;
+use run_account::laws::{fields_that_come, rules_that_stand_as_before};
 use run_account::{Account, Place, Seen};
 use run_course::{Ending, Handled, Stepping};
 use std::alloc::{AllocError, Global};
@@ -48,12 +52,13 @@ fn first_record(stream: &[u8]) -> (&[u8], &[u8])
 
 /// The fields that a packet of this place brought have new values.
 fn tell_values(seen: &[Seen<'_>], place: Place, lists: &mut Lists) -> Result<(), AllocError>
-    ensures { (lanes : List (List Told)) → LanesTell lists.old lanes →
-        OnOk result (LanesTell lists.new lanes) }
+    ensures { (lanes values : List (List Told)) → ListsTell lists.old lanes values →
+        OnOk result (ListsTell lists.new lanes
+        (values_more place (map (come_in place) seen.now) values)) }
 {
     for (field, seen) in seen.iter().enumerate() {
-        if seen.met.place == Some(place) {
-            lists.value(field, value_entry(place, seen.met))?;
+        if let Some(met) = seen.come_in(place) {
+            lists.value(field, value_entry(place, met))?;
         }
     }
     Ok(())
@@ -62,9 +67,13 @@ fn tell_values(seen: &[Seen<'_>], place: Place, lists: &mut Lists) -> Result<(),
 impl<'a> Telling<'a> {
     /// Of no record, for runs of these texts, which compile.
     fn new(alloc: Global, texts: &[&'a [u8]]) -> Result<Telling<'a>, ReportError>
-        ensures { IfOk result (λ telling. HasTold telling.lists telling.behind
+        ensures small { IfOk result (λ telling. telling.clock.start < 2 ^ 48) }
+        ensures nothing { IfOk result (λ telling. (read : OfTexts) ×
+            HaveItems (sources_of texts.now) read.texts × AreRead read ×
+            HasTold read telling.lists telling.behind
             (account_of telling.account) telling.clock.start []) }
     {
+        fields_that_come();
         let account = Account::new(alloc, texts)?;
         let lists = Lists::new(alloc, account.lanes, account.seen.len())?;
         Ok(Telling {
@@ -79,8 +88,9 @@ impl<'a> Telling<'a> {
     fn take_new(&mut self, place: Place, written: &[u8]) -> Result<(), AllocError>
         ensures clock { self.new.clock ≡ self.old.clock }
         ensures behind { self.new.behind ≡ self.old.behind }
-        ensures told { (lanes : List (List Told)) → LanesTell self.old.lists lanes → OnOk result
-            (LanesTell self.new.lists (stood_more place self.old.behind.rules.items 0 lanes)) }
+        ensures told { (lanes values : List (List Told)) →
+            ListsTell self.old.lists lanes values → OnOk result (ListsTell self.new.lists
+            (stood_more place self.old.behind.rules.items 0 lanes) values) }
         ensures account { OnOk result (account_of self.new.account ≡
             led_to written.now place self.old.behind (account_of self.old.account)) }
     {
@@ -95,9 +105,11 @@ impl<'a> Telling<'a> {
     fn take_same(&mut self, place: Place, written: &[u8]) -> Result<(), AllocError>
         ensures clock { self.new.clock ≡ self.old.clock }
         ensures behind { self.new.behind ≡ self.old.behind }
-        ensures told { (lanes : List (List Told)) → LanesTell self.old.lists lanes →
-            SaidLast place 0 self.old.behind.rules.items lanes → OnOk result
-            (LanesTell self.new.lists (stood_more place self.old.behind.rules.items 0 lanes)) }
+        ensures told { (lanes values : List (List Told)) →
+            ListsTell self.old.lists lanes values →
+            SaidLast place 0 self.old.behind.rules.items lanes →
+            OnOk result (ListsTell self.new.lists
+            (stood_more place self.old.behind.rules.items 0 lanes) values) }
         ensures account { run.StoodLast self.old.behind.rules.items (account_of self.old.account) →
             OnOk result (account_of self.new.account ≡
             led_to written.now place self.old.behind (account_of self.old.account)) }
@@ -114,9 +126,11 @@ impl<'a> Telling<'a> {
     fn take_behind(&mut self, place: Place, written: &[u8], is_new: bool) -> Result<(), AllocError>
         ensures clock { self.new.clock ≡ self.old.clock }
         ensures behind { self.new.behind ≡ self.old.behind }
-        ensures told { (lanes : List (List Told)) → LanesTell self.old.lists lanes →
-            (is_new ≡ false → SaidLast place 0 self.old.behind.rules.items lanes) → OnOk result
-            (LanesTell self.new.lists (stood_more place self.old.behind.rules.items 0 lanes)) }
+        ensures told { (lanes values : List (List Told)) →
+            ListsTell self.old.lists lanes values →
+            (is_new ≡ false → SaidLast place 0 self.old.behind.rules.items lanes) →
+            OnOk result (ListsTell self.new.lists
+            (stood_more place self.old.behind.rules.items 0 lanes) values) }
         ensures account { (is_new ≡ false → run.StoodLast self.old.behind.rules.items (account_of self.old.account)) →
             OnOk result (account_of self.new.account ≡
             led_to written.now place self.old.behind (account_of self.old.account)) }
@@ -134,11 +148,14 @@ impl<'a> Telling<'a> {
         ensures start { self.new.clock.start ≡
             (if number == 1 then ticks_of record.now else self.old.clock.start) }
         ensures small { self.new.clock.start < 2 ^ 48 }
-        ensures told { (lanes : List (List Told)) → LanesTell self.old.lists lanes →
-            IsKept self.old.behind lanes →
-            let more = stood_more (place_of self.new.clock.start number record.now)
+        ensures told { (fields : List Field) (lanes values : List (List Told)) →
+            AreKnown number fields (account_of self.old.account).seen →
+            ListsTell self.old.lists lanes values → IsKept self.old.behind lanes →
+            let place = place_of self.new.clock.start number record.now in
+            let stood = stood_more place
             (stands_of (engine_among (host_in stepping.now).host.seats)) 0 lanes in
-            OnOk result (LanesTell self.new.lists more × IsKept self.new.behind more) }
+            let came = values_more place (all_brought fields place (brings record.now)) values in
+            OnOk result (ListsTell self.new.lists stood came × IsKept self.new.behind stood) }
         ensures account { KeepsStands self.old.behind (account_of self.old.account) → OnOk result
             (HasTaken (record {
               bytes = record.now;
@@ -148,6 +165,7 @@ impl<'a> Telling<'a> {
             (account_of self.old.account) (account_of self.new.account)) }
     {
         rules_that_stand_as_before();
+        fields_that_come();
         let place = self.clock.next(number, ticks_in(record));
         self.account.come(record, place)?;
         tell_values(self.account.seen.as_slice(), place, &mut self.lists)?;
@@ -164,12 +182,12 @@ fn tell_all<P: Progress>(
     progress: &mut P,
 ) -> Result<Ending, ReportError>
     requires rest { IsAtRest stepping.old }
-    requires nothing { HasTold telling.old.lists telling.old.behind
-        (account_of telling.old.account) telling.old.clock.start [] }
+    requires start { telling.old.clock.start < 2 ^ 48 }
     ensures rest { IsAtRest stepping.new }
-    ensures told { IfOk result
-        (λ ending. Tells stream.now (host_in stepping.old) telling.new.lists
-        (account_of telling.new.account) ending) }
+    ensures told { (read : OfTexts) → HasTold read telling.old.lists telling.old.behind
+        (account_of telling.old.account) telling.old.clock.start [] →
+        IfOk result (λ ending. Tells read stream.now (host_in stepping.old)
+        telling.new.lists (account_of telling.new.account) ending) }
 {
     let step = stream.len() / TOLD;
     let mut told = step;
@@ -208,8 +226,9 @@ fn tell<P: Progress>(progress: &mut P, told: usize, step: usize, done: usize, of
     told.saturating_add(step)
 }
 
-/// Runs rule texts under a schedule over a stream, record by record. Answers what is told of the run, and how it ended; both are
-/// `Tells`, of a host that was new, with these texts' files and this profile's applications under this schedule in stock.
+/// Runs rule texts under a schedule over a stream, record by record. Answers what is told of the run, and how it ended: of the rules and
+/// fields of these texts (`TellsRun`), and of a host that was new, with these texts' files and this profile's applications under this
+/// schedule in stock.
 ///
 /// Errors: `Rules` with the first text that doesn't compile, numbered from 0; `Memory`.
 pub fn tell_run<'a, P: Progress>(
@@ -219,9 +238,8 @@ pub fn tell_run<'a, P: Progress>(
     stream: &[u8],
     progress: &mut P,
 ) -> Result<(Telling<'a>, Ending), ReportError>
-    ensures { IfOk result (λ told. (first : Feeding) ×
-        BeginsWith (sources_of texts.now) schedule.now first ×
-        Tells stream.now first told.0.lists (account_of told.0.account) told.1) }
+    ensures { IfOk result (λ told. TellsRun (sources_of texts.now) schedule.now stream.now
+        told.0.lists (account_of told.0.account) told.1) }
 {
     let mut stepping = Stepping::new(alloc, texts, schedule)?;
     let mut telling = Telling::new(alloc, texts)?;

@@ -13,12 +13,13 @@ loop-preserved g c =
       ready = c.step.ensures.ready;
       number = ap (λ n. n + 1) c.loop.invariant.number;
       left = omega (arith, c.loop.invariant.left, left, c.first_record.ensures.some some);
-      told = next_so_far (host_in c.args.stepping.now) (host_in c.loop.stepping) (host_in c.step.new.self) c.args.stream.now c.loop.rest.now
+      small = c.take.ensures.small;
+      told = λ texts nothing. next_so_far texts (host_in c.args.stepping.now) (host_in c.loop.stepping) (host_in c.step.new.self) c.args.stream.now c.loop.rest.now
           c.first_record.result.0.now c.first_record.result.1.now (written_by c.step.new.self) c.loop.telling.lists c.take.new.self.lists c.loop.telling.behind c.take.new.self.behind
           (account_of c.loop.telling.account) (account_of c.take.new.self.account)
-          c.loop.telling.clock.start c.take.new.self.clock.start c.loop.number c.loop.invariant.told
+          c.loop.telling.clock.start c.take.new.self.clock.start c.loop.number (c.loop.invariant.told texts nothing)
           (subst (λ handled. HasStepped c.first_record.result.0.now (host_in c.loop.stepping) (host_in c.step.new.self) (written_by c.step.new.self) (Ok handled))
           c.in-Whole.is c.in_ok-step.ensures.stepped)
-          c.first_record.ensures.all c.take.ensures.start c.take.ensures.small (λ lanes tells kept. c.in_ok-take-in-Whole.ensures.told lanes tells kept)
+          c.first_record.ensures.all c.take.ensures.start c.take.ensures.small (λ fields lanes values known tells kept. c.in_ok-take-in-Whole.ensures.told fields lanes values known tells kept)
           (λ stood. c.in_ok-take-in-Whole.ensures.account stood);
     }

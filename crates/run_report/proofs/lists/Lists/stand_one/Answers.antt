@@ -4,7 +4,7 @@ use Rattle.run_report.proofs.Lanes.{lane_told}
 use Rattle.run_report.proofs.lists.Lists.stand_one.Goals as goal
 
 pub returns-clause-told : goal.returns-clause-told
-returns-clause-told c = λ lanes tells. on_ok_weaker c.add.result
-    (λ all. lane_told c.args.self.now (record { pool = c.add.new.self; lanes = c.args.self.now.lanes }) c.args.rule c.args.entry lanes
+returns-clause-told c = λ lanes values tells. on_ok_weaker c.add.result
+    (λ all. lane_told c.args.self.now (record { pool = c.add.new.self; lanes = c.args.self.now.lanes }) c.args.rule c.args.entry lanes values
     c.requires refl c.add.ensures.most tells all)
-    (c.add.ensures.told (lanes ++ tells.values) tells.all)
+    (c.add.ensures.told (lanes ++ values) tells.all)

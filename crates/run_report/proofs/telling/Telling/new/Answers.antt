@@ -1,20 +1,25 @@
-use Rattle.std.proofs.Common.{◌≡◌, ◌∙◌, sym, subst, ap, arith}
+use Rattle.std.proofs.Common.{◌≡◌, ◌∙◌, sym, subst, refl, arith}
 use Rattle.std.proofs.lemmas.Bool.{false≢true}
-use Rattle.run_account.specs.Account.{account_of}
-use Rattle.run_report.specs.Model.{LanesTell, nothing_told}
-use Rattle.run_report.proofs.Accounts.{of_nothing}
-use Rattle.run_report.proofs.Lanes.{length_nothing, nothing_of_lanes}
+use Rattle.run_account.specs.Account.{Account, account_of}
+use Rattle.run_account.specs.Fields.{AreKnown}
+use Rattle.run_account.specs.Run.{OfTexts}
+use Rattle.run_report.proofs.Values.{nothing_yet}
 use Rattle.run_report.proofs.telling.Telling.new.Goals as goal
 
-pub returns : goal.returns
-returns c =
-    let tells : LanesTell c.in_ok-lists.lists (nothing_told c.in_ok-account.account.lanes) = c.in_ok-lists.ensures in
-    let count : c.in_ok-account.account.lanes ≡ c.in_ok-lists.lists.lanes = sym (length_nothing c.in_ok-account.account.lanes) ∙ tells.lanes_are in
-    record {
-      first = c.new-3.ensures;
-      small = omega (arith, c.new-3.ensures);
-      lanes = subst (LanesTell c.in_ok-lists.lists) (ap nothing_told count ∙ sym (nothing_of_lanes 0 c.in_ok-lists.lists.lanes)) tells;
-      is_account = of_nothing (account_of c.in_ok-account.account) c.in_ok-account.ensures;
-      stood_last = λ looked. absurd (false≢true (sym c.new-4.ensures ∙ looked));
-      kept = λ looked. absurd (false≢true (sym c.new-4.ensures ∙ looked));
-    }
+pub returns-clause-nothing : goal.returns-clause-nothing
+returns-clause-nothing c =
+    let texts : OfTexts = c.in_ok-account.ensures.read in (
+      texts,
+      c.in_ok-account.ensures.items,
+      c.in_ok-account.ensures.are_read,
+      record {
+        first = c.new-3.ensures;
+        small = omega (arith, c.new-3.ensures);
+        lists_tell = nothing_yet texts (account_of c.in_ok-account.account) c.in_ok-lists.lists c.in_ok-account.account.lanes c.len.result
+            c.in_ok-account.ensures.is refl (c.len.ensures ∙ c.in_ok-account.account.seen.ok.0) c.in_ok-lists.ensures;
+        kept = λ looked. absurd (false≢true (sym c.new-4.ensures ∙ looked));
+        is_account = c.in_ok-account.ensures.is;
+        known = subst (λ (a : Account). AreKnown 1 texts.fields a.seen) (sym c.in_ok-account.ensures.is) (c.fields_that_come.ensures.begin texts);
+        stood_last = λ looked. absurd (false≢true (sym c.new-4.ensures ∙ looked));
+      },
+    )
