@@ -1,17 +1,18 @@
 -- Each pair is told once, and each comparison.
 use Rattle.std.proofs.Common.{◌≡◌, ◌≢◌, ℕ, ◌+◌, ◌≤◌, ◌<◌, List, [], ◌∷◌, ◌++◌, slice_get, get_or, length, sym, ◌∙◌, ap, subst, arith, Some, inl, inr, ◌⊎◌}
-use Rattle.std.specs.List.{AllByRecursion}
+use Rattle.std.specs.List.{AllByRecursion, AllPairs}
+use Rattle.std.proofs.lemmas.List.Elements.{All-from_recursion, All-get_or}
+use Rattle.std.proofs.lemmas.List.Quantifiers.{all_pairs_push}
 use Rattle.lc_model.specs.declared.field.Term.{Term}
-use Rattle.rule_judgement.specs.Order.{AreOrdered}
 use Rattle.rule_judgement.specs.declared.finding.PairJudgement.{PairJudgement}
 use Rattle.rule_judgement.specs.declared.finding.SpareComparison.{SpareComparison}
 use Rattle.rule_judgement.specs.Findings.{AreBefore, IsBefore}
 use Rattle.rule_judgement.specs.Spare.{AreOfRulesBefore, AreOfTermsBefore, IsAmongFirst, IsAnother, IsToldAtMost}
 use Rattle.rule_judgement.proofs.Each.{both, each}
 
-pushed_in_order : {A : Type 0} (R : A → A → Type 0) (xs : List A) (x : A) → AreOrdered R xs → AllByRecursion (λ y. R y x) xs → AreOrdered R (xs ++ x ∷ [])
-pushed_in_order R [] x ordered before = (tt, tt)
-pushed_in_order R (y ∷ ys) x ordered before = (both (R y) ys (x ∷ []) ordered.0 (before.0, tt), pushed_in_order R ys x ordered.1 before.1)
+pushed_in_order : {A : Type 0} (R : A → A → Type 0) (xs : List A) (x : A) → AllPairs R xs → AllByRecursion (λ y. R y x) xs → AllPairs R (xs ++ x ∷ [])
+pushed_in_order R xs x pairs before =
+    all_pairs_push R xs x pairs (λ k d below. All-get_or (λ y. R y x) xs k d below (All-from_recursion (λ y. R y x) xs before))
 
 -- ---- pairs
 

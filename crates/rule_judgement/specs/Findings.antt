@@ -1,6 +1,6 @@
 -- What is found of a condition, and what shows it. This project's own.
 use Rattle.std.specs.Prelude.{◌≡◌, ℕ, ◌^◌, ◌<◌, ◌≤◌, ◌==◌, ◌||◌, ℤ, Bool, true, false, List, length, slice_get, Contains, Option, Some, None, IsTrue, ◌⊎◌}
-use Rattle.std.specs.List.{AllByRecursion, AllZip}
+use Rattle.std.specs.List.{AllByRecursion, AllPairs, AllZip}
 use Rattle.std.specs.Option.{option_map_or}
 use Rattle.std.specs.declared.vec.Vec.{Vec}
 use Rattle.std.specs.Global.{Global}
@@ -25,7 +25,6 @@ use Rattle.rule_judgement.specs.declared.finding.Relation.{Relation}
 use Rattle.rule_judgement.specs.declared.finding.Relation.TheVariants as relation
 use Rattle.rule_judgement.specs.declared.finding.PairJudgement.{PairJudgement}
 use Rattle.rule_judgement.specs.Judgement.{NeverFails, HoldsForSome, FailsWherever}
-use Rattle.rule_judgement.specs.Order.{AreOrdered}
 use Rattle.rule_judgement.specs.Steps.{AreFewFor, AreFewByNames}
 use Rattle.rule_judgement.specs.declared.fields.Field.{Field}
 use Rattle.rule_judgement.specs.Fields.{AreFieldsOf, field_number, read_one_field}
@@ -187,7 +186,7 @@ IsBefore first second p = (p.second < second) ⊎ ((p.second ≡ second) × (p.f
 
 -- each pair is told once, in that order
 abbrev pub AreInOrder : List PairJudgement → Type 0
-AreInOrder pairs = AreOrdered (λ (p q : PairJudgement). IsBefore q.first q.second p) pairs
+AreInOrder pairs = AllPairs (λ (p q : PairJudgement). IsBefore q.first q.second p) pairs
 
 -- so, and all come before that of the rules of these numbers
 pub record AreBefore (pairs : List PairJudgement) (first second : ℕ) : Type 0 where

@@ -2,7 +2,6 @@
 pub mod Judgement
 pub mod Quiet
 pub mod Numbers
-pub mod Order
 pub mod Fields
 pub mod Classes
 pub mod Search

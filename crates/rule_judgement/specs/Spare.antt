@@ -1,13 +1,12 @@
 -- Comparisons that a rule can do without. This project's own.
 use Rattle.std.specs.Prelude.{◌≡◌, ◌≢◌, ℕ, ◌^◌, ◌<◌, Bool, true, false, List, [], ◌∷◌, ◌++◌, slice_get, Contains, Some, if◌then◌else◌, ◌⊎◌}
-use Rattle.std.specs.List.{AllByRecursion}
+use Rattle.std.specs.List.{AllByRecursion, AllPairs}
 use Rattle.lc_model.specs.declared.field.Term.{Term}
 use Rattle.lc_model.specs.Condition.{And, Or, Xor, Condition, Watch, Not, Join}
 use Rattle.lc_model.specs.Rule.{NamedRule}
 use Rattle.lc_model.specs.Tables.Equation.{same_term, mentions}
 use Rattle.rule_judgement.specs.declared.finding.SpareComparison.{SpareComparison}
 use Rattle.rule_judgement.specs.Judgement.{NeverFails, HoldsForSome}
-use Rattle.rule_judgement.specs.Order.{AreOrdered}
 use Rattle.rule_judgement.specs.Steps.{AreFewFor}
 
 -- true, or false, wherever the comparison is known
@@ -75,7 +74,7 @@ IsAnother s t = (s.rule < t.rule) ⊎ ((s.rule ≡ t.rule) × (s.term ≢ t.term
 
 -- each comparison of a rule is told once, rule by rule
 abbrev pub AreOnce : List SpareComparison → Type 0
-AreOnce spare = AreOrdered IsAnother spare
+AreOnce spare = AllPairs IsAnother spare
 
 -- so, and all are of rules before the one of this number
 pub record AreOfRulesBefore (spare : List SpareComparison) (rule : ℕ) : Type 0 where
