@@ -30,6 +30,7 @@ pub extern "C" fn needlemauve_compile(
         (result ≡ 0) ⊎ (result ≡ no_memory) }
     ensures refuses { (why : TextRefusal) → IsRefused limits text.now why →
         (told.new.refusal ≡ numbers_of_refusal 0 why) ⊎ (result ≡ no_memory) }
+    ensures silent { result ≡ 0 → told.new.sentence.length ≡ 0 }
 {
     compile_files(alloc, text, wdt, adt, told)
 }

@@ -28,6 +28,7 @@ pub extern "C" fn needlemauve_host_new(
     ensures unmade { result ≢ 0 → host.new.value ≡ None }
     ensures why { result ≢ 0 → IsNotRun texts.now lengths.now schedule.now told.new.refusal ⊎
         IsUnmade (texts_in texts.now lengths.now) told.new.refusal }
+    ensures silent { result ≡ 0 → told.new.sentence.length ≡ 0 }
 {
     make_host(alloc, texts, lengths, schedule, room, host, told)
 }

@@ -26,6 +26,7 @@ pub extern "C" fn needlemauve_run(
         IsNotRun texts.now lengths.now schedule.now told.new.ending }
     ensures behind { IsKeptBehind told.new.written output.old output.new }
     ensures unwritten { told.new.ending.of ≡ 4 → told.new.written ≡ 0 }
+    ensures silent { told.new.ending.code ≡ 0 → told.new.sentence.length ≡ 0 }
 {
     *told = run_texts(alloc, texts, lengths, schedule, stream, output);
     told.ending.code

@@ -5,3 +5,4 @@ pub mod NotRun
 pub mod Sentences
 pub mod Parted
 pub mod Values
+pub mod Silent

@@ -47,6 +47,7 @@ pub fn compile_files(
         (result ≡ 0) ⊎ (result ≡ no_memory) }
     ensures refuses { (why : TextRefusal) → IsRefused limits text.now why →
         (told.new.refusal ≡ numbers_of_refusal 0 why) ⊎ (result ≡ no_memory) }
+    ensures silent { result ≡ 0 → told.new.sentence.length ≡ 0 }
 {
     match compile(alloc, text) {
         Ok(pair) => {

@@ -1,6 +1,6 @@
 //! How a run ended, in numbers and for people.
 
-ghost use Rattle.std.specs.Prelude.{◌≡◌, ◌<◌};
+ghost use Rattle.std.specs.Prelude.{◌≡◌, ◌<◌, IfErr, IfOk};
 ghost use Rattle.flight_core.specs.Ending.{ending_of};
 ghost use Rattle.tick_scheduler.specs.Error.{fault_of};
 ghost use Rattle.needlemauve_calls.specs.Running.{TellsFault, numbers_of_ending};
@@ -22,6 +22,7 @@ const NOT_RUN: u32 = 4;
 pub(crate) fn ending_in_numbers(answer: Result<Report, RunError>) -> Refusal
     ensures numbers { result ≡ numbers_of_ending (ending_of answer) }
     ensures of { result.of < 4 }
+    ensures some { IfErr answer (λ _. 0 < result.code) }
 {
     match answer {
         Ok(report) => of_record(0, report.records),
@@ -69,6 +70,7 @@ pub(crate) fn not_run(code: u32, at: u64) -> Refusal
 pub(crate) fn no_schedule(error: ScheduleError) -> Refusal
     ensures of { result.of ≡ 4 }
     ensures tells { TellsFault (fault_of error) result }
+    ensures some { 0 < result.code }
 {
     match error {
         ScheduleError::BadLine { n } => not_run(131, n as u64),
@@ -79,7 +81,9 @@ pub(crate) fn no_schedule(error: ScheduleError) -> Refusal
 }
 
 /// What a run's end says to people.
-pub(crate) fn said(answer: Result<Report, RunError>) -> Sentence {
+pub(crate) fn said(answer: Result<Report, RunError>) -> Sentence
+    ensures { IfOk answer (λ _. result.length ≡ 0) }
+{
     match answer {
         Ok(_) => Sentence::none(),
         Err(error) => Sentence::of(error),

@@ -70,7 +70,8 @@ fn fed_of(
 
 /// What is told where none is made.
 fn unmade(refusal: Refusal, sentence: Sentence) -> Made
-    ensures { result.refusal ≡ refusal }
+    ensures refusal { result.refusal ≡ refusal }
+    ensures sentence { result.sentence ≡ sentence }
 {
     Made { refusal, sentence }
 }
@@ -143,6 +144,7 @@ pub fn make_host(
     ensures unmade { result ≢ 0 → handle.new.value ≡ None }
     ensures why { result ≢ 0 → IsNotRun texts.now lengths.now schedule.now told.new.refusal ⊎
         IsUnmade (texts_in texts.now lengths.now) told.new.refusal }
+    ensures silent { result ≡ 0 → told.new.sentence.length ≡ 0 }
 {
     match fed_by_texts(alloc, texts, lengths, schedule, size) {
         Ok(fed) => {

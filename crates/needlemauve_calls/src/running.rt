@@ -78,6 +78,7 @@ fn run_in_memory(
 fn unrun(ending: Refusal, sentence: Sentence) -> Run
     ensures ending { result.ending ≡ ending }
     ensures written { result.written ≡ 0 }
+    ensures sentence { result.sentence ≡ sentence }
 {
     Run {
         ending,
@@ -87,7 +88,7 @@ fn unrun(ending: Refusal, sentence: Sentence) -> Run
 }
 
 /// Runs a schedule's text over a stream, with these rule texts.
-#[tactic(auto, using(crate::proofs::Memory::full_where_told, crate::proofs::NotRun::not_run))]
+#[tactic(auto, using(crate::proofs::Memory::full_where_told, crate::proofs::NotRun::not_run, crate::proofs::Silent::silent_where_done))]
 fn run_scheduled(
     alloc: Global,
     texts: &[&[u8]],
@@ -101,6 +102,7 @@ fn run_scheduled(
     ensures unrun { result.ending.of ≡ 4 → IsUnscheduled schedule.now result.ending }
     ensures behind { IsKeptBehind result.written output.old output.new }
     ensures unwritten { result.ending.of ≡ 4 → result.written ≡ 0 }
+    ensures silent { result.ending.code ≡ 0 → result.sentence.length ≡ 0 }
 {
     match parse_schedule(alloc, schedule) {
         Ok(slots) => match run_in_memory(alloc, texts, &slots, stream, output) {
@@ -132,6 +134,7 @@ pub fn run_texts(
         IsNotRun texts.now lengths.now schedule.now result.ending }
     ensures behind { IsKeptBehind result.written output.old output.new }
     ensures unwritten { result.ending.of ≡ 4 → result.written ≡ 0 }
+    ensures silent { result.ending.code ≡ 0 → result.sentence.length ≡ 0 }
 {
     if !are_lengths(lengths, texts.len()) {
         let why = Sentence::of("the lengths are not those of the texts");

@@ -8,7 +8,6 @@ mod framing;
 mod handled;
 pub mod laws;
 mod plan;
-mod standing;
 mod stepping;
 mod trace;
 
@@ -17,6 +16,5 @@ pub use ending::Ending;
 pub use error::CourseError;
 pub use handled::Handled;
 pub use plan::Plan;
-pub use standing::{result_word, state_word};
 pub use stepping::Stepping;
 pub use trace::{Came, Trace, trace_of};

@@ -4,3 +4,4 @@ pub mod Reading
 pub mod Judged
 pub mod Arrivals
 pub mod Untried
+pub mod Telling

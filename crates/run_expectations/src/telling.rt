@@ -1,8 +1,13 @@
 //! Why an expectation isn't met: what came in its place.
 
+ghost use Rattle.std.specs.Prelude.{◌≡◌};
+ghost use Rattle.run_expectations.specs.Telling as model;
+
 use crate::expectation::{Arrival, Span, What};
-use run_course::{RuleStanding, result_word, state_word};
+use lc_model::ApResult;
+use run_course::RuleStanding;
 use std::fmt::{self, Display, Formatter, Write};
+use table_listing::state_word;
 
 /// Of what came so many are told, at most.
 const TOLD: usize = 3;
@@ -100,6 +105,19 @@ fn say_missing<W: Write>(
         return Ok(());
     }
     write!(f, "nothing came")
+}
+
+/// The words for a rule's last result.
+fn result_word(last: Option<ApResult>) -> &'static str
+    ensures { result.now ≡ model.result_word last }
+{
+    match last {
+        None => "no result",
+        Some(ApResult::Pass) => "pass",
+        Some(ApResult::Fail) => "fail",
+        Some(ApResult::Stale) => "stale",
+        Some(ApResult::Error) => "error",
+    }
 }
 
 /// Says how a rule isn't found.

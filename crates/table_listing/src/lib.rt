@@ -21,4 +21,4 @@ pub use judged::{FaultLine, RefusalLine};
 pub use lines::{ActionpointLine, WatchpointLine};
 pub use listing::list_table;
 pub use shown::{InHex, Named, Shown};
-pub use words::type_word;
+pub use words::{state_word, type_word};
