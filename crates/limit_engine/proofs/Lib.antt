@@ -3,6 +3,7 @@ mod Halves
 mod Ranges
 mod LowBytes
 mod Grouping
+mod InOrder
 mod Chains
 mod Reacting
 mod OperandsWaiting

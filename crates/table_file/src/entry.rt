@@ -20,11 +20,16 @@ pub fn entry_bytes(layout: Layout, image: &[u8], number: usize) -> &[u8]
     &image[start..start + length]
 }
 
-/// Whether all bytes are zero.
-fn are_zeros(bytes: &[u8]) -> bool
+/// Whether all bytes are zero, as they are behind a text and in an entry that isn't used. All are read, so that several are
+/// compared at once.
+pub fn are_zeros(bytes: &[u8]) -> bool
     ensures { result ≡ list_all (λ b. b == 0) bytes.now }
 {
-    bytes.iter().all(|byte| *byte == 0)
+    let mut are_zeros = true;
+    for byte in bytes {
+        are_zeros &= *byte == 0;
+    }
+    are_zeros
 }
 
 /// Whether an entry's bytes are those of one that isn't used: 0xFF, then zeros.

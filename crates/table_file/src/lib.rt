@@ -18,7 +18,7 @@ mod wrapping;
 pub use actionpoint::ActionpointEntry;
 pub use codes::kind_code;
 pub use encode::{encode_adt, encode_wdt};
-pub use entry::{entry_bytes, is_blank};
+pub use entry::{are_zeros, entry_bytes, is_blank};
 pub use error::FileError;
 pub use file::{TableFile, open};
 pub use image::{AdtImage, AdtVersion, TableEntry, WdtImage};

@@ -1,7 +1,6 @@
 //! The faults of an actionpoint's entry.
 
-ghost use Rattle.std.specs.Prelude.{◌≡◌, not, ◌||◌, ◌&&◌, ◌==◌, nat_lt, length, option_map, take_while};
-ghost use Rattle.std.specs.List.{list_all};
+ghost use Rattle.std.specs.Prelude.{◌≡◌, not, ◌||◌, ◌==◌, nat_lt, length, option_map, take_while};
 ghost use Rattle.std.specs.Int.{is_in_range};
 ghost use Rattle.lc_model.specs.Codes.{first_event_id};
 ghost use Rattle.lc_model.specs.Tables.Entry.{event_id_field, event_type_field, fails_field, sequence_field};
@@ -13,7 +12,7 @@ ghost use Rattle.table_validator.specs.Fault.{code_number};
 use crate::fault::FaultCode;
 use crate::words::words_fault;
 use lc_model::is_text_byte;
-use table_file::ActionpointEntry;
+use table_file::{ActionpointEntry, are_zeros};
 
 /// The bytes of the text's field; at least one zero byte follows the text there.
 const TEXT_FIELD: usize = 32;
@@ -26,17 +25,6 @@ fn text_length(field: &[u8]) -> usize
     ensures { result ≡ length (take_while token.is_text_byte field.now) }
 {
     field.iter().take_while(|byte| is_text_byte(**byte)).count()
-}
-
-/// Whether all bytes are zero. All are read, so that several are compared at once.
-fn are_zeros(bytes: &[u8]) -> bool
-    ensures { result ≡ list_all (λ b. b == 0) bytes.now }
-{
-    let mut are_zeros = true;
-    for byte in bytes {
-        are_zeros &= *byte == 0;
-    }
-    are_zeros
 }
 
 /// Whether a field holds a text that isn't too long, and then zeros.

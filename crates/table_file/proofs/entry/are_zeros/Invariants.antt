@@ -1,6 +1,6 @@
 use Rattle.std.proofs.Common.{◌≡◌, ◌&&◌, ◌==◌, drop}
 use Rattle.std.specs.List.{list_all}
-use Rattle.table_validator.proofs.actionpoint.are_zeros.Given as goal
+use Rattle.table_file.proofs.entry.are_zeros.Given as goal
 
 abbrev pub invariant-loop-byte : goal.invariant-loop-byte
 invariant-loop-byte l = (l.are_zeros && list_all (λ b. b == 0) (drop l.byte-index l.bytes)) ≡ list_all (λ b. b == 0) l.bytes
