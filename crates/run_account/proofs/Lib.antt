@@ -1,6 +1,7 @@
 pub mod Again
 pub mod Arriving
 pub mod Coming
+pub mod Counts
 pub mod Found
 pub mod KeptEnds
 pub mod Read

@@ -72,7 +72,7 @@ in_force_sends sender id text place a =
     sends_by (bytes_eq sender lc_name) (id == 2) (id == 1) a (enforced_so place how.Adopted a)
     (enforced_so place (if bytes_eq text started_with_tables then how.Started else how.None) a) refl refl
 
-in_force_counts : (sender : List ℕ) (id : ℕ) (text : List ℕ) (place : Place) (a : Account) → (in_force_by sender id text place a).figures ≡ a.figures
+pub in_force_counts : (sender : List ℕ) (id : ℕ) (text : List ℕ) (place : Place) (a : Account) → (in_force_by sender id text place a).figures ≡ a.figures
 in_force_counts sender id text place a =
     counts_by (bytes_eq sender lc_name) (id == 2) (id == 1) a (enforced_so place how.Adopted a)
     (enforced_so place (if bytes_eq text started_with_tables then how.Started else how.None) a) refl refl
