@@ -4,6 +4,7 @@ pub mod Coming
 pub mod Counts
 pub mod Found
 pub mod KeptEnds
+pub mod Once
 pub mod Read
 pub mod Sends
 pub mod Stands

@@ -6,7 +6,7 @@ ghost use Rattle.lc_model.specs.Codes.{type_code};
 ghost use Rattle.lc_model.specs.Field.{full_mask};
 ghost use Rattle.lc_model.specs.Text.Meaning.{field_named};
 ghost use Rattle.rule_parser.specs.Syntax.{expression_of, field_of, name_of, rule_of};
-ghost use Rattle.run_account.specs.Texts.{HasItems, added, added_of, added_of_text, compared_in, compared_of, comparison_of, comparisons_in, fields_of, is_mask, is_same, items_in, mid_named, place_of, rules_of};
+ghost use Rattle.run_account.specs.Texts.{HasItems, added, all_added, compared_by, compared_in, compared_in_text, compared_of, comparison_of, comparisons_in, fields_of, is_mask, is_same, items_in, mid_named, place_of, rules_of};
 
 use lc_model::FieldType;
 use rule_lexer::{Token, TokenKind, lex};
@@ -285,8 +285,8 @@ fn add_fields<'a>(
     fields: &mut Vec<Field<'a>>,
 ) -> Result<(), AllocError>
     ensures { OnOk result (map compared_of fields.new.items ≡
-        added_of (items_in text.now) (map compared_of fields.old.items)
-        (comparisons_in (rule_of rule.now).condition)) }
+        all_added (map compared_of fields.old.items)
+        (compared_by (items_in text.now) (rule_of rule.now))) }
 {
     let comparisons = comparisons_of(alloc, rule)?;
     for comparison in &comparisons {
@@ -304,7 +304,7 @@ fn add_text<'a>(
     fields: &mut Vec<Field<'a>>,
 ) -> Result<(), AllocError>
     ensures { OnOk result (map compared_of fields.new.items ≡
-        added_of_text (map compared_of fields.old.items) (items_in text.now)) }
+        all_added (map compared_of fields.old.items) (compared_in_text (items_in text.now))) }
 {
     for item in &text.file.items {
         if let Item::Rule(rule) = item {
