@@ -37,7 +37,7 @@ counted_one place stand met row =
 same_one : (place : Place) (stand : Stand) (met : List Met) (row : Row) → row.fails ≡ stand.fails → row_with place stand met row ≡ row
 same_one place stand met row same = rw (test_equal stand.fails row.fails (sym same)) refl
 
-rows_counted : (place : Place) (stands : List Stand) (plans : List (List Planned)) (text : Option ℕ) (seen : List Seen) (rule : ℕ) (rows : List Row) →
+pub rows_counted : (place : Place) (stands : List Stand) (plans : List (List Planned)) (text : Option ℕ) (seen : List Seen) (rule : ℕ) (rows : List Row) →
     AreCounted stands rule (rows_with place stands plans text seen rule rows)
 rows_counted place stands plans text seen rule [] = tt
 rows_counted place stands plans text seen rule (row ∷ rows) =
@@ -56,14 +56,16 @@ before_again stands rule (one ∷ before) = ap (λ more. stand_at rule stands �
 
 -- ---- what a record brings and leads to leaves them
 
-record OfRules : Type 0 where
-  rows : List Row
-  before : List Stand
+pub record OfRules : Type 0 where
+  pub plans : List (List Planned)
+  pub lanes : ℕ
+  pub rows : List Row
+  pub before : List Stand
 
-abbrev of_rules : Account → OfRules
-of_rules a = record { rows = a.rows; before = a.before }
+abbrev pub of_rules : Account → OfRules
+of_rules a = record { plans = a.plans; lanes = a.lanes; rows = a.rows; before = a.before }
 
-come_keeps : (brought : Brings) (place : Place) (a : Account) → of_rules (come_by brought place a) ≡ of_rules a
+pub come_keeps : (brought : Brings) (place : Place) (a : Account) → of_rules (come_by brought place a) ≡ of_rules a
 come_keeps (Telemetry packet) place a = refl
 come_keeps Tick place a = refl
 come_keeps Command place a = refl
@@ -83,7 +85,7 @@ in_force_keeps sender id text place a =
     chosen (bytes_eq sender lc_name) (id == 2) (id == 1) a (enforced_so place how.Adopted a)
     (enforced_so place (if bytes_eq text started_with_tables then how.Started else how.None) a) refl refl
 
-read_keeps : (says : Option told.Told) (packet : List ℕ) (place : Place) (stands : List Stand) (r : Reading) →
+pub read_keeps : (says : Option told.Told) (packet : List ℕ) (place : Place) (stands : List Stand) (r : Reading) →
     of_rules (read_by says packet place stands r).account ≡ of_rules r.account
 read_keeps None packet place stands r = refl
 read_keeps (Some (told.Housekeeping mode count rules)) packet place stands r = refl

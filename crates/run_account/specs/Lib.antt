@@ -8,6 +8,7 @@ pub mod Fields
 pub mod Figures
 pub mod Packets
 pub mod Plans
+pub mod Requests
 pub mod Run
 pub mod Samples
 pub mod Sent

@@ -1,5 +1,6 @@
 //! What the account of a run is, by all that the run sent.
 
+ghost use Rattle.run_account.specs.Requests.{TellsRequests};
 ghost use Rattle.run_account.specs.Run.{FieldsCome, StandAgain, TellsEvents, TellsFigures};
 
 /// The account of a run has the first 1,000 of all its events and the last 1,000, each with its packet, counted over the whole run, and
@@ -22,4 +23,9 @@ pub fn rules_that_stand_as_before()
 /// What an account knows of a field in the place of the record that came is what that record brought of it.
 pub fn fields_that_come()
     ensures { FieldsCome }
+{}
+
+/// The account of a run keeps its newest request, and of all others the first 300 and the last 299.
+pub fn the_requests_of_a_run()
+    ensures { TellsRequests }
 {}
