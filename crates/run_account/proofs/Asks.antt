@@ -19,7 +19,7 @@ use Rattle.run_account.specs.Fields.{is_place}
 use Rattle.run_account.specs.Figures.{one_more, with_event, with_packet}
 use Rattle.run_account.specs.Packets.{packets_of}
 use Rattle.run_account.specs.Plans.{Planned, may_by, planned_at}
-use Rattle.run_account.specs.Requests.{Came, Happened, KeepsRequests, Over, Sent, TellsRequests, behind_packets, behind_record, failures, is_no_request, own_event, packets_led_to, request_by, request_if, requests_from, requests_in, requests_of, rule_by, sequence_by, text_in_force, with_its_event, without_samples}
+use Rattle.run_account.specs.Requests.{failures, is_no_request, own_event}
 use Rattle.run_account.specs.Run.{AreCounted, OfTexts, Packet, ends_of, event_by, event_in, is_request, nothing_told, number_behind, numbered, packets_from}
 use Rattle.run_account.specs.Samples.{Row, Sampled}
 use Rattle.run_account.specs.Sent.{Requested, Said, Sending, before_newest, first_rule_event, hears, is_own, is_rule, nothing_sent, requested_more, requests_kept, said_more}

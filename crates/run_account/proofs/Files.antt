@@ -8,7 +8,7 @@ use Rattle.std.proofs.lemmas.Slice.Eq.{bytes_eq-Decides}
 use Rattle.lc_model.proofs.Facts.{or_false}
 use Rattle.lc_model.specs.Name.{Name}
 use Rattle.run_account.specs.Bands.{File, file_place, filed, filed_at, most, text_by, text_in}
-use Rattle.run_account.specs.Requests.{is_named, names_with}
+use Rattle.run_account.specs.Happened.{is_named, names_with}
 
 -- whether a file of this name is there
 abbrev pub is_filed : Name → List File → Bool

@@ -15,7 +15,7 @@ use Rattle.run_account.specs.Account.{Account, Reading, come_by, enforced_so, re
 use Rattle.run_account.specs.Bands.{InForce, default_file, enforced, in_force, in_mode, is_none_in_force, mode_number, mode_told, most, nothing_in_force, stood, told_more}
 use Rattle.run_account.specs.Brought.{Brings, Command, File, Half, Load, Telemetry, Tick}
 use Rattle.run_account.specs.Figures.{with_event}
-use Rattle.run_account.specs.Requests.{Came, Happened, Over, Sent, how_told, last_stored, names_known, text_in_force, text_loaded, text_then}
+use Rattle.run_account.specs.Happened.{Came, Happened, Over, Sent, how_told, last_stored, names_known, text_in_force, text_loaded, text_then}
 use Rattle.run_account.specs.Run.{Packet}
 use Rattle.run_account.proofs.Files.{AreFiled, file_more}
 
@@ -39,7 +39,7 @@ follows_nothing = record {
 -- ---- a record comes
 
 pub come_follows : (brought : Brings) (place : Place) (a : Account) (happened : List Happened) → Follows happened a.bands →
-    Follows (Came brought ∷ happened) (come_by brought place a).bands
+    Follows (Came place brought ∷ happened) (come_by brought place a).bands
 come_follows (Telemetry packet) place a happened f = record { files = f.files; waiting = f.waiting; text = f.text; none = f.none; begun = f.begun }
 come_follows Tick place a happened f = record { files = f.files; waiting = f.waiting; text = f.text; none = f.none; begun = f.begun }
 come_follows Command place a happened f = record { files = f.files; waiting = f.waiting; text = f.text; none = f.none; begun = f.begun }

@@ -7,6 +7,7 @@ pub mod Files
 pub mod Following
 pub mod Found
 pub mod KeptEnds
+pub mod Knowing
 pub mod Once
 pub mod Read
 pub mod Requesting

@@ -18,7 +18,8 @@ use Rattle.run_account.specs.Ends.{Ends}
 use Rattle.run_account.specs.Figures.{one_more, with_event, with_packet}
 use Rattle.run_account.specs.Packets.{packets_of}
 use Rattle.run_account.specs.Plans.{Planned}
-use Rattle.run_account.specs.Requests.{Came, Happened, KeepsRequests, Over, Sent, TellsRequests, behind_packets, behind_record, failures, own_event, packets_led_to, request_by, request_if, requests_from, requests_in, requests_of, rule_by, sequence_by, text_in_force, with_its_event, without_samples}
+use Rattle.run_account.specs.Happened.{Came, Happened, Over, Sent, behind_packets, behind_record, packets_led_to, text_in_force}
+use Rattle.run_account.specs.Requests.{TellsRequests, failures, own_event, request_by, request_if, requests_from, requests_in, requests_of, rule_by, sequence_by, with_its_event, without_samples}
 use Rattle.run_account.specs.Run.{AreCounted, OfTexts, Packet, ends_of, event_by, event_in, is_request, nothing_told, number_behind, numbered, packets_from}
 use Rattle.run_account.specs.Samples.{Row, Sampled, no_row}
 use Rattle.run_account.specs.Sent.{Requested, Said, Sending, before_newest, hears, nothing_sent, requested_more, requests_kept}
@@ -355,7 +356,7 @@ before_stood stands n (one ∷ before) (suc k) within = before_stood stands (n +
 
 -- its samples were taken
 begins_inside : (texts : OfTexts) (before : List Stand) (happened : List Happened) (number : ℕ) (step : Step) (a : Account) → Between texts before happened number a →
-    Inside texts before step.stands (Came (brings step.bytes) ∷ happened) number 0
+    Inside texts before step.stands (Came step.place (brings step.bytes) ∷ happened) number 0
     (record { account = sampled step.place step.stands (come_by (brings step.bytes) step.place a); from = 0 })
 begins_inside texts before happened number step a between =
     let came : Account = come_by (brings step.bytes) step.place a in
@@ -401,7 +402,7 @@ run_goes texts wanted (step ∷ steps) before happened number a between g =
     let own : List (List ℕ) = packets_of step.written in
     let behind : ℕ = number_behind number own in
     let others : List Packet = packets_from behind steps in
-    let now : List Happened = Came (brings step.bytes) ∷ happened in
+    let now : List Happened = Came step.place (brings step.bytes) ∷ happened in
     let counting : Account = sampled step.place step.stands (come_by (brings step.bytes) step.place a) in
     let over = reads_go texts before step.stands others (requests_from texts step.stands (behind_record number step happened) behind steps) wanted step.place own now number 0
     (record { account = counting; from = 0 })

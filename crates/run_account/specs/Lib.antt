@@ -6,6 +6,7 @@ pub mod Brought
 pub mod Ends
 pub mod Fields
 pub mod Figures
+pub mod Happened
 pub mod Packets
 pub mod Plans
 pub mod Requests

@@ -1,5 +1,6 @@
 //! What the account of a run is, by all that the run sent.
 
+ghost use Rattle.run_account.specs.Happened.{TellsFields};
 ghost use Rattle.run_account.specs.Requests.{TellsRequests};
 ghost use Rattle.run_account.specs.Run.{FieldsCome, StandAgain, TellsEvents, TellsFigures};
 
@@ -28,4 +29,10 @@ pub fn fields_that_come()
 /// The account of a run keeps its newest request, and of all others the first 300 and the last 299.
 pub fn the_requests_of_a_run()
     ensures { TellsRequests }
+{}
+
+/// What the account of a run knows of a field is what packets of its message id brought: how many there were, where the last was, and what
+/// comparisons meet, which is what the last of them brought, if it came since tables came into force.
+pub fn the_fields_of_a_run()
+    ensures { TellsFields }
 {}
