@@ -29,7 +29,7 @@ fails_by true c n row samples p q = sym (p refl)
 fails_by false true n row samples p q = sym (q refl)
 fails_by false false n row samples p q = refl
 
-counted_one : (place : Place) (stand : Stand) (met : List Met) (row : Row) → (row_with place stand met row).fails ≡ stand.fails
+pub counted_one : (place : Place) (stand : Stand) (met : List Met) (row : Row) → (row_with place stand met row).fails ≡ stand.fails
 counted_one place stand met row =
     fails_by (stand.fails == row.fails) (stand.fails == 0) stand.fails row (sampled_more place met (in_row stand.fails row))
     (tested_equal stand.fails row.fails) (tested_equal stand.fails 0)
@@ -37,7 +37,7 @@ counted_one place stand met row =
 same_one : (place : Place) (stand : Stand) (met : List Met) (row : Row) → row.fails ≡ stand.fails → row_with place stand met row ≡ row
 same_one place stand met row same = rw (test_equal stand.fails row.fails (sym same)) refl
 
-pub rows_counted : (place : Place) (stands : List Stand) (plans : List (List Planned)) (text : Option ℕ) (seen : List Seen) (rule : ℕ) (rows : List Row) →
+rows_counted : (place : Place) (stands : List Stand) (plans : List (List Planned)) (text : Option ℕ) (seen : List Seen) (rule : ℕ) (rows : List Row) →
     AreCounted stands rule (rows_with place stands plans text seen rule rows)
 rows_counted place stands plans text seen rule [] = tt
 rows_counted place stands plans text seen rule (row ∷ rows) =

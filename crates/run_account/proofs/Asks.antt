@@ -1,4 +1,4 @@
--- The rule, the count and the event of a request.
+-- The rule and the event of a request.
 use Rattle.std.proofs.Common.{◌≡◌, ℕ, zero, suc, ◌+◌, ◌-◌, ◌<◌, ◌≤◌, Bool, true, false, nat_le, List, [], ◌∷◌, ◌++◌, length, map, take, replicate, refl, ap, sym, ◌∙◌, subst, Option, Some, None, if◌then◌else◌, append_assoc, length-append, arith}
 use Rattle.std.specs.Prelude.{◌&&◌, ◌==◌, filter_map, find, is_none, option_map, slice_get}
 use Rattle.std.specs.List.{cons_option, take_while}
@@ -19,12 +19,12 @@ use Rattle.run_account.specs.Fields.{is_place}
 use Rattle.run_account.specs.Figures.{one_more, with_event, with_packet}
 use Rattle.run_account.specs.Packets.{packets_of}
 use Rattle.run_account.specs.Plans.{Planned, may_by, planned_at}
-use Rattle.run_account.specs.Requests.{failures, is_no_request, own_event}
+use Rattle.run_account.specs.Requests.{is_no_request, own_event}
 use Rattle.run_account.specs.Run.{AreCounted, OfTexts, Packet, ends_of, event_by, event_in, is_request, nothing_told, number_behind, numbered, packets_from}
 use Rattle.run_account.specs.Samples.{Row, Sampled}
 use Rattle.run_account.specs.Sent.{Requested, Said, Sending, before_newest, first_rule_event, hears, is_own, is_rule, nothing_sent, requested_more, requests_kept, said_more}
 use Rattle.run_account.specs.Standing.{absent, stand_at}
-use Rattle.run_account.proofs.Again.{OfRules, come_keeps, of_rules, read_keeps, rows_counted}
+use Rattle.run_account.proofs.Again.{OfRules, come_keeps, of_rules, read_keeps}
 use Rattle.run_account.proofs.Following.{Follows, come_follows, follows_nothing, over_follows, read_follows}
 use Rattle.run_account.proofs.KeptEnds.{kept_of, kept_one}
 use Rattle.run_account.proofs.Sends.{come_counts, come_sends, in_force_counts, in_force_sends, kind_counts, read_counts}
@@ -62,20 +62,7 @@ asking_below plans text before stands lanes from sequence rule is =
     let within = first_below (may_ask plans text before stands sequence) from (lanes - from) rule is in
     omega (arith, within.0, within.1)
 
--- ---- how often it failed
-
-row_counted : (stands : List Stand) (n : ℕ) (rows : List Row) (k : ℕ) → AreCounted stands n rows → k < length rows →
-    (text : Option ℕ) (s : Sending) → (counted_by (slice_get rows k) text s).counted ≡ (stand_at (n + k) stands).fails
-row_counted stands n [] k counted within text s = absurd (omega (arith, within))
-row_counted stands n (row ∷ rows) zero counted within text s = counted.0 ∙ ap (λ k. (stand_at k stands).fails) (omega arith)
-row_counted stands n (row ∷ rows) (suc k) counted within text s =
-    row_counted stands (n + 1) rows k counted.1 (omega (arith, within)) text s ∙ ap (λ k. (stand_at k stands).fails) (omega arith)
-
-pub counts_so : (stands : List Stand) (rows : List Row) (rule text : Option ℕ) (s : Sending) → AreCounted stands 0 rows →
-    ((k : ℕ) → rule ≡ Some k → k < length rows) → (counted_by (row_asked rule rows) text s).counted ≡ failures rule stands
-counts_so stands rows None text s counted within = refl
-counts_so stands rows (Some k) text s counted within =
-    row_counted stands 0 rows k counted (within k refl) text s ∙ ap (λ k. (stand_at k stands).fails) (omega arith)
+-- ---- what counts its samples leaves the requests
 
 pub counted_requests : (row : Option Row) (text : Option ℕ) (s : Sending) → (counted_by row text s).sending.requests ≡ s.requests
 counted_requests None text s = refl

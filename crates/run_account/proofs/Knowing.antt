@@ -109,13 +109,13 @@ telemetry_seen place packet happened (field ∷ fields) =
     parted true x y xs ys = refl
     parted false x y xs ys = refl
 
-none_more : (it : Happened) (happened : List Happened) (fields : List Field) → is_enforcing it ≡ false → ((field : Field) → value_came field it ≡ None) →
+pub none_more : (it : Happened) (happened : List Happened) (fields : List Field) → is_enforcing it ≡ false → ((field : Field) → value_came field it ≡ None) →
     map (seen_behind happened) fields ≡ map (seen_behind (it ∷ happened)) fields
 none_more it happened [] isnt none = refl
 none_more it happened (field ∷ fields) isnt none =
     λ i. sym (nothing_more it happened field isnt (none field)) i ∷ none_more it happened fields isnt none i
 
-come_seen : (brought : Brings) (place : Place) (a : Account) (happened : List Happened) (fields : List Field) → a.seen ≡ map (seen_behind happened) fields →
+pub come_seen : (brought : Brings) (place : Place) (a : Account) (happened : List Happened) (fields : List Field) → a.seen ≡ map (seen_behind happened) fields →
     (come_by brought place a).seen ≡ map (seen_behind (Came place brought ∷ happened)) fields
 come_seen (Telemetry packet) place a happened fields is =
     ap (λ (all : List Seen). if nat_lt (length packet) 2 then all else map (seen_by packet place) all) is ∙ telemetry_seen place packet happened fields
@@ -127,7 +127,7 @@ come_seen (Half name text) place a happened fields is = is ∙ none_more (Came p
 
 -- ---- a packet
 
-abbrev forgotten_if : Bool → List Seen → List Seen
+abbrev pub forgotten_if : Bool → List Seen → List Seen
 forgotten_if true all = map forgotten all
 forgotten_if false all = all
 
@@ -139,7 +139,7 @@ in_force_seen true true d place begins a = refl
 in_force_seen true false true place begins a = refl
 in_force_seen true false false place begins a = refl
 
-read_seen : (says : Option told.Told) (packet : List ℕ) (place : Place) (stands : List Stand) (r : Reading) →
+pub read_seen : (says : Option told.Told) (packet : List ℕ) (place : Place) (stands : List Stand) (r : Reading) →
     (read_by says packet place stands r).account.seen ≡ forgotten_if (is_some (how_told says)) r.account.seen
 read_seen None packet place stands r = refl
 read_seen (Some (told.Housekeeping mode count rules)) packet place stands r = refl
@@ -154,7 +154,7 @@ all_forgotten packet happened [] is = refl
 all_forgotten packet happened (field ∷ fields) is =
     λ i. sym (forgotten_more (Sent packet) happened field is refl) i ∷ all_forgotten packet happened fields is i
 
-packet_seen : (packet : Packet) (happened : List Happened) (fields : List Field) →
+pub packet_seen : (packet : Packet) (happened : List Happened) (fields : List Field) →
     forgotten_if (is_some (how_told (told_in packet.bytes))) (map (seen_behind happened) fields) ≡ map (seen_behind (Sent packet ∷ happened)) fields
 packet_seen packet happened fields = by_test (is_some (how_told (told_in packet.bytes))) refl
   where
@@ -187,7 +187,7 @@ run_seen (step ∷ steps) a number happened fields is =
     (come_seen (brings step.bytes) step.place a happened fields is)
     ∙ none_more (Over step.mode) (behind_packets (packets_led_to number step) now) fields refl (λ field. refl))
 
-unseen_all : (fields : List Field) → map unseen fields ≡ map (seen_behind []) fields
+pub unseen_all : (fields : List Field) → map unseen fields ≡ map (seen_behind []) fields
 unseen_all [] = refl
 unseen_all (field ∷ fields) = ap (λ (all : List Seen). unseen field ∷ all) (unseen_all fields)
 

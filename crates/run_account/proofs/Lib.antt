@@ -11,5 +11,6 @@ pub mod Knowing
 pub mod Once
 pub mod Read
 pub mod Requesting
+pub mod Rows
 pub mod Sends
 pub mod Stands
