@@ -86,14 +86,14 @@ added_there fields field among = by_place (place_of field fields) refl
   where
     by_place : (place : Option ℕ) → place_of field fields ≡ place → added fields field ≡ fields
     by_place (Some place) is = rw is refl
-    by_place None is = absurd (cc (ap is_some is, place_there 0 field fields, among))
+    by_place None is = absurd (cc (is, place_there 0 field fields, among))
 
 added_new : (fields : List Compared) (field : Compared) → is_among fields field ≡ false → added fields field ≡ fields ++ field ∷ []
 added_new fields field among = by_place (place_of field fields) refl
   where
     by_place : (place : Option ℕ) → place_of field fields ≡ place → added fields field ≡ fields ++ field ∷ []
     by_place None is = rw is refl
-    by_place (Some place) is = absurd (cc (ap is_some is, place_there 0 field fields, among))
+    by_place (Some place) is = absurd (cc (is, place_there 0 field fields, among))
 
 -- those that aren't among these
 abbrev not_among : List Compared → Compared → Bool
