@@ -29,7 +29,7 @@ fails_by true c n row samples p q = sym (p refl)
 fails_by false true n row samples p q = sym (q refl)
 fails_by false false n row samples p q = refl
 
-counted_one : (place : Place) (stand : Stand) (met : List Met) (row : Row) → (row_with place stand met row).fails ≡ stand.fails
+pub counted_one : (place : Place) (stand : Stand) (met : List Met) (row : Row) → (row_with place stand met row).fails ≡ stand.fails
 counted_one place stand met row =
     fails_by (stand.fails == row.fails) (stand.fails == 0) stand.fails row (sampled_more place met (in_row stand.fails row))
     (tested_equal stand.fails row.fails) (tested_equal stand.fails 0)
@@ -56,14 +56,16 @@ before_again stands rule (one ∷ before) = ap (λ more. stand_at rule stands �
 
 -- ---- what a record brings and leads to leaves them
 
-record OfRules : Type 0 where
-  rows : List Row
-  before : List Stand
+pub record OfRules : Type 0 where
+  pub plans : List (List Planned)
+  pub lanes : ℕ
+  pub rows : List Row
+  pub before : List Stand
 
-abbrev of_rules : Account → OfRules
-of_rules a = record { rows = a.rows; before = a.before }
+abbrev pub of_rules : Account → OfRules
+of_rules a = record { plans = a.plans; lanes = a.lanes; rows = a.rows; before = a.before }
 
-come_keeps : (brought : Brings) (place : Place) (a : Account) → of_rules (come_by brought place a) ≡ of_rules a
+pub come_keeps : (brought : Brings) (place : Place) (a : Account) → of_rules (come_by brought place a) ≡ of_rules a
 come_keeps (Telemetry packet) place a = refl
 come_keeps Tick place a = refl
 come_keeps Command place a = refl
@@ -83,7 +85,7 @@ in_force_keeps sender id text place a =
     chosen (bytes_eq sender lc_name) (id == 2) (id == 1) a (enforced_so place how.Adopted a)
     (enforced_so place (if bytes_eq text started_with_tables then how.Started else how.None) a) refl refl
 
-read_keeps : (says : Option told.Told) (packet : List ℕ) (place : Place) (stands : List Stand) (r : Reading) →
+pub read_keeps : (says : Option told.Told) (packet : List ℕ) (place : Place) (stands : List Stand) (r : Reading) →
     of_rules (read_by says packet place stands r).account ≡ of_rules r.account
 read_keeps None packet place stands r = refl
 read_keeps (Some (told.Housekeeping mode count rules)) packet place stands r = refl

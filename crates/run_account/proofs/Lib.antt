@@ -1,8 +1,16 @@
 pub mod Again
 pub mod Arriving
+pub mod Asks
 pub mod Coming
+pub mod Counts
+pub mod Files
+pub mod Following
 pub mod Found
 pub mod KeptEnds
+pub mod Knowing
+pub mod Once
 pub mod Read
+pub mod Requesting
+pub mod Rows
 pub mod Sends
 pub mod Stands

@@ -30,7 +30,7 @@ record_of event = event.place.«record»
 
 -- ---- a record comes
 
-come_sends : (brought : Brings) (place : Place) (a : Account) → (come_by brought place a).sending ≡ a.sending
+pub come_sends : (brought : Brings) (place : Place) (a : Account) → (come_by brought place a).sending ≡ a.sending
 come_sends (Telemetry packet) place a = refl
 come_sends Tick place a = refl
 come_sends Command place a = refl
@@ -38,7 +38,7 @@ come_sends (Load name) place a = refl
 come_sends (File name) place a = refl
 come_sends (Half name text) place a = refl
 
-come_counts : (brought : Brings) (place : Place) (a : Account) → (come_by brought place a).figures.packets ≡ a.figures.packets
+pub come_counts : (brought : Brings) (place : Place) (a : Account) → (come_by brought place a).figures.packets ≡ a.figures.packets
 come_counts (Telemetry packet) place a = refl
 come_counts Tick place a = refl
 come_counts Command place a = refl
@@ -67,12 +67,12 @@ counts_by true true d a x y p q = p
 counts_by true false true a x y p q = q
 counts_by true false false a x y p q = refl
 
-in_force_sends : (sender : List ℕ) (id : ℕ) (text : List ℕ) (place : Place) (a : Account) → (in_force_by sender id text place a).sending ≡ a.sending
+pub in_force_sends : (sender : List ℕ) (id : ℕ) (text : List ℕ) (place : Place) (a : Account) → (in_force_by sender id text place a).sending ≡ a.sending
 in_force_sends sender id text place a =
     sends_by (bytes_eq sender lc_name) (id == 2) (id == 1) a (enforced_so place how.Adopted a)
     (enforced_so place (if bytes_eq text started_with_tables then how.Started else how.None) a) refl refl
 
-in_force_counts : (sender : List ℕ) (id : ℕ) (text : List ℕ) (place : Place) (a : Account) → (in_force_by sender id text place a).figures ≡ a.figures
+pub in_force_counts : (sender : List ℕ) (id : ℕ) (text : List ℕ) (place : Place) (a : Account) → (in_force_by sender id text place a).figures ≡ a.figures
 in_force_counts sender id text place a =
     counts_by (bytes_eq sender lc_name) (id == 2) (id == 1) a (enforced_so place how.Adopted a)
     (enforced_so place (if bytes_eq text started_with_tables then how.Started else how.None) a) refl refl
@@ -82,7 +82,7 @@ abbrev events_by : Option Said → List Said
 events_by None = []
 events_by (Some event) = event ∷ []
 
-kind_counts : (kind : EventKind) (f : Figures) → (with_event kind f).packets ≡ f.packets
+pub kind_counts : (kind : EventKind) (f : Figures) → (with_event kind f).packets ≡ f.packets
 kind_counts kind.Debug f = refl
 kind_counts kind.Information f = refl
 kind_counts kind.Error f = refl
@@ -119,7 +119,7 @@ read_sends (Some (told.Event moment sender id kind text)) packet place stands r 
 read_sends (Some (told.Request sequence)) packet place stands r =
     counted_events (row_asked (rule_asking stands sequence r) r.account.rows) r.account.bands.text r.account.sending
 
-read_counts : (says : Option told.Told) (packet : List ℕ) (place : Place) (stands : List Stand) (r : Reading) →
+pub read_counts : (says : Option told.Told) (packet : List ℕ) (place : Place) (stands : List Stand) (r : Reading) →
     (read_by says packet place stands r).account.figures.packets ≡ r.account.figures.packets
 read_counts None packet place stands r = refl
 read_counts (Some (told.Housekeeping mode count rules)) packet place stands r = refl

@@ -6,8 +6,10 @@ pub mod Brought
 pub mod Ends
 pub mod Fields
 pub mod Figures
+pub mod Happened
 pub mod Packets
 pub mod Plans
+pub mod Requests
 pub mod Run
 pub mod Samples
 pub mod Sent

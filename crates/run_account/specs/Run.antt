@@ -1,10 +1,13 @@
 -- What the account of a whole run is, by all packets and records of the run. This project's own.
-use Rattle.std.specs.Prelude.{◌≡◌, ℕ, ◌+◌, ◌-◌, List, [], ◌∷◌, ◌++◌, filter_map, length, map, replicate, take, drop, Option, Some, None, ⊤}
+use Rattle.std.specs.Prelude.{◌≡◌, ℕ, ◌+◌, ◌-◌, ◌^◌, Bool, true, false, List, [], ◌∷◌, ◌++◌, filter_map, is_none, length, map, min, replicate, take, drop, Option, Some, None, ⊤}
+use Rattle.std.specs.List.{filter}
 use Rattle.lc_model.specs.declared.mode.LcMode.{LcMode}
+use Rattle.lc_model.specs.declared.rule.EventKind.TheVariants as kind
 use Rattle.lc_model.specs.Text.Syntax.{Item}
 use Rattle.packet_listing.specs.Told as told
 use Rattle.packet_listing.specs.Told.{told_in}
 use Rattle.run_account.specs.declared.ends.Left.{Left}
+use Rattle.run_account.specs.declared.figures.Figures.{Figures}
 use Rattle.run_account.specs.declared.place.Place.{Place}
 use Rattle.run_account.specs.declared.place.Stand.{Stand}
 use Rattle.run_account.specs.declared.texts.Field.{Field}
@@ -12,7 +15,7 @@ use Rattle.run_account.specs.About.{rule_of}
 use Rattle.run_account.specs.Account.{Account, Step, account_behind, account_with, before_with, come, sampled, stood_again, stood_so, written}
 use Rattle.run_account.specs.Bands.{nothing_in_force}
 use Rattle.run_account.specs.Ends.{Ends, kept}
-use Rattle.run_account.specs.Brought.{brings}
+use Rattle.run_account.specs.Brought.{Brings, Command, File, Half, Load, Telemetry, Tick, brings}
 use Rattle.run_account.specs.Fields.{AreKnown, all_brought, come_in, unseen}
 use Rattle.run_account.specs.Figures.{none, one_more}
 use Rattle.run_account.specs.Packets.{packets_of}
@@ -100,6 +103,85 @@ event_in packet = event_by packet.number packet.place (told_in packet.bytes)
 abbrev pub events_of : List Step → List Said
 events_of steps = filter_map event_in (packets_sent steps)
 
+-- ---- how many there are of what
+
+-- a count, which stops at the greatest number of 64 bits
+abbrev pub stopped : ℕ → ℕ
+stopped count = min count (2 ^ 64 - 1)
+
+-- of how many of these it is true
+abbrev pub counted : {T : Type 0} → (T → Bool) → List T → ℕ
+counted test items = stopped (length (filter test items))
+
+-- what a record brings
+abbrev pub is_telemetry : Brings → Bool
+is_telemetry (Telemetry packet) = true
+is_telemetry other = false
+
+abbrev pub is_command : Brings → Bool
+is_command Command = true
+is_command (Load name) = true
+is_command other = false
+
+abbrev pub is_tick : Brings → Bool
+is_tick Tick = true
+is_tick other = false
+
+abbrev pub is_file : Brings → Bool
+is_file (File name) = true
+is_file (Half name text) = true
+is_file other = false
+
+-- what a packet says
+abbrev pub is_request : Option told.Told → Bool
+is_request (Some (told.Request sequence)) = true
+is_request other = false
+
+abbrev pub is_housekeeping : Option told.Told → Bool
+is_housekeeping (Some (told.Housekeeping mode count rules)) = true
+is_housekeeping other = false
+
+abbrev pub is_critical : Option told.Told → Bool
+is_critical (Some (told.Event moment sender id kind.Critical text)) = true
+is_critical other = false
+
+abbrev pub is_error : Option told.Told → Bool
+is_error (Some (told.Event moment sender id kind.Error text)) = true
+is_error other = false
+
+abbrev pub is_information : Option told.Told → Bool
+is_information (Some (told.Event moment sender id kind.Information text)) = true
+is_information other = false
+
+abbrev pub is_debug : Option told.Told → Bool
+is_debug (Some (told.Event moment sender id kind.Debug text)) = true
+is_debug other = false
+
+-- of records that bring this, and of packets that say this
+abbrev pub figures_by : List Brings → List (Option told.Told) → Figures
+figures_by brought said = record {
+  records = stopped (length brought);
+  telemetry = counted is_telemetry brought;
+  commands = counted is_command brought;
+  ticks = counted is_tick brought;
+  files = counted is_file brought;
+  packets = stopped (length said);
+  requests = counted is_request said;
+  housekeeping = counted is_housekeeping said;
+  critical = counted is_critical said;
+  error = counted is_error said;
+  info = counted is_information said;
+  debug = counted is_debug said;
+  other = counted is_none said;
+}
+
+-- what the records of a run bring, and what its packets say
+abbrev pub brought_in : List Step → List Brings
+brought_in steps = map (λ (step : Step). brings step.bytes) steps
+
+abbrev pub said_in : List Step → List (Option told.Told)
+said_in steps = map (λ (packet : Packet). told_in packet.bytes) (packets_sent steps)
+
 -- ---- what is kept of a list
 
 -- each of these is added, one after the other
@@ -169,3 +251,9 @@ abbrev pub TellsEvents : Type 0
 TellsEvents = (texts : OfTexts) (steps : List Step) →
     (account_behind (nothing_told texts) steps).sending.events
     ≡ ends_of (λ (event : Said). event.place.«record») events_kept events_kept (events_of steps)
+
+-- its figures are how many records the run has, and how many of them bring this and that; and how many packets, and how many of them
+-- say this and that
+abbrev pub TellsFigures : Type 0
+TellsFigures = (texts : OfTexts) (steps : List Step) →
+    (account_behind (nothing_told texts) steps).figures ≡ figures_by (brought_in steps) (said_in steps)

@@ -1,7 +1,8 @@
 -- What is read of the rule texts of a run, by the items of each: the fields that their rules compare, and their rules. This project's own;
 -- what the items say is the rule language's (lc_model's Text).
-use Rattle.std.specs.Prelude.{ℕ, ◌+◌, Bool, true, false, ◌&&◌, List, [], ◌∷◌, ◌++◌, length, map, max, fold, filter_map, ◌==◌, if◌then◌else◌, Option, Some, None, option_map, unwrap_or, ℤ, pos, nat_abs, bytes_eq, ⊤}
+use Rattle.std.specs.Prelude.{ℕ, ◌+◌, Bool, true, false, not, ◌&&◌, List, [], ◌∷◌, ◌++◌, length, map, max, fold, filter_map, ◌==◌, if◌then◌else◌, Option, Some, None, option_map, unwrap_or, ℤ, pos, nat_abs, bytes_eq, ⊤}
 use Rattle.std.specs.Borrow.{Bor}
+use Rattle.std.specs.List.{filter, flat_map}
 use Rattle.std.specs.Option.{option_map_or}
 use Rattle.std.specs.Ordering.{int_eq}
 use Rattle.lc_model.specs.declared.field.CmpOp.{CmpOp}
@@ -142,6 +143,27 @@ field_compared items c = option_map (compared_in items) (field_named items c.fie
 
 -- ---- what is read
 
+-- the fields that the comparisons of a rule name, from the left
+abbrev pub compared_by : List Item → RuleItem → List Compared
+compared_by items rule = filter_map (field_compared items) (comparisons_in rule.condition)
+
+-- .. of all rules of a text, in order
+abbrev pub compared_in_text : List Item → List Compared
+compared_in_text items = flat_map (compared_by items) (rules_of items)
+
+-- .. of all texts, in order
+abbrev pub all_compared : List (List Item) → List Compared
+all_compared texts = flat_map compared_in_text texts
+
+-- each once, where it stands first
+abbrev pub each_once : List Compared → List Compared
+each_once [] = []
+each_once (field ∷ fields) = field ∷ filter (λ (other : Compared). not (is_same field other)) (each_once fields)
+
+-- the fields that the rules of these texts compare, each once, in the order of their first comparison
+abbrev pub fields_of : List (List Item) → List Compared
+fields_of texts = each_once (all_compared texts)
+
 -- a field more, unless it is there
 abbrev pub added_by : Option ℕ → List Compared → Compared → List Compared
 added_by None fields field = fields ++ field ∷ []
@@ -150,26 +172,9 @@ added_by (Some place) fields field = fields
 abbrev pub added : List Compared → Compared → List Compared
 added fields field = added_by (place_of field fields) fields field
 
--- that of a comparison, if it names one
-abbrev pub added_if : List Compared → Option Compared → List Compared
-added_if fields None = fields
-added_if fields (Some field) = added fields field
-
--- those of a rule, from the left
-abbrev pub added_of : List Item → List Compared → List Comparison → List Compared
-added_of items fields comparisons = fold (λ so_far c. added_if so_far (field_compared items c)) fields comparisons
-
-abbrev pub added_of_item : List Item → List Compared → Item → List Compared
-added_of_item items fields (Rule r) = added_of items fields (comparisons_in r.condition)
-added_of_item items fields item = fields
-
--- those of all rules of a text
-abbrev pub added_of_text : List Compared → List Item → List Compared
-added_of_text fields items = fold (added_of_item items) fields items
-
--- the fields that the rules of these texts compare, each once, in the order of their first comparison
-abbrev pub fields_of : List (List Item) → List Compared
-fields_of texts = fold added_of_text [] texts
+-- .. all of these, one after the other
+abbrev pub all_added : List Compared → List Compared → List Compared
+all_added fields more = fold added fields more
 
 -- a comparison by the number of its field among these
 abbrev pub part_of : List Compared → Comparison → Compared → Part

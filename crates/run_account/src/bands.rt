@@ -3,6 +3,7 @@
 ghost use Rattle.std.specs.Prelude.{◌≡◌, ◌<◌, bytes_eq, find, length, IfOk, IfSome, OnOk, option_map};
 ghost use Rattle.run_account.specs.Bands.{File, enforced, file_place, filed, filed_at, in_force, in_mode, is_none_in_force, loaded, mode_number, mode_told, nothing_in_force, stood, stored, tables_told, text_enforced, text_in, told_more};
 
+use crate::about::is;
 use crate::place::Place;
 use lc_model::LcMode;
 use std::alloc::{AllocError, Global};
@@ -63,13 +64,6 @@ impl Model for Stored {
     ghost Value = { File };
 
     ghost view = { λ s. record { name = s.name.items; text = s.text } };
-}
-
-/// Whether a name is this one.
-fn is(name: &[u8], other: &[u8]) -> bool
-    ensures { result ≡ bytes_eq name.now other.now }
-{
-    name == other
 }
 
 impl Stored {

@@ -1,6 +1,6 @@
 //! The rules of texts, as far as requests and samples need them.
 
-ghost use Rattle.std.specs.Prelude.{◌≡◌, IfOk, Some, map, option_map, slice_get};
+ghost use Rattle.std.specs.Prelude.{◌≡◌, IfOk, Some, filter_map, map, option_map, slice_get};
 ghost use Rattle.rule_parser.specs.Syntax.{rule_of};
 ghost use Rattle.run_account.specs.Plans.{may_by, parts_by, planned_at};
 ghost use Rattle.run_account.specs.Texts.{compared_of, comparison_of, items_in, part_in, planned_of, text_planned, texts_planned};
@@ -124,6 +124,25 @@ fn part_of(text: &Text<'_>, comparison: &Comparison<'_>, fields: &[Field<'_>]) -
     }
 }
 
+/// These comparisons by the numbers of their fields. Out of memory is the only error.
+fn parts_among(
+    alloc: Global,
+    text: &Text<'_>,
+    comparisons: &[Comparison<'_>],
+    fields: &[Field<'_>],
+) -> Result<Vec<Part>, AllocError>
+    ensures { IfOk result (λ parts. parts.items ≡ filter_map (part_in (items_in text.now)
+        (map compared_of fields.now)) (map comparison_of comparisons.now)) }
+{
+    let mut parts = Vec::new(alloc);
+    for comparison in comparisons {
+        if let Some(part) = part_of(text, comparison, fields) {
+            parts.push(part)?;
+        }
+    }
+    Ok(parts)
+}
+
 /// The comparisons of a rule, from the left. Out of memory is the only error.
 fn parts_of(
     alloc: Global,
@@ -134,14 +153,8 @@ fn parts_of(
     ensures { IfOk result (λ parts. parts.items ≡
         (planned_of (items_in text.now) (map compared_of fields.now) (rule_of rule.now)).parts) }
 {
-    let mut parts = Vec::new(alloc);
     let comparisons = comparisons_of(alloc, rule)?;
-    for comparison in &comparisons {
-        if let Some(part) = part_of(text, comparison, fields) {
-            parts.push(part)?;
-        }
-    }
-    Ok(parts)
+    parts_among(alloc, text, comparisons.as_slice(), fields)
 }
 
 /// A rule of a text. Out of memory is the only error.

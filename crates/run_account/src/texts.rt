@@ -1,12 +1,12 @@
 //! Rule texts as a page has them: their rules, and the fields that these compare.
 
-ghost use Rattle.std.specs.Prelude.{◌≡◌, ◌++◌, IfOk, OnOk, length, map, nat_abs, option_map, slice_get};
+ghost use Rattle.std.specs.Prelude.{◌≡◌, ◌++◌, IfOk, OnOk, filter_map, length, map, nat_abs, option_map, slice_get};
 ghost use Rattle.std.specs.Option.{option_map_or};
 ghost use Rattle.lc_model.specs.Codes.{type_code};
 ghost use Rattle.lc_model.specs.Field.{full_mask};
 ghost use Rattle.lc_model.specs.Text.Meaning.{field_named};
 ghost use Rattle.rule_parser.specs.Syntax.{expression_of, field_of, name_of, rule_of};
-ghost use Rattle.run_account.specs.Texts.{HasItems, added, added_of, added_of_text, compared_in, compared_of, comparison_of, comparisons_in, fields_of, is_mask, is_same, items_in, mid_named, place_of, rules_of};
+ghost use Rattle.run_account.specs.Texts.{HasItems, added, all_added, compared_by, compared_in, compared_in_text, compared_of, comparison_of, comparisons_in, field_compared, fields_of, is_mask, is_same, items_in, mid_named, place_of, rules_of};
 
 use lc_model::FieldType;
 use rule_lexer::{Token, TokenKind, lex};
@@ -277,24 +277,37 @@ fn add_field<'a>(fields: &mut Vec<Field<'a>>, field: Field<'a>) -> Result<(), Al
     Ok(())
 }
 
-/// Adds the fields that a rule compares, each once. Out of memory is the only error.
+/// Adds the fields that these comparisons name, each once. Out of memory is the only error.
 fn add_fields<'a>(
+    text: &Text<'a>,
+    comparisons: &[Comparison<'a>],
+    fields: &mut Vec<Field<'a>>,
+) -> Result<(), AllocError>
+    ensures { OnOk result (map compared_of fields.new.items ≡
+        all_added (map compared_of fields.old.items) (filter_map
+        (field_compared (items_in text.now)) (map comparison_of comparisons.now))) }
+{
+    for comparison in comparisons {
+        if let Some(field) = text.field(comparison.field) {
+            add_field(fields, field)?;
+        }
+    }
+    Ok(())
+}
+
+/// Adds the fields that a rule compares, each once. Out of memory is the only error.
+fn add_rule<'a>(
     alloc: Global,
     text: &Text<'a>,
     rule: &RuleItem<'a>,
     fields: &mut Vec<Field<'a>>,
 ) -> Result<(), AllocError>
     ensures { OnOk result (map compared_of fields.new.items ≡
-        added_of (items_in text.now) (map compared_of fields.old.items)
-        (comparisons_in (rule_of rule.now).condition)) }
+        all_added (map compared_of fields.old.items)
+        (compared_by (items_in text.now) (rule_of rule.now))) }
 {
     let comparisons = comparisons_of(alloc, rule)?;
-    for comparison in &comparisons {
-        if let Some(field) = text.field(comparison.field) {
-            add_field(fields, field)?;
-        }
-    }
-    Ok(())
+    add_fields(text, comparisons.as_slice(), fields)
 }
 
 /// Adds the fields that the rules of a text compare, each once. Out of memory is the only error.
@@ -304,11 +317,11 @@ fn add_text<'a>(
     fields: &mut Vec<Field<'a>>,
 ) -> Result<(), AllocError>
     ensures { OnOk result (map compared_of fields.new.items ≡
-        added_of_text (map compared_of fields.old.items) (items_in text.now)) }
+        all_added (map compared_of fields.old.items) (compared_in_text (items_in text.now))) }
 {
     for item in &text.file.items {
         if let Item::Rule(rule) = item {
-            add_fields(alloc, text, rule, fields)?;
+            add_rule(alloc, text, rule, fields)?;
         }
     }
     Ok(())

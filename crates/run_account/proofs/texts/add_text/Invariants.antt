@@ -1,9 +1,10 @@
-use Rattle.std.proofs.Common.{◌≡◌, map, drop, fold}
+use Rattle.std.proofs.Common.{◌≡◌, map, drop}
+use Rattle.std.specs.List.{flat_map}
 use Rattle.rule_parser.specs.Syntax.{items_of}
-use Rattle.run_account.specs.Texts.{added_of_item, added_of_text, compared_of, items_in}
+use Rattle.run_account.specs.Texts.{all_added, compared_by, compared_in_text, compared_of, items_in, rules_of}
 use Rattle.run_account.proofs.texts.add_text.Given as goal
 
 abbrev pub invariant-loop-item : goal.invariant-loop-item
 invariant-loop-item l =
-    fold (added_of_item (items_in l.text)) (map compared_of l.fields.items) (items_of (drop l.item-index l.text.file.items.items))
-    ≡ added_of_text (map compared_of l.initial.fields.items) (items_in l.text)
+    all_added (map compared_of l.fields.items) (flat_map (compared_by (items_in l.text)) (rules_of (items_of (drop l.item-index l.text.file.items.items))))
+    ≡ all_added (map compared_of l.initial.fields.items) (compared_in_text (items_in l.text))
