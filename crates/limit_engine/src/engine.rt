@@ -177,8 +177,8 @@ impl Engine {
         self.steps
     }
 
-    /// The message ids that a search by halves compares the last packet's with, at most eight. It is counted here: a packet's id
-    /// is looked for first where its low byte says, and where it stands there, no search is made.
+    /// The message ids that a search by halves compares the last packet's with, at most eight. It is counted here: a packet's
+    /// id is looked for first where its low byte says, and where it stands there, no search is made.
     pub fn probes(&self) -> usize
         ensures probes { result ≡ self.now.effort.probes }
         ensures few { result ≤ most_probes }
