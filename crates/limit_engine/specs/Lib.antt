@@ -13,7 +13,6 @@ pub mod Running
 pub mod Shared
 pub mod Entry
 pub mod Layout
-pub mod Probes
 pub mod Tables
 pub mod Steps
 pub mod Plan

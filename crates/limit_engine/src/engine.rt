@@ -17,7 +17,7 @@ ghost use Rattle.limit_engine.specs.States.{answered, outcome, unless_refused};
 ghost use Rattle.limit_engine.specs.Tables.{most_probes, most_steps};
 
 use crate::actionpoint::{Entry, Point};
-use crate::groups::{Probes, Watchpoints};
+use crate::groups::Watchpoints;
 use crate::plan::Plan;
 use crate::reaction::Asked;
 use crate::states::{self, StateRefusal};
@@ -47,7 +47,7 @@ pub struct Engine {
     plan: Plan,
     /// The words that the last sample evaluated, and the comparisons of the last packet's message id.
     steps: usize,
-    probes: Probes,
+    probes: usize,
 }
 
 impl Model for Engine {
@@ -56,7 +56,6 @@ impl Model for Engine {
     ghost use Rattle.lc_model.specs.Condition.Coding.{coded_condition};
     ghost use Rattle.lc_model.specs.Kept.Summary.{LcOwn};
     ghost use Rattle.limit_engine.specs.Plan.{IsPlanned};
-    ghost use Rattle.limit_engine.specs.Probes.{probes_of};
     ghost use Rattle.limit_engine.specs.Tables.{own_of, AreTables, HasRoom, IsFewEffort};
 
     ghost Value = { LcOwn };
@@ -64,13 +63,13 @@ impl Model for Engine {
     ghost coded = { Prim.hlevel (codes, coded_condition) };
 
     ghost view = { λ s. own_of s.mode s.watchpoints s.watch.items s.entries.items s.points.items
-        s.words.items s.steps (probes_of s.watchpoints s.probes) };
+        s.words.items s.steps s.probes };
 
     ghost invariant = { λ s. AreTables s.watchpoints s.watch.items s.entries.items s.points.items
         s.words.items
         × HasRoom (vec_capacity s.watch) (vec_capacity s.entries) (vec_capacity s.points)
         (vec_capacity s.words)
-        × IsFewEffort s.steps (probes_of s.watchpoints s.probes)
+        × IsFewEffort s.steps s.probes
         × IsPlanned (length s.watchpoints) s.words.items s.entries.items s.plan.steps
         s.plan.roots };
 }
@@ -106,7 +105,7 @@ impl Engine {
             words: Vec::with_capacity(alloc, TABLE_WORDS)?,
             plan: Plan::new(alloc)?,
             steps: 0,
-            probes: Probes::Counted(0),
+            probes: 0,
         })
     }
 
@@ -122,7 +121,7 @@ impl Engine {
         self.words.clear();
         self.plan.clear();
         self.steps = 0;
-        self.probes = Probes::Counted(0);
+        self.probes = 0;
     }
 
     /// Puts these tables in force: nothing seen, nothing sampled, each rule in its default state. The mode stays, and so does
@@ -135,7 +134,6 @@ impl Engine {
         ensures { self.new ≡ with_tables (spelled_terms wdt.now.bytes)
             (spelled_rules layouts wdt.now.bytes adt.now.bytes) self.old }
     {
-        self.probes = Probes::Counted(self.watchpoints.probes(self.probes));
         self.watchpoints.set(wdt);
         layout::lay_out_results(self.watchpoints.terms().len(), &mut self.watch);
         layout::lay_out_rules(adt, &mut self.entries, &mut self.points, &mut self.words);
@@ -177,13 +175,12 @@ impl Engine {
         self.steps
     }
 
-    /// The message ids that a search by halves compares the last packet's with, at most eight. It is counted here: a packet's
-    /// id is looked for first where its low byte says, and where it stands there, no search is made.
+    /// The message ids that the last packet of telemetry was compared with, at most eight.
     pub fn probes(&self) -> usize
         ensures probes { result ≡ self.now.effort.probes }
         ensures few { result ≤ most_probes }
     {
-        self.watchpoints.probes(self.probes)
+        self.probes
     }
 
     /// What the event of the rule with this number says, and the rule's sequence.
@@ -239,13 +236,12 @@ impl Engine {
         ensures short { result ≡ tells_short packet.now self.old }
     {
         if is_disabled(self.mode) {
-            self.probes = Probes::Counted(0);
+            self.probes = 0;
             return false;
         }
-        let mid = field::message_id(packet);
-        self.probes = Probes::Of(mid);
-        let group = self.watchpoints.find(mid);
-        watchpoint::see_group(group, self.watch.as_mut_slice(), packet)
+        let found = self.watchpoints.find(field::message_id(packet));
+        self.probes = found.probes;
+        watchpoint::see_group(found.group, self.watch.as_mut_slice(), packet)
     }
 
     /// Samples the rules that the request takes, in order, those that are disabled or off aside; then, where it is asked for,

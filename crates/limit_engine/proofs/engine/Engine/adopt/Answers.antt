@@ -34,10 +34,7 @@ invariant_of-self c =
         for_points = omega (arith, room.for_points, rules.points_capacity);
         for_words = omega (arith, room.for_words, rules.words_capacity);
       },
-      record {
-        few_steps = c.self.invariant.2.few_steps;
-        few_probes = omega (arith, c.probes.ensures, c.self.invariant.2.few_probes);
-      },
+      c.self.invariant.2,
       rw (sym many, sym c.as_slice-2.ensures.value, sym c.as_slice.ensures.value) c.set-2.ensures,
     )
 
@@ -58,7 +55,7 @@ returns c =
       rules = rules i;
       watch = watch i;
       points = points i;
-      effort = record { steps = c.self.inside.steps; probes = c.probes.ensures i };
+      effort = record { steps = c.self.inside.steps; probes = c.self.inside.probes };
     })
     ∙ ap (with_tables (spelled_terms wdt) (spelled_rules layouts wdt adt)) c.self.view_is
 
