@@ -13,4 +13,5 @@ pub mod Read
 pub mod Requesting
 pub mod Rows
 pub mod Sends
+pub mod SmallRun
 pub mod Stands
