@@ -15,3 +15,4 @@ pub mod Rows
 pub mod Sends
 pub mod SmallRun
 pub mod Stands
+pub mod Turning

@@ -4,6 +4,7 @@ use Rattle.std.proofs.Common.{◌≡◌, ℕ, ◌-◌, List, [], ◌∷◌, ◌+
 use Rattle.lc_model.specs.declared.mode.LcMode.TheVariants.{Active}
 use Rattle.lc_model.specs.declared.field.FieldType.TheVariants as field
 use Rattle.lc_model.specs.declared.field.CmpOp.TheVariants as cmp
+use Rattle.run_account.specs.declared.bands.How.TheVariants as how
 use Rattle.run_account.specs.declared.place.Place.{Place}
 use Rattle.run_account.specs.declared.place.Stand.{Stand}
 use Rattle.run_account.specs.declared.texts.Field.{Field}
@@ -11,6 +12,7 @@ use Rattle.run_account.specs.Account.{Step}
 use Rattle.run_account.specs.Happened.{happened_in, seen_behind, text_in_force}
 use Rattle.run_account.specs.Packets.{packets_within}
 use Rattle.run_account.specs.Requests.{requests_of}
+use Rattle.run_account.specs.Turns.{all_modes, all_tables}
 use Rattle.run_account.specs.Run.{OfTexts, brought_in, figures_by, said_in}
 
 -- an event of the Limit Checker: the bytes of its number, and its text
@@ -73,3 +75,11 @@ pub small_figures : figures_by (brought_in steps) (said_in steps)
     ≡ record { records = 3; telemetry = 2; commands = 0; ticks = 0; files = 1; packets = 3; requests = 1; housekeeping = 0; critical = 0; error = 0; info = 2; debug = 0; other = 0 }
 unfolding packets_within
 small_figures = refl
+
+pub small_tables : all_tables (happened_in steps) ≡ record { place = at 1; text = Some 0; how = Some how.Started } ∷ []
+unfolding packets_within
+small_tables = refl
+
+pub small_modes : all_modes (happened_in steps) ≡ record { place = at 1; mode = Some (Some Active) } ∷ []
+unfolding packets_within
+small_modes = refl
