@@ -62,7 +62,7 @@ come_follows (Half name text) place a happened f = record {
 -- ---- a packet
 
 -- tables come into force, if they do
-abbrev enforced_by : Option How → Place → InForce → InForce
+abbrev pub enforced_by : Option How → Place → InForce → InForce
 enforced_by None place b = b
 enforced_by (Some how) place b = enforced place how b
 
@@ -74,7 +74,7 @@ in_force_so true true d place begins a = refl
 in_force_so true false true place begins a = refl
 in_force_so true false false place begins a = refl
 
-read_bands : (says : Option told.Told) (packet : List ℕ) (place : Place) (stands : List Stand) (r : Reading) →
+pub read_bands : (says : Option told.Told) (packet : List ℕ) (place : Place) (stands : List Stand) (r : Reading) →
     (read_by says packet place stands r).account.bands ≡ enforced_by (how_told says) place r.account.bands
 read_bands None packet place stands r = refl
 read_bands (Some (told.Housekeeping mode count rules)) packet place stands r = refl
@@ -95,7 +95,7 @@ told_there one more all = by_tests (nat_lt (length all + 1) most) (length all + 
     by_tests false true is other = longer more
     by_tests false false is other = grind (arith, nat_tests, is)
 
-text_so : (how : Option How) (place : Place) (b : InForce) (happened : List Happened) → Follows happened b →
+pub text_so : (how : Option How) (place : Place) (b : InForce) (happened : List Happened) → Follows happened b →
     (enforced_by how place b).text ≡ text_then how happened (text_in_force happened)
 text_so None place b happened f = f.text
 text_so (Some how.None) place b happened f = refl
@@ -143,13 +143,13 @@ read_follows packet place stands r happened f =
 
 -- ---- a record is over
 
-mode_follows : (t : Bool) (place : Place) (mode : Option LcMode) (b : InForce) (happened : List Happened) → Follows happened b →
+pub mode_follows : (t : Bool) (place : Place) (mode : Option LcMode) (b : InForce) (happened : List Happened) → Follows happened b →
     Follows happened (if t then record b { mode = mode; modes = mode_told place mode b.modes } else b)
 mode_follows true place mode b happened f = record { files = f.files; waiting = f.waiting; text = f.text; none = f.none; begun = f.begun }
 mode_follows false place mode b happened f = f
 
 stopped_follows : (t w : Bool) (place : Place) (b : InForce) (happened : List Happened) → is_none_in_force b.how ≡ w → Follows happened b →
-    Follows (Over None ∷ happened) (if t || (true && not w) then enforced place how.None b else b)
+    Follows (Over place None ∷ happened) (if t || (true && not w) then enforced place how.None b else b)
 stopped_follows true w place b happened is f =
     record { files = f.files; waiting = f.waiting; text = refl; none = λ none. refl; begun = λ none. refl }
 stopped_follows false false place b happened is f =
@@ -158,19 +158,19 @@ stopped_follows false true place b happened is f =
     record { files = f.files; waiting = f.waiting; text = f.none is; none = f.none; begun = f.begun }
 
 runs_follows : (t w : Bool) (place : Place) (mode : LcMode) (b : InForce) (happened : List Happened) → (length b.tables == 0) ≡ t → Follows happened b →
-    Follows (Over (Some mode) ∷ happened) (if t || (false && not w) then enforced place how.None b else b)
+    Follows (Over place (Some mode) ∷ happened) (if t || (false && not w) then enforced place how.None b else b)
 runs_follows true w place mode b happened is f =
     record { files = f.files; waiting = f.waiting; text = sym (f.begun is) ∙ f.text; none = λ none. refl; begun = λ none. refl }
 runs_follows false w place mode b happened is f =
     record { files = f.files; waiting = f.waiting; text = f.text; none = f.none; begun = f.begun }
 
 force_follows : (place : Place) (mode : Option LcMode) (b : InForce) (happened : List Happened) → Follows happened b →
-    Follows (Over mode ∷ happened) (in_force place mode b)
+    Follows (Over place mode ∷ happened) (in_force place mode b)
 force_follows place None b happened f = stopped_follows (length b.tables == 0) (is_none_in_force b.how) place b happened refl f
 force_follows place (Some mode) b happened f = runs_follows (length b.tables == 0) (is_none_in_force b.how) place mode b happened refl f
 
 pub over_follows : (place : Place) (mode : Option LcMode) (b : InForce) (happened : List Happened) → Follows happened b →
-    Follows (Over mode ∷ happened) (stood place mode b)
+    Follows (Over place mode ∷ happened) (stood place mode b)
 over_follows place mode b happened f =
     force_follows place mode (in_mode place mode b) happened
     (mode_follows (length b.modes == 0 || not (mode_number b.mode == mode_number mode)) place mode b happened f)

@@ -185,7 +185,7 @@ run_seen (step ∷ steps) a number happened fields is =
     run_seen steps (account_with step a) (number_behind number own) (behind_record number step happened) fields
     (reads_seen own step.place step.stands (record { account = sampled step.place step.stands (come_by (brings step.bytes) step.place a); from = 0 }) number now fields
     (come_seen (brings step.bytes) step.place a happened fields is)
-    ∙ none_more (Over step.mode) (behind_packets (packets_led_to number step) now) fields refl (λ field. refl))
+    ∙ none_more (Over step.place step.mode) (behind_packets (packets_led_to number step) now) fields refl (λ field. refl))
 
 pub unseen_all : (fields : List Field) → map unseen fields ≡ map (seen_behind []) fields
 unseen_all [] = refl

@@ -13,4 +13,6 @@ pub mod Read
 pub mod Requesting
 pub mod Rows
 pub mod Sends
+pub mod SmallRun
 pub mod Stands
+pub mod Turning

@@ -430,7 +430,7 @@ begins_inside texts past happened number step a between =
 -- it is over
 ends_between : (texts : OfTexts) (before : List Stand) (records : List Taken) (happened : List Happened) (number : ℕ) (step : Step) (a : Account) →
     Known texts before records happened number a → stands_behind records ≡ step.stands →
-    Between texts records (Over step.mode ∷ happened) number (stood_so step.place step.mode step.stands a)
+    Between texts records (Over step.place step.mode ∷ happened) number (stood_so step.place step.mode step.stands a)
 ends_between texts before records happened number step a known is = record {
   stays = record {
     plans = known.stays.plans;
@@ -442,7 +442,7 @@ ends_between texts before records happened number step a known is = record {
         ∙ ap (λ stands. stand_at rule stands) (sym is);
   };
   rows = known.rows;
-  seen = known.seen ∙ none_more (Over step.mode) happened texts.fields refl (λ field. refl);
+  seen = known.seen ∙ none_more (Over step.place step.mode) happened texts.fields refl (λ field. refl);
   follows = over_follows step.place step.mode a.bands happened known.follows;
   sent = known.sent;
 }

@@ -20,12 +20,12 @@ use Rattle.run_account.specs.Fields.{brought_of, nothing}
 use Rattle.run_account.specs.Packets.{packets_of}
 use Rattle.run_account.specs.Run.{OfTexts, Packet, nothing_told, number_behind, numbered, stopped}
 
--- a record of this place came, which brings this; a packet was sent; a record is over, behind which the Limit Checker has this mode, where one runs.
+-- a record of this place came, which brings this; a packet was sent; the record of this place is over, behind which the Limit Checker has this mode, where one runs.
 -- Of all that happened the newest stands in front.
 pub data Happened : Type 0 where
   Came : (place : Place) (brought : Brings) → Happened
   Sent : (packet : Packet) → Happened
-  Over : (mode : Option LcMode) → Happened
+  Over : (place : Place) (mode : Option LcMode) → Happened
 
 -- the packets of a record were sent, one after the other
 abbrev pub behind_packets : List Packet → List Happened → List Happened
@@ -38,7 +38,7 @@ packets_led_to number step = numbered number step.place (packets_of step.written
 
 -- a record is over
 abbrev pub behind_record : ℕ → Step → List Happened → List Happened
-behind_record number step before = Over step.mode ∷ behind_packets (packets_led_to number step) (Came step.place (brings step.bytes) ∷ before)
+behind_record number step before = Over step.place step.mode ∷ behind_packets (packets_led_to number step) (Came step.place (brings step.bytes) ∷ before)
 
 -- all that happened in these records, behind so many packets and what happened before
 abbrev pub happened_from : List Happened → ℕ → List Step → List Happened
@@ -117,8 +117,8 @@ how_told None = None
 abbrev pub how_enforced : Happened → Option How
 how_enforced (Came place brought) = None
 how_enforced (Sent packet) = how_told (told_in packet.bytes)
-how_enforced (Over None) = Some how.None
-how_enforced (Over (Some mode)) = None
+how_enforced (Over place None) = Some how.None
+how_enforced (Over place (Some mode)) = None
 
 -- the text whose tables are in force: at a start that of the default file, at an adoption that of the file that was loaded last
 abbrev pub text_then : Option How → List Happened → Option ℕ → Option ℕ
@@ -137,7 +137,7 @@ text_in_force (it ∷ before) = text_then (how_enforced it) before (text_in_forc
 abbrev pub value_came : Field → Happened → Option Met
 value_came field (Came place brought) = brought_of field place brought
 value_came field (Sent packet) = None
-value_came field (Over mode) = None
+value_came field (Over place mode) = None
 
 -- all its values that came
 abbrev pub values_came : Field → List Happened → List Met
@@ -147,7 +147,7 @@ values_came field happened = filter_map (value_came field) happened
 abbrev pub is_enforcing : Happened → Bool
 is_enforcing (Sent packet) = is_some (how_told (told_in packet.bytes))
 is_enforcing (Came place brought) = false
-is_enforcing (Over mode) = false
+is_enforcing (Over place mode) = false
 
 -- what happened since then
 abbrev pub since_enforced : List Happened → List Happened

@@ -15,3 +15,4 @@ pub mod Samples
 pub mod Sent
 pub mod Standing
 pub mod Texts
+pub mod Turns

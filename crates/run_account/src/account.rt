@@ -3,7 +3,7 @@
 ghost use Rattle.std.specs.Prelude.{◌≡◌, IfOk, OnOk, map, replicate};
 ghost use Rattle.run_account.specs.Account.{account_of, before_with, brought_by, come, rows_with, sampled, stood_again, stood_so};
 ghost use Rattle.run_account.specs.Brought.{brings_of};
-ghost use Rattle.run_account.specs.Run.{TellsNothing, nothing_told};
+ghost use Rattle.run_account.specs.Run.{TellsNothing};
 ghost use Rattle.run_account.specs.Samples.{no_row};
 ghost use Rattle.run_account.specs.Standing.{absent};
 ghost use Rattle.run_account.specs.Texts.{HaveItems, items_in, most_rules, sources_of};
@@ -16,7 +16,7 @@ use crate::plans::{Part, Plan, parts_at, plans_of};
 use crate::samples::Row;
 use crate::seen::{Seen, all_unseen, see_all};
 use crate::sent::Sending;
-use crate::texts::{Field, Text, fields_of, read_text};
+use crate::texts::{Text, fields_of, read_text};
 use lc_model::LcMode;
 use std::alloc::{AllocError, Global};
 
@@ -119,29 +119,11 @@ impl<'a> Account<'a> {
     {
         let texts = texts_of(alloc, sources)?;
         let fields = fields_of(alloc, texts.as_slice())?;
-        let plans = plans_of(alloc, texts.as_slice(), fields.as_slice())?;
-        let account = Account::begin(alloc, texts, plans, fields.as_slice())?;
-        Ok(account)
-    }
-
-    /// Of no record, by what was read of the texts. Out of memory is the only error.
-    fn begin(
-        alloc: Global,
-        texts: Vec<Text<'a>>,
-        plans: Vec<Plan>,
-        fields: &[Field<'a>],
-    ) -> Result<Account<'a>, AllocError>
-        ensures { IfOk result (λ it. account_of it ≡ nothing_told (record {
-          texts = map items_in texts.entry.items;
-          plans = plans.items;
-          lanes = most_rules (map items_in texts.entry.items);
-          fields = fields.now;
-        })) }
-    {
         let lanes = most_rules(texts.as_slice());
+        let plans = plans_of(alloc, texts.as_slice(), fields.as_slice())?;
         let rows = no_rows(alloc, lanes)?;
         let before = no_stands(alloc, lanes)?;
-        let seen = all_unseen(alloc, fields)?;
+        let seen = all_unseen(alloc, fields.as_slice())?;
         Ok(Account {
             alloc,
             texts,

@@ -3,6 +3,7 @@
 ghost use Rattle.run_account.specs.Happened.{TellsFields};
 ghost use Rattle.run_account.specs.Requests.{TellsRequests};
 ghost use Rattle.run_account.specs.Run.{FieldsCome, StandAgain, TellsEvents, TellsFigures};
+ghost use Rattle.run_account.specs.Turns.{TellsTurns};
 
 /// The account of a run has the first 1,000 of all its events and the last 1,000, each with its packet, counted over the whole run, and
 /// how many are left out between them, of the records from one to another.
@@ -35,4 +36,10 @@ pub fn the_requests_of_a_run()
 /// comparisons meet, which is what the last of them brought, if it came since tables came into force.
 pub fn the_fields_of_a_run()
     ensures { TellsFields }
+{}
+
+/// The account of a run tells each time at which tables came into force, or none, with their text, and each mode of the Limit Checker
+/// behind a record that is another than behind the one before: the first 499, and where there are more.
+pub fn the_turns_of_a_run()
+    ensures { TellsTurns }
 {}
