@@ -140,7 +140,7 @@ mode_turns : (place : Place) (mode : Option LcMode) (b : InForce) (happened : Li
     × (mode_number (if c then record b { mode = mode; modes = mode_told place mode b.modes } else b).mode ≡ mode_number mode)
 mode_turns place mode b happened true is t = (
   ap (told_more (record { place = place; mode = Some mode }) (record { place = place; mode = None })) t.modes
-  ∙ more_told untold_mode (record { place = place; mode = Some mode }) (all_modes happened),
+      ∙ more_told untold_mode (record { place = place; mode = Some mode }) (all_modes happened),
   refl,
 )
 mode_turns place mode b happened false is t =
