@@ -26,12 +26,18 @@ use Rattle.tool_faults.specs.Cause.{IsOfInput, IsOfOutput, IsOfScript, IsOfWrite
 use Rattle.tool_faults.specs.declared.fault.Fault.{Fault}
 use Rattle.tool_faults.specs.declared.fault.Fault.TheVariants as fault
 
--- of a page, whose write failed by an error of this kind, if it was noted; a rule text that is refused is told by its file's name
-abbrev pub fault_of_page : Bor (List ℕ) → (rules : List (Bor (List ℕ))) → ReportError → Option ErrorKind → Fault
-fault_of_page name rules page.Memory noted = fault.Memory
-fault_of_page name rules page.Write (Some kind) = fault.File name (why_of kind)
-fault_of_page name rules page.Write None = fault.File name why.Failed
-fault_of_page name rules (page.Rules text error) noted = fault.Rules (unwrap_or (slice_get rules text) name) error
+-- of a file of this name, which failed by an error of this kind, if it was noted
+abbrev pub fault_of_device : Bor (List ℕ) → Option ErrorKind → Fault
+fault_of_device name (Some kind) = fault.File name (why_of kind)
+fault_of_device name None = fault.File name why.Failed
+
+-- of a page of a stream, which failed by errors of these kinds, if they were noted; a rule text that is refused is told by its file's name
+abbrev pub fault_of_page : (name stream : Bor (List ℕ)) → (rules : List (Bor (List ℕ))) → ReportError → (read written : Option ErrorKind) → Fault
+fault_of_page name stream rules page.Memory read written = fault.Memory
+fault_of_page name stream rules page.Read read written = fault_of_device stream read
+fault_of_page name stream rules page.Bound read written = fault.Stream stream run.ReadBound
+fault_of_page name stream rules page.Write read written = fault_of_device name written
+fault_of_page name stream rules (page.Rules text error) read written = fault.Rules (unwrap_or (slice_get rules text) name) error
 
 -- a stream in a file of this name that ends early is a fault, which says where
 abbrev pub answer_of_ending : Bor (List ℕ) → Ending → Result (Unit {0}) Fault

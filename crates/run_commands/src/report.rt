@@ -1,68 +1,110 @@
 //! `report SCHEDULE STREAM PAGE RULES..`
 
 ghost use Rattle.std.specs.Prelude.{◌≡◌};
-ghost use Rattle.run_commands.specs.Cause.{answer_of_ending, fault_of_page};
+ghost use Rattle.run_commands.specs.Cause.{answer_of_ending, fault_of_device, fault_of_page};
 
 use flight_core::RunError;
-use program_files::{Noting, Why, begin, discard, keep, reason_for};
+use lc_model::Reading;
+use program_files::{Noting, Why, begin, discard, fault_of, keep, reason_for};
 use run_course::Ending;
 use run_report::{Progress, ReportError, Run, Source, write_page};
-use std::alloc::Global;
+use std::alloc::{AllocError, Global};
 use std::cell::Cell;
-use std::fs::Files;
-use std::io::{BufWriter, Eprint, ErrorKind, Write};
+use std::fs::{File, Files, OpenFile};
+use std::io::{BufWriter, Eprint, ErrorKind, Read, Write};
 use tick_scheduler::Schedule;
 use tool_faults::{
-    Fault, LONGEST_TEXT, LONGEST_WHOLE, epoch_of, fault_at, is_apart, read, schedule_of, texts_in,
+    Fault, LONGEST_TEXT, epoch_of, fault_at, is_apart, read, schedule_of, texts_in,
 };
+
+/// In how many parts a stream is told of.
+const PARTS: u64 = 20;
+
+/// The bytes of a part of a stream whose length isn't known.
+const PART: u64 = 16_777_216;
 
 /// Tells on standard error how far a report is, where a person looks at it.
 #[derive(Drop)]
 struct Told<'a, R> {
     rt: &'a R,
     is_watched: bool,
+    /// The bytes of the stream, where they are known.
+    of: Option<u64>,
+    /// Behind how many bytes it is told next.
+    next: u64,
 }
 
-impl<R: Eprint> Progress for Told<'_, R> {
-    fn done(&mut self, bytes: usize, of: usize) {
-        if self.is_watched {
-            let _told = eprintln!(self.rt; "{bytes} of {of} bytes");
+impl<R> Told<'_, R> {
+    /// The bytes of a part, behind which it is told again.
+    fn part(&self) -> u64 {
+        match self.of {
+            Some(of) => of / PARTS,
+            None => PART,
         }
     }
 }
 
-/// Why there is no page of this name of rule texts in these files, where a write failed by this kind of error, if one did.
+impl<R: Eprint> Progress for Told<'_, R> {
+    fn done(&mut self, bytes: u64) {
+        if !self.is_watched || bytes < self.next {
+            return;
+        }
+        self.next = self.next.saturating_add(self.part());
+        let _told = match self.of {
+            Some(of) => eprintln!(self.rt; "{bytes} of {of} bytes"),
+            None => eprintln!(self.rt; "{bytes} bytes"),
+        };
+    }
+}
+
+/// Why there is no page of this name of a stream and rule texts in these files, where the stream and the page failed by these kinds
+/// of errors, if they did.
 fn page_fault<'a>(
     page: &'a str,
+    stream: &'a str,
     rules: &[&'a str],
     error: ReportError,
-    kind: Option<ErrorKind>,
+    read: Option<ErrorKind>,
+    written: Option<ErrorKind>,
 ) -> Fault<'a>
-    ensures { result ≡ fault_of_page page.entry rules.now error kind }
+    ensures { result ≡ fault_of_page page.entry stream.entry rules.now error read written }
 {
-    match (error, kind) {
-        (ReportError::Rules { text, error }, _) => match rules.get(text) {
+    match error {
+        ReportError::Rules { text, error } => match rules.get(text) {
             Some(name) => Fault::Rules(name, error),
             None => Fault::Rules(page, error),
         },
-        (ReportError::Memory, _) => Fault::Memory,
-        (ReportError::Write, Some(kind)) => Fault::File(page, reason_for(kind)),
-        (ReportError::Write, None) => Fault::File(page, Why::Failed),
+        ReportError::Memory => Fault::Memory,
+        ReportError::Read => failed_file(stream, read),
+        ReportError::Bound => Fault::Stream(stream, RunError::ReadBound),
+        ReportError::Write => failed_file(page, written),
+    }
+}
+
+/// A file that failed by this kind of error, if it was noted.
+fn failed_file<'a>(name: &'a str, kind: Option<ErrorKind>) -> Fault<'a>
+    ensures { result ≡ fault_of_device name.entry kind }
+{
+    match kind {
+        Some(kind) => Fault::File(name, reason_for(kind)),
+        None => Fault::File(name, Why::Failed),
     }
 }
 
 /// Writes the page, and all of it is with the device. Answers how the run ended.
-fn write_to<R: Eprint, F: Write + Drop>(
+fn write_to<R: Eprint, I: Read + Drop, F: Write + Drop>(
     alloc: Global,
     schedule: &Schedule,
     run: &Run<'_, '_>,
+    input: I,
     file: F,
     told: &mut Told<'_, R>,
 ) -> Result<Ending, ReportError> {
+    let mut reader = Reading::new(input);
     let Ok(mut out) = BufWriter::new(alloc, file) else {
         return Err(ReportError::Memory);
     };
-    let written = write_page(alloc, schedule, run, &mut out, told);
+    let written = write_page(alloc, schedule, run, &mut reader, &mut out, told);
     let flushed = out.flush();
     let (_file, _unwritten) = out.into_parts();
     let ending = written?;
@@ -90,8 +132,37 @@ fn epoch_text<'a>(alloc: Global, word: Option<&'a str>) -> Result<Option<String>
     }
 }
 
-/// A run of these rule texts over a stream, as a page, which is written beside its name and takes it at the end. A stream that
-/// ends early has a page, and is a fault, which says where.
+/// The file of a stream, and how many bytes it has, where it is one whose length the system knows.
+fn stream_of<'a, R: Files>(rt: &R, name: &'a str) -> Result<(R::File, Option<u64>), Fault<'a>> {
+    let file = match File::open(rt, name) {
+        Ok(file) => file,
+        Err(error) => return Err(fault_at(name, fault_of(&error))),
+    };
+    let length = match file.metadata() {
+        Ok(there) if there.is_file() => Some(there.len()),
+        _ => None,
+    };
+    Ok((file, length))
+}
+
+/// The rule texts, each with the name of its file.
+fn named<'a, 't>(
+    alloc: Global,
+    rules: &[&'a str],
+    texts: &'t [Vec<u8>],
+) -> Result<Vec<Source<'a, 't>>, AllocError> {
+    let mut sources = Vec::new(alloc);
+    for (name, text) in rules.iter().zip(texts.iter()) {
+        sources.push(Source {
+            name,
+            text: text.as_slice(),
+        })?;
+    }
+    Ok(sources)
+}
+
+/// A run of these rule texts over a stream, as a page, which is written beside its name and takes it at the end. The stream is
+/// read in pieces. One that ends early has a page, and is a fault, which says where; one that can't be read leaves the old page.
 pub fn make_page<'a, R: Files + Eprint + AllocGlobal>(
     rt: &R,
     schedule: &'a str,
@@ -104,37 +175,36 @@ pub fn make_page<'a, R: Files + Eprint + AllocGlobal>(
     let epoch = epoch_text(rt.alloc(), epoch)?;
     let planned = read(rt, schedule, LONGEST_TEXT)?;
     let plan = schedule_of(rt, schedule, planned.as_slice())?;
-    let bytes = read(rt, stream, LONGEST_WHOLE)?;
+    let (input, of) = stream_of(rt, stream)?;
     let texts = texts_in(rt, rules)?;
     is_apart(rt, page, &[schedule, stream])?;
     is_apart(rt, page, rules)?;
-    let mut sources = Vec::new(rt.alloc());
-    for (name, text) in rules.iter().zip(texts.iter()) {
-        sources.push(Source {
-            name,
-            text: text.as_slice(),
-        })?;
-    }
+    let sources = named(rt.alloc(), rules, texts.as_slice())?;
     let run = Run {
         plan: Source {
             name: schedule,
             text: planned.as_slice(),
         },
-        stream: Source {
-            name: stream,
-            text: bytes.as_slice(),
-        },
+        stream,
         texts: sources.as_slice(),
         epoch: epoch.as_ref().map(|text| text.as_str()),
     };
+    let mut told = Told {
+        rt,
+        is_watched,
+        of,
+        next: 0,
+    };
+    told.next = told.part();
     let mut draft = begin(rt, page).map_err(|fault| fault_at(page, fault))?;
-    let kind = Cell::new(None);
+    let (read, wrote) = (Cell::new(None), Cell::new(None));
     let written = write_to(
         rt.alloc(),
         &plan,
         &run,
-        Noting::new(&mut draft.file, &kind),
-        &mut Told { rt, is_watched },
+        Noting::new(input, &read),
+        Noting::new(&mut draft.file, &wrote),
+        &mut told,
     );
     match written {
         Ok(ending) => {
@@ -143,7 +213,7 @@ pub fn make_page<'a, R: Files + Eprint + AllocGlobal>(
         }
         Err(error) => {
             discard(rt, draft);
-            Err(page_fault(page, rules, error, kind.get()))
+            Err(page_fault(page, stream, rules, error, read.get(), wrote.get()))
         }
     }
 }

@@ -6,7 +6,6 @@ use Rattle.run_account.specs.Account as account
 use Rattle.run_account.specs.Account.{Account, account_behind, account_with}
 use Rattle.run_account.specs.Run as run
 use Rattle.run_account.specs.Run.{FieldsCome, OfTexts, nothing_told}
-use Rattle.run_account.specs.declared.texts.Field.{Field}
 use Rattle.run_account.specs.Fields.{AreKnown}
 use Rattle.run_account.specs.declared.place.Place.{Place}
 use Rattle.run_account.specs.declared.place.Stand.{Stand}

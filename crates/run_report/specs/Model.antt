@@ -1,6 +1,6 @@
 -- What a page tells of a run: how the Limit Checker stands behind each record, rule by rule, the values of fields, and the account of
 -- the run (page/DATA.md). This project's own.
-use Rattle.std.specs.Prelude.{◌≡◌, ℕ, zero, suc, ◌+◌, ◌*◌, ◌^◌, ◌<◌, true, List, [], ◌∷◌, ◌++◌, length, map, pos, ◌-ℤ◌, negsuc, ℤ, nat_lt, if◌then◌else◌, Option, Some, None, Ok}
+use Rattle.std.specs.Prelude.{◌≡◌, ℕ, zero, suc, ◌+◌, ◌-◌, ◌*◌, ◌^◌, ◌<◌, min, true, List, [], ◌∷◌, ◌++◌, length, map, pos, ◌-ℤ◌, negsuc, ℤ, nat_lt, if◌then◌else◌, Option, Some, None, Ok}
 use Rattle.lc_model.specs.declared.mode.LcMode.{LcMode}
 use Rattle.lc_model.specs.Bytes.{u16_at, u32_at}
 use Rattle.lc_model.specs.Host.Schedule.{Schedule}
@@ -29,7 +29,11 @@ use Rattle.run_account.specs.Run.{AreRead, OfTexts}
 use Rattle.run_account.specs.Texts.{HaveItems}
 use Rattle.run_account.specs.Standing.{bit_of_result, bit_of_state, stand_at}
 use Rattle.run_report.specs.declared.behind.Behind.{Behind}
+use Rattle.run_report.specs.declared.intake.Intake.{Intake}
 use Rattle.run_report.specs.declared.lists.Lists.{Lists}
+use Rattle.run_report.specs.Coming.{Took}
+use Rattle.std.specs.Io.KnownBytes.{Consumes, IsAtEnd}
+use Rattle.sha2.specs.Sha256.{sha256}
 
 -- ---- a run
 
@@ -278,3 +282,28 @@ pub record TellsRun (sources : List (List ℕ)) (schedule : Schedule) (stream : 
   pub first : Feeding
   pub begins : BeginsWith sources schedule first
   pub tells : Tells read stream first lists a ending
+
+-- ---- a stream that comes in pieces
+
+-- a run that ended behind its last record met the source's end
+abbrev pub MetEnd : Ending → Intake → Type 0
+MetEnd (Whole records) intake = intake.is_ended ≡ true
+MetEnd (NoRecord n) intake = Unit {0}
+MetEnd (Cut n) intake = Unit {0}
+MetEnd Bound intake = Unit {0}
+
+-- of these bytes, taken of a source, it is told so
+pub record TellsTaken (texts : OfTexts) (before now : Option (List ℕ)) (old new : Intake) (first : Feeding) (lists : Lists) (a : Account) (ending : Ending) : Type 0 where
+  pub taken : List ℕ
+  pub took : Took before now old new taken
+  pub tells : Tells texts taken first lists a ending
+  pub met_end : MetEnd ending new
+
+-- all bytes of a source were taken, so many with this SHA-256, and of them it is told so
+pub record TellsRead (sources : List (List ℕ)) (schedule : Schedule) (before now : Option (List ℕ)) (lists : Lists) (a : Account) (bytes : ℕ) (digest : List ℕ) (ending : Ending) : Type 0 where
+  pub stream : List ℕ
+  pub consumes : Consumes before now stream
+  pub at_end : IsAtEnd now
+  pub size : bytes ≡ min (length stream) (2 ^ 64 - 1)
+  pub digest_is : digest ≡ sha256 stream
+  pub tells : TellsRun sources schedule stream lists a ending

@@ -15,6 +15,12 @@ pub enum ReportError {
     /// Out of memory.
     #[error("out of memory")]
     Memory,
+    /// The stream can't be read; nothing was written.
+    #[error("a read failed")]
+    Read,
+    /// As many reads were made as may be: 2^64 - 1. Nothing was written.
+    #[error("as many reads were made as may be")]
+    Bound,
     /// The page can't be written.
     #[error("a write failed")]
     Write,

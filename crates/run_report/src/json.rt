@@ -1,14 +1,9 @@
 //! JSON, as the data of a page is written: without blanks, in ASCII alone.
 
-use std::io::{self, Write};
-
-/// Writes what is JSON already.
-pub fn put<W: Write>(out: &mut W, text: &str) -> io::Result<()> {
-    out.write_all(text.as_bytes())
-}
+use std::fmt::{self, Display, Formatter, Write};
 
 /// What stands for a byte of a text that can't stand for itself. A `<` would let a text end the page's script.
-fn escaped(byte: u8) -> Option<&'static str> {
+fn replacement(byte: u8) -> Option<&'static str> {
     match byte {
         b'"' => Some("\\\""),
         b'\\' => Some("\\\\"),
@@ -18,30 +13,31 @@ fn escaped(byte: u8) -> Option<&'static str> {
     }
 }
 
-/// Writes a text. A byte that is no printable ASCII character is a point.
-pub fn put_text<W: Write>(out: &mut W, text: &[u8]) -> io::Result<()> {
-    put(out, "\"")?;
-    for byte in text {
-        match escaped(*byte) {
-            Some(escaped) => put(out, escaped)?,
-            None => out.write_all(&[*byte])?,
+/// A text, which stands between quotes. A byte that is no printable ASCII character is a point.
+#[derive(Clone, Copy)]
+pub struct Escaped<'a>(pub &'a [u8]);
+
+impl Display for Escaped<'_> {
+    fn fmt<W: Write>(&self, f: &mut Formatter<W>) -> fmt::Result {
+        for byte in self.0 {
+            match replacement(*byte) {
+                Some(text) => f.write_str(text)?,
+                None => f.write_char(char::from(*byte))?,
+            }
         }
+        Ok(())
     }
-    put(out, "\"")
 }
 
-/// Writes the comma in front of each item of a list but the first, which has number 0.
-pub fn put_comma<W: Write>(out: &mut W, number: usize) -> io::Result<()> {
-    if number == 0 {
-        return Ok(());
-    }
-    put(out, ",")
-}
+/// A number, or null where there is none.
+#[derive(Clone, Copy)]
+pub struct OrNull(pub Option<i64>);
 
-/// Writes a number, or null where there is none.
-pub fn put_optional<W: Write>(out: &mut W, number: Option<i64>) -> io::Result<()> {
-    match number {
-        Some(number) => write!(out, "{number}"),
-        None => put(out, "null"),
+impl Display for OrNull {
+    fn fmt<W: Write>(&self, f: &mut Formatter<W>) -> fmt::Result {
+        match self.0 {
+            Some(number) => write!(f, "{number}"),
+            None => f.write_str("null"),
+        }
     }
 }

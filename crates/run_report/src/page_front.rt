@@ -127,6 +127,7 @@ th,td{text-align:left;padding:3px 8px 3px 0;border-top:1px solid var(--line);ver
 th{overflow-wrap:normal;}
 .number{text-align:right;padding-right:14px;overflow-wrap:normal;white-space:nowrap;}
 td.instant,td.holds{white-space:nowrap;}
+td.age{overflow-wrap:break-word;}
 td button{padding:0 6px;color:var(--link);text-align:left;overflow-wrap:anywhere;}
 .wide{overflow-x:auto;}
 @media (max-width:1000px){

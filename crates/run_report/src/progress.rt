@@ -2,8 +2,8 @@
 
 /// Is told how far a report is.
 pub trait Progress {
-    /// So many bytes of the stream are handled, of so many.
-    fn done(&mut self, bytes: usize, of: usize);
+    /// So many bytes of the stream are handled. It is told behind each record.
+    fn done(&mut self, bytes: u64);
 }
 
 /// Says nothing.
@@ -11,5 +11,5 @@ pub trait Progress {
 pub struct Silent;
 
 impl Progress for Silent {
-    fn done(&mut self, _bytes: usize, _of: usize) {}
+    fn done(&mut self, _bytes: u64) {}
 }

@@ -1,6 +1,6 @@
 //! From a stream to what its page tells.
 
-ghost use Rattle.std.specs.Prelude.{◌≡◌, ◌<◌, ◌==◌, ◌^◌, ◌++◌, [], List, false, OnOk, IfOk, length, map, if◌then◌else◌};
+ghost use Rattle.std.specs.Prelude.{◌≡◌, ◌<◌, ◌==◌, ◌≤◌, ◌^◌, [], List, false, OnOk, IfOk, length, map, if◌then◌else◌};
 ghost use Rattle.change_lists.specs.declared.entry.Entry.{Entry as Told};
 ghost use Rattle.flight_core.specs.Compiled.{sources_of};
 ghost use Rattle.run_course.specs.Stepping.{IsAtRest, engine_among, host_in, written_by};
@@ -11,23 +11,23 @@ ghost use Rattle.run_account.specs.declared.texts.Field.{Field};
 ghost use Rattle.run_account.specs.Run as run;
 ghost use Rattle.run_account.specs.Run.{AreRead, OfTexts};
 ghost use Rattle.run_account.specs.Texts.{HaveItems};
-ghost use Rattle.run_report.specs.Model.{HasTaken, HasTold, IsKept, KeepsStands, ListsTell, SaidLast, Tells, TellsRun, led_to, place_of, stands_of, stood_more, ticks_of, values_more};
+ghost use Rattle.run_report.specs.Coming.{most_held, piece_size};
+ghost use Rattle.run_report.specs.Model.{HasTaken, HasTold, IsKept, KeepsStands, ListsTell, SaidLast, TellsRead, TellsTaken, led_to, place_of, stands_of, stood_more, ticks_of, values_more};
 
 use crate::behind::Behind;
 use crate::clock::{Clock, ticks_in};
 use crate::entry::value_entry;
 use crate::error::ReportError;
+use crate::incoming::{Incoming, PIECE};
+use crate::intake::Taken;
 use crate::lists::Lists;
 use crate::progress::Progress;
-use lc_model::stream::{HEADER, body_size};
+use lc_model::ByteSource;
 use run_account::laws::{fields_that_come, rules_that_stand_as_before};
 use run_account::{Account, Place, Seen};
 use run_course::{Ending, Handled, Stepping};
 use std::alloc::{AllocError, Global};
 use tick_scheduler::Schedule;
-
-/// How often it is told how far a run is.
-const TOLD: usize = 20;
 
 /// All that a page tells of a run, of the records so far.
 #[derive(Drop)]
@@ -36,18 +36,6 @@ pub struct Telling<'a> {
     pub(crate) lists: Lists,
     pub(crate) behind: Behind,
     pub(crate) account: Account<'a>,
-}
-
-/// The first bytes of these as a record: all of it, or all of them where they end before.
-fn first_record(stream: &[u8]) -> (&[u8], &[u8])
-    ensures all { result.0.now ++ result.1.now ≡ stream.now }
-    ensures some { 0 < length stream.now → 0 < length result.0.now }
-{
-    if stream.len() < HEADER {
-        return (stream, &[]);
-    }
-    let size = body_size(stream).saturating_add(HEADER).min(stream.len());
-    stream.split_at(size)
 }
 
 /// The fields that a packet of this place brought have new values.
@@ -175,75 +163,82 @@ impl<'a> Telling<'a> {
 }
 
 /// All records of a stream. Answers how it ended.
-fn tell_all<P: Progress>(
+fn tell_all<R: ByteSource, P: Progress>(
     telling: &mut Telling<'_>,
     stepping: &mut Stepping,
-    stream: &[u8],
+    incoming: &mut Incoming,
+    room: &mut [u8],
+    reader: &mut R,
     progress: &mut P,
 ) -> Result<Ending, ReportError>
     requires rest { IsAtRest stepping.old }
     requires start { telling.old.clock.start < 2 ^ 48 }
+    requires room { length room.old ≡ piece_size }
+    requires empty { incoming.old.window ≡ [] }
     ensures rest { IsAtRest stepping.new }
+    ensures room { length room.new ≡ piece_size }
+    ensures few { OnOk result (length incoming.new.window ≤ most_held) }
     ensures told { (read : OfTexts) → HasTold read telling.old.lists telling.old.behind
         (account_of telling.old.account) telling.old.clock.start [] →
-        IfOk result (λ ending. Tells read stream.now (host_in stepping.old)
-        telling.new.lists (account_of telling.new.account) ending) }
+        IfOk result (TellsTaken read (R.source reader.old).rest (R.source reader.new).rest
+        incoming.old.intake incoming.new.intake (host_in stepping.old)
+        telling.new.lists (account_of telling.new.account)) }
 {
-    let step = stream.len() / TOLD;
-    let mut told = step;
-    let mut rest = stream;
     let mut number = 0u64;
-    for _ in 0..stream.len() {
-        if rest.is_empty() {
+    let mut done = 0u64;
+    for _ in 0..u64::MAX {
+        incoming.bring(room, reader)?;
+        let record = incoming.front();
+        let size = record.len();
+        if size == 0 {
             return Ok(Ending::Whole { records: number });
         }
-        let (record, behind) = first_record(rest);
         let next = number + 1;
         match stepping.step(record)? {
             Handled::Whole => telling.take(stepping, record, next)?,
             Handled::NoRecord => return Ok(Ending::NoRecord { n: next }),
             Handled::Part => return Ok(Ending::Cut { n: next }),
         }
+        incoming.window.let_go(size);
         number = next;
-        rest = behind;
-        told = tell(
-            progress,
-            told,
-            step,
-            stream.len().saturating_sub(rest.len()),
-            stream.len(),
-        );
+        done = done.saturating_add(size as u64);
+        progress.done(done);
     }
-    Ok(Ending::Whole { records: number })
+    Err(ReportError::Bound)
 }
 
-/// Tells how far a run is, where a part more is done. Answers behind how many bytes it is told next.
-fn tell<P: Progress>(progress: &mut P, told: usize, step: usize, done: usize, of: usize) -> usize {
-    if done < told {
-        return told;
-    }
-    progress.done(done, of);
-    told.saturating_add(step)
-}
-
-/// Runs rule texts under a schedule over a stream, record by record. Answers what is told of the run, and how it ended: of the rules and
-/// fields of these texts (`TellsRun`), and of a host that was new, with these texts' files and this profile's applications under this
-/// schedule in stock.
+/// Runs rule texts under a schedule over a stream, record by record, which is read in pieces of 8,192 bytes at most, to its end. Answers
+/// what is told of the run, how many bytes the stream has and their SHA-256, and how the run ended (`TellsRead`): the bytes that were
+/// taken are all of the stream, and of these it is told what the rules and fields of these texts do (`TellsRun`), of a host that was new,
+/// with these texts' files and this profile's applications under this schedule in stock. Of the stream at most 73,739 bytes are held.
 ///
-/// Errors: `Rules` with the first text that doesn't compile, numbered from 0; `Memory`.
-pub fn tell_run<'a, P: Progress>(
+/// Errors: `Rules` with the first text that doesn't compile, numbered from 0; `Memory`; `Read`, where a read fails; `Bound`, where the
+/// stream doesn't end within 2^64 - 1 reads.
+pub fn tell_run<'a, R: ByteSource, P: Progress>(
     alloc: Global,
     schedule: &Schedule,
     texts: &[&'a [u8]],
-    stream: &[u8],
+    reader: &mut R,
     progress: &mut P,
-) -> Result<(Telling<'a>, Ending), ReportError>
-    ensures { IfOk result (λ told. TellsRun (sources_of texts.now) schedule.now stream.now
-        told.0.lists (account_of told.0.account) told.1) }
+) -> Result<(Telling<'a>, Taken, Ending), ReportError>
+    ensures { IfOk result (λ told. TellsRead (sources_of texts.now) schedule.now
+        (R.source reader.old).rest (R.source reader.new).rest told.0.lists
+        (account_of told.0.account) told.1.bytes told.1.digest told.2) }
 {
     let mut stepping = Stepping::new(alloc, texts, schedule)?;
     let mut telling = Telling::new(alloc, texts)?;
-    let ending = tell_all(&mut telling, &mut stepping, stream, progress)?;
+    let mut incoming = Incoming::new(alloc)?;
+    let mut room = vec![in alloc; 0; PIECE]?;
+    let ending = tell_all(
+        &mut telling,
+        &mut stepping,
+        &mut incoming,
+        room.as_mut_slice(),
+        reader,
+        progress,
+    )?;
     stepping.close();
-    Ok((telling, ending))
+    let Incoming { window: _, mut intake } = incoming;
+    intake.take_rest(room.as_mut_slice(), reader)?;
+    Ok((telling, intake.taken(), ending))
 }

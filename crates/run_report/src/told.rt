@@ -1,18 +1,10 @@
 //! What was sent, and the bands, of a page's data.
 
-use crate::json::{put, put_comma, put_optional, put_text};
+use crate::json::{Escaped, OrNull};
 use crate::rules::level_word;
 use lc_model::LcMode;
-use run_account::{
-    Account, Bands, Ends, How, Left, Met, Part, Place, Request, Sample, Told, verdict,
-};
-use std::io::{self, Write};
-
-fn put_place<W: Write>(out: &mut W, place: Place) -> io::Result<()> {
-    let record = place.record;
-    let time = place.time;
-    write!(out, "{record},{time}")
-}
+use run_account::{Account, Bands, How, Left, Met, Part, Place, Request, Sample, Told, verdict};
+use std::fmt::{self, Display, Formatter, Write};
 
 fn how_word(how: Option<How>) -> &'static str {
     match how {
@@ -23,69 +15,115 @@ fn how_word(how: Option<How>) -> &'static str {
     }
 }
 
-/// Writes which tables were in force.
-pub fn put_tables<W: Write>(out: &mut W, bands: &Bands) -> io::Result<()> {
-    for (number, from) in bands.tables().iter().enumerate() {
-        put_comma(out, number)?;
-        put(out, "[")?;
-        put_place(out, from.place)?;
-        put(out, ",")?;
-        put_optional(out, from.text.map(i64::from))?;
-        let how = how_word(from.how);
-        write!(out, ",\"{how}\"]")?;
-    }
-    Ok(())
-}
+/// Which tables were in force.
+#[derive(Clone, Copy)]
+pub struct Tables<'a>(pub &'a Bands);
 
-/// The word for a mode, or for no Limit Checker.
-fn mode_word(mode: Option<LcMode>) -> &'static str {
-    match mode {
-        None => "absent",
-        Some(LcMode::Active) => "active",
-        Some(LcMode::Passive) => "passive",
-        Some(LcMode::Disabled) => "disabled",
-    }
-}
-
-/// Writes the modes.
-pub fn put_modes<W: Write>(out: &mut W, bands: &Bands) -> io::Result<()> {
-    for (number, from) in bands.modes().iter().enumerate() {
-        put_comma(out, number)?;
-        put(out, "[")?;
-        put_place(out, from.place)?;
-        let mode = match from.mode {
-            Some(mode) => mode_word(mode),
-            None => "untold",
-        };
-        write!(out, ",\"{mode}\"]")?;
-    }
-    Ok(())
-}
-
-/// Writes what a comparison met.
-fn put_met<W: Write>(out: &mut W, part: Part, met: Met) -> io::Result<()> {
-    put(out, "[")?;
-    put_optional(out, met.value)?;
-    match met.place {
-        Some(place) => {
-            put(out, ",")?;
-            put_place(out, place)?;
+impl Display for Tables<'_> {
+    fn fmt<W: Write>(&self, f: &mut Formatter<W>) -> fmt::Result {
+        let mut comma = "";
+        for from in self.0.tables() {
+            let Place { record, time } = from.place;
+            let text = OrNull(from.text.map(i64::from));
+            let how = how_word(from.how);
+            write!(f, "{comma}[{record},{time},{text},\"{how}\"]")?;
+            comma = ",";
         }
-        None => put(out, ",null,null")?,
+        Ok(())
     }
-    let verdict = verdict(part, met);
-    write!(out, ",\"{verdict}\"]")
 }
 
-fn put_sample<W: Write>(out: &mut W, sample: &Sample, parts: &[Part]) -> io::Result<()> {
-    put(out, "[")?;
-    put_place(out, sample.place())?;
-    put(out, ",[")?;
-    for (number, (part, met)) in parts.iter().zip(sample.met().iter()).enumerate() {
-        put_comma(out, number)?;
-        put_met(out, *part, *met)?;
+/// The word for a mode, for no Limit Checker, or for what wasn't told.
+fn mode_word(mode: Option<Option<LcMode>>) -> &'static str {
+    match mode {
+        None => "untold",
+        Some(None) => "absent",
+        Some(Some(LcMode::Active)) => "active",
+        Some(Some(LcMode::Passive)) => "passive",
+        Some(Some(LcMode::Disabled)) => "disabled",
     }
-    put(out, "]]")
+}
+
+/// The modes.
+#[derive(Clone, Copy)]
+pub struct Modes<'a>(pub &'a Bands);
+
+impl Display for Modes<'_> {
+    fn fmt<W: Write>(&self, f: &mut Formatter<W>) -> fmt::Result {
+        let mut comma = "";
+        for from in self.0.modes() {
+            let Place { record, time } = from.place;
+            let mode = mode_word(from.mode);
+            write!(f, "{comma}[{record},{time},\"{mode}\"]")?;
+            comma = ",";
+        }
+        Ok(())
+    }
+}
+
+/// What a comparison met.
+#[derive(Clone, Copy)]
+struct MetText {
+    part: Part,
+    met: Met,
+}
+
+impl Display for MetText {
+    fn fmt<W: Write>(&self, f: &mut Formatter<W>) -> fmt::Result {
+        let value = OrNull(self.met.value);
+        let verdict = verdict(self.part, self.met);
+        match self.met.place {
+            Some(Place { record, time }) => {
+                write!(f, "[{value},{record},{time},\"{verdict}\"]")
+            }
+            None => write!(f, "[{value},null,null,\"{verdict}\"]"),
+        }
+    }
+}
+
+/// What the comparisons of a sample met.
+#[derive(Clone, Copy)]
+struct AllMet<'a> {
+    parts: &'a [Part],
+    met: &'a [Met],
+}
+
+impl Display for AllMet<'_> {
+    fn fmt<W: Write>(&self, f: &mut Formatter<W>) -> fmt::Result {
+        let mut comma = "";
+        for (part, met) in self.parts.iter().zip(self.met.iter()) {
+            let met = MetText {
+                part: *part,
+                met: *met,
+            };
+            write!(f, "{comma}{met}")?;
+            comma = ",";
+        }
+        Ok(())
+    }
+}
+
+/// The samples that counted for a request.
+#[derive(Clone, Copy)]
+struct Samples<'a> {
+    parts: &'a [Part],
+    samples: &'a [Sample],
+}
+
+impl Display for Samples<'_> {
+    fn fmt<W: Write>(&self, f: &mut Formatter<W>) -> fmt::Result {
+        let mut comma = "";
+        for sample in self.samples {
+            let Place { record, time } = sample.place();
+            let met = AllMet {
+                parts: self.parts,
+                met: sample.met(),
+            };
+            write!(f, "{comma}[{record},{time},[{met}]]")?;
+            comma = ",";
+        }
+        Ok(())
+    }
 }
 
 /// The comparisons of the rule of a request.
@@ -96,119 +134,172 @@ fn parts_of<'a>(account: &'a Account<'_>, request: &Request) -> &'a [Part] {
     }
 }
 
-/// A number of a rule or a packet, as what may be null.
-fn number(number: usize) -> i64 {
-    i64::try_from(number).unwrap_or(0)
+/// A number of a rule, as what may be null.
+fn rule_number(rule: Option<usize>) -> OrNull {
+    OrNull(rule.map(|rule| i64::try_from(rule).unwrap_or(0)))
 }
 
-fn put_request<W: Write>(out: &mut W, account: &Account<'_>, request: &Request) -> io::Result<()> {
-    let packet = request.packet;
-    let record = request.place.record;
-    let time = request.place.time;
-    write!(
-        out,
-        "{{\"packet\":{packet},\"record\":{record},\"time\":{time},\"rule\":"
-    )?;
-    put_optional(out, request.rule.map(number))?;
-    put(out, ",\"text\":")?;
-    put_optional(out, request.text.map(i64::from))?;
-    let sequence = request.sequence;
-    let count = request.count;
-    write!(out, ",\"sequence\":{sequence},\"count\":{count},\"event\":")?;
-    put_optional(
-        out,
-        request.event.map(|event| i64::try_from(event).unwrap_or(0)),
-    )?;
-    let counted = request.counted;
-    write!(out, ",\"counted\":{counted},\"samples\":[")?;
-    for (number, sample) in request.samples.iter().enumerate() {
-        put_comma(out, number)?;
-        put_sample(out, sample, parts_of(account, request))?;
+/// A number of a packet, as what may be null.
+fn packet_number(packet: Option<u64>) -> OrNull {
+    OrNull(packet.map(|packet| i64::try_from(packet).unwrap_or(0)))
+}
+
+/// A request, with the samples that counted.
+#[derive(Clone, Copy)]
+struct RequestText<'a, 't> {
+    account: &'a Account<'t>,
+    request: &'a Request,
+}
+
+impl Display for RequestText<'_, '_> {
+    fn fmt<W: Write>(&self, f: &mut Formatter<W>) -> fmt::Result {
+        let request = self.request;
+        let packet = request.packet;
+        let Place { record, time } = request.place;
+        let rule = rule_number(request.rule);
+        let text = OrNull(request.text.map(i64::from));
+        let sequence = request.sequence;
+        let count = request.count;
+        let event = packet_number(request.event);
+        let counted = request.counted;
+        let samples = Samples {
+            parts: parts_of(self.account, request),
+            samples: request.samples.as_slice(),
+        };
+        write!(
+            f,
+            "{{\"packet\":{packet},\"record\":{record},\"time\":{time},\"rule\":{rule},\"text\":{text},\"sequence\":{sequence},\"count\":{count},\"event\":{event},\"counted\":{counted},\"samples\":[{samples}]}}"
+        )
     }
-    put(out, "]}")
 }
 
-fn put_event<W: Write>(out: &mut W, event: &Told) -> io::Result<()> {
-    let packet = event.packet;
-    write!(out, "[{packet},")?;
-    put_place(out, event.place)?;
-    put(out, ",")?;
-    put_optional(out, event.rule.map(number))?;
-    put(out, ",")?;
-    put_text(out, event.sender.as_slice())?;
-    let id = event.id;
-    let level = level_word(event.kind);
-    write!(out, ",{id},\"{level}\",")?;
-    put_text(out, event.text.as_slice())?;
-    put(out, "]")
+/// The requests of a part of the list.
+#[derive(Clone, Copy)]
+struct SomeRequests<'a, 't> {
+    account: &'a Account<'t>,
+    requests: &'a [Request],
+    /// What stands in front of the first.
+    comma: &'static str,
 }
 
-fn put_left<W: Write>(out: &mut W, left: Option<Left>) -> io::Result<()> {
-    match left {
-        Some(left) => {
-            let count = left.count;
-            let from = left.from;
-            let to = left.to;
-            write!(out, "[{count},{from},{to}]")
+impl Display for SomeRequests<'_, '_> {
+    fn fmt<W: Write>(&self, f: &mut Formatter<W>) -> fmt::Result {
+        let mut comma = self.comma;
+        for request in self.requests {
+            let request = RequestText {
+                account: self.account,
+                request,
+            };
+            write!(f, "{comma}{request}")?;
+            comma = ",";
         }
-        None => put(out, "null"),
+        Ok(())
     }
 }
 
-/// Writes the requests of a part of the list, behind so many.
-fn put_some_requests<W: Write>(
-    out: &mut W,
-    account: &Account<'_>,
-    requests: &[Request],
-    before: usize,
-) -> io::Result<()> {
-    for (number, request) in requests.iter().enumerate() {
-        put_comma(out, number.saturating_add(before))?;
-        put_request(out, account, request)?;
-    }
-    Ok(())
-}
+/// All requests that are kept, the newest last.
+#[derive(Clone, Copy)]
+struct Requests<'a, 't>(&'a Account<'t>);
 
-fn put_some_events<W: Write>(out: &mut W, events: &[Told], before: usize) -> io::Result<()> {
-    for (number, event) in events.iter().enumerate() {
-        put_comma(out, number.saturating_add(before))?;
-        put_event(out, event)?;
-    }
-    Ok(())
-}
-
-/// Writes all requests that are kept, the newest last.
-fn put_requests<W: Write>(out: &mut W, account: &Account<'_>) -> io::Result<()> {
-    let requests = account.sending.requests();
-    let (from, before) = requests.last();
-    put_some_requests(out, account, requests.first(), 0)?;
-    put_some_requests(out, account, from, 1)?;
-    put_some_requests(out, account, before, 1)?;
-    match account.sending.newest() {
-        Some(newest) => {
-            put_comma(out, requests.first().len())?;
-            put_request(out, account, newest)
+impl<'a, 't> Requests<'a, 't> {
+    fn some(&self, requests: &'a [Request], comma: &'static str) -> SomeRequests<'a, 't> {
+        SomeRequests {
+            account: self.0,
+            requests,
+            comma,
         }
-        None => Ok(()),
     }
 }
 
-/// Writes all events that are kept.
-fn put_events<W: Write>(out: &mut W, events: &Ends<Told>) -> io::Result<()> {
-    let (from, before) = events.last();
-    put_some_events(out, events.first(), 0)?;
-    put_some_events(out, from, 1)?;
-    put_some_events(out, before, 1)
+impl Display for Requests<'_, '_> {
+    fn fmt<W: Write>(&self, f: &mut Formatter<W>) -> fmt::Result {
+        let account = self.0;
+        let requests = account.sending.requests();
+        let (from, before) = requests.last();
+        let first = self.some(requests.first(), "");
+        let from = self.some(from, ",");
+        let before = self.some(before, ",");
+        write!(f, "{first}{from}{before}")?;
+        match account.sending.newest() {
+            Some(request) => {
+                let comma = if requests.first().is_empty() { "" } else { "," };
+                let newest = RequestText { account, request };
+                write!(f, "{comma}{newest}")
+            }
+            None => Ok(()),
+        }
+    }
 }
 
-/// Writes requests and events, with how many are left out.
-pub fn put_sent<W: Write>(out: &mut W, account: &Account<'_>) -> io::Result<()> {
-    put(out, "\"requests\":[")?;
-    put_requests(out, account)?;
-    put(out, "],\"requests_left_out\":")?;
-    put_left(out, account.sending.requests().left())?;
-    put(out, ",\"events\":[")?;
-    put_events(out, account.sending.events())?;
-    put(out, "],\"events_left_out\":")?;
-    put_left(out, account.sending.events().left())
+/// The events of a part of the list.
+#[derive(Clone, Copy)]
+struct SomeEvents<'a> {
+    events: &'a [Told],
+    /// What stands in front of the first.
+    comma: &'static str,
+}
+
+impl Display for SomeEvents<'_> {
+    fn fmt<W: Write>(&self, f: &mut Formatter<W>) -> fmt::Result {
+        let mut comma = self.comma;
+        for event in self.events {
+            let packet = event.packet;
+            let Place { record, time } = event.place;
+            let rule = rule_number(event.rule);
+            let sender = Escaped(event.sender.as_slice());
+            let id = event.id;
+            let level = level_word(event.kind);
+            let text = Escaped(event.text.as_slice());
+            write!(
+                f,
+                "{comma}[{packet},{record},{time},{rule},\"{sender}\",{id},\"{level}\",\"{text}\"]"
+            )?;
+            comma = ",";
+        }
+        Ok(())
+    }
+}
+
+/// What is left out of a list.
+#[derive(Clone, Copy)]
+struct LeftOut(Option<Left>);
+
+impl Display for LeftOut {
+    fn fmt<W: Write>(&self, f: &mut Formatter<W>) -> fmt::Result {
+        match self.0 {
+            Some(Left { count, from, to }) => write!(f, "[{count},{from},{to}]"),
+            None => f.write_str("null"),
+        }
+    }
+}
+
+/// Requests and events, with how many are left out.
+#[derive(Clone, Copy)]
+pub struct Sent<'a, 't>(pub &'a Account<'t>);
+
+impl Display for Sent<'_, '_> {
+    fn fmt<W: Write>(&self, f: &mut Formatter<W>) -> fmt::Result {
+        let account = self.0;
+        let requests = Requests(account);
+        let requests_left = LeftOut(account.sending.requests().left());
+        let kept = account.sending.events();
+        let (from, before) = kept.last();
+        let first = SomeEvents {
+            events: kept.first(),
+            comma: "",
+        };
+        let from = SomeEvents {
+            events: from,
+            comma: ",",
+        };
+        let before = SomeEvents {
+            events: before,
+            comma: ",",
+        };
+        let left = LeftOut(kept.left());
+        write!(
+            f,
+            "\"requests\":[{requests}],\"requests_left_out\":{requests_left},\"events\":[{first}{from}{before}],\"events_left_out\":{left}"
+        )
+    }
 }

@@ -2,6 +2,7 @@
 
 use crate::claims::same;
 use crate::tables::{WDT, watchpoints};
+use lc_model::Reading;
 use run_report::{Run, Silent, Source, write_page};
 use std::alloc::{AllocError, Global};
 use std::env::{self, Env};
@@ -256,14 +257,13 @@ fn page<R: Abort + AllocGlobal>(rt: &R, folder: &str) -> Vec<u8> {
             name: plan.as_str(),
             text: SCHEDULE,
         },
-        stream: Source {
-            name: stream.as_str(),
-            text: STREAM,
-        },
+        stream: stream.as_str(),
         texts: &sources,
         epoch: None,
     };
-    write_page(rt.alloc(), &schedule, &run, &mut page, &mut Silent).expect(rt, "a page");
+    let mut reader = Reading::new(STREAM);
+    write_page(rt.alloc(), &schedule, &run, &mut reader, &mut page, &mut Silent)
+        .expect(rt, "a page");
     page
 }
 

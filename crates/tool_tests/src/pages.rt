@@ -1,6 +1,7 @@
 //! Pages that tests make of scripts, and what they read of them as bytes.
 
 use crate::claims::same;
+use lc_model::Pieces;
 use run_course::Ending;
 use run_report::{Progress, ReportError, Run, Silent, Source, write_page};
 use std::alloc::{AllocError, Global};
@@ -23,6 +24,9 @@ pub const PASS: &[u8] = b"after 1\ntelemetry 0883 0 09600000\nafter 1\nsample 65
 pub const ASK: &[u8] = b"after 1\nhousekeeping\n";
 
 pub const TICK: &[u8] = b"after 1\ntick\n";
+
+/// The bytes of a read, which are no whole records.
+const PIECE: usize = 7;
 
 /// What is no record.
 pub const NONE: &[u8] = &[9, 0, 0, 0, 105, 0, 0, 0, 0, 0, 0];
@@ -55,7 +59,7 @@ fn joined(alloc: Global, parts: &[&[u8]]) -> Result<Vec<u8>, AllocError> {
 pub fn page_of<'n, 't, R: Abort + AllocGlobal, W: Write, P: Progress>(
     rt: &R,
     sources: &'t [Source<'n, 't>],
-    stream: &'t [u8],
+    stream: &[u8],
     out: &mut W,
     progress: &mut P,
 ) -> Result<Ending, ReportError> {
@@ -66,14 +70,12 @@ pub fn page_of<'n, 't, R: Abort + AllocGlobal, W: Write, P: Progress>(
             name: "plan",
             text: plan,
         },
-        stream: Source {
-            name: "run.stream",
-            text: stream,
-        },
+        stream: "run.stream",
         texts: sources,
         epoch: None,
     };
-    write_page(rt.alloc(), &schedule, &run, out, progress)
+    let mut reader = Pieces::new(stream, PIECE);
+    write_page(rt.alloc(), &schedule, &run, &mut reader, out, progress)
 }
 
 /// The answer over a stream, and what is written.

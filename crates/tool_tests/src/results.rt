@@ -336,13 +336,13 @@ fn want_of_memory_is_answered(rt: HostRuntime) {
 #[derive(Drop)]
 struct Told {
     times: usize,
-    last: (usize, usize),
+    last: u64,
 }
 
 impl Progress for Told {
-    fn done(&mut self, bytes: usize, of: usize) {
+    fn done(&mut self, bytes: u64) {
         self.times = self.times.wrapping_add(1);
-        self.last = (bytes, of);
+        self.last = bytes;
     }
 }
 
@@ -380,13 +380,13 @@ fn ten_failures_among_twenty_thousand_records_are_told(rt: HostRuntime) {
     let stream = twenty_thousand(&rt);
     let mut told = Told {
         times: 0,
-        last: (0, 0),
+        last: 0,
     };
     let mut page = Vec::new(rt.alloc());
     let answer = page_of(&rt, &[LOW], stream.as_slice(), &mut page, &mut told);
     let whole = Ending::Whole { records: 20_004 };
     same(&rt, "the page", answer, Ok(whole));
-    same(&rt, "the progress", told.times, 20);
-    same(&rt, "the stream's bytes", told.last.1, stream.len());
+    same(&rt, "the progress", told.times, 20_004);
+    same(&rt, "the stream's bytes", told.last, stream.len() as u64);
     says(&rt, page.as_slice(), LANES);
 }

@@ -1,4 +1,4 @@
-use Rattle.std.proofs.Common.{◌∙◌, sym, rules}
+use Rattle.std.proofs.Common.{◌∙◌, sym}
 use Rattle.run_report.proofs.Values.{none_came, some_came}
 use Rattle.run_report.proofs.telling.tell_values.Goals as goal
 use Rattle.run_report.proofs.telling.tell_values.Goals.{in-Some+in_ok-value, in_default}
