@@ -13,9 +13,7 @@ use std::cell::Cell;
 use std::fs::{File, Files, OpenFile};
 use std::io::{BufWriter, Eprint, ErrorKind, Read, Write};
 use tick_scheduler::Schedule;
-use tool_faults::{
-    Fault, LONGEST_TEXT, epoch_of, fault_at, is_apart, read, schedule_of, texts_in,
-};
+use tool_faults::{Fault, LONGEST_TEXT, epoch_of, fault_at, is_apart, read, schedule_of, texts_in};
 
 /// In how many parts a stream is told of.
 const PARTS: u64 = 20;

@@ -238,7 +238,10 @@ pub fn tell_run<'a, R: ByteSource, P: Progress>(
         progress,
     )?;
     stepping.close();
-    let Incoming { window: _, mut intake } = incoming;
+    let Incoming {
+        window: _,
+        mut intake,
+    } = incoming;
     intake.take_rest(room.as_mut_slice(), reader)?;
     Ok((telling, intake.taken(), ending))
 }

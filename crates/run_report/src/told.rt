@@ -73,9 +73,7 @@ impl Display for MetText {
         let value = OrNull(self.met.value);
         let verdict = verdict(self.part, self.met);
         match self.met.place {
-            Some(Place { record, time }) => {
-                write!(f, "[{value},{record},{time},\"{verdict}\"]")
-            }
+            Some(Place { record, time }) => { write!(f, "[{value},{record},{time},\"{verdict}\"]") }
             None => write!(f, "[{value},null,null,\"{verdict}\"]"),
         }
     }

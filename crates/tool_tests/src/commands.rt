@@ -262,8 +262,15 @@ fn page<R: Abort + AllocGlobal>(rt: &R, folder: &str) -> Vec<u8> {
         epoch: None,
     };
     let mut reader = Reading::new(STREAM);
-    write_page(rt.alloc(), &schedule, &run, &mut reader, &mut page, &mut Silent)
-        .expect(rt, "a page");
+    write_page(
+        rt.alloc(),
+        &schedule,
+        &run,
+        &mut reader,
+        &mut page,
+        &mut Silent,
+    )
+    .expect(rt, "a page");
     page
 }
 

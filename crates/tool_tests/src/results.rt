@@ -396,10 +396,7 @@ const LANES: &[(&str, usize)] = &[
 #[test]
 fn ten_failures_among_twenty_thousand_records_are_told(rt: HostRuntime) {
     let stream = twenty_thousand(&rt);
-    let mut told = Told {
-        times: 0,
-        last: 0,
-    };
+    let mut told = Told { times: 0, last: 0 };
     let mut page = Vec::new(rt.alloc());
     let answer = page_of(&rt, &[LOW], stream.as_slice(), &mut page, &mut told);
     let whole = Ending::Whole { records: 20_004 };

@@ -49,8 +49,8 @@ loop-preserved g c = record {
       (written_by c.step.new.self) c.loop.telling.lists c.take.new.self.lists c.loop.telling.behind c.take.new.self.behind (account_of c.loop.telling.account) (account_of c.take.new.self.account)
       c.loop.telling.clock.start c.take.new.self.clock.start c.loop.number (length c.front-record.result.now)
       (more_read texts (host_in c.args.stepping.now) (host_in c.loop.stepping) (g.R.ByteSource.source c.args.reader.now).rest (g.R.ByteSource.source c.loop.reader).rest
-    (g.R.ByteSource.source c.bring.new.reader).rest c.args.incoming.now.intake c.loop.incoming c.bring.new.self c.loop.telling.lists c.loop.telling.behind (account_of c.loop.telling.account)
-    c.loop.telling.clock.start c.loop.number (c.loop.invariant.told texts nothing) c.in_ok-bring.ensures.come)
+      (g.R.ByteSource.source c.bring.new.reader).rest c.args.incoming.now.intake c.loop.incoming c.bring.new.self c.loop.telling.lists c.loop.telling.behind (account_of c.loop.telling.account)
+      c.loop.telling.clock.start c.loop.number (c.loop.invariant.told texts nothing) c.in_ok-bring.ensures.come)
       (subst (λ found. HasStepped c.front-record.result.now (host_in c.loop.stepping) (host_in c.step.new.self) (written_by c.step.new.self) (Ok found)) c.in-Whole.is c.in_ok-step.ensures.stepped)
       refl c.front-record.ensures.front c.let_go.ensures c.take.ensures.start c.take.ensures.small
       (λ fields lanes values known tells kept. c.in_ok-take-in-Whole.ensures.told fields lanes values known tells kept) (λ stood. c.in_ok-take-in-Whole.ensures.account stood);
