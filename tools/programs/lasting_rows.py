@@ -3,7 +3,7 @@ write that fails is said; and memory is bounded, however long a file is."""
 
 from compile_rows import ADT, WDT
 from records import LOW, LOW_VOLTS, NO_ENTRIES, OF_TWO_FAILING_SAMPLES, STARTED, TWO_FAILING_SAMPLES, beginning, filled, record
-from row import GONE, Begins, Link, Row, Twin
+from row import GONE, Begins, Holds, Link, Row, Twin
 from tool_rows import BUS_SCRIPT, BUS_STREAM, NO_TOCK
 
 FILES = {"schedule": NO_ENTRIES, "stream": TWO_FAILING_SAMPLES, "rules": LOW_VOLTS, "link": Link("stream"), "twin": Twin("stream")}
@@ -157,7 +157,6 @@ BOUNDED = [
     too_long("a table without an end", "table /dev/zero", b"/dev/zero", 32_768),
     too_long("a schedule without an end", "report /dev/zero stream page rules", b"/dev/zero", 65_536),
     too_long("a script without an end", "scenario /dev/zero stream", b"/dev/zero", 67_108_864),
-    too_long("a page of a stream without an end", "report schedule /dev/zero page rules", b"/dev/zero", 67_108_864),
     Row(
         "a rule text without an end",
         ["flight_tools", "report", "schedule", "stream", "page", "/dev/zero"],
@@ -179,6 +178,13 @@ BOUNDED = [
         status=4,
         output=b"1 is no record\n",
         most_memory=16 * MIB,
+    ),
+    Row(
+        "a page of 32 MB of records, in pieces",
+        REPORT,
+        {**FILES, "stream": MANY_RECORDS},
+        after={"page": Holds(b'"figures":{"records":1200000,')},
+        most_memory=24 * MIB,
     ),
     Row(
         "a listing of 16 MB of records, in pieces",

@@ -4,7 +4,7 @@
     python3 tools/programs/memory.py [FOLDER]
 
 FOLDER has both programs (`bin` where nothing is said, which `tools/build` makes); Debian's package `time` has to be there. A run is one of `flight_run run` from a file to a
-file, and one of `flight_tools live` from the same file to another.
+file, one of `flight_tools live` from the same file to another, and one of `flight_tools report` over it.
 """
 
 import os
@@ -55,7 +55,8 @@ def told(folder, title, texts, stream):
             run = peak(place, words, stdout=nowhere)
         with open(os.path.join(place, "stream"), "rb") as given, open(os.path.join(place, "live"), "wb") as taken:
             live = peak(place, [f"{folder}/flight_tools", "live", "schedule", *names], stdin=given, stdout=taken)
-        print(f"{title}: flight_run {run:.1f} MB, flight_tools live {live:.1f} MB", flush=True)
+        page = peak(place, [f"{folder}/flight_tools", "report", "schedule", "stream", "page", *names])
+        print(f"{title}: flight_run {run:.1f} MB, flight_tools live {live:.1f} MB, report {page:.1f} MB", flush=True)
 
 
 def main(words):

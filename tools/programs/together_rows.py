@@ -163,17 +163,19 @@ def to_one_that_dies(programs):
 
 
 def of_a_sparse_file(programs):
-    """No command takes the memory of a file of 3 GB that is a hole, with 256 MiB to have."""
+    """No command takes the memory of a file that is a hole, of 3 GB, or of 300 MB where it is read to its end, with 256 MiB to have."""
     with tempfile.TemporaryDirectory(prefix="try-programs-") as place:
         written(place, {"schedule": NO_ENTRIES, "rules": LOW_VOLTS, "stream": b""})
         with open(os.path.join(place, "hole"), "wb") as hole:
             hole.truncate(3 << 30)
+        with open(os.path.join(place, "lesser"), "wb") as lesser:
+            lesser.truncate(300 << 20)
         calls = {
             "table hole": (3, b"cannot use hole: it has more than 32768 bytes\n"),
             "stream hole": (4, b""),
             "scenario hole made": (3, b"cannot use hole: it has more than 67108864 bytes\n"),
             "report hole stream page rules": (3, b"cannot use hole: it has more than 65536 bytes\n"),
-            "report schedule hole page rules": (3, b"cannot use hole: it has more than 67108864 bytes\n"),
+            "report schedule lesser page rules": (4, b"lesser: record 1 is none\n"),
             "report schedule stream page hole": (1, b"hole: the text has over 65,536 bytes\n"),
             "live schedule hole": (1, b"hole: the text has over 65,536 bytes\n"),
         }

@@ -138,6 +138,7 @@ REPORTS = [
 
 
 NOT_THERE = b"there is none of that name"
+OLD = {**FILES, "page": b"an old page", "folder": FOLDER}
 FULL = b"the device is full"
 
 
@@ -168,6 +169,13 @@ UNUSABLE = [
     unusable("a stream to a full device", b"/dev/full", FULL, "scenario script /dev/full", {"script": b"tick\n"}),
     unusable("a report without its schedule", b"none", NOT_THERE, "report none stream /dev/full rules"),
     unusable("a report without its stream", b"none", NOT_THERE, "report schedule none /dev/full rules"),
+    unusable(
+        "a page of a folder leaves the old page",
+        b"folder",
+        b"it is a folder",
+        "report schedule folder page rules",
+        OLD,
+    ),
     unusable("a report without its rules", b"none", NOT_THERE, "report schedule stream /dev/full none"),
     unusable("a report without its second rules", b"none", NOT_THERE, "report schedule stream /dev/full rules none"),
     unusable("a page to a full device", b"/dev/full", FULL, "report schedule stream /dev/full rules"),

@@ -1,7 +1,7 @@
 //! Pages that tests make of scripts, and what they read of them as bytes.
 
 use crate::claims::same;
-use lc_model::Pieces;
+use lc_model::{ByteSource, Pieces};
 use run_course::Ending;
 use run_report::{Progress, ReportError, Run, Silent, Source, write_page};
 use std::alloc::{AllocError, Global};
@@ -26,7 +26,7 @@ pub const ASK: &[u8] = b"after 1\nhousekeeping\n";
 pub const TICK: &[u8] = b"after 1\ntick\n";
 
 /// The bytes of a read, which are no whole records.
-const PIECE: usize = 7;
+pub const PIECE: usize = 7;
 
 /// What is no record.
 pub const NONE: &[u8] = &[9, 0, 0, 0, 105, 0, 0, 0, 0, 0, 0];
@@ -63,6 +63,17 @@ pub fn page_of<'n, 't, R: Abort + AllocGlobal, W: Write, P: Progress>(
     out: &mut W,
     progress: &mut P,
 ) -> Result<Ending, ReportError> {
+    page_from(rt, sources, &mut Pieces::new(stream, PIECE), out, progress)
+}
+
+/// A page of a run of these texts over what a reader gives.
+pub fn page_from<'n, 't, R: Abort + AllocGlobal, I: ByteSource, W: Write, P: Progress>(
+    rt: &R,
+    sources: &'t [Source<'n, 't>],
+    reader: &mut I,
+    out: &mut W,
+    progress: &mut P,
+) -> Result<Ending, ReportError> {
     let plan: &[u8] = b"slots 1";
     let schedule = parse_schedule(rt.alloc(), plan).expect(rt, "a schedule");
     let run = Run {
@@ -74,8 +85,7 @@ pub fn page_of<'n, 't, R: Abort + AllocGlobal, W: Write, P: Progress>(
         texts: sources,
         epoch: None,
     };
-    let mut reader = Pieces::new(stream, PIECE);
-    write_page(rt.alloc(), &schedule, &run, &mut reader, out, progress)
+    write_page(rt.alloc(), &schedule, &run, reader, out, progress)
 }
 
 /// The answer over a stream, and what is written.

@@ -3,8 +3,10 @@
 
 use crate::claims::same;
 use crate::pages::{
-    ASK, BEGIN, FAIL, LOW, NONE, PASS, TICK, answer_over, page_of, says, shows, stream_of,
+    ASK, BEGIN, FAIL, LOW, NONE, PASS, PIECE, TICK, answer_over, page_from, page_of, says, shows,
+    stream_of,
 };
+use lc_model::Pieces;
 use run_course::Ending;
 use run_report::{Progress, ReportError, Silent, Source};
 use std::process::Abort;
@@ -321,6 +323,22 @@ fn answer_within<R: Abort + AllocGlobal>(rt: &R, room: &mut [u8]) -> Option<Repo
 fn a_full_writer_is_told(rt: HostRuntime) {
     let answer = answer_within(&rt, &mut [0; 1_000]);
     same(&rt, "the answer", answer, Some(ReportError::Write));
+}
+
+#[test]
+fn a_failed_read_is_told_and_nothing_written(rt: HostRuntime) {
+    let stream = stream_of(&rt, &[BEGIN, FAIL], NONE);
+    let mut page = Vec::new(rt.alloc());
+    for read in [1, 2, 30] {
+        let mut reader = Pieces::failing_at(stream.as_slice(), PIECE, read);
+        let answer = page_from(&rt, &[LOW], &mut reader, &mut page, &mut Silent);
+        same(
+            &rt,
+            "the answer",
+            (answer, page.len()),
+            (Err(ReportError::Read), 0),
+        );
+    }
 }
 
 /// `rt try --test --fail-alloc N` refuses the Nth allocation of the test's process. Where the page finds none, that is what is
