@@ -88,11 +88,10 @@ rows_more read place stands plans text seen happened records p t s rule [] are =
 rows_more read place stands plans text seen happened records p t s rule (row ∷ rows) are =
     let met : List Met = met_by_parts (parts_by (planned_at plans text rule)) seen in
     let same : met ≡ met_by_parts (parts_by (planned_at read.plans (text_in_force happened) rule)) (map (seen_behind happened) read.fields) =
-    λ i. met_by_parts (parts_by (planned_at (p i) (t i) rule)) (s i) in
-    (
+    λ i. met_by_parts (parts_by (planned_at (p i) (t i) rule)) (s i) in (
       counted_one place (stand_at rule stands) met row,
       row_one place (stand_at rule stands) met row (failures_behind rule records) (row_of read rule records) are.0 are.1
-      ∙ ap (λ (met : List Met). six_of (row_more (stand_at rule stands).fails (failures_behind rule records) (record { place = place; met = met }) (row_of read rule records))) same,
+          ∙ ap (λ (met : List Met). six_of (row_more (stand_at rule stands).fails (failures_behind rule records) (record { place = place; met = met }) (row_of read rule records))) same,
       rows_more read place stands plans text seen happened records p t s (rule + 1) rows are.2,
     )
 
