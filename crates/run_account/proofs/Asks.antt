@@ -1,33 +1,18 @@
 -- The rule and the event of a request.
-use Rattle.std.proofs.Common.{◌≡◌, ℕ, zero, suc, ◌+◌, ◌-◌, ◌<◌, ◌≤◌, Bool, true, false, nat_le, List, [], ◌∷◌, ◌++◌, length, map, take, replicate, refl, ap, sym, ◌∙◌, subst, Option, Some, None, if◌then◌else◌, append_assoc, length-append, arith}
-use Rattle.std.specs.Prelude.{◌&&◌, ◌==◌, filter_map, find, is_none, option_map, slice_get}
+use Rattle.std.proofs.Common.{◌≡◌, ℕ, zero, suc, ◌+◌, ◌-◌, ◌<◌, ◌≤◌, Bool, true, false, nat_le, List, ◌∷◌, refl, ap, ◌∙◌, Option, Some, None, if◌then◌else◌, arith}
+use Rattle.std.specs.Prelude.{◌&&◌, filter_map, find, is_none, option_map}
 use Rattle.std.specs.List.{cons_option, take_while}
-use Rattle.std.proofs.lemmas.List.{append-nil, map-append}
 use Rattle.std.proofs.lemmas.List.Sums.{take_while-cons}
-use Rattle.std.proofs.Math.Seq.{take-append_seam}
-use Rattle.lc_model.specs.declared.rule.EventKind.{EventKind}
-use Rattle.packet_listing.specs.Told as told
 use Rattle.packet_listing.specs.Told.{told_in}
-use Rattle.run_account.specs.declared.place.Place.{Place}
 use Rattle.run_account.specs.declared.place.Stand.{Stand}
-use Rattle.run_account.specs.About.{rule_of}
-use Rattle.run_account.specs.Account.{Account, Reading, Step, account_behind, account_with, before_with, come_by, count_of, read, read_all, read_by, request_of, rows_with, rule_asking, said, sampled, stood_so, written}
-use Rattle.run_account.specs.Asking.{asking, behind_rule, counted_by, first_from, has_asked, may_ask, row_asked}
-use Rattle.run_account.specs.Brought.{brings}
-use Rattle.run_account.specs.Ends.{Ends, kept}
+use Rattle.run_account.specs.Asking.{asking, counted_by, first_from, has_asked, may_ask}
 use Rattle.run_account.specs.Fields.{is_place}
-use Rattle.run_account.specs.Figures.{one_more, with_event, with_packet}
-use Rattle.run_account.specs.Packets.{packets_of}
 use Rattle.run_account.specs.Plans.{Planned, may_by, planned_at}
 use Rattle.run_account.specs.Requests.{is_no_request, own_event}
-use Rattle.run_account.specs.Run.{AreCounted, OfTexts, Packet, ends_of, event_by, event_in, is_request, nothing_told, number_behind, numbered, packets_from}
-use Rattle.run_account.specs.Samples.{Row, Sampled}
-use Rattle.run_account.specs.Sent.{Requested, Said, Sending, before_newest, first_rule_event, hears, is_own, is_rule, nothing_sent, requested_more, requests_kept, said_more}
-use Rattle.run_account.specs.Standing.{absent, stand_at}
-use Rattle.run_account.proofs.Again.{OfRules, come_keeps, of_rules, read_keeps}
-use Rattle.run_account.proofs.Following.{Follows, come_follows, follows_nothing, over_follows, read_follows}
-use Rattle.run_account.proofs.KeptEnds.{kept_of, kept_one}
-use Rattle.run_account.proofs.Sends.{come_counts, come_sends, in_force_counts, in_force_sends, kind_counts, read_counts}
+use Rattle.run_account.specs.Run.{Packet, event_in, is_request}
+use Rattle.run_account.specs.Samples.{Row}
+use Rattle.run_account.specs.Sent.{Requested, Said, Sending, first_rule_event, hears, is_own, is_rule}
+use Rattle.run_account.specs.Standing.{stand_at}
 
 -- ---- the rule that asks
 

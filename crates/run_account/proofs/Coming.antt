@@ -13,7 +13,7 @@ use Rattle.run_account.specs.declared.place.Place.{Place}
 use Rattle.run_account.specs.declared.place.Stand.{Stand}
 use Rattle.run_account.specs.declared.seen.Seen.{Seen}
 use Rattle.run_account.specs.declared.texts.Field.{Field}
-use Rattle.run_account.specs.Account.{Account, Reading, Step, account_with, come, come_by, enforced_so, read, read_all, read_by, sampled, started_with_tables, written}
+use Rattle.run_account.specs.Account.{Account, Reading, Step, account_with, come, come_by, enforced_so, read, read_all, read_by, sampled, started_with_tables}
 use Rattle.run_account.specs.Brought.{Brings, Command, File, Half, Load, Telemetry, Tick, brings}
 use Rattle.run_account.specs.Fields.{AreKnown, IsBefore, all_brought, come_in, forgotten, is_at, is_place, met_in, seen_by, seen_in, unseen}
 use Rattle.run_account.specs.Figures.{with_event, with_packet}

@@ -1,15 +1,13 @@
 -- The figures of an account, record by record.
-use Rattle.std.proofs.Common.{◌≡◌, ℕ, ◌+◌, ◌-◌, ◌^◌, Bool, true, false, List, [], ◌∷◌, ◌++◌, length, map, min, refl, ap, sym, ◌∙◌, Option, Some, None, if◌then◌else◌, bytes_eq, append_assoc, length-append, arith}
-use Rattle.std.specs.Prelude.{not, ◌==◌, is_none}
+use Rattle.std.proofs.Common.{◌≡◌, ℕ, ◌+◌, Bool, true, false, List, [], ◌∷◌, ◌++◌, length, map, refl, ap, sym, ◌∙◌, Option, Some, None, append_assoc, length-append, arith}
+use Rattle.std.specs.Prelude.{is_none}
 use Rattle.std.specs.List.{filter}
 use Rattle.std.proofs.lemmas.List.{append-nil, map-append}
 use Rattle.std.proofs.lemmas.List.Elements.{filter-append}
 use Rattle.lc_model.specs.declared.rule.EventKind.{EventKind}
 use Rattle.lc_model.specs.declared.rule.EventKind.TheVariants as kind
-use Rattle.lc_model.specs.Name.{lc_name}
 use Rattle.packet_listing.specs.Told as told
 use Rattle.packet_listing.specs.Told.{told_in}
-use Rattle.run_account.specs.declared.bands.How.TheVariants as how
 use Rattle.run_account.specs.declared.figures.Figures.{Figures}
 use Rattle.run_account.specs.declared.place.Place.{Place}
 use Rattle.run_account.specs.declared.place.Stand.{Stand}
@@ -17,7 +15,7 @@ use Rattle.run_account.specs.Account.{Account, Reading, Step, account_behind, ac
 use Rattle.run_account.specs.Brought.{Brings, Command, File, Half, Load, Telemetry, Tick, brings}
 use Rattle.run_account.specs.Figures.{one_more, with_event, with_packet, with_record}
 use Rattle.run_account.specs.Packets.{packets_of}
-use Rattle.run_account.specs.Run.{Packet, TellsFigures, brought_in, counted, figures_by, is_command, is_critical, is_debug, is_error, is_file, is_housekeeping, is_information, is_request, is_telemetry, is_tick, nothing_told, number_behind, numbered, packets_from, said_in, stopped}
+use Rattle.run_account.specs.Run.{Packet, TellsFigures, brought_in, counted, figures_by, is_command, is_critical, is_debug, is_error, is_file, is_housekeeping, is_information, is_request, is_telemetry, is_tick, nothing_told, number_behind, numbered, packets_from, stopped}
 use Rattle.run_account.proofs.Sends.{in_force_counts}
 
 -- ---- one more

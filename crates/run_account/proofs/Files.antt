@@ -1,11 +1,10 @@
 -- The files of an account, by what was stored and loaded.
-use Rattle.std.proofs.Common.{◌≡◌, ℕ, suc, ◌+◌, ◌-◌, ◌≤◌, ◌<◌, Bool, true, false, List, [], ◌∷◌, ◌++◌, length, refl, ap, sym, ◌∙◌, subst, Option, Some, None, if◌then◌else◌, bytes_eq, length-append, arith}
+use Rattle.std.proofs.Common.{◌≡◌, ℕ, suc, ◌+◌, ◌-◌, ◌≤◌, Bool, true, false, List, [], ◌∷◌, ◌++◌, length, refl, ap, sym, ◌∙◌, subst, Option, Some, None, if◌then◌else◌, bytes_eq, length-append, arith}
 use Rattle.std.specs.Prelude.{◌||◌, find, nat_le, nat_lt, slice_set, is_some}
 use Rattle.std.specs.List.{list_any, position_from}
 use Rattle.std.proofs.lemmas.Bool.Decides.{nat_tests}
 use Rattle.std.proofs.lemmas.List.Folds.{list_any-append}
 use Rattle.std.proofs.lemmas.Slice.Eq.{bytes_eq-Decides}
-use Rattle.lc_model.proofs.Facts.{or_false}
 use Rattle.lc_model.specs.Name.{Name}
 use Rattle.run_account.specs.Bands.{File, file_place, filed, filed_at, most, text_by, text_in}
 use Rattle.run_account.specs.Happened.{is_named, names_with}

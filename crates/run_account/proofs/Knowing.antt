@@ -1,7 +1,7 @@
 -- What is known of fields, by what happened.
-use Rattle.std.proofs.Common.{◌≡◌, ℕ, ◌+◌, ◌-◌, ◌^◌, Bool, true, false, nat_lt, List, [], ◌∷◌, ◌++◌, length, map, refl, ap, sym, ◌∙◌, Option, Some, None, if◌then◌else◌, bytes_eq, arith}
-use Rattle.std.specs.Prelude.{◌==◌, filter_map, is_some, not}
-use Rattle.std.specs.List.{cons_option, take_while}
+use Rattle.std.proofs.Common.{◌≡◌, ℕ, Bool, true, false, nat_lt, List, [], ◌∷◌, length, map, refl, ap, sym, ◌∙◌, Option, Some, None, if◌then◌else◌, bytes_eq, arith}
+use Rattle.std.specs.Prelude.{◌==◌, is_some, not}
+use Rattle.std.specs.List.{cons_option}
 use Rattle.std.proofs.lemmas.List.Sums.{take_while-cons}
 use Rattle.lc_model.specs.Name.{lc_name}
 use Rattle.lc_model.specs.Packet.{message_id}
@@ -16,11 +16,11 @@ use Rattle.run_account.specs.declared.seen.Seen.{Seen}
 use Rattle.run_account.specs.declared.texts.Field.{Field}
 use Rattle.run_account.specs.Account.{Account, Reading, Step, account_behind, account_with, come_by, enforced_so, read, read_all, read_by, sampled, started_with_tables}
 use Rattle.run_account.specs.Brought.{Brings, Command, File, Half, Load, Telemetry, Tick, brings}
-use Rattle.run_account.specs.Fields.{brought_of, forgotten, met_in, nothing, seen_by, seen_in, unseen}
+use Rattle.run_account.specs.Fields.{forgotten, met_in, seen_by, unseen}
 use Rattle.run_account.specs.Figures.{one_more, with_event, with_packet}
 use Rattle.run_account.specs.Happened.{Came, Happened, Over, Sent, TellsFields, behind_packets, behind_record, happened_from, how_told, is_enforcing, newest_met, packets_led_to, seen_behind, since_enforced, value_came, values_came}
 use Rattle.run_account.specs.Packets.{packets_of}
-use Rattle.run_account.specs.Run.{OfTexts, Packet, nothing_told, number_behind, numbered, stopped}
+use Rattle.run_account.specs.Run.{Packet, nothing_told, number_behind, numbered, stopped}
 
 -- ---- one thing more
 

@@ -1,5 +1,5 @@
 -- Fields, each once.
-use Rattle.std.proofs.Common.{◌≡◌, ℕ, ◌+◌, Bool, true, false, List, [], ◌∷◌, ◌++◌, ◌≤◌, length, drop, map, refl, ap, sym, ◌∙◌, Option, Some, None, fold, ℤ, bytes_eq, append_assoc, arith}
+use Rattle.std.proofs.Common.{◌≡◌, ℕ, ◌+◌, Bool, true, false, List, [], ◌∷◌, ◌++◌, ◌≤◌, length, drop, map, refl, ap, sym, ◌∙◌, Option, Some, None, ℤ, bytes_eq, append_assoc}
 use Rattle.std.specs.Prelude.{not, ◌&&◌, ◌||◌, ◌==◌, is_some}
 use Rattle.std.specs.List.{filter, list_any}
 use Rattle.std.specs.Ordering.{int_eq}
@@ -7,7 +7,7 @@ use Rattle.std.proofs.lemmas.Bool.Decides.{Decides-int_eq}
 use Rattle.std.proofs.lemmas.List.Folds.{list_any-append}
 use Rattle.std.proofs.lemmas.List.{drop_all}
 use Rattle.std.proofs.lemmas.Slice.Eq.{bytes_eq-Decides}
-use Rattle.lc_model.proofs.Facts.{and_both, or_false, or_true, tested_equal}
+use Rattle.lc_model.proofs.Facts.{and_both, or_true, tested_equal}
 use Rattle.lc_model.specs.Codes.{type_code}
 use Rattle.run_account.specs.declared.texts.Text.{Text}
 use Rattle.run_account.specs.Texts.{Compared, added, all_added, all_compared, each_once, fields_of, is_mask, is_same, items_in, place_from, place_of}

@@ -1,7 +1,7 @@
 -- The requests of an account, record by record.
-use Rattle.std.proofs.Common.{◌≡◌, ℕ, zero, suc, ◌+◌, ◌-◌, ◌<◌, Bool, true, false, nat_le, min, if◌then◌else◌, List, [], ◌∷◌, ◌++◌, length, map, take, replicate, refl, ap, sym, ◌∙◌, subst, Option, Some, None, append_assoc, length-append, arith}
+use Rattle.std.proofs.Common.{◌≡◌, ℕ, zero, suc, ◌+◌, ◌-◌, ◌<◌, true, false, nat_le, min, if◌then◌else◌, List, [], ◌∷◌, ◌++◌, length, map, take, replicate, refl, ap, sym, ◌∙◌, subst, Option, Some, None, append_assoc, length-append, arith}
 use Rattle.std.specs.Prelude.{◌&&◌, is_none, is_some, option_map, slice_get}
-use Rattle.std.proofs.lemmas.List.{append-nil, map-append}
+use Rattle.std.proofs.lemmas.List.{append-nil}
 use Rattle.std.proofs.Math.Seq.{take-append_seam}
 use Rattle.lc_model.specs.declared.rule.EventKind.{EventKind}
 use Rattle.packet_listing.specs.Told as told
@@ -20,7 +20,7 @@ use Rattle.run_account.specs.Packets.{packets_of}
 use Rattle.run_account.specs.Plans.{Planned}
 use Rattle.run_account.specs.Happened.{Came, Happened, Over, Sent, behind_packets, behind_record, how_told, packets_led_to, seen_behind, text_in_force}
 use Rattle.run_account.specs.Requests.{Taken, TellsRequests, counted_of, own_event, request_by, request_if, requests_from, requests_in, requests_of, rule_by, samples_of, sequence_by, stands_before, stands_behind, taken_by, told_if, with_its_event, with_samples}
-use Rattle.run_account.specs.Run.{AreCounted, OfTexts, Packet, ends_of, event_by, event_in, is_request, nothing_told, number_behind, numbered, packets_from}
+use Rattle.run_account.specs.Run.{OfTexts, Packet, ends_of, event_by, event_in, is_request, nothing_told, number_behind, numbered, packets_from}
 use Rattle.run_account.specs.Samples.{Row, Sampled, no_row}
 use Rattle.run_account.specs.Sent.{Requested, Said, Sending, before_newest, hears, most_parts, nothing_sent, parts_in, requested_more, requests_kept}
 use Rattle.run_account.specs.Standing.{absent, stand_at}

@@ -1,12 +1,11 @@
 -- A small run, computed: a half of a rule text comes, and the Limit Checker starts with it; the text's one rule fails twice, and requests
 -- sequence 7.
-use Rattle.std.proofs.Common.{◌≡◌, ℕ, ◌-◌, List, [], ◌∷◌, ◌++◌, refl, replicate, Option, Some, None, codes, length, map, ℤ, pos}
+use Rattle.std.proofs.Common.{◌≡◌, ℕ, ◌-◌, List, [], ◌∷◌, ◌++◌, refl, replicate, Some, None, codes, length, map, pos}
 use Rattle.lc_model.specs.declared.mode.LcMode.TheVariants.{Active}
 use Rattle.lc_model.specs.declared.field.FieldType.TheVariants as field
 use Rattle.lc_model.specs.declared.field.CmpOp.TheVariants as cmp
 use Rattle.run_account.specs.declared.bands.How.TheVariants as how
 use Rattle.run_account.specs.declared.place.Place.{Place}
-use Rattle.run_account.specs.declared.place.Stand.{Stand}
 use Rattle.run_account.specs.declared.texts.Field.{Field}
 use Rattle.run_account.specs.Account.{Step}
 use Rattle.run_account.specs.Happened.{happened_in, seen_behind, text_in_force}

@@ -6,21 +6,20 @@ use Rattle.std.proofs.lemmas.List.{append-nil, drop-append-le, drop_all, length-
 use Rattle.std.proofs.lemmas.List.{length-map}
 use Rattle.std.proofs.Math.Seq.{drop-append_seam, take-append_seam}
 use Rattle.lc_model.specs.declared.mode.LcMode.{LcMode}
-use Rattle.lc_model.proofs.Facts.{not_false, or_first, or_second, test_equal, test_less, test_not_less, test_unequal, tested_equal, tested_less, tested_not_less}
+use Rattle.lc_model.proofs.Facts.{not_false, or_second, test_equal, test_less, test_not_less, test_unequal, tested_equal, tested_less}
 use Rattle.packet_listing.specs.Told.{told_in}
 use Rattle.run_account.specs.declared.bands.How.{How}
 use Rattle.run_account.specs.declared.bands.How.TheVariants as how
-use Rattle.run_account.specs.declared.bands.ModeFrom.{ModeFrom}
 use Rattle.run_account.specs.declared.bands.TablesFrom.{TablesFrom}
 use Rattle.run_account.specs.declared.place.Place.{Place}
 use Rattle.run_account.specs.declared.place.Stand.{Stand}
 use Rattle.run_account.specs.Account.{Account, Reading, Step, account_behind, account_with, come_by, read, read_all, sampled, written}
-use Rattle.run_account.specs.Bands.{InForce, enforced, in_force, in_mode, is_none_in_force, mode_number, mode_told, most, nothing_in_force, stood, tables_told, told_more}
+use Rattle.run_account.specs.Bands.{InForce, enforced, in_mode, is_none_in_force, mode_number, mode_told, most, nothing_in_force, stood, told_more}
 use Rattle.run_account.specs.Brought.{Brings, Command, File, Half, Load, Telemetry, Tick, brings}
 use Rattle.run_account.specs.Figures.{one_more, with_packet}
 use Rattle.run_account.specs.Happened.{Came, Happened, Over, Sent, behind_packets, behind_record, happened_from, how_told, packets_led_to, text_in_force, text_then}
 use Rattle.run_account.specs.Packets.{packets_of}
-use Rattle.run_account.specs.Run.{OfTexts, Packet, nothing_told, number_behind, numbered}
+use Rattle.run_account.specs.Run.{Packet, nothing_told, number_behind, numbered}
 use Rattle.run_account.specs.Turns.{TellsTurns, all_modes, all_tables, how_in_force, how_over, how_then, mode_behind, modes_if, tables_then, told_of, untold_mode, untold_tables}
 use Rattle.run_account.proofs.Following.{Follows, come_follows, enforced_by, follows_nothing, mode_follows, over_follows, read_bands, read_follows, text_so}
 

@@ -20,8 +20,8 @@ use Rattle.run_account.specs.Fields.{brought_of, nothing}
 use Rattle.run_account.specs.Packets.{packets_of}
 use Rattle.run_account.specs.Run.{OfTexts, Packet, nothing_told, number_behind, numbered, stopped}
 
--- a record of this place came, which brings this; a packet was sent; the record of this place is over, behind which the Limit Checker has this mode, where one runs.
--- Of all that happened the newest stands in front.
+-- a record of this place came, which brings this; a packet was sent; the record of this place is over, behind which the Limit Checker has
+-- this mode, where one runs. Of all that happened the newest stands in front.
 pub data Happened : Type 0 where
   Came : (place : Place) (brought : Brings) → Happened
   Sent : (packet : Packet) → Happened

@@ -1,5 +1,5 @@
 -- From where on which tables were in force in a run, and which mode the Limit Checker had, by all that happened. This project's own.
-use Rattle.std.specs.Prelude.{◌≡◌, ℕ, ◌-◌, Bool, not, ◌||◌, ◌&&◌, List, [], ◌∷◌, ◌++◌, drop, is_none, length, map, take, ◌==◌, if◌then◌else◌, Option, Some, None}
+use Rattle.std.specs.Prelude.{◌≡◌, ◌-◌, Bool, not, ◌||◌, ◌&&◌, List, [], ◌∷◌, ◌++◌, drop, is_none, length, map, take, ◌==◌, if◌then◌else◌, Option, Some, None}
 use Rattle.lc_model.specs.declared.mode.LcMode.{LcMode}
 use Rattle.packet_listing.specs.Told.{told_in}
 use Rattle.run_account.specs.declared.bands.How.{How}

@@ -3,6 +3,7 @@
 ghost use Rattle.std.specs.Prelude.{◌≡◌, IfOk, OnOk, map, replicate};
 ghost use Rattle.run_account.specs.Account.{account_of, before_with, brought_by, come, rows_with, sampled, stood_again, stood_so};
 ghost use Rattle.run_account.specs.Brought.{brings_of};
+ghost use Rattle.run_account.specs.Plans.{parts_by, planned_at};
 ghost use Rattle.run_account.specs.Run.{TellsNothing};
 ghost use Rattle.run_account.specs.Samples.{no_row};
 ghost use Rattle.run_account.specs.Standing.{absent};
@@ -139,7 +140,9 @@ impl<'a> Account<'a> {
     }
 
     /// The comparisons of the rule of this number in the text of this number, from the left; none where there is no such rule.
-    pub fn parts(&self, text: Option<u16>, rule: usize) -> &[Part] {
+    pub fn parts(&self, text: Option<u16>, rule: usize) -> &[Part]
+        ensures { result.now ≡ parts_by (planned_at (account_of self.now).plans text rule) }
+    {
         parts_at(self.plans.as_slice(), text, rule)
     }
 

@@ -2,7 +2,7 @@
 
 ghost use Rattle.std.specs.Prelude.{◌≡◌, ◌++◌, ◌∷◌, [], length, IfOk, OnOk};
 ghost use Rattle.lc_model.specs.Field.{compares};
-ghost use Rattle.run_account.specs.Samples.{in_row, met_by_parts, no_row, row_with, sampled_more, with_room};
+ghost use Rattle.run_account.specs.Samples.{in_row, met_by_parts, no_row, row_with, sampled_more, verdict_of, with_room};
 
 use crate::place::{Place, Stand};
 use crate::plans::Part;
@@ -196,12 +196,15 @@ fn holds(op: CmpOp, value: i64, number: i64) -> bool
     }
 }
 
-/// What a comparison makes of what it met.
-pub fn verdict(part: Part, met: Met) -> &'static str {
-    match (met.place, met.value) {
-        (None, _) => "stale",
-        (Some(_), None) => "error",
-        (Some(_), Some(value)) if holds(part.op, value, part.number) => "true",
-        (Some(_), Some(_)) => "false",
+/// What a comparison makes of what it met: stale where no packet came, an error where it ended before the field, else whether it holds.
+pub fn verdict(part: Part, met: Met) -> &'static str
+    ensures { result.now ≡ verdict_of part met }
+{
+    match met.place {
+        None => "stale",
+        Some(_) => match met.value {
+            None => "error",
+            Some(value) => if holds(part.op, value, part.number) { "true" } else { "false" },
+        },
     }
 }

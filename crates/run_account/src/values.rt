@@ -1,8 +1,9 @@
 //! The value of a field in a packet (cFS Limit Checker user's guide, watchpoint evaluation; how the mask is taken is this project's
 //! own).
 
-ghost use Rattle.std.specs.Prelude.{◌≡◌, length};
+ghost use Rattle.std.specs.Prelude.{◌≡◌, Some, length};
 ghost use Rattle.lc_model.specs.Field.{raw, twos_complement, width};
+ghost use Rattle.lc_model.specs.Text.Class.{field_type};
 ghost use Rattle.run_account.specs.Fields.{value_in};
 
 use crate::texts::Field;
@@ -63,8 +64,10 @@ pub(crate) fn value_in(field: &Field<'_>, packet: &[u8]) -> Option<i64>
     Some(signed(field.kind, bits & field.bits))
 }
 
-/// The word for a type.
-pub fn type_word(kind: FieldType) -> &'static str {
+/// The word for a type, by which a rule text names it.
+pub fn type_word(kind: FieldType) -> &'static str
+    ensures { field_type result.now ≡ Some kind }
+{
     match kind {
         FieldType::U8 => "u8",
         FieldType::I8 => "i8",
