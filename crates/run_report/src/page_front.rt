@@ -128,6 +128,7 @@ th{overflow-wrap:normal;}
 .number{text-align:right;padding-right:14px;overflow-wrap:normal;white-space:nowrap;}
 td.instant,td.holds{white-space:nowrap;}
 td.age{overflow-wrap:break-word;}
+td.rule{min-width:76px;}
 td button{padding:0 6px;color:var(--link);text-align:left;overflow-wrap:anywhere;}
 .wide{overflow-x:auto;}
 @media (max-width:1000px){
