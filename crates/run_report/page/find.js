@@ -52,7 +52,7 @@ function makeTableRow(item) {
   const rule = make('td', 'rule');
   rule.append(link);
   row.append(make('td', 'number', item.packet), make('td', 'number', secondOf(item.at.time)), make('td', 'instant', instantOf(item.at.time)),
-    make('td', 'number narrow', item.at.record), make('td', item.request ? 'request' : '', sign + item.kind), rule, make('td', '', whatOf(item)));
+    make('td', 'number narrow', item.at.record), make('td', item.request ? 'word request' : 'word', sign + item.kind), rule, make('td', '', whatOf(item)));
   return row;
 }
 
