@@ -159,6 +159,34 @@ fn named<'a, 't>(
     Ok(sources)
 }
 
+/// Writes the page beside its name, which it takes at the end. Where there is none the old page stays.
+fn put_page<'a, R: Files + Eprint + AllocGlobal, I: Read + Drop>(
+    told: &mut Told<'_, R>,
+    plan: &Schedule,
+    run: &Run<'_, '_>,
+    input: I,
+    stream: &'a str,
+    page: &'a str,
+    rules: &[&'a str],
+) -> Result<Ending, Fault<'a>> {
+    let rt = told.rt;
+    let mut draft = begin(rt, page).map_err(|fault| fault_at(page, fault))?;
+    let (read, wrote) = (Cell::new(None), Cell::new(None));
+    let input = Noting::new(input, &read);
+    let output = Noting::new(&mut draft.file, &wrote);
+    match write_to(rt.alloc(), plan, run, input, output, told) {
+        Ok(ending) => {
+            keep(rt, draft).map_err(|fault| fault_at(page, fault))?;
+            Ok(ending)
+        }
+        Err(error) => {
+            discard(rt, draft);
+            let (read, wrote) = (read.get(), wrote.get());
+            Err(page_fault(page, stream, rules, error, read, wrote))
+        }
+    }
+}
+
 /// A run of these rule texts over a stream, as a page, which is written beside its name and takes it at the end. The stream is
 /// read in pieces. One that ends early has a page, and is a fault, which says where; one that can't be read leaves the old page.
 pub fn make_page<'a, R: Files + Eprint + AllocGlobal>(
@@ -194,24 +222,6 @@ pub fn make_page<'a, R: Files + Eprint + AllocGlobal>(
         next: 0,
     };
     told.next = told.part();
-    let mut draft = begin(rt, page).map_err(|fault| fault_at(page, fault))?;
-    let (read, wrote) = (Cell::new(None), Cell::new(None));
-    let written = write_to(
-        rt.alloc(),
-        &plan,
-        &run,
-        Noting::new(input, &read),
-        Noting::new(&mut draft.file, &wrote),
-        &mut told,
-    );
-    match written {
-        Ok(ending) => {
-            keep(rt, draft).map_err(|fault| fault_at(page, fault))?;
-            answer_of(stream, ending)
-        }
-        Err(error) => {
-            discard(rt, draft);
-            Err(page_fault(page, stream, rules, error, read.get(), wrote.get()))
-        }
-    }
+    let ending = put_page(&mut told, &plan, &run, input, stream, page, rules)?;
+    answer_of(stream, ending)
 }

@@ -49,10 +49,10 @@ function makeTableRow(item) {
   const label = item.rule === null ? 'show' : nameIn(textBehind(item.at.record), item.rule);
   const link = make('button', '', label, { type: 'button', 'aria-label': `${label}: packet ${item.packet} in the lanes` });
   link.addEventListener('click', () => showInLanes(item));
-  const rule = make('td');
+  const rule = make('td', 'rule');
   rule.append(link);
   row.append(make('td', 'number', item.packet), make('td', 'number', secondOf(item.at.time)), make('td', 'instant', instantOf(item.at.time)),
-    make('td', 'number narrow', item.at.record), make('td', item.request ? 'request' : '', sign + item.kind), rule, make('td', '', whatOf(item)));
+    make('td', 'number narrow', item.at.record), make('td', item.request ? 'word request' : 'word', sign + item.kind), rule, make('td', '', whatOf(item)));
   return row;
 }
 

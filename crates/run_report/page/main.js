@@ -28,7 +28,7 @@ function tellFiles() {
     const row = make('tr');
     const sum = make('td');
     sum.append(make('code', '', file.sha256));
-    row.append(make('td', '', file.role), make('td', '', file.name), make('td', 'number', file.bytes), sum);
+    row.append(make('td', 'word', file.role), make('td', '', file.name), make('td', 'number', file.bytes), sum);
     byId('file_rows').append(row);
   }
 }

@@ -23,7 +23,7 @@ function partsTable(rule, [, time, parts]) {
     const holds = { true: '✔ true', false: '✘ false' }[verdict] ?? verdict;
     const row = make('tr');
     row.append(make('td', '', `${run.fields[field].name} ${operator} ${number}`),
-      make('td', 'number', record === null ? '–' : valueText(field, value)), make('td', 'age', age), make('td', 'holds', holds));
+      make('td', 'number', record === null ? '–' : valueText(field, value)), make('td', 'word', age), make('td', 'holds', holds));
     table.append(row);
   });
   return table;

@@ -18,7 +18,7 @@ pub enum ReportError {
     /// The stream can't be read; nothing was written.
     #[error("a read failed")]
     Read,
-    /// As many reads were made as may be: 2^64 - 1. Nothing was written.
+    /// The stream has more records, or more was read behind them, than 64 bits count. Nothing was written.
     #[error("as many reads were made as may be")]
     Bound,
     /// The page can't be written.

@@ -85,7 +85,8 @@ impl Intake {
     /// All that was read.
     pub fn taken(self) -> Taken
         ensures bytes { result.bytes ≡ self.count }
-        ensures digest { (stream : List ℕ) → Holds256 self.hasher stream → result.digest ≡ sha256 stream }
+        ensures digest { (stream : List ℕ) → Holds256 self.hasher stream →
+            result.digest ≡ sha256 stream }
     {
         Taken {
             bytes: self.count,

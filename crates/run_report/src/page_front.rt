@@ -124,11 +124,11 @@ position:absolute;width:11px;height:11px;margin:-6px;padding:0;border:2px solid 
 border-radius:0;transform:rotate(45deg);background:var(--paper);z-index:3;}
 table{border-collapse:collapse;width:100%;font-size:13px;}
 th,td{text-align:left;padding:3px 8px 3px 0;border-top:1px solid var(--line);vertical-align:top;overflow-wrap:anywhere;}
-th{overflow-wrap:normal;}
-.number{text-align:right;padding-right:14px;overflow-wrap:normal;white-space:nowrap;}
+th,.word{overflow-wrap:normal;}
+.number{text-align:right;padding-right:14px;white-space:nowrap;}
 td.instant,td.holds{white-space:nowrap;}
-td.age{overflow-wrap:break-word;}
-td button{padding:0 6px;color:var(--link);text-align:left;overflow-wrap:anywhere;}
+td.rule{min-width:76px;}
+td button{padding:0 6px;color:var(--link);text-align:left;}
 .wide{overflow-x:auto;}
 @media (max-width:1000px){
 main{grid-template-columns:minmax(0,1fr);}

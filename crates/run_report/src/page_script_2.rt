@@ -30,7 +30,7 @@ const age = record === null ? 'no packet came' : `${decimal(time - since)} s, re
 const holds = { true: '✔ true', false: '✘ false' }[verdict] ?? verdict;
 const row = make('tr');
 row.append(make('td', '', `${run.fields[field].name} ${operator} ${number}`),
-make('td', 'number', record === null ? '–' : valueText(field, value)), make('td', 'age', age), make('td', 'holds', holds));
+make('td', 'number', record === null ? '–' : valueText(field, value)), make('td', 'word', age), make('td', 'holds', holds));
 table.append(row);
 });
 return table;
@@ -149,10 +149,10 @@ const sign = item.request ? '▼ ' : '● ';
 const label = item.rule === null ? 'show' : nameIn(textBehind(item.at.record), item.rule);
 const link = make('button', '', label, { type: 'button', 'aria-label': `${label}: packet ${item.packet} in the lanes` });
 link.addEventListener('click', () => showInLanes(item));
-const rule = make('td');
+const rule = make('td', 'rule');
 rule.append(link);
 row.append(make('td', 'number', item.packet), make('td', 'number', secondOf(item.at.time)), make('td', 'instant', instantOf(item.at.time)),
-make('td', 'number narrow', item.at.record), make('td', item.request ? 'request' : '', sign + item.kind), rule, make('td', '', whatOf(item)));
+make('td', 'number narrow', item.at.record), make('td', item.request ? 'word request' : 'word', sign + item.kind), rule, make('td', '', whatOf(item)));
 return row;
 }
 function drawRows(count) {
@@ -237,7 +237,7 @@ for (const file of run.files) {
 const row = make('tr');
 const sum = make('td');
 sum.append(make('code', '', file.sha256));
-row.append(make('td', '', file.role), make('td', '', file.name), make('td', 'number', file.bytes), sum);
+row.append(make('td', 'word', file.role), make('td', '', file.name), make('td', 'number', file.bytes), sum);
 byId('file_rows').append(row);
 }
 }

@@ -40,7 +40,7 @@ fn bytes_of<'t>(alloc: Global, sources: &[Source<'_, 't>]) -> Result<Vec<&'t [u8
 /// the run ended.
 ///
 /// Errors: before anything is written, `Rules` with the first text that doesn't compile, numbered from 0, `Read`, where a read
-/// fails, and `Bound`, where the stream doesn't end within 2^64 - 1 reads; `Memory`; `Write`, where the writer fails. What was
+/// fails, and `Bound`, where there are more records or reads than 64 bits count; `Memory`; `Write`, where the writer fails. What was
 /// written before stands.
 pub fn write_page<R: ByteSource, W: Write, P: Progress>(
     alloc: Global,

@@ -212,8 +212,8 @@ fn tell_all<R: ByteSource, P: Progress>(
 /// taken are all of the stream, and of these it is told what the rules and fields of these texts do (`TellsRun`), of a host that was new,
 /// with these texts' files and this profile's applications under this schedule in stock. Of the stream at most 73,739 bytes are held.
 ///
-/// Errors: `Rules` with the first text that doesn't compile, numbered from 0; `Memory`; `Read`, where a read fails; `Bound`, where the
-/// stream doesn't end within 2^64 - 1 reads.
+/// Errors: `Rules` with the first text that doesn't compile, numbered from 0; `Memory`; `Read`, where a read fails; `Bound`, where there
+/// are more records, or reads behind them, than 64 bits count.
 pub fn tell_run<'a, R: ByteSource, P: Progress>(
     alloc: Global,
     schedule: &Schedule,
