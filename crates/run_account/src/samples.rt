@@ -204,7 +204,11 @@ pub fn verdict(part: Part, met: Met) -> &'static str
         None => "stale",
         Some(_) => match met.value {
             None => "error",
-            Some(value) => if holds(part.op, value, part.number) { "true" } else { "false" },
+            Some(value) => if holds(part.op, value, part.number) {
+                "true"
+            } else {
+                "false"
+            },
         },
     }
 }
