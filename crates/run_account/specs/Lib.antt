@@ -16,3 +16,4 @@ pub mod Sent
 pub mod Standing
 pub mod Texts
 pub mod Turns
+pub mod Verdicts

@@ -1,7 +1,6 @@
 -- The samples in which a rule failed in a row, and what its comparisons met there. This project's own.
-use Rattle.std.specs.Prelude.{ℕ, ◌||◌, List, [], ◌∷◌, ◌++◌, length, map, nat_le, nat_lt, ◌==◌, if◌then◌else◌, Option, Some, None, ℤ, codes}
+use Rattle.std.specs.Prelude.{ℕ, ◌||◌, List, [], ◌∷◌, ◌++◌, length, map, nat_le, nat_lt, ◌==◌, if◌then◌else◌}
 use Rattle.std.specs.List.{remove}
-use Rattle.lc_model.specs.Field.{compares}
 use Rattle.run_account.specs.declared.place.Place.{Place}
 use Rattle.run_account.specs.declared.place.Stand.{Stand}
 use Rattle.run_account.specs.declared.plans.Part.{Part}
@@ -44,14 +43,3 @@ row_with place stand met row =
     if stand.fails == row.fails then row
     else if stand.fails == 0 then record { fails = 0; samples = [] }
     else record { fails = stand.fails; samples = sampled_more place met (in_row stand.fails row) }
-
--- ---- what a comparison makes of what it met
-
--- the word for it: no packet came; one that ended before the field did; whether the comparison holds
-abbrev pub verdict_by : Part → Option Place → Option ℤ → List ℕ
-verdict_by part None value = codes "stale"
-verdict_by part (Some place) None = codes "error"
-verdict_by part (Some place) (Some value) = if compares part.op value part.number then codes "true" else codes "false"
-
-abbrev pub verdict_of : Part → Met → List ℕ
-verdict_of part met = verdict_by part met.place met.value

@@ -2,7 +2,8 @@
 
 ghost use Rattle.std.specs.Prelude.{◌≡◌, ◌++◌, ◌∷◌, [], length, IfOk, OnOk};
 ghost use Rattle.lc_model.specs.Field.{compares};
-ghost use Rattle.run_account.specs.Samples.{in_row, met_by_parts, no_row, row_with, sampled_more, verdict_of, with_room};
+ghost use Rattle.run_account.specs.Samples.{in_row, met_by_parts, no_row, row_with, sampled_more, with_room};
+ghost use Rattle.run_account.specs.Verdicts.{verdict_of};
 
 use crate::place::{Place, Stand};
 use crate::plans::Part;
