@@ -1,5 +1,5 @@
 mod Ascending
-mod Halves
+mod Places
 mod Ranges
 mod LowBytes
 mod Grouping

@@ -36,6 +36,6 @@ module _ (f : Term → WatchResult → WatchResult) where
   }
 
 -- a slice of the whole vector, written back
-pub written_back : (new old : List WatchResult) (n : ℕ) → length new ≡ n → length old ≡ n → take n (new ++ drop (length new) old) ≡ new
+pub written_back : {A : Type 0} (new old : List A) (n : ℕ) → length new ≡ n → length old ≡ n → take n (new ++ drop (length new) old) ≡ new
 written_back new old n e f =
     rw (drop_of_length-le old {i = length new} (omega (arith, e, f)), append-nil new) (take_all n new (omega (arith, e)))

@@ -40,12 +40,12 @@ pub record AreFound (request : SampleRequest) (terms : List Term) (watch : List 
   pub planned : IsPlanned (length terms) words entries plan.steps plan.roots
   pub evaluated : AreEvaluated request (truths_of watch) words entries plan.roots plan.places
 
--- the words of the most rules of the most words, and the message ids that a search among the most ids compares
+-- the words of the most rules of the most words, and the most message ids that a packet's is compared with
 abbrev pub most_steps : ℕ
 most_steps = 5632
 
 abbrev pub most_probes : ℕ
-most_probes = 8
+most_probes = 1
 
 -- so many words were evaluated at most, and so many message ids compared
 pub record IsFewEffort (steps probes : ℕ) : Type 0 where

@@ -175,7 +175,7 @@ impl Engine {
         self.steps
     }
 
-    /// The message ids that the last packet of telemetry was compared with, at most eight.
+    /// The message ids that the last packet of telemetry was compared with, at most one.
     pub fn probes(&self) -> usize
         ensures probes { result ≡ self.now.effort.probes }
         ensures few { result ≤ most_probes }

@@ -1,10 +1,10 @@
-use Rattle.std.proofs.Common.{refl, ◌≡◌, ◌≤◌, ◌∙◌, ap, ap₂, sym, subst, List, [], length, fold}
+use Rattle.std.proofs.Common.{refl, ◌≡◌, ◌∙◌, ap, ap₂, sym, subst, List, [], length, fold, arith}
 use Rattle.std.specs.List.{list_any}
 use Rattle.lc_model.specs.Packet.{message_id}
 use Rattle.lc_model.specs.Kept.Summary.{WatchResult}
 use Rattle.lc_model.specs.Kept.Next.{seen_result, results_by}
 use Rattle.lc_model.specs.Kept.Effort.{probes_for, watched_ids}
-use Rattle.lc_model.proofs.LimitChecker.EffortLaws.{probes_are_few}
+use Rattle.lc_model.proofs.LimitChecker.EffortLaws.{one_probe}
 use Rattle.limit_engine.specs.Engine.{after_telemetry, tells_short}
 use Rattle.limit_engine.specs.Grouped.{watch_seen, watches_for, lacks_field}
 use Rattle.limit_engine.specs.Tables.{AreTables}
@@ -39,7 +39,7 @@ invariant_of-self-2 c =
       c.self.invariant.1,
       record {
         few_steps = c.self.invariant.2.few_steps;
-        few_probes = subst (λ probes. probes ≤ 8) (sym c.find-found.ensures.probes) ((probes_are_few c.message_id.result terms).few tables.few);
+        few_probes = omega (arith, c.find-found.ensures.probes, one_probe c.message_id.result (watched_ids terms));
       },
       c.self.invariant.3,
     )
