@@ -3,15 +3,71 @@
 ghost use Rattle.std.specs.Prelude.{◌≡◌, false, length};
 ghost use Rattle.app_host.specs.Hosted.{shown};
 ghost use Rattle.flight_core.specs.Brought.{AreWhole, meanings_of};
-ghost use Rattle.app_host.specs.Step.{IsBetween};
+ghost use Rattle.app_host.specs.Response.{response_to, RespondsCounted};
+ghost use Rattle.app_host.specs.Step.{input_by, without_count, Counts, IsBetween, IsNamed, Steps};
 ghost use Rattle.flight_core.specs.Going.{HandlesNext};
 
 use crate::bringing::brought;
 use crate::halt::Halt;
 use crate::records::Records;
-use app_host::{App, Host};
-use lc_model::ByteSink;
+use app_host::{App, Host, WriteFault};
+use lc_model::{Body, ByteSink, Record};
 use rpn_compiler::TablePair;
+
+/// Hands a record to a host that is open, with the code of all that in one place.
+#[inline(never)]
+fn step_any<W: ByteSink, B: App>(
+    host: &mut Host<B>,
+    entry: &Record<'_>,
+    writer: &mut W,
+) -> Result<u64, WriteFault>
+    requires between { IsBetween (shown B.meaning host.old) }
+    requires named { IsNamed entry.now.body }
+    requires open { (shown B.meaning host.old).is_closed ≡ false }
+    ensures between { IsBetween (shown B.meaning host.new) }
+    ensures steps { Steps entry.now.moment (input_by entry.now.body) (shown B.meaning host.old)
+        (shown B.meaning host.new) (W.sink writer.old) (W.sink writer.new) (without_count result) }
+    ensures counted { RespondsCounted entry.now.moment
+        (response_to entry.now.body (shown B.meaning host.old)) (shown B.meaning host.old)
+        (shown B.meaning host.new) (W.sink writer.old).gained (W.sink writer.new).gained result }
+    ensures count { Counts entry.now.moment (input_by entry.now.body) (shown B.meaning host.old)
+        result }
+{
+    host.step_counted(entry, writer)
+}
+
+/// Hands a record to a host that is open. Nearly all are packets, so these have code of their own, where nothing is asked
+/// again that was known where the record was read off.
+#[inline(always)]
+fn step<W: ByteSink, B: App>(
+    host: &mut Host<B>,
+    entry: &Record<'_>,
+    writer: &mut W,
+) -> Result<u64, WriteFault>
+    requires between { IsBetween (shown B.meaning host.old) }
+    requires named { IsNamed entry.now.body }
+    requires open { (shown B.meaning host.old).is_closed ≡ false }
+    ensures between { IsBetween (shown B.meaning host.new) }
+    ensures steps { Steps entry.now.moment (input_by entry.now.body) (shown B.meaning host.old)
+        (shown B.meaning host.new) (W.sink writer.old) (W.sink writer.new) (without_count result) }
+    ensures counted { RespondsCounted entry.now.moment
+        (response_to entry.now.body (shown B.meaning host.old)) (shown B.meaning host.old)
+        (shown B.meaning host.new) (W.sink writer.old).gained (W.sink writer.new).gained result }
+    ensures count { Counts entry.now.moment (input_by entry.now.body) (shown B.meaning host.old)
+        result }
+{
+    let moment = entry.moment;
+    match entry.body {
+        Body::Packet(packet) => host.step_counted(
+            &Record {
+                moment,
+                body: Body::Packet(packet),
+            },
+            writer,
+        ),
+        Body::Tick | Body::File { name: _, bytes: _ } => step_any(host, entry, writer),
+    }
+}
 
 /// Handles the next record, where a whole one is held, and answers how many bytes were written.
 #[inline(always)]
@@ -35,7 +91,7 @@ pub(crate) fn handle_next<W: ByteSink, B: App>(
         None => Ok(None),
         Some(found) => match brought(found, pairs) {
             None => Err(Halt::NoRecord),
-            Some(entry) => match host.step_counted(&entry, writer) {
+            Some(entry) => match step(host, &entry, writer) {
                 Ok(total) => Ok(Some(total)),
                 Err(fault) => Err(Halt::Unsent(fault.sent)),
             },
