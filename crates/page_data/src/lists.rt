@@ -1,0 +1,172 @@
+//! The lists of a page's data: what is told of its fields and of its lanes, and the bands.
+
+use crate::json::{Item, Json};
+use crate::words::{how, mode};
+use change_lists::{Changes, Entry};
+use run_account::{Bands, Place, Seen, type_word};
+use std::fmt::Write;
+
+/// What stands in front of the items of an entry of a field, where it is of one change, and of more.
+const VALUE: &[&str] = &["", "[", ",", ",", "]"];
+
+const VALUES: &[&str] = &["", "[", ",", ",", ",", ",", "]"];
+
+/// An entry of a field. A value that is more than the greatest and less than the least is none.
+fn put_value<W: Write>(json: &mut Json<'_, W>, comma: &'static str, entry: &Entry) {
+    let (low, high) = if entry.told.low <= entry.told.high {
+        (Some(entry.told.low), Some(entry.told.high))
+    } else {
+        (None, None)
+    };
+    let items = [
+        Item::Word(comma),
+        Item::Natural(entry.from),
+        Item::Number(entry.time),
+        Item::NumberIf(low),
+        Item::NumberIf(high),
+        Item::Natural(entry.changes),
+    ];
+    let texts = if entry.changes > 1 { VALUES } else { VALUE };
+    json.row(texts, &items)
+}
+
+/// The entries of a field.
+fn put_values<W: Write>(json: &mut Json<'_, W>, entries: &[Entry]) {
+    let mut comma = "";
+    for entry in entries {
+        put_value(json, comma, entry);
+        comma = ",";
+    }
+}
+
+const LAST: &[&str] = &["[", ",", "],\"values\":["];
+
+/// The place of the last packet of a field.
+fn put_last<W: Write>(json: &mut Json<'_, W>, last: Option<Place>) {
+    match last {
+        Some(place) => json.row(
+            LAST,
+            &[Item::Natural(place.record), Item::Number(place.time)],
+        ),
+        None => json.text("null,\"values\":["),
+    }
+}
+
+const FIELD: &[&str] = &[
+    "",
+    "{\"name\":\"",
+    "\",\"packet\":\"",
+    "\",\"mid\":",
+    ",\"type\":\"",
+    "\",\"at\":",
+    ",\"mask\":",
+    ",\"stale\":",
+    ",\"packets\":",
+    ",\"last\":",
+];
+
+/// A field, with its entries.
+fn put_field<W: Write>(
+    json: &mut Json<'_, W>,
+    comma: &'static str,
+    seen: &Seen<'_>,
+    entries: &[Entry],
+) {
+    let items = [
+        Item::Word(comma),
+        Item::Text(seen.field.name),
+        Item::Text(seen.field.packet),
+        Item::Natural(seen.field.mid as u64),
+        Item::Word(type_word(seen.field.kind)),
+        Item::Natural(seen.field.at as u64),
+        Item::NumberIf(seen.field.mask),
+        Item::Number(seen.field.stale),
+        Item::Natural(seen.packets),
+    ];
+    json.row(FIELD, &items);
+    put_last(json, seen.last);
+    put_values(json, entries);
+    json.text("]}")
+}
+
+/// All fields.
+pub fn put_fields<W: Write>(json: &mut Json<'_, W>, seen: &[Seen<'_>], values: &[Changes]) {
+    let mut comma = "";
+    for (number, seen) in seen.iter().enumerate() {
+        let entries = match values.get(number) {
+            Some(list) => list.entries(),
+            None => &[],
+        };
+        put_field(json, comma, seen, entries);
+        comma = ",";
+    }
+}
+
+/// What stands in front of the items of an entry of a lane, where it is of one change, and of more.
+const SPAN: &[&str] = &["", "[", ",", ",", ",", "]"];
+
+const SPANS: &[&str] = &["", "[", ",", ",", ",", ",", "]"];
+
+/// The entries of a lane.
+fn put_spans<W: Write>(json: &mut Json<'_, W>, entries: &[Entry]) {
+    let mut comma = "";
+    for entry in entries {
+        let items = [
+            Item::Word(comma),
+            Item::Natural(entry.from),
+            Item::Number(entry.time),
+            Item::Natural(entry.told.results as u64),
+            Item::Natural(entry.told.states as u64),
+            Item::Natural(entry.changes),
+        ];
+        let texts = if entry.changes > 1 { SPANS } else { SPAN };
+        json.row(texts, &items);
+        comma = ",";
+    }
+}
+
+/// All lanes.
+pub fn put_lanes<W: Write>(json: &mut Json<'_, W>, lanes: &[Changes]) {
+    let mut before = "[";
+    for list in lanes {
+        json.text(before);
+        put_spans(json, list.entries());
+        json.text("]");
+        before = ",[";
+    }
+}
+
+const TABLES: &[&str] = &["", "[", ",", ",", ",\"", "\"]"];
+
+/// Which tables were in force.
+pub fn put_tables<W: Write>(json: &mut Json<'_, W>, bands: &Bands) {
+    let mut comma = "";
+    for from in bands.tables() {
+        let items = [
+            Item::Word(comma),
+            Item::Natural(from.place.record),
+            Item::Number(from.place.time),
+            Item::TextIf(from.text),
+            how(from.how),
+        ];
+        json.row(TABLES, &items);
+        comma = ",";
+    }
+}
+
+const MODE: &[&str] = &["", "[", ",", ",\"", "\"]"];
+
+/// The modes.
+pub fn put_modes<W: Write>(json: &mut Json<'_, W>, bands: &Bands) {
+    let mut comma = "";
+    for from in bands.modes() {
+        let items = [
+            Item::Word(comma),
+            Item::Natural(from.place.record),
+            Item::Number(from.place.time),
+            mode(from.mode),
+        ];
+        json.row(MODE, &items);
+        comma = ",";
+    }
+}
