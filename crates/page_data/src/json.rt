@@ -1,9 +1,16 @@
 //! JSON, as the data of a page is written: without blanks, in ASCII alone.
 
+ghost use Rattle.std.specs.Prelude.{◌≡◌, ◌≤◌, ◌==◌, false, None};
+
 use std::fmt::{self, Write};
 
 /// What stands for a byte of a text that can't stand for itself. A `<` would let a text end the page's script.
-fn replacement(byte: u8) -> Option<&'static str> {
+fn replacement(byte: u8) -> Option<&'static str>
+    ensures printable { result ≡ None → 32 ≤ byte × byte ≤ 126 }
+    ensures quote { result ≡ None → (byte == 34) ≡ false }
+    ensures backslash { result ≡ None → (byte == 92) ≡ false }
+    ensures tag { result ≡ None → (byte == 60) ≡ false }
+{
     match byte {
         b'"' => Some("\\\""),
         b'\\' => Some("\\\\"),
@@ -62,7 +69,7 @@ fn put_item<W: Write>(out: &mut W, item: Item<'_>) -> fmt::Result {
     }
 }
 
-/// Writes what stands in front of each item, and behind the last. Of more items the first are written.
+/// Writes what stands in front of each item, and behind the last.
 fn put_row<W: Write>(out: &mut W, texts: &[&'static str], items: &[Item<'_>]) -> fmt::Result {
     for (number, text) in texts.iter().enumerate() {
         out.write_str(text)?;
@@ -101,7 +108,7 @@ impl<'o, W: Write> Json<'o, W> {
         }
     }
 
-    /// A row: what stands in front of each item, and behind the last. Of more items the first are written.
+    /// A row: what stands in front of each item, and behind the last. There is a text for each item.
     pub fn row(&mut self, texts: &[&'static str], items: &[Item<'_>]) {
         if self.result.is_ok() {
             self.result = put_row(self.out, texts, items);

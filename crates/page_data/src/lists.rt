@@ -6,10 +6,10 @@ use change_lists::{Changes, Entry};
 use run_account::{Bands, Place, Seen, type_word};
 use std::fmt::Write;
 
-/// What stands in front of the items of an entry of a field, where it is of one change, and of more.
-const VALUE: &[&str] = &["", "[", ",", ",", "]"];
+/// What stands in front of the items of an entry: of its first ones, and of those that tell of more than one change.
+const VALUE: &[&str] = &["", "[", ",", ","];
 
-const VALUES: &[&str] = &["", "[", ",", ",", ",", ",", "]"];
+const TO_VALUE: &[&str] = &[",", ",", "]"];
 
 /// An entry of a field. A value that is more than the greatest and less than the least is none.
 fn put_value<W: Write>(json: &mut Json<'_, W>, comma: &'static str, entry: &Entry) {
@@ -23,11 +23,16 @@ fn put_value<W: Write>(json: &mut Json<'_, W>, comma: &'static str, entry: &Entr
         Item::Natural(entry.from),
         Item::Number(entry.time),
         Item::NumberIf(low),
-        Item::NumberIf(high),
-        Item::Natural(entry.changes),
     ];
-    let texts = if entry.changes > 1 { VALUES } else { VALUE };
-    json.row(texts, &items)
+    json.row(VALUE, &items);
+    if entry.changes > 1 {
+        json.row(
+            TO_VALUE,
+            &[Item::NumberIf(high), Item::Natural(entry.changes)],
+        )
+    } else {
+        json.text("]")
+    }
 }
 
 /// The entries of a field.
@@ -102,25 +107,30 @@ pub fn put_fields<W: Write>(json: &mut Json<'_, W>, seen: &[Seen<'_>], values: &
     }
 }
 
-/// What stands in front of the items of an entry of a lane, where it is of one change, and of more.
-const SPAN: &[&str] = &["", "[", ",", ",", ",", "]"];
+const SPAN: &[&str] = &["", "[", ",", ",", ","];
 
-const SPANS: &[&str] = &["", "[", ",", ",", ",", ",", "]"];
+/// An entry of a lane.
+fn put_span<W: Write>(json: &mut Json<'_, W>, comma: &'static str, entry: &Entry) {
+    let items = [
+        Item::Word(comma),
+        Item::Natural(entry.from),
+        Item::Number(entry.time),
+        Item::Natural(entry.told.results as u64),
+        Item::Natural(entry.told.states as u64),
+    ];
+    json.row(SPAN, &items);
+    if entry.changes > 1 {
+        json.row(&[",", "]"], &[Item::Natural(entry.changes)])
+    } else {
+        json.text("]")
+    }
+}
 
 /// The entries of a lane.
 fn put_spans<W: Write>(json: &mut Json<'_, W>, entries: &[Entry]) {
     let mut comma = "";
     for entry in entries {
-        let items = [
-            Item::Word(comma),
-            Item::Natural(entry.from),
-            Item::Number(entry.time),
-            Item::Natural(entry.told.results as u64),
-            Item::Natural(entry.told.states as u64),
-            Item::Natural(entry.changes),
-        ];
-        let texts = if entry.changes > 1 { SPANS } else { SPAN };
-        json.row(texts, &items);
+        put_span(json, comma, entry);
         comma = ",";
     }
 }

@@ -1,6 +1,7 @@
 //! From a stream to its page.
 
 use crate::error::ReportError;
+use crate::intake::Taken;
 use crate::progress::Progress;
 use crate::telling::tell_run;
 use crate::{page_front, page_script_0, page_script_1, page_script_2};
@@ -8,7 +9,7 @@ use lc_model::ByteSource;
 use page_data::{Data, Ended, Run, Source};
 use run_course::Ending;
 use std::alloc::{AllocError, Global};
-use std::io::Write;
+use std::io::{self, Write};
 use tick_scheduler::Schedule;
 
 /// The bytes of the texts.
@@ -28,6 +29,15 @@ fn ended(ending: Ending) -> Ended {
         Ending::Cut { n } => Ended::Cut(n),
         Ending::Bound => Ended::Bound,
     }
+}
+
+/// Writes a page of this data.
+fn put_page<W: Write>(out: &mut W, data: &Data<'_, '_, '_, '_>) -> io::Result<()> {
+    out.write_all(page_front::TEXT.as_bytes())?;
+    write!(out, "{data}")?;
+    out.write_all(page_script_0::TEXT.as_bytes())?;
+    out.write_all(page_script_1::TEXT.as_bytes())?;
+    out.write_all(page_script_2::TEXT.as_bytes())
 }
 
 /// Runs rule texts under a schedule over a stream, and writes what happened as one page of HTML, which needs no other file.
@@ -51,10 +61,11 @@ pub fn write_page<R: ByteSource, W: Write, P: Progress>(
     let texts = bytes_of(alloc, run.texts)?;
     let (telling, taken, ending) = tell_run(alloc, schedule, texts.as_slice(), reader, progress)?;
     let (lanes, values) = telling.lists.parts();
+    let Taken { bytes, digest } = taken;
     let data = Data {
         run,
-        bytes: taken.bytes,
-        digest: taken.digest,
+        bytes,
+        digest,
         ended: ended(ending),
         start: telling.clock.start,
         end: telling.clock.end,
@@ -63,12 +74,6 @@ pub fn write_page<R: ByteSource, W: Write, P: Progress>(
         lanes,
         values,
     };
-    let (front, first, second, third) = (
-        page_front::TEXT,
-        page_script_0::TEXT,
-        page_script_1::TEXT,
-        page_script_2::TEXT,
-    );
-    write!(out, "{front}{data}{first}{second}{third}")?;
+    put_page(out, &data)?;
     Ok(ending)
 }
