@@ -3,7 +3,7 @@
 use crate::error::ReportError;
 use crate::intake::Taken;
 use crate::progress::Progress;
-use crate::telling::tell_run;
+use crate::telling::{Telling, tell_run};
 use crate::{page_front, page_script_0, page_script_1, page_script_2};
 use lc_model::ByteSource;
 use page_data::{Data, Ended, Run, Source};
@@ -31,13 +31,46 @@ fn ended(ending: Ending) -> Ended {
     }
 }
 
+/// The page behind its data.
+const SCRIPT: &[&str] = &[
+    page_script_0::TEXT,
+    page_script_1::TEXT,
+    page_script_2::TEXT,
+];
+
 /// Writes a page of this data.
 fn put_page<W: Write>(out: &mut W, data: &Data<'_, '_, '_, '_>) -> io::Result<()> {
     out.write_all(page_front::TEXT.as_bytes())?;
     write!(out, "{data}")?;
-    out.write_all(page_script_0::TEXT.as_bytes())?;
-    out.write_all(page_script_1::TEXT.as_bytes())?;
-    out.write_all(page_script_2::TEXT.as_bytes())
+    for text in SCRIPT {
+        out.write_all(text.as_bytes())?;
+    }
+    Ok(())
+}
+
+/// Writes the page of what was told of a run.
+fn put_told<W: Write>(
+    out: &mut W,
+    run: &Run<'_, '_>,
+    telling: &Telling<'_>,
+    taken: Taken,
+    ending: Ending,
+) -> io::Result<()> {
+    let (lanes, values) = telling.lists.parts();
+    let Taken { bytes, digest } = taken;
+    let data = Data {
+        run,
+        bytes,
+        digest,
+        ended: ended(ending),
+        start: telling.clock.start,
+        end: telling.clock.end,
+        is_ordered: telling.clock.is_ordered,
+        account: &telling.account,
+        lanes,
+        values,
+    };
+    put_page(out, &data)
 }
 
 /// Runs rule texts under a schedule over a stream, and writes what happened as one page of HTML, which needs no other file.
@@ -60,20 +93,6 @@ pub fn write_page<R: ByteSource, W: Write, P: Progress>(
 ) -> Result<Ending, ReportError> {
     let texts = bytes_of(alloc, run.texts)?;
     let (telling, taken, ending) = tell_run(alloc, schedule, texts.as_slice(), reader, progress)?;
-    let (lanes, values) = telling.lists.parts();
-    let Taken { bytes, digest } = taken;
-    let data = Data {
-        run,
-        bytes,
-        digest,
-        ended: ended(ending),
-        start: telling.clock.start,
-        end: telling.clock.end,
-        is_ordered: telling.clock.is_ordered,
-        account: &telling.account,
-        lanes,
-        values,
-    };
-    put_page(out, &data)?;
+    put_told(out, run, &telling, taken, ending)?;
     Ok(ending)
 }
