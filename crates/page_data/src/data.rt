@@ -102,7 +102,7 @@ fn put_file<'x, W: Write>(
         Item::Natural(bytes),
         Item::Digest(digest),
     ];
-    json.row(FILE, &items)
+    json.member(FILE, &items)
 }
 
 /// A file whose bytes are there.
@@ -115,10 +115,8 @@ fn put_source<W: Write>(json: &mut Json<'_, W>, role: &'static str, file: &Sourc
 fn put_sources<W: Write>(json: &mut Json<'_, W>, run: &Run<'_, '_>) {
     for source in run.texts {
         put_source(json, "rules", source);
-        json.text(",");
     }
-    put_source(json, "schedule", &run.plan);
-    json.text(",")
+    put_source(json, "schedule", &run.plan)
 }
 
 const PROGRAM: &[&str] = &["{\"format\":1,\"program\":\"flight_tools ", "\",\"ended\":"];
@@ -172,16 +170,17 @@ fn put_clock<W: Write>(json: &mut Json<'_, W>, data: &Data<'_, '_, '_, '_>) {
     ];
     json.row(CLOCK, &items);
     match data.run.epoch {
-        Some(epoch) => json.row(&["\"", "\",\"texts\":["], &[Item::Text(epoch.as_bytes())]),
-        None => json.text("null,\"texts\":["),
+        Some(epoch) => json.row(&["\"", "\""], &[Item::Text(epoch.as_bytes())]),
+        None => json.text("null"),
     }
+    json.open(",\"texts\":[");
 }
 
 /// What stands in front of the texts of rules.
 fn put_front<W: Write>(json: &mut Json<'_, W>, data: &Data<'_, '_, '_, '_>) {
     json.row(PROGRAM, &[Item::Word(VERSION)]);
     put_ended(json, data.ended);
-    json.text(",\"files\":[");
+    json.open(",\"files\":[");
     put_sources(json, data.run);
     put_file(json, "stream", data.run.stream, data.bytes, &data.digest);
     put_figures(json, &data.account.figures);
@@ -190,15 +189,15 @@ fn put_front<W: Write>(json: &mut Json<'_, W>, data: &Data<'_, '_, '_, '_>) {
 
 /// What is told of fields, rules and tables.
 fn put_lists<W: Write>(json: &mut Json<'_, W>, data: &Data<'_, '_, '_, '_>) {
-    json.text("],\"fields\":[");
+    json.open("],\"fields\":[");
     put_fields(json, data.account.seen.as_slice(), data.values);
-    json.text("],\"lanes\":[");
+    json.open("],\"lanes\":[");
     put_lanes(json, data.lanes);
-    json.text("],\"tables\":[");
+    json.open("],\"tables\":[");
     put_tables(json, &data.account.bands);
-    json.text("],\"mode\":[");
+    json.open("],\"mode\":[");
     put_modes(json, &data.account.bands);
-    json.text("],\"requests\":[");
+    json.open("],\"requests\":[");
 }
 
 impl Display for Data<'_, '_, '_, '_> {

@@ -80,11 +80,13 @@ fn put_row<W: Write>(out: &mut W, texts: &[&'static str], items: &[Item<'_>]) ->
     Ok(())
 }
 
-/// Where JSON is written, and whether all of it was: behind a write that failed there is none.
+/// Where JSON is written, and whether all of it was: behind a write that failed there is none. Commas stand between the members of a list.
 #[derive(Drop)]
 pub struct Json<'o, W: Write> {
     out: &'o mut W,
     result: fmt::Result,
+    /// Whether the next member is the first of its list.
+    is_first: bool,
 }
 
 impl<'o, W: Write> Json<'o, W> {
@@ -92,13 +94,37 @@ impl<'o, W: Write> Json<'o, W> {
         Json {
             out,
             result: Ok(()),
+            is_first: true,
         }
     }
 
+    /// What is no member, and opens no list.
     pub fn text(&mut self, text: &'static str) {
         if self.result.is_ok() {
             self.result = self.out.write_str(text);
         }
+        self.is_first = false;
+    }
+
+    /// What stands in front of a member.
+    fn comma(&mut self) {
+        if self.is_first {
+            self.is_first = false;
+        } else {
+            self.text(",");
+        }
+    }
+
+    /// What opens a list.
+    pub fn open(&mut self, text: &'static str) {
+        self.text(text);
+        self.is_first = true;
+    }
+
+    /// A member that is a list, or ends with one that it opens.
+    pub fn list(&mut self, text: &'static str) {
+        self.comma();
+        self.open(text);
     }
 
     /// A text, which stands between quotes.
@@ -113,6 +139,12 @@ impl<'o, W: Write> Json<'o, W> {
         if self.result.is_ok() {
             self.result = put_row(self.out, texts, items);
         }
+    }
+
+    /// A row that is a member.
+    pub fn member(&mut self, texts: &[&'static str], items: &[Item<'_>]) {
+        self.comma();
+        self.row(texts, items);
     }
 
     pub fn end(self) -> fmt::Result {

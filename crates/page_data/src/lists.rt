@@ -7,24 +7,23 @@ use run_account::{Bands, Place, Seen, type_word};
 use std::fmt::Write;
 
 /// What stands in front of the items of an entry: of its first ones, and of those that tell of more than one change.
-const VALUE: &[&str] = &["", "[", ",", ","];
+const VALUE: &[&str] = &["[", ",", ","];
 
 const TO_VALUE: &[&str] = &[",", ",", "]"];
 
 /// An entry of a field. A value that is more than the greatest and less than the least is none.
-fn put_value<W: Write>(json: &mut Json<'_, W>, comma: &'static str, entry: &Entry) {
+fn put_value<W: Write>(json: &mut Json<'_, W>, entry: &Entry) {
     let (low, high) = if entry.told.low <= entry.told.high {
         (Some(entry.told.low), Some(entry.told.high))
     } else {
         (None, None)
     };
     let items = [
-        Item::Word(comma),
         Item::Natural(entry.from),
         Item::Number(entry.time),
         Item::NumberIf(low),
     ];
-    json.row(VALUE, &items);
+    json.member(VALUE, &items);
     if entry.changes > 1 {
         json.row(
             TO_VALUE,
@@ -37,14 +36,12 @@ fn put_value<W: Write>(json: &mut Json<'_, W>, comma: &'static str, entry: &Entr
 
 /// The entries of a field.
 fn put_values<W: Write>(json: &mut Json<'_, W>, entries: &[Entry]) {
-    let mut comma = "";
     for entry in entries {
-        put_value(json, comma, entry);
-        comma = ",";
+        put_value(json, entry);
     }
 }
 
-const LAST: &[&str] = &["[", ",", "],\"values\":["];
+const LAST: &[&str] = &["[", ",", "]"];
 
 /// The place of the last packet of a field.
 fn put_last<W: Write>(json: &mut Json<'_, W>, last: Option<Place>) {
@@ -53,12 +50,11 @@ fn put_last<W: Write>(json: &mut Json<'_, W>, last: Option<Place>) {
             LAST,
             &[Item::Natural(place.record), Item::Number(place.time)],
         ),
-        None => json.text("null,\"values\":["),
+        None => json.text("null"),
     }
 }
 
 const FIELD: &[&str] = &[
-    "",
     "{\"name\":\"",
     "\",\"packet\":\"",
     "\",\"mid\":",
@@ -71,14 +67,8 @@ const FIELD: &[&str] = &[
 ];
 
 /// A field, with its entries.
-fn put_field<W: Write>(
-    json: &mut Json<'_, W>,
-    comma: &'static str,
-    seen: &Seen<'_>,
-    entries: &[Entry],
-) {
+fn put_field<W: Write>(json: &mut Json<'_, W>, seen: &Seen<'_>, entries: &[Entry]) {
     let items = [
-        Item::Word(comma),
         Item::Text(seen.field.name),
         Item::Text(seen.field.packet),
         Item::Natural(seen.field.mid as u64),
@@ -88,37 +78,35 @@ fn put_field<W: Write>(
         Item::Number(seen.field.stale),
         Item::Natural(seen.packets),
     ];
-    json.row(FIELD, &items);
+    json.member(FIELD, &items);
     put_last(json, seen.last);
+    json.open(",\"values\":[");
     put_values(json, entries);
     json.text("]}")
 }
 
 /// All fields.
 pub fn put_fields<W: Write>(json: &mut Json<'_, W>, seen: &[Seen<'_>], values: &[Changes]) {
-    let mut comma = "";
     for (number, seen) in seen.iter().enumerate() {
         let entries = match values.get(number) {
             Some(list) => list.entries(),
             None => &[],
         };
-        put_field(json, comma, seen, entries);
-        comma = ",";
+        put_field(json, seen, entries);
     }
 }
 
-const SPAN: &[&str] = &["", "[", ",", ",", ","];
+const SPAN: &[&str] = &["[", ",", ",", ","];
 
 /// An entry of a lane.
-fn put_span<W: Write>(json: &mut Json<'_, W>, comma: &'static str, entry: &Entry) {
+fn put_span<W: Write>(json: &mut Json<'_, W>, entry: &Entry) {
     let items = [
-        Item::Word(comma),
         Item::Natural(entry.from),
         Item::Number(entry.time),
         Item::Natural(entry.told.results as u64),
         Item::Natural(entry.told.states as u64),
     ];
-    json.row(SPAN, &items);
+    json.member(SPAN, &items);
     if entry.changes > 1 {
         json.row(&[",", "]"], &[Item::Natural(entry.changes)])
     } else {
@@ -128,55 +116,45 @@ fn put_span<W: Write>(json: &mut Json<'_, W>, comma: &'static str, entry: &Entry
 
 /// The entries of a lane.
 fn put_spans<W: Write>(json: &mut Json<'_, W>, entries: &[Entry]) {
-    let mut comma = "";
     for entry in entries {
-        put_span(json, comma, entry);
-        comma = ",";
+        put_span(json, entry);
     }
 }
 
 /// All lanes.
 pub fn put_lanes<W: Write>(json: &mut Json<'_, W>, lanes: &[Changes]) {
-    let mut before = "[";
     for list in lanes {
-        json.text(before);
+        json.list("[");
         put_spans(json, list.entries());
         json.text("]");
-        before = ",[";
     }
 }
 
-const TABLES: &[&str] = &["", "[", ",", ",", ",\"", "\"]"];
+const TABLES: &[&str] = &["[", ",", ",", ",\"", "\"]"];
 
 /// Which tables were in force.
 pub fn put_tables<W: Write>(json: &mut Json<'_, W>, bands: &Bands) {
-    let mut comma = "";
     for from in bands.tables() {
         let items = [
-            Item::Word(comma),
             Item::Natural(from.place.record),
             Item::Number(from.place.time),
             Item::TextIf(from.text),
             how(from.how),
         ];
-        json.row(TABLES, &items);
-        comma = ",";
+        json.member(TABLES, &items);
     }
 }
 
-const MODE: &[&str] = &["", "[", ",", ",\"", "\"]"];
+const MODE: &[&str] = &["[", ",", ",\"", "\"]"];
 
 /// The modes.
 pub fn put_modes<W: Write>(json: &mut Json<'_, W>, bands: &Bands) {
-    let mut comma = "";
     for from in bands.modes() {
         let items = [
-            Item::Word(comma),
             Item::Natural(from.place.record),
             Item::Number(from.place.time),
             mode(from.mode),
         ];
-        json.row(MODE, &items);
-        comma = ",";
+        json.member(MODE, &items);
     }
 }

@@ -6,54 +6,43 @@ use run_account::{Account, Left, Met, Part, Request, Sample, Told, verdict};
 use std::fmt::Write;
 
 /// What stands in front of the items of what a comparison met of a field, where a packet of it came, and where none did.
-const MET: &[&str] = &["", "[", ",", ",", ",\"", "\"]"];
+const MET: &[&str] = &["[", ",", ",", ",\"", "\"]"];
 
-const UNMET: &[&str] = &["", "[", ",null,null,\"", "\"]"];
+const UNMET: &[&str] = &["[", ",null,null,\"", "\"]"];
 
 /// What a comparison met.
-fn put_met<W: Write>(json: &mut Json<'_, W>, comma: &'static str, part: Part, met: Met) {
-    let comma = Item::Word(comma);
+fn put_met<W: Write>(json: &mut Json<'_, W>, part: Part, met: Met) {
     let value = Item::NumberIf(met.value);
     let verdict = Item::Word(verdict(part, met));
     match met.place {
         Some(place) => {
             let record = Item::Natural(place.record);
-            json.row(
-                MET,
-                &[comma, value, record, Item::Number(place.time), verdict],
-            )
+            json.member(MET, &[value, record, Item::Number(place.time), verdict])
         }
-        None => json.row(UNMET, &[comma, value, verdict]),
+        None => json.member(UNMET, &[value, verdict]),
     }
 }
 
 /// What the comparisons of a sample met.
 fn put_all_met<W: Write>(json: &mut Json<'_, W>, parts: &[Part], all: &[Met]) {
-    let mut comma = "";
     for (number, met) in all.iter().enumerate() {
         if let Some(part) = parts.get(number) {
-            put_met(json, comma, *part, *met);
-            comma = ",";
+            put_met(json, *part, *met);
         }
     }
 }
 
-const SAMPLE: &[&str] = &["", "[", ",", ",["];
+const SAMPLE: &[&str] = &["[", ",", ""];
 
 /// The samples that counted for a request.
 fn put_samples<W: Write>(json: &mut Json<'_, W>, parts: &[Part], samples: &[Sample]) {
-    let mut comma = "";
     for sample in samples {
         let place = sample.place();
-        let items = [
-            Item::Word(comma),
-            Item::Natural(place.record),
-            Item::Number(place.time),
-        ];
-        json.row(SAMPLE, &items);
+        let items = [Item::Natural(place.record), Item::Number(place.time)];
+        json.member(SAMPLE, &items);
+        json.open(",[");
         put_all_met(json, parts, sample.met());
         json.text("]]");
-        comma = ",";
     }
 }
 
@@ -66,7 +55,6 @@ fn parts_of<'a>(account: &'a Account<'_>, request: &Request) -> &'a [Part] {
 }
 
 const REQUEST: &[&str] = &[
-    "",
     "{\"packet\":",
     ",\"record\":",
     ",\"time\":",
@@ -76,18 +64,12 @@ const REQUEST: &[&str] = &[
     ",\"count\":",
     ",\"event\":",
     ",\"counted\":",
-    ",\"samples\":[",
+    "",
 ];
 
 /// A request, with the samples that counted.
-fn put_request<W: Write>(
-    json: &mut Json<'_, W>,
-    comma: &'static str,
-    account: &Account<'_>,
-    request: &Request,
-) {
+fn put_request<W: Write>(json: &mut Json<'_, W>, account: &Account<'_>, request: &Request) {
     let items = [
-        Item::Word(comma),
         Item::Natural(request.packet),
         Item::Natural(request.place.record),
         Item::Number(request.place.time),
@@ -98,22 +80,16 @@ fn put_request<W: Write>(
         Item::NaturalIf(request.event),
         Item::Natural(request.counted as u64),
     ];
-    json.row(REQUEST, &items);
+    json.member(REQUEST, &items);
+    json.open(",\"samples\":[");
     put_samples(json, parts_of(account, request), request.samples.as_slice());
     json.text("]}")
 }
 
-/// Requests, with what stands in front of the first.
-fn put_some<W: Write>(
-    json: &mut Json<'_, W>,
-    before: &'static str,
-    account: &Account<'_>,
-    requests: &[Request],
-) {
-    let mut comma = before;
+/// Requests, one behind the other.
+fn put_some<W: Write>(json: &mut Json<'_, W>, account: &Account<'_>, requests: &[Request]) {
     for request in requests {
-        put_request(json, comma, account, request);
-        comma = ",";
+        put_request(json, account, request);
     }
 }
 
@@ -121,26 +97,21 @@ fn put_some<W: Write>(
 fn put_requests<W: Write>(json: &mut Json<'_, W>, account: &Account<'_>) {
     let requests = account.sending.requests();
     let (from, before) = requests.last();
-    put_some(json, "", account, requests.first());
-    put_some(json, ",", account, from);
-    put_some(json, ",", account, before);
+    put_some(json, account, requests.first());
+    put_some(json, account, from);
+    put_some(json, account, before);
     match account.sending.newest() {
-        Some(request) => {
-            let comma = if requests.first().is_empty() { "" } else { "," };
-            put_request(json, comma, account, request)
-        }
+        Some(request) => { put_request(json, account, request) }
         None => {}
     }
 }
 
-const EVENT: &[&str] = &["", "[", ",", ",", ",", ",\"", "\",", ",\"", "\",\"", "\"]"];
+const EVENT: &[&str] = &["[", ",", ",", ",", ",\"", "\",", ",\"", "\",\"", "\"]"];
 
-/// Events, with what stands in front of the first.
-fn put_events<W: Write>(json: &mut Json<'_, W>, before: &'static str, events: &[Told]) {
-    let mut comma = before;
+/// Events, one behind the other.
+fn put_events<W: Write>(json: &mut Json<'_, W>, events: &[Told]) {
     for event in events {
         let items = [
-            Item::Word(comma),
             Item::Natural(event.packet),
             Item::Natural(event.place.record),
             Item::Number(event.place.time),
@@ -150,8 +121,7 @@ fn put_events<W: Write>(json: &mut Json<'_, W>, before: &'static str, events: &[
             level(event.kind),
             Item::Text(event.text.as_slice()),
         ];
-        json.row(EVENT, &items);
-        comma = ",";
+        json.member(EVENT, &items);
     }
 }
 
@@ -176,12 +146,12 @@ pub fn put_sent<W: Write>(json: &mut Json<'_, W>, account: &Account<'_>) {
     put_requests(json, account);
     json.text("],\"requests_left_out\":");
     put_left(json, account.sending.requests().left());
-    json.text(",\"events\":[");
+    json.open(",\"events\":[");
     let events = account.sending.events();
     let (from, before) = events.last();
-    put_events(json, "", events.first());
-    put_events(json, ",", from);
-    put_events(json, ",", before);
+    put_events(json, events.first());
+    put_events(json, from);
+    put_events(json, before);
     json.text("],\"events_left_out\":");
     put_left(json, events.left())
 }

@@ -22,44 +22,36 @@ fn put_condition<W: Write>(json: &mut Json<'_, W>, tokens: &[Token<'_>]) {
 
 const NODE: &[&str] = &["", ""];
 
-/// A condition in prefix order, with what stands in front of it; comparisons are numbered from `next` on. Answers the number behind.
-fn put_tree<W: Write>(
-    json: &mut Json<'_, W>,
-    before: &'static str,
-    condition: &Expression<'_>,
-    next: u64,
-) -> u64 {
+/// A condition in prefix order; comparisons are numbered from `next` on. Answers the number behind.
+fn put_tree<W: Write>(json: &mut Json<'_, W>, condition: &Expression<'_>, next: u64) -> u64 {
     match condition {
         Expression::Compare(_) => {
-            json.row(NODE, &[Item::Word(before), Item::Natural(next)]);
+            json.member(NODE, &[Item::Natural(next)]);
             next.saturating_add(1)
         }
         Expression::Not(operand) => {
-            json.row(NODE, &[Item::Word(before), joint(condition)]);
-            put_tree(json, ",", operand, next)
+            json.member(NODE, &[joint(condition)]);
+            put_tree(json, operand, next)
         }
         Expression::And(both) | Expression::Or(both) | Expression::Xor(both) => {
-            json.row(NODE, &[Item::Word(before), joint(condition)]);
-            let behind = put_tree(json, ",", &both.0, next);
-            put_tree(json, ",", &both.1, behind)
+            json.member(NODE, &[joint(condition)]);
+            let behind = put_tree(json, &both.0, next);
+            put_tree(json, &both.1, behind)
         }
     }
 }
 
-const COMPARISON: &[&str] = &["", "[", ",\"", "\",\"", "\"]"];
+const COMPARISON: &[&str] = &["[", ",\"", "\",\"", "\"]"];
 
 /// The comparisons of a rule.
 fn put_comparisons<W: Write>(json: &mut Json<'_, W>, text: &Text<'_>, parts: &[Part]) {
-    let mut comma = "";
     for part in parts {
         let items = [
-            Item::Word(comma),
             Item::Natural(part.field as u64),
             operator(part.op),
             Item::Text(text.spelled(part.at)),
         ];
-        json.row(COMPARISON, &items);
-        comma = ",";
+        json.member(COMPARISON, &items);
     }
 }
 
@@ -81,7 +73,6 @@ fn put_report<W: Write>(json: &mut Json<'_, W>, report: Option<ReportItem>) {
 }
 
 const HEAD: &[&str] = &[
-    "",
     "{\"name\":\"",
     "\",\"state\":\"",
     "\",\"fails\":",
@@ -93,9 +84,8 @@ const HEAD: &[&str] = &[
 ];
 
 /// A rule of a text, in front of its condition.
-fn put_head<W: Write>(json: &mut Json<'_, W>, comma: &'static str, rule: &RuleItem<'_>) {
+fn put_head<W: Write>(json: &mut Json<'_, W>, rule: &RuleItem<'_>) {
     let items = [
-        Item::Word(comma),
         Item::Text(rule.name.text),
         state(rule.mode),
         Item::Number(rule.fails.value),
@@ -104,7 +94,7 @@ fn put_head<W: Write>(json: &mut Json<'_, W>, comma: &'static str, rule: &RuleIt
         Item::Number(rule.event_id.value),
         Item::Text(rule.text),
     ];
-    json.row(HEAD, &items);
+    json.member(HEAD, &items);
     put_report(json, rule.report);
 }
 
@@ -117,16 +107,16 @@ fn condition_of<'a, 't>(text: &'a Text<'t>, rule: &RuleItem<'_>) -> &'a [Token<'
 /// A rule of a text, with its comparisons.
 fn put_rule<W: Write>(
     json: &mut Json<'_, W>,
-    comma: &'static str,
     text: &Text<'_>,
     rule: &RuleItem<'_>,
     parts: &[Part],
 ) {
-    put_head(json, comma, rule);
+    put_head(json, rule);
     put_condition(json, condition_of(text, rule));
-    json.text("\",\"comparisons\":[");
+    json.open("\",\"comparisons\":[");
     put_comparisons(json, text, parts);
-    put_tree(json, "],\"tree\":[", &rule.condition, 0);
+    json.open("],\"tree\":[");
+    put_tree(json, &rule.condition, 0);
     json.text("]}");
 }
 
@@ -137,22 +127,18 @@ fn put_rules<W: Write>(
     text: &Text<'_>,
     number: Option<u16>,
 ) {
-    let mut comma = "";
     for place in 0..text.rule_count() {
         if let Some(rule) = text.rule(place) {
-            put_rule(json, comma, text, rule, account.parts(number, place));
-            comma = ",";
+            put_rule(json, text, rule, account.parts(number, place));
         }
     }
 }
 
 /// All texts.
 pub fn put_texts<W: Write>(json: &mut Json<'_, W>, account: &Account<'_>) {
-    let mut before = "{\"rules\":[";
     for (number, text) in account.texts.iter().enumerate() {
-        json.text(before);
+        json.list("{\"rules\":[");
         put_rules(json, account, text, u16::try_from(number).ok());
         json.text("]}");
-        before = ",{\"rules\":[";
     }
 }
