@@ -10,7 +10,7 @@ use crate::entry::Entry;
 use std::alloc::{AllocError, Global};
 
 /// The changes of one list, reduced by columns of records, of which each has two to the power of `doublings`.
-#[derive(Debug, Drop)]
+#[derive(Drop)]
 pub struct Changes {
     doublings: u32,
     entries: Vec<Entry>,

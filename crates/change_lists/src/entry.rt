@@ -4,7 +4,7 @@ ghost use Rattle.std.specs.Prelude.{◌≡◌};
 ghost use Rattle.change_lists.specs.Changes.{is_said_again, joined};
 
 /// What is told: of a rule its results and its states as bits, of a field the least and the greatest of its values.
-#[derive(Clone, Copy, Debug, PartialEq, Eq)]
+#[derive(Clone, Copy)]
 pub struct Told {
     pub results: u8,
     pub states: u8,
@@ -25,7 +25,7 @@ impl Told {
 }
 
 /// What is told from a record on. One change is exact; of more, all that was so up to the next entry.
-#[derive(Clone, Copy, Debug, PartialEq, Eq)]
+#[derive(Clone, Copy)]
 pub struct Entry {
     /// The record.
     pub from: u64,

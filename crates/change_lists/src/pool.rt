@@ -9,7 +9,7 @@ use crate::entry::Entry;
 use std::alloc::{AllocError, Global};
 
 /// All lists, with the entries that they have together.
-#[derive(Debug, Drop)]
+#[derive(Drop)]
 pub struct Pool {
     alloc: Global,
     lists: Vec<Changes>,

@@ -4,12 +4,10 @@
 
 mod behind;
 mod clock;
-mod data;
 mod entry;
 mod error;
 mod incoming;
 mod intake;
-mod json;
 mod lists;
 mod page_front;
 mod page_script_0;
@@ -17,15 +15,12 @@ mod page_script_1;
 mod page_script_2;
 mod progress;
 mod report;
-mod rules;
-mod source;
 mod telling;
-mod told;
 mod window;
 
 pub use error::ReportError;
 pub use intake::Taken;
+pub use page_data::{Run, Source};
 pub use progress::{Progress, Silent};
-pub use report::{Run, write_page};
-pub use source::Source;
+pub use report::write_page;
 pub use telling::{Telling, tell_run};

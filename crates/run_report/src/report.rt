@@ -1,27 +1,16 @@
 //! From a stream to its page.
 
-use crate::data::Data;
 use crate::error::ReportError;
+use crate::intake::Taken;
 use crate::progress::Progress;
-use crate::source::Source;
-use crate::telling::tell_run;
+use crate::telling::{Telling, tell_run};
 use crate::{page_front, page_script_0, page_script_1, page_script_2};
 use lc_model::ByteSource;
+use page_data::{Data, Ended, Run, Source};
 use run_course::Ending;
 use std::alloc::{AllocError, Global};
-use std::io::Write;
+use std::io::{self, Write};
 use tick_scheduler::Schedule;
-
-/// What a page is made of, beside its schedule. Names and texts live for as long as they like.
-#[derive(Clone, Copy)]
-pub struct Run<'n, 't> {
-    /// The file of the schedule, and the name of the stream's.
-    pub plan: Source<'n, 't>,
-    pub stream: &'n str,
-    pub texts: &'t [Source<'n, 't>],
-    /// The instant of second 0, as RFC 3339 writes it.
-    pub epoch: Option<&'n str>,
-}
 
 /// The bytes of the texts.
 fn bytes_of<'t>(alloc: Global, sources: &[Source<'_, 't>]) -> Result<Vec<&'t [u8]>, AllocError> {
@@ -30,6 +19,58 @@ fn bytes_of<'t>(alloc: Global, sources: &[Source<'_, 't>]) -> Result<Vec<&'t [u8
         texts.push(source.text)?;
     }
     Ok(texts)
+}
+
+/// How the run ended, as a page says it.
+fn ended(ending: Ending) -> Ended {
+    match ending {
+        Ending::Whole { records } => Ended::Whole(records),
+        Ending::NoRecord { n } => Ended::NoRecord(n),
+        Ending::Cut { n } => Ended::Cut(n),
+        Ending::Bound => Ended::Bound,
+    }
+}
+
+/// The page behind its data.
+const SCRIPT: &[&str] = &[
+    page_script_0::TEXT,
+    page_script_1::TEXT,
+    page_script_2::TEXT,
+];
+
+/// Writes a page of this data.
+fn put_page<W: Write>(out: &mut W, data: &Data<'_, '_, '_, '_>) -> io::Result<()> {
+    out.write_all(page_front::TEXT.as_bytes())?;
+    write!(out, "{data}")?;
+    for text in SCRIPT {
+        out.write_all(text.as_bytes())?;
+    }
+    Ok(())
+}
+
+/// Writes the page of what was told of a run.
+fn put_told<W: Write>(
+    out: &mut W,
+    run: &Run<'_, '_>,
+    telling: &Telling<'_>,
+    taken: Taken,
+    ending: Ending,
+) -> io::Result<()> {
+    let (lanes, values) = telling.lists.parts();
+    let Taken { bytes, digest } = taken;
+    let data = Data {
+        run,
+        bytes,
+        digest,
+        ended: ended(ending),
+        start: telling.clock.start,
+        end: telling.clock.end,
+        is_ordered: telling.clock.is_ordered,
+        account: &telling.account,
+        lanes,
+        values,
+    };
+    put_page(out, &data)
 }
 
 /// Runs rule texts under a schedule over a stream, and writes what happened as one page of HTML, which needs no other file.
@@ -52,18 +93,6 @@ pub fn write_page<R: ByteSource, W: Write, P: Progress>(
 ) -> Result<Ending, ReportError> {
     let texts = bytes_of(alloc, run.texts)?;
     let (telling, taken, ending) = tell_run(alloc, schedule, texts.as_slice(), reader, progress)?;
-    let data = Data {
-        run,
-        telling: &telling,
-        taken,
-        ending,
-    };
-    let (front, first, second, third) = (
-        page_front::TEXT,
-        page_script_0::TEXT,
-        page_script_1::TEXT,
-        page_script_2::TEXT,
-    );
-    write!(out, "{front}{data}{first}{second}{third}")?;
+    put_told(out, run, &telling, taken, ending)?;
     Ok(ending)
 }

@@ -1,9 +1,10 @@
 //! From a stream to what its page tells.
 
-ghost use Rattle.std.specs.Prelude.{◌≡◌, ◌<◌, ◌==◌, ◌≤◌, ◌^◌, [], List, false, OnOk, IfOk, length, map, if◌then◌else◌};
+ghost use Rattle.std.specs.Prelude.{◌≡◌, ◌<◌, ℕ, ◌==◌, ◌≤◌, ◌^◌, [], List, false, OnOk, IfOk, length, map, if◌then◌else◌};
 ghost use Rattle.change_lists.specs.declared.entry.Entry.{Entry as Told};
 ghost use Rattle.flight_core.specs.Compiled.{sources_of};
-ghost use Rattle.run_course.specs.Stepping.{IsAtRest, engine_among, host_in, written_by};
+ghost use Rattle.lc_model.specs.Host.Schedule.{Schedule as Plan};
+ghost use Rattle.run_course.specs.Stepping.{BeginsWith, IsAtRest, engine_among, host_in, written_by};
 ghost use Rattle.run_account.specs.Account.{account_of};
 ghost use Rattle.run_account.specs.Brought.{brings};
 ghost use Rattle.run_account.specs.Fields.{AreKnown, all_brought, come_in};
@@ -207,6 +208,65 @@ fn tell_all<R: ByteSource, P: Progress>(
     Err(ReportError::Bound)
 }
 
+/// All of a stream by a host that is stepped, of which nothing is told yet. Answers what was taken, and how the run ended.
+fn tell_stream<R: ByteSource, P: Progress>(
+    alloc: Global,
+    telling: &mut Telling<'_>,
+    stepping: &mut Stepping,
+    reader: &mut R,
+    progress: &mut P,
+) -> Result<(Taken, Ending), ReportError>
+    requires rest { IsAtRest stepping.old }
+    requires start { telling.old.clock.start < 2 ^ 48 }
+    ensures rest { IsAtRest stepping.new }
+    ensures told { (sources : List (List ℕ)) (schedule : Plan) (read : OfTexts) →
+        HaveItems sources read.texts → AreRead read →
+        BeginsWith sources schedule (host_in stepping.old) →
+        HasTold read telling.old.lists telling.old.behind
+        (account_of telling.old.account) telling.old.clock.start [] →
+        IfOk result (λ told. TellsRead sources schedule
+        (R.source reader.old).rest (R.source reader.new).rest telling.new.lists
+        (account_of telling.new.account) told.0.bytes told.0.digest told.1) }
+{
+    let mut incoming = Incoming::new(alloc)?;
+    let mut room = vec![in alloc; 0; PIECE]?;
+    let ending = tell_all(
+        telling,
+        stepping,
+        &mut incoming,
+        room.as_mut_slice(),
+        reader,
+        progress,
+    )?;
+    let Incoming {
+        window: _,
+        mut intake,
+    } = incoming;
+    intake.take_rest(room.as_mut_slice(), reader)?;
+    Ok((intake.taken(), ending))
+}
+
+/// All of a stream by a host of these texts that is new.
+fn tell_new<'a, R: ByteSource, P: Progress>(
+    alloc: Global,
+    texts: &[&'a [u8]],
+    stepping: &mut Stepping,
+    reader: &mut R,
+    progress: &mut P,
+) -> Result<(Telling<'a>, Taken, Ending), ReportError>
+    requires { IsAtRest stepping.old }
+    ensures rest { IsAtRest stepping.new }
+    ensures told { (schedule : Plan) →
+        BeginsWith (sources_of texts.now) schedule (host_in stepping.old) →
+        IfOk result (λ told. TellsRead (sources_of texts.now) schedule
+        (R.source reader.old).rest (R.source reader.new).rest told.0.lists
+        (account_of told.0.account) told.1.bytes told.1.digest told.2) }
+{
+    let mut telling = Telling::new(alloc, texts)?;
+    let (taken, ending) = tell_stream(alloc, &mut telling, stepping, reader, progress)?;
+    Ok((telling, taken, ending))
+}
+
 /// Runs rule texts under a schedule over a stream, record by record, which is read in pieces of 8,192 bytes at most, to its end. Answers
 /// what is told of the run, how many bytes the stream has and their SHA-256, and how the run ended (`TellsRead`): the bytes that were
 /// taken are all of the stream, and of these it is told what the rules and fields of these texts do (`TellsRun`), of a host that was new,
@@ -226,22 +286,7 @@ pub fn tell_run<'a, R: ByteSource, P: Progress>(
         (account_of told.0.account) told.1.bytes told.1.digest told.2) }
 {
     let mut stepping = Stepping::new(alloc, texts, schedule)?;
-    let mut telling = Telling::new(alloc, texts)?;
-    let mut incoming = Incoming::new(alloc)?;
-    let mut room = vec![in alloc; 0; PIECE]?;
-    let ending = tell_all(
-        &mut telling,
-        &mut stepping,
-        &mut incoming,
-        room.as_mut_slice(),
-        reader,
-        progress,
-    )?;
+    let told = tell_new(alloc, texts, &mut stepping, reader, progress);
     stepping.close();
-    let Incoming {
-        window: _,
-        mut intake,
-    } = incoming;
-    intake.take_rest(room.as_mut_slice(), reader)?;
-    Ok((telling, intake.taken(), ending))
+    told
 }
