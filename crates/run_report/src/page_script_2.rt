@@ -147,7 +147,7 @@ function makeTableRow(item) {
 const row = make('tr', item.packet === chosen ? 'chosen' : '', undefined, { 'data-packet': item.packet });
 const sign = item.request ? '▼ ' : '● ';
 const label = item.rule === null ? 'show' : nameIn(textBehind(item.at.record), item.rule);
-const link = make('button', '', label, { type: 'button', 'aria-label': `${label}: packet ${item.packet} in the lanes` });
+const link = make('button', item.rule === null ? 'unprinted' : '', label, { type: 'button', 'aria-label': `${label}: packet ${item.packet} in the lanes` });
 link.addEventListener('click', () => showInLanes(item));
 const rule = make('td', 'rule');
 rule.append(link);
