@@ -37,8 +37,7 @@ fn step_any<W: ByteSink, B: App>(
 }
 
 /// Hands a record to a host that is open. Nearly all are packets, so these have code of their own, where nothing is asked
-/// again that was known where the record was read off; and each kind is handed on as a record of its own, so that a packet's
-/// moment and place stay in registers.
+/// again that was known where the record was read off.
 #[inline(always)]
 fn step<W: ByteSink, B: App>(
     host: &mut Host<B>,
@@ -66,22 +65,7 @@ fn step<W: ByteSink, B: App>(
             },
             writer,
         ),
-        Body::Tick => step_any(
-            host,
-            &Record {
-                moment,
-                body: Body::Tick,
-            },
-            writer,
-        ),
-        Body::File { name, bytes } => step_any(
-            host,
-            &Record {
-                moment,
-                body: Body::File { name, bytes },
-            },
-            writer,
-        ),
+        Body::Tick | Body::File { name: _, bytes: _ } => step_any(host, entry, writer),
     }
 }
 
