@@ -1,5 +1,5 @@
 //! How fast calls are: the lexer, the checker and the compiler over a rule text in a file, and the Limit Checker's engine with
-//! the text's tables over packets in a file, of 16 bytes each. `tools/measure` makes the files.
+//! the text's tables over packets in a file, of 16 bytes each. `tools/dev/measure` makes the files.
 //!
 //! It prints what one measurement handled, and the least nanoseconds that one took.
 #![tactic(auto)]

@@ -1,5 +1,5 @@
 //! Files and words as both programs use them: files are read up to a bound, told apart, made, and written beside their names. What
-//! a file gives or takes no contract says; the rows of `tools/programs` show it.
+//! a file gives or takes no contract says; the rows of `tools/lib/programs` show it.
 #![tactic(auto)]
 
 mod draft;

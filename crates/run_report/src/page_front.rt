@@ -1,4 +1,4 @@
-//! The page in front of its data. Written by tools/page_constants.
+//! The page in front of its data. Written by tools/gate/page_constants.
 
 /// The page in front of its data.
 pub const TEXT: &str = r#"<!DOCTYPE html>

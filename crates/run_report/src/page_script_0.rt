@@ -1,4 +1,4 @@
-//! The page behind its data, part 0. Written by tools/page_constants.
+//! The page behind its data, part 0. Written by tools/gate/page_constants.
 
 /// The page behind its data, part 0.
 pub const TEXT: &str = r#"</script>

@@ -1,4 +1,4 @@
-//! The page behind its data, part 2. Written by tools/page_constants.
+//! The page behind its data, part 2. Written by tools/gate/page_constants.
 
 /// The page behind its data, part 2.
 pub const TEXT: &str = r#"const next = plot.read === undefined ? first : plot.read + step;

@@ -5,7 +5,7 @@ import os
 import random
 import re
 
-TOP = os.path.dirname(os.path.dirname(os.path.dirname(os.path.abspath(__file__))))
+TOP = os.path.dirname(os.path.dirname(os.path.dirname(os.path.dirname(os.path.abspath(__file__)))))
 TOKEN = re.compile(r'#[^\n]*|"[^"\n]*"|-?\d\w*|[A-Za-z_]\w*|[<>=!]=|[<>=;()]|\S')
 WORDS = (
     "packet field rule mid length at mask stale active passive disabled fails sequence event debug info error critical report when or "

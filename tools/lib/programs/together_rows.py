@@ -11,8 +11,8 @@ from dataclasses import dataclass
 from records import LOW, LOW_VOLTS, NO_ENTRIES, SAMPLE, STARTED, beginning, record, requested
 
 SECONDS = 20
-TOP = os.path.join(os.path.dirname(os.path.abspath(__file__)), "..", "..")
-SCRIPT = os.path.join(TOP, "crates/rows/data/many_streams.sh")
+TOP = os.path.join(os.path.dirname(os.path.abspath(__file__)), "..", "..", "..")
+SCRIPT = os.path.join(TOP, "tools/many_streams")
 
 # What comes, and what has to be there before anything more comes.
 STEPS = [(beginning(), STARTED), (LOW + SAMPLE, b""), (LOW + SAMPLE, requested(4))]
@@ -281,7 +281,7 @@ TRIALS = [
     Trial("a stream is listed in pieces, and its script says it again", in_pieces),
     Trial("a page keeps the rights of the old one", with_the_old_rights),
     Trial("a quote within a table's name ends no name", with_quotes_in_a_name),
-    script_faults("many streams without words", [], b"many_streams: usage: many_streams.sh FOLDER SCHEDULE RULES..\n"),
+    script_faults("many streams without words", [], b"many_streams: usage: many_streams FOLDER SCHEDULE RULES..\n"),
     script_faults("many streams without their folder", ["none", "schedule", "rules"], b"many_streams: there is no folder none\n"),
     script_faults(
         "many streams without the program",

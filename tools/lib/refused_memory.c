@@ -1,6 +1,6 @@
 /* Loaded before the C library's own functions: counts how often a program asks for memory, refuses the time that REFUSED names,
  * and says at the end, in the file that TOLD names, how often it asked, and how often it had when it first read the file STREAM.
- * `tools/try_memory` builds and uses it. */
+ * `tools/gate/try_memory` builds and uses it. */
 #define _GNU_SOURCE
 #include <errno.h>
 #include <fcntl.h>

@@ -7,7 +7,7 @@ import re
 from records import LOW_VOLTS
 from row import FOLDER, Begins, Holds, Row
 
-CRATES = os.path.join(os.path.dirname(os.path.abspath(__file__)), "..", "..", "crates")
+CRATES = os.path.join(os.path.dirname(os.path.abspath(__file__)), "..", "..", "..", "crates")
 
 
 def read(path):

@@ -3,7 +3,7 @@
 import os
 import re
 
-TOP = os.path.dirname(os.path.dirname(os.path.abspath(__file__)))
+TOP = os.path.dirname(os.path.dirname(os.path.dirname(os.path.abspath(__file__))))
 FOLDER = f"{TOP}/crates/run_report/page"
 # In the order in which they are run.
 SCRIPTS = "data words elements view pointers axis marks lanes limits plots readings why find csv main".split()
