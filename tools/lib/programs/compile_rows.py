@@ -1,7 +1,7 @@
 """`flight_run compile RULES WDT ADT`: what it writes, what it refuses, and files that it can't use."""
 
 from records import LOW_VOLTS, filled
-from row import FOLDER, Row, Sized
+from row import FOLDER, Has, Row, Sized
 
 # The table files of the low-volts rule.
 WDT = Sized(4380, "db2a79bc1e4ae339385ac33cef617f8717e22be6afde8ad9d8c85cfefcac508a")
@@ -44,6 +44,43 @@ REFUSED = [
 ]
 
 
+# Words of an equation: two operators, and its end. The equation of the first actionpoint begins at this byte of its file.
+AND, NOT, EQUAL = 0xFF01, 0xFF04, 0xFF05
+EQUATION, EQUATION_WORDS = 202, 32
+
+
+def comparison(number):
+    return f"V < {number}"
+
+
+def balanced(first, count):
+    """So many comparisons in a balanced tree: the condition, and its words."""
+    if count == 1:
+        return comparison(first), [first]
+    (left, left_words), (right, right_words) = balanced(first, count // 2), balanced(first + count // 2, count // 2)
+    return f"({left} and {right})", [*left_words, *right_words, AND]
+
+
+TEN = [comparison(number) for number in range(10)]
+# The condition, how many comparisons it has, and the words before EQUAL.
+EQUATIONS = [
+    ("sixteen comparisons as a balanced tree, with five operands waiting", *balanced(0, 16)),
+    ("21 words", "not " + " and ".join(TEN), [0, NOT, *(it for number in range(1, 10) for it in (number, AND))]),
+    (
+        "ten nested comparisons, the innermost first",
+        " and (".join(TEN) + ")" * 9,
+        [8, 9, AND, *(it for number in range(7, -1, -1) for it in (number, AND))],
+    ),
+]
+
+
+def spelled(title, condition, words):
+    """A rule of one condition, and the words that its actionpoint has."""
+    field = b"".join(it.to_bytes(2, "big") for it in [*words, EQUAL]).ljust(2 * EQUATION_WORDS, b"\0")
+    watchpoints = len({it for it in words if it < AND})
+    return compiled(title, DECLARED + rule(0, condition), watchpoints, Has(0, b"cFE1"), Has(EQUATION, field))
+
+
 def compiled(title, text, watchpoints, wdt, adt):
     return Row(
         title,
@@ -63,6 +100,7 @@ ROWS = [
     compiled("a text is compiled into its two files", LOW_VOLTS, 1, WDT, ADT),
     compiled("watchpoints and rules are counted apart", OR, 2, OR_WDT, OR_ADT),
     compiled("a text of 65,536 bytes is compiled", filled(LOW_VOLTS, b" ", 65_536), 1, LONGEST_WDT, LONGEST_ADT),
+    *(spelled(*it) for it in EQUATIONS),
     *(refused(*it) for it in REFUSED),
     Row(
         "rules that aren't there",

@@ -61,6 +61,20 @@ class Holds:
         return f"bytes among which {self.bytes!r} stand"
 
 
+@dataclass(frozen=True)
+class Has:
+    """A file that has these bytes at a place, counted from 0."""
+
+    at: int
+    bytes: bytes
+
+    def is_met(self, found):
+        return found[self.at : self.at + len(self.bytes)] == self.bytes
+
+    def __str__(self):
+        return f"bytes that are {self.bytes.hex()} from {self.at} on"
+
+
 @dataclass
 class Row:
     """One call of a program, in a new folder that has the files of `before`.
