@@ -1,4 +1,4 @@
-//! The application `COUNTER`, which counts commands (this project's own). It shows how an application is written.
+//! The application `COUNTER`, which counts the commands that it accepts (this project's own).
 #![tactic(auto)]
 
 mod counter;
