@@ -1,4 +1,5 @@
--- The text of a decompiled condition, in the rule language with `w0`, `w1` and so on for comparisons. This project's own.
+-- The text of a decompiled condition, in the rule language with `w0`, `w1` and so on for comparisons. This project's
+-- own.
 use Rattle.std.specs.Prelude.{ℕ, Bool, if◌then◌else◌, nat_lt, nat_le, List, ◌++◌, codes}
 use Rattle.std.specs.Fmt.{decimal}
 use Rattle.lc_model.specs.Condition.{Operator, And, Or, Xor}
