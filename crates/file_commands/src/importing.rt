@@ -108,7 +108,7 @@ fn ids_of<'a>(alloc: Global, word: Option<&'a str>) -> Result<Vec<u16>, Fault<'a
     Ok(ids)
 }
 
-/// Whether more bytes may complete the packet in front.
+/// Whether the archive may go on with more bytes: none are left, or those in front are a part of a packet.
 fn may_go_on(met: Met) -> bool {
     matches!(met, Met::Stands(Front::Over | Front::Cut))
 }

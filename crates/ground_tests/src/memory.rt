@@ -1,6 +1,6 @@
-//! Lack of memory: if an allocation fails, the call returns `Memory` and no other error. `rt try --test --fail-alloc
-//! N`, for each N up to the number of allocations, refuses one of them. (The other tests need their results, and
-//! fail then.)
+//! Lack of memory: if an allocation fails, the call returns `Memory` and no other error.
+//! `rt try --test --fail-alloc N`, for each N up to the number of allocations, refuses one of them. (The other tests
+//! need their results, and fail then.)
 
 use crate::shared::{LOW_VOLTS, same};
 use field_checker::{CheckError, check};

@@ -16,7 +16,7 @@ const BEFORE_RULES: usize = 16;
 /// An event packet's content (cFE user's guide, event services; its layout here is this project's own).
 #[derive(Clone, Copy)]
 pub struct Event<'a> {
-    /// When the event was sent.
+    /// The time of the record that led to the event.
     pub moment: Moment,
     /// The sender's name, up to 20 bytes, without the zeros after it.
     pub sender: &'a [u8],
@@ -102,7 +102,8 @@ fn housekeeping_in(packet: &[u8]) -> Option<Sent<'_>>
     })
 }
 
-/// Reads a packet by its message id and length; `None` if it isn't one that a host writes.
+/// Reads a packet by its message id. `None` for another message id, a length that doesn't fit, or an unknown mode or
+/// event type.
 pub fn read_packet(packet: &[u8]) -> Option<Sent<'_>>
     ensures { option_map told_of result ≡ told_in packet.now }
 {

@@ -1,4 +1,4 @@
-//! The kind of each word: a reserved word of one of four groups, or a name.
+//! The kind of each word: which reserved word it is, or a name.
 
 ghost use Rattle.std.specs.Prelude.{◌≡◌, IsTrue, IsFalse, MatchOption, bytes_eq};
 ghost use Rattle.std.specs.List.{list_any};

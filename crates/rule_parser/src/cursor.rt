@@ -104,7 +104,7 @@ impl<'t, 'a> Cursor<'t, 'a> {
         self.next()
     }
 
-    /// Reads the next token as a name; `None` if it is none or no token is left. The next five do the same.
+    /// Reads the next token if it is a name; `None` if it is another token or none is left. So do the next five calls.
     pub fn name(&mut self) -> Option<Name<'a>>
         ensures { Gives name_of self.new result (token_at class.Name self.old) }
     {

@@ -10,7 +10,7 @@ pub fn tokens_parse_or_fail()
     ensures { ParsesOrFails }
 {}
 
-/// States that tokens have at most one parse or at most one fault, and never both.
+/// States that tokens have at most one parse and at most one fault, and never both.
 pub fn tokens_have_at_most_one_parse()
     ensures { (end : ℕ) (tokens : List Token) → AtMostOneParse end tokens }
 {}

@@ -69,8 +69,8 @@ pub enum Expression<'a> {
     Xor(Box<(Expression<'a>, Expression<'a>)>),
 }
 
-/// A rule: `rule NAME STATE fails NUMBER sequence NUMBER event LEVEL NUMBER STRING [report NUMBER NUMBER NUMBER] when
-/// CONDITION ;`.
+/// A rule: `rule HEAD when CONDITION ;`, with this HEAD:
+/// `NAME STATE fails NUMBER sequence NUMBER event LEVEL NUMBER STRING [report NUMBER NUMBER NUMBER]`.
 #[derive(Debug, Drop)]
 pub struct RuleItem<'a> {
     pub name: Name<'a>,

@@ -25,8 +25,8 @@ fn text_in(field: &[u8]) -> &[u8]
     &field[..text_length(field)]
 }
 
-/// The line of the cFE file header, as `file: content type 0x63464531 subtype 8 spacecraft 66 processor 1 application 0
-/// seconds 0 subseconds 0`. Every file that opens has this content type and subtype (cFE user's guide).
+/// The line of the cFE file header (cFE user's guide); every file that opens has this content type and subtype:
+/// `file: content type 0x63464531 subtype 8 spacecraft 66 processor 1 application 0 seconds 0 subseconds 0`.
 #[derive(Clone, Copy)]
 pub struct FileLine {
     pub spacecraft: u32,

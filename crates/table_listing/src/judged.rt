@@ -43,8 +43,8 @@ impl Display for RefusalLine {
     }
 }
 
-/// The line of an image's fault; it displays as `fault 66 entry 3: no such type`, or `fault 62 image: another table's
-/// kind`. Entries are counted from 0.
+/// The line of an image's fault, with its entry counted from 0 if it has one; it displays as
+/// `fault 66 entry 3: no such type`, or `fault 62 image: another table's kind`.
 #[derive(Clone, Copy)]
 pub struct FaultLine(pub TableFault);
 

@@ -113,7 +113,7 @@ impl FaultCode {
 #[derive(Clone, Copy, Debug, PartialEq, Eq, Error)]
 #[error("entry {entry}: {code}")]
 pub struct TableFault {
-    /// What is wrong; `number` returns its code.
+    /// What is wrong; its `number` is 61 to 81.
     pub code: FaultCode,
     /// The entry's number, counted from 0, or `WHOLE_IMAGE`.
     pub entry: u16,
