@@ -5,14 +5,14 @@ use Rattle.std.specs.Ordering.{int_eq}
 use Rattle.change_lists.specs.declared.entry.Told.{Told}
 use Rattle.change_lists.specs.declared.entry.Entry.{Entry}
 
--- ---- what is told
+-- ---- the content of entries
 
--- the same is told again
+-- the two contents are equal
 abbrev pub is_said_again : Told → Told → Bool
 is_said_again one other =
     nat_eq one.results other.results && (nat_eq one.states other.states && (int_eq one.low other.low && int_eq one.high other.high))
 
--- what two tell together: all bits of both, the least and the greatest of both
+-- the content of two: all bits of both, the least and the greatest value of both
 abbrev pub both : Told → Told → Told
 both one other = record {
   results = bit_or one.results other.results;
@@ -21,7 +21,7 @@ both one other = record {
   high = int_max one.high other.high;
 }
 
--- two entries in a row as one, from the first one's record on; changes are counted up to 2 ^ 64 - 1
+-- two consecutive entries as one, from the first one's record on; changes are counted up to 2 ^ 64 - 1
 abbrev pub joined : Entry → Entry → Entry
 joined one other = record {
   from = one.from;
@@ -32,7 +32,7 @@ joined one other = record {
 
 -- ---- changes
 
--- of all that was told, what wasn't said by the one before: `last` is what was told last
+-- the entries that differ from the one before them; `last` is the one before the first
 abbrev pub changes_behind : Entry → List Entry → List Entry
 changes_behind last [] = []
 changes_behind last (entry ∷ entries) =
@@ -42,7 +42,7 @@ abbrev pub changes : List Entry → List Entry
 changes [] = []
 changes (entry ∷ entries) = entry ∷ changes_behind entry entries
 
--- whether the last of these says the same as an entry
+-- whether the last of the entries has the same content as `entry`
 abbrev pub is_said_last : List Entry → Entry → Bool
 is_said_last [] entry = false
 is_said_last (last ∷ []) entry = is_said_again last.told entry.told
@@ -50,15 +50,15 @@ is_said_last (one ∷ other ∷ entries) entry = is_said_last (other ∷ entries
 
 -- ---- columns
 
--- whether two records, which count from 1, lie in one column of so many records
+-- whether two records, counted from 1, lie in one column of `width` records
 abbrev pub is_one_column : ℕ → ℕ → ℕ → Bool
 is_one_column width one other = nat_eq ((one - 1) / width) ((other - 1) / width)
 
--- whether an entry begins in the column in which two others begin
+-- whether an entry begins in the same column as two others
 abbrev pub is_third : ℕ → Entry → Entry → Entry → Bool
 is_third width one other entry = is_one_column width one.from entry.from && is_one_column width other.from entry.from
 
--- an entry in front of others that are reduced: one with two in its column behind it is joined with the first of these
+-- an entry before reduced ones: if two entries of its column follow, it is joined with the first of them
 abbrev pub in_front : ℕ → Entry → List Entry → List Entry
 in_front width entry [] = entry ∷ []
 in_front width entry (one ∷ []) = entry ∷ one ∷ []
@@ -67,7 +67,7 @@ in_front width entry (one ∷ other ∷ others) =
     joined entry one ∷ other ∷ others
     else entry ∷ one ∷ other ∷ others
 
--- entries by columns: in each the last one as it is, and all others as one
+-- entries by columns: in each column the last one as it is, and all others as one
 abbrev pub reduced : ℕ → List Entry → List Entry
 reduced width [] = []
 reduced width (entry ∷ entries) = in_front width entry (reduced width entries)

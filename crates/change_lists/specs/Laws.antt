@@ -1,4 +1,4 @@
--- What reducing by columns keeps of each column. This project's own.
+-- The laws of reducing by columns. This project's own.
 use Rattle.std.specs.Prelude.{◌≡◌, ℕ, true, List, [], ◌∷◌, ◌++◌, ◌-◌, ◌/◌, ◌*◌, ℤ, bit_or, nat_eq, if◌then◌else◌, Option, Some, None}
 use Rattle.std.specs.Int.{int_min, int_max}
 use Rattle.change_lists.specs.declared.entry.Entry.{Entry}
@@ -6,13 +6,13 @@ use Rattle.change_lists.specs.declared.changes.Changes.{Changes}
 use Rattle.change_lists.specs.Changes.{is_said_last, reduced}
 use Rattle.change_lists.specs.Telling.{Tells}
 
--- those that begin in a column, from 0
+-- the entries that begin in a column, counted from 0
 abbrev pub in_column : ℕ → ℕ → List Entry → List Entry
 in_column width at [] = []
 in_column width at (entry ∷ entries) =
     if nat_eq ((entry.from - 1) / width) at then entry ∷ in_column width at entries else in_column width at entries
 
--- the bits of all results among them, and of all states
+-- the bits of all their results, and of all their states
 abbrev pub results_of : List Entry → ℕ
 results_of [] = 0
 results_of (entry ∷ entries) = bit_or entry.told.results (results_of entries)
@@ -21,7 +21,7 @@ abbrev pub states_of : List Entry → ℕ
 states_of [] = 0
 states_of (entry ∷ entries) = bit_or entry.told.states (states_of entries)
 
--- the least and the greatest of all their values, and of this one
+-- the least and the greatest of this value and all of theirs
 abbrev pub least_of : ℤ → List Entry → ℤ
 least_of value [] = value
 least_of value (entry ∷ entries) = int_min entry.told.low (least_of value entries)
@@ -30,7 +30,7 @@ abbrev pub greatest_of : ℤ → List Entry → ℤ
 greatest_of value [] = value
 greatest_of value (entry ∷ entries) = int_max entry.told.high (greatest_of value entries)
 
--- the last of them
+-- the last entry
 abbrev pub last_of : List Entry → Option Entry
 last_of [] = None
 last_of (entry ∷ []) = Some entry
@@ -58,6 +58,6 @@ KeepsLast = (width at : ℕ) (entries : List Entry) → last_of (in_column width
 abbrev pub KeepsWider : Type 0
 KeepsWider = (width : ℕ) (entries : List Entry) → reduced (width * 2) (reduced width entries) ≡ reduced (width * 2) entries
 
--- a list that tells this tells as well what was told last once more
+-- a list of these entries is also one of these entries with the last content repeated
 abbrev pub ToldAgain : Type 0
 ToldAgain = (list : Changes) (told : List Entry) (entry : Entry) → is_said_last told entry ≡ true → Tells list told → Tells list (told ++ entry ∷ [])

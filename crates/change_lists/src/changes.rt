@@ -1,4 +1,4 @@
-//! The changes of what is told of one rule or of one field.
+//! The changes of one rule or one field.
 
 ghost use Rattle.std.specs.Prelude.{◌≡◌, ◌<◌, ◌≤◌, ◌+◌, ◌/◌, ◌^◌, ◌++◌, ◌∷◌, [], List, OnOk, IfOk, length, max};
 ghost use Rattle.change_lists.specs.declared.entry.Entry.{Entry as Told};
@@ -9,14 +9,14 @@ use crate::columns::place;
 use crate::entry::Entry;
 use std::alloc::{AllocError, Global};
 
-/// The changes of one list, reduced by columns of records, of which each has two to the power of `doublings`.
+/// One list of changes, reduced by columns of `2 ^ doublings` records each.
 #[derive(Drop)]
 pub struct Changes {
     doublings: u32,
     entries: Vec<Entry>,
 }
 
-/// Whether the last of these says the same as an entry.
+/// Whether the last of these entries has the same content as `entry`.
 fn is_said(entries: &[Entry], entry: Entry) -> bool
     ensures { result ≡ is_said_last entries.now entry }
 {
@@ -26,7 +26,7 @@ fn is_said(entries: &[Entry], entry: Entry) -> bool
     }
 }
 
-/// These by columns whose width was doubled so often.
+/// The entries, reduced by columns of `2 ^ doublings` records each.
 fn widened(alloc: Global, doublings: u32, entries: &[Entry]) -> Result<Vec<Entry>, AllocError>
     ensures entries { IfOk result (λ wide. wide.items ≡ reduced (2 ^ doublings) entries.now) }
     ensures few { 64 ≤ doublings → IfOk result (λ wide. length wide.items ≤ 2) }
@@ -39,7 +39,7 @@ fn widened(alloc: Global, doublings: u32, entries: &[Entry]) -> Result<Vec<Entry
 }
 
 impl Changes {
-    /// Nothing told.
+    /// Creates an empty list with columns of one record.
     pub fn new(alloc: Global) -> Changes
         ensures told { Tells result [] }
         ensures doublings { doublings_of result ≡ 0 }
@@ -50,14 +50,14 @@ impl Changes {
         }
     }
 
-    /// How many entries there are.
+    /// Returns the number of entries.
     pub fn count(&self) -> usize
         ensures { result ≡ entry_count self.now }
     {
         self.entries.len()
     }
 
-    /// The changes, by columns of this width.
+    /// Returns the changes, reduced by the present columns, in the records' order.
     pub fn entries(&self) -> &[Entry]
         ensures { (told : List Told) → Tells self.now told →
             result.now ≡ reduced (width_of self.now) (changes told) }
@@ -65,7 +65,8 @@ impl Changes {
         self.entries.as_slice()
     }
 
-    /// Adds what is so from a record on, unless it was so before.
+    /// Adds an entry that holds from its record on, unless the last entry has the same content. The error is
+    /// a lack of memory.
     pub fn add(&mut self, entry: Entry) -> Result<(), AllocError>
         ensures told { (told : List Told) → Tells self.old told →
             OnOk result (Tells self.new (told ++ entry ∷ [])) }
@@ -78,7 +79,7 @@ impl Changes {
         place(self.doublings, &mut self.entries, entry)
     }
 
-    /// The entries by columns that are twice as wide.
+    /// Doubles the width of the columns.
     fn widen(&mut self, alloc: Global) -> Result<(), AllocError>
         requires { self.old.doublings < 64 }
         ensures told { (told : List Told) → Tells self.old told →
@@ -91,7 +92,7 @@ impl Changes {
         Ok(())
     }
 
-    /// Widens the columns until at most half of the entries are left, or two.
+    /// Widens the columns until at most half of the entries are left, or two. The error is a lack of memory.
     pub fn halve(&mut self, alloc: Global) -> Result<(), AllocError>
         ensures told { (told : List Told) → Tells self.old told →
             OnOk result (Tells self.new told) }

@@ -1,4 +1,4 @@
-//! Entries by columns of records.
+//! Columns of records, and how entries are placed in them.
 
 ghost use Rattle.std.specs.Prelude.{◌≡◌, ◌≤◌, ◌+◌, ◌-◌, ◌/◌, ◌^◌, ◌++◌, ◌∷◌, [], List, OnOk, IsTrue, length};
 ghost use Rattle.change_lists.specs.Changes.{is_one_column as in_one_column, is_third as third_of, reduced};
@@ -7,7 +7,7 @@ ghost use Rattle.change_lists.specs.declared.entry.Entry.{Entry as Told};
 use crate::entry::Entry;
 use std::alloc::AllocError;
 
-/// The column of a record, which counts from 1, where the width was doubled so often.
+/// The column of a record, counted from 0, for columns of `2 ^ doublings` records; records count from 1.
 fn column(doublings: u32, number: u64) -> u64
     ensures column { result ≡ (number - 1) / 2 ^ doublings }
     ensures one { 64 ≤ doublings → result ≡ 0 }
@@ -26,7 +26,7 @@ fn is_one_column(doublings: u32, one: u64, other: u64) -> bool
     column(doublings, one) == column(doublings, other)
 }
 
-/// Whether an entry begins in the column in which the two in front of it begin.
+/// Whether an entry begins in the same column as the two before it.
 fn is_third(doublings: u32, one: Entry, other: Entry, entry: Entry) -> bool
     ensures third { result ≡ third_of (2 ^ doublings) one other entry }
     ensures all { 64 ≤ doublings → IsTrue result }
@@ -35,7 +35,7 @@ fn is_third(doublings: u32, one: Entry, other: Entry, entry: Entry) -> bool
         && is_one_column(doublings, other.from, entry.from)
 }
 
-/// Adds two entries.
+/// Adds two entries at the end.
 fn push_both(entries: &mut Vec<Entry>, one: Entry, other: Entry) -> Result<(), AllocError>
     ensures { OnOk result (entries.new.items ≡ (entries.old.items ++ one ∷ []) ++ other ∷ []) }
 {
@@ -44,7 +44,7 @@ fn push_both(entries: &mut Vec<Entry>, one: Entry, other: Entry) -> Result<(), A
     Ok(())
 }
 
-/// Adds an entry behind those of its column: of three the first two become one.
+/// Adds an entry at the end. If it is the third of its column, the first two become one. The error is a lack of memory.
 pub fn place(doublings: u32, entries: &mut Vec<Entry>, entry: Entry) -> Result<(), AllocError>
     ensures reduced { (told : List Told) → entries.old.items ≡ reduced (2 ^ doublings) told →
         OnOk result (entries.new.items ≡ reduced (2 ^ doublings) (told ++ entry ∷ [])) }

@@ -1,19 +1,23 @@
-//! Entries of lists of changes.
+//! The entries of lists of changes (this project's own).
 
 ghost use Rattle.std.specs.Prelude.{◌≡◌};
 ghost use Rattle.change_lists.specs.Changes.{is_said_again, joined};
 
-/// What is told: of a rule its results and its states as bits, of a field the least and the greatest of its values.
+/// The content of an entry: for a rule its results and states as bits, for a field its least and greatest value.
 #[derive(Clone, Copy)]
 pub struct Told {
+    /// The results of a rule, one bit each; 0 for a field.
     pub results: u8,
+    /// The states of a rule, one bit each; 0 for a field.
     pub states: u8,
+    /// The least value of a field, above `high` if there is none; 0 for a rule.
     pub low: i64,
+    /// The greatest value of a field; 0 for a rule.
     pub high: i64,
 }
 
 impl Told {
-    /// Whether another says the same.
+    /// Whether another content is equal to this one.
     pub fn is_said_by(self, other: Told) -> bool
         ensures { result ≡ is_said_again self other }
     {
@@ -24,19 +28,21 @@ impl Told {
     }
 }
 
-/// What is told from a record on. One change is exact; of more, all that was so up to the next entry.
+/// What holds from a record on: one change exactly, or all that several changes had until the next entry.
 #[derive(Clone, Copy)]
 pub struct Entry {
-    /// The record.
+    /// The number of the record, counted from 1.
     pub from: u64,
-    /// In 1/65,536 s, less that of the first record.
+    /// The record's time in 1/65,536 s, counted from the first record's.
     pub time: i64,
+    /// The content from this record on.
     pub told: Told,
+    /// The number of changes that the entry stands for.
     pub changes: u64,
 }
 
 impl Entry {
-    /// Two entries in a row as one, which begins where the first does, and of which nothing is lost.
+    /// Returns two consecutive entries as one that begins with the first and has the contents of both.
     pub fn joined(self, other: Entry) -> Entry
         ensures { result ≡ joined self other }
     {

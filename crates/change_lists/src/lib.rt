@@ -1,5 +1,5 @@
-//! What is told record by record, as lists of its changes, each of which is reduced by columns of records where all together have
-//! too many entries.
+//! Lists of changes, record by record, for rules and fields. If all lists together have too many entries, a list is
+//! reduced by columns of records.
 #![tactic(auto)]
 
 mod changes;

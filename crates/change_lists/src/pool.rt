@@ -1,4 +1,4 @@
-//! All lists together, which have only so much room.
+//! All lists together, which share a limited number of entries.
 
 ghost use Rattle.std.specs.Prelude.{◌≡◌, ◌<◌, ◌-◌, ◌^◌, ◌++◌, ◌∷◌, [], List, OnOk, length};
 ghost use Rattle.change_lists.specs.declared.entry.Entry.{Entry as Told};
@@ -8,7 +8,7 @@ use crate::changes::Changes;
 use crate::entry::Entry;
 use std::alloc::{AllocError, Global};
 
-/// All lists, with the entries that they have together.
+/// All lists of changes, with a limit on their entries together.
 #[derive(Drop)]
 pub struct Pool {
     alloc: Global,
@@ -18,7 +18,7 @@ pub struct Pool {
 }
 
 impl Pool {
-    /// No lists, which may have so many entries together.
+    /// Creates a pool without lists that may have `most` entries. Two entries a list are kept even above that limit.
     pub fn new(alloc: Global, most: usize) -> Pool
         requires { most < 2 ^ 64 - 1 }
         ensures told { PoolTells result [] }
@@ -32,7 +32,7 @@ impl Pool {
         }
     }
 
-    /// One list more, to which nothing was told.
+    /// Adds an empty list. The error is a lack of memory.
     pub fn push(&mut self) -> Result<(), AllocError>
         ensures told { (told : List (List Told)) → PoolTells self.old told →
             OnOk result (PoolTells self.new (told ++ [] ∷ [])) }
@@ -43,14 +43,14 @@ impl Pool {
         Ok(())
     }
 
-    /// The lists, in the order in which they came.
+    /// Returns the lists in the order of their addition.
     pub fn lists(&self) -> &[Changes]
         ensures { result.now ≡ lists_of self.now }
     {
         self.lists.as_slice()
     }
 
-    /// The number of the longest list, the first of them, and how many entries it has.
+    /// The number of the longest list, the first of equal ones, and the number of its entries.
     fn longest(&self) -> (usize, usize)
         ensures longest { IsLongest result.0 (lists_of self.now) }
         ensures count { result.1 ≡ count_at result.0 (lists_of self.now) }
@@ -67,7 +67,7 @@ impl Pool {
         (longest, most)
     }
 
-    /// Reduces the longest list, where there isn't room.
+    /// Reduces the longest list if there are too many entries.
     fn reduce(&mut self) -> Result<(), AllocError>
         ensures reduced { (told : List (List Told)) → NearlyTells self.old told →
             OnOk result (PoolTells self.new told ×
@@ -87,7 +87,7 @@ impl Pool {
         Ok(())
     }
 
-    /// Adds to a list what is so from a record on, whether there is room or not.
+    /// Adds an entry to a list, whatever the number of entries.
     fn come(&mut self, number: usize, entry: Entry) -> Result<(), AllocError>
         ensures told { (told : List (List Told)) → PoolTells self.old told →
             OnOk result (NearlyTells self.new (told_to number entry told)) }
@@ -104,7 +104,8 @@ impl Pool {
         Ok(())
     }
 
-    /// Adds to a list what is so from a record on, unless it was so before.
+    /// Adds an entry to the list `number`, counted from 0, unless it repeats the last one; without such a list does
+    /// nothing. Then reduces the longest list if there are too many entries. The error is a lack of memory.
     pub fn add(&mut self, number: usize, entry: Entry) -> Result<(), AllocError>
         ensures told { (told : List (List Told)) → PoolTells self.old told →
             OnOk result (PoolTells self.new (told_to number entry told)) }

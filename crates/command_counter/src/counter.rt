@@ -1,4 +1,4 @@
-//! The counter on its seat.
+//! The application `COUNTER`: how it starts, counts commands and retires.
 
 ghost use Rattle.std.specs.Prelude.{◌≡◌, ◌≤◌, ◌<◌, None, [], ◌∷◌, length};
 ghost use Rattle.lc_model.specs.Packet.{function_code, payload, command_header_size};
@@ -10,16 +10,17 @@ use app_host::{App, Services};
 use lc_model::packet::{function_code, message_id};
 use lc_model::{CommandRefusal, EventKind, Seat, mids};
 
+/// The application's name, as its events show it.
 const NAME: &[u8] = b"COUNTER";
 
-/// The function code of the command that is counted.
+/// The function code of the command that the application counts.
 const COUNT: u8 = 1;
 
-/// The bytes of that command: its headers alone.
+/// The length of that command in bytes: its headers, without payload.
 const COUNT_SIZE: usize = 8;
 
-/// Counts its commands (message id 0x18C1, code 1, no payload), and tells in an event how many it accepted since its start, up
-/// to 4,294,967,295; or why one is refused: 151, another code; 152, another length.
+/// The counter application. It counts its commands (message id 0x18C1, code 1, no payload) since its start, up to
+/// 4,294,967,295. Event 1 reports the count; event 2 reports a refusal: 151 for another code, 152 for another length.
 #[derive(Debug, Drop)]
 pub struct Counter {
     seat: Option<Seat>,
@@ -27,6 +28,7 @@ pub struct Counter {
 }
 
 impl Counter {
+    /// Creates a counter without a seat and with count 0.
     pub fn new() -> Counter
         ensures seat { result.seat ≡ None }
         ensures count { result.count ≡ 0 }
@@ -85,7 +87,7 @@ impl App for Counter {
     }
 }
 
-/// Whether a command of the counter's is one that it counts.
+/// Whether a counter command is the one that is counted. Errors: `UnknownFunction`, `WrongLength`.
 fn accepted(command: &[u8]) -> Result<(), CommandRefusal>
     requires { command_header_size ≤ length command.now }
     ensures { answer_of result ≡ bare_request 1 (function_code command.now) (payload command.now) }

@@ -8,7 +8,7 @@ ghost use Rattle.lc_model.specs.Events.Request.{Event};
 
 use event_service::EventText;
 
-/// Event 1, of type information: how many commands were accepted, up to 4,294,967,295.
+/// Event 1, of type information: the number of commands since the start, up to 4,294,967,295.
 pub(crate) fn counted(accepted: u32) -> EventText
     ensures { Event counter_name 1 Information result ≡ request.counted accepted }
 {
@@ -17,7 +17,7 @@ pub(crate) fn counted(accepted: u32) -> EventText
     text
 }
 
-/// Event 2, of type error: why a command was not counted, in at most two numbers.
+/// Event 2, of type error: why a command is refused, in at most two numbers.
 pub(crate) fn command_refused(numbers: &[u16]) -> EventText
     requires { length numbers.now ≤ 2 }
     ensures { Event counter_name 2 Error result ≡ request.counter_refused numbers.now }

@@ -1,4 +1,4 @@
--- What is left of rows that were written to standard output. This project's own.
+-- The result of writing rows to standard output. This project's own.
 use Rattle.std.specs.Prelude.{◌≡◌, Result, Ok, Err}
 use Rattle.listing_rows.specs.declared.error.RowError.{RowError}
 use Rattle.listing_rows.specs.declared.error.RowError.TheVariants as row

@@ -1,4 +1,4 @@
-//! How a stream and packets end, where no listing says it.
+//! How a stream or a file of packets ends, for commands whose listing doesn't say it.
 
 ghost use Rattle.std.specs.Prelude.{◌≡◌};
 ghost use Rattle.file_commands.specs.Ends.{answer_behind_packets, answer_where};
@@ -7,7 +7,8 @@ use flight_core::RunError;
 use stream_script::Front;
 use tool_faults::Fault;
 
-/// Of a stream in a file of this name, where this stands in the place of record `n`.
+/// Returns the end of a stream in the file `name`, if `front` stands where record `n`, counted from 1, would begin.
+/// Errors: `Stream` with `BadRecord` for bytes that are no record, or with `Truncated` for a cut one.
 pub fn end_of_stream<'a>(name: &'a str, front: Front, n: u64) -> Result<(), Fault<'a>>
     ensures { result ≡ answer_where name.entry front n }
 {
@@ -18,7 +19,8 @@ pub fn end_of_stream<'a>(name: &'a str, front: Front, n: u64) -> Result<(), Faul
     }
 }
 
-/// Of packets in a file of this name, where so many bytes are left behind the last of so many.
+/// Returns the end of a file of packets that has `left` bytes after its last whole packet, number `number`, counted
+/// from 1. Error: `Packets` with both numbers if `left` isn't 0.
 pub fn end_of_packets<'a>(name: &'a str, number: u64, left: usize) -> Result<(), Fault<'a>>
     ensures { result ≡ answer_behind_packets name.entry number left }
 {

@@ -1,4 +1,4 @@
-//! `export STREAM RAW`
+//! The command `export STREAM RAW`.
 
 use crate::ends::end_of_stream;
 use crate::listing::whole_records;
@@ -9,7 +9,7 @@ use std::io::Write;
 use stream_script::Front;
 use tool_faults::{Fault, fault_at, feed_of, is_apart};
 
-/// Writes the packets of a stream piece by piece; answers what stands in the place of which record where it ends.
+/// Writes the packets of a stream piece by piece. Returns what stands at the end, and the number of the record there.
 fn export_all<'a, R: Files + AllocGlobal, S: Write>(
     rt: &R,
     stream: &'a str,
@@ -38,8 +38,9 @@ fn export_all<'a, R: Files + AllocGlobal, S: Write>(
     Ok((Front::Cut, n))
 }
 
-/// Writes the packets of a stream, one behind the other, beside a name that they take at the end. A stream that ends early is a
-/// fault, which says where; the packets in front of its end are there.
+/// Writes the packets of a stream, in order, to the file `raw`, through a draft that is renamed at the end. Error:
+/// `Stream` if the stream ends early, with the place; the packets before it are written all the same. Other
+/// faults are of files and memory.
 pub fn export<'a, R: Files + AllocGlobal>(
     rt: &R,
     stream: &'a str,

@@ -1,4 +1,4 @@
-//! Records and packets in the form that is asked for, text or rows.
+//! Lists records and packets in the form that the words ask for: text or rows.
 
 use crate::listing;
 use crate::rows::{self, wanted};
@@ -7,8 +7,8 @@ use std::io::Write;
 use tool_faults::Fault;
 use tool_words::RowWords;
 
-/// Lists the records of a stream as text, as a script that says all of them, or as rows. A stream that ends early has another
-/// status.
+/// Lists the records of a stream as text, as a script if `whole`, or as rows. Errors if the stream ends early: `Early`
+/// for text, `Stream` with the place for rows.
 pub fn stream<'a, R: Files + AllocGlobal, W: Write>(
     rt: &R,
     file: &'a str,
@@ -22,7 +22,8 @@ pub fn stream<'a, R: Files + AllocGlobal, W: Write>(
     }
 }
 
-/// Lists the packets of a file as text or as rows. Bytes behind the last whole packet have another status.
+/// Lists the packets of a file as text or as rows. Errors if bytes follow the last whole packet: `Early` for text,
+/// `Packets` with the place for rows.
 pub fn packets<'a, R: Files + AllocGlobal, W: Write>(
     rt: &R,
     file: &'a str,

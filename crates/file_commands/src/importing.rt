@@ -1,4 +1,4 @@
-//! `import RAW.. STREAM`
+//! The command `import RAW.. STREAM`.
 
 ghost use Rattle.std.specs.Prelude.{◌≤◌, IfOk, IfSome};
 
@@ -13,16 +13,16 @@ use stream_script::read_script;
 use tool_faults::{Fault, fault_at, feed_of, is_apart, listed};
 use tool_words::ImportWords;
 
-/// Where the time of this profile's telemetry stands.
+/// The byte at which the time of this profile's telemetry begins, counted from 0.
 const OWN_TIME: u32 = 6;
 
-/// The parts of a second.
+/// The number of parts in a second.
 const PARTS: u64 = 65_536;
 
-/// The most digits of a part of a second.
+/// The most decimal digits of a part of a second.
 const MOST_DIGITS: usize = 6;
 
-/// A number that is no greater than this, decimal or behind `0x` hexadecimal.
+/// A decimal number, or a hexadecimal one after `0x`, of at most `most`.
 fn number_in(word: &str, most: u32) -> Option<u32>
     ensures { IfSome result (λ number. number ≤ most) }
 {
@@ -36,7 +36,7 @@ fn number_in(word: &str, most: u32) -> Option<u32>
     }
 }
 
-/// The number of an option, which is no greater than this; `default` where it isn't given.
+/// The value of a numeric option, or `default` if it isn't given. Error: `Value` for a word that is no such number.
 fn number_of<'a>(
     option: &'a str,
     word: Option<&'a str>,
@@ -55,7 +55,7 @@ fn number_of<'a>(
     }
 }
 
-/// The part of a second that so many digits write, of which there are six at most.
+/// A part of a second, in 1/65,536 s rounded down, from one to six decimal digits.
 fn part_in(digits: &str) -> Option<u16> {
     if digits.is_empty() || digits.len() > MOST_DIGITS {
         return None;
@@ -68,7 +68,7 @@ fn part_in(digits: &str) -> Option<u16> {
     u16::try_from(number.saturating_mul(PARTS).checked_div(whole)?).ok()
 }
 
-/// Seconds with up to six digits behind a point.
+/// Seconds with up to six decimal digits after a point.
 fn seconds_in(word: &str) -> Option<Moment> {
     let (seconds, part) = match word.split_once('.') {
         Some((seconds, part)) => (seconds, part_in(part)?),
@@ -80,7 +80,7 @@ fn seconds_in(word: &str) -> Option<Moment> {
     })
 }
 
-/// Where the packets' times are from.
+/// The source of the packets' times: the steps of an option, or the packets' headers.
 fn times_of<'a>(wanted: ImportWords<'a>) -> Result<Times, Fault<'a>> {
     match wanted.step {
         Some(word) => match seconds_in(word) {
@@ -94,7 +94,7 @@ fn times_of<'a>(wanted: ImportWords<'a>) -> Result<Times, Fault<'a>> {
     }
 }
 
-/// The message ids that are asked for, one behind the other, parted by commas; none where all are.
+/// The message ids of `--only`, separated by commas; empty if it isn't given.
 fn ids_of<'a>(alloc: Global, word: Option<&'a str>) -> Result<Vec<u16>, Fault<'a>> {
     let mut ids = Vec::new(alloc);
     if let Some(word) = word {
@@ -108,12 +108,12 @@ fn ids_of<'a>(alloc: Global, word: Option<&'a str>) -> Result<Vec<u16>, Fault<'a
     Ok(ids)
 }
 
-/// Whether more bytes may make more of what stands in front.
+/// Whether the archive may go on with more bytes: none are left, or those in front are a part of a packet.
 fn may_go_on(met: Met) -> bool {
     matches!(met, Met::Stands(Front::Over | Front::Cut))
 }
 
-/// The records that bring both halves of a rule text as the Limit Checker's own tables, and start it and the scheduler, as a script
+/// The records that bring both halves of a rule text as the Limit Checker's tables, and start it and the scheduler.
 /// says them.
 fn start_of<'a>(alloc: Global, moment: Moment, text: u16) -> Result<Vec<u8>, Fault<'a>> {
     let Moment {
@@ -128,24 +128,24 @@ fn start_of<'a>(alloc: Global, moment: Moment, text: u16) -> Result<Vec<u8>, Fau
     read_script(alloc, script.as_slice()).map_err(|_| Fault::Memory)
 }
 
-/// The stream that is being written.
+/// The stream that is written.
 #[derive(Drop)]
 struct Stream<'a, 's, S> {
     name: &'a str,
     file: &'s mut S,
-    /// The rule text with which it starts, where that is asked for and nothing is written yet.
+    /// The rule text with which the stream begins, if an option gives one and nothing is written yet.
     start: Option<u16>,
 }
 
 impl<'a, S: Write> Stream<'a, '_, S> {
-    /// Writes bytes.
+    /// Writes bytes to the stream.
     fn push(&mut self, bytes: &[u8]) -> Result<(), Fault<'a>> {
         self.file
             .write_all(bytes)
             .map_err(|error| fault_at(self.name, fault_of(&error)))
     }
 
-    /// Writes records, behind the start where they are the first.
+    /// Writes records, with the start before the first of them.
     fn push_records(&mut self, alloc: Global, records: &[u8]) -> Result<(), Fault<'a>> {
         if records.len() < HEADER {
             return Ok(());
@@ -159,7 +159,7 @@ impl<'a, S: Write> Stream<'a, '_, S> {
     }
 }
 
-/// Imports an archive behind others into a stream, and says what was met. Answers whether it ends behind a whole packet.
+/// Imports one archive and writes its report. Returns whether the archive ends after a whole packet.
 fn import_one<'a, R: Files + AllocGlobal, S: Write, W: Write>(
     rt: &R,
     name: &'a str,
@@ -193,7 +193,7 @@ fn import_one<'a, R: Files + AllocGlobal, S: Write, W: Write>(
     Ok(false)
 }
 
-/// Imports archives, one behind the other, into a stream, and says what was met. Answers whether each ends behind a whole packet.
+/// Imports archives in order and writes their reports. Returns whether each ends after a whole packet.
 fn import_all<'a, R: Files + AllocGlobal, S: Write, W: Write>(
     rt: &R,
     archives: &[&'a str],
@@ -210,7 +210,7 @@ fn import_all<'a, R: Files + AllocGlobal, S: Write, W: Write>(
     Ok(is_whole)
 }
 
-/// The number of the rule text with which a stream starts, where one is given.
+/// The number of the rule text with which the stream begins, from `--start`; `None` if it isn't given.
 fn start_number<'a>(word: Option<&'a str>) -> Result<Option<u16>, Fault<'a>> {
     match word {
         None => Ok(None),
@@ -221,8 +221,9 @@ fn start_number<'a>(word: Option<&'a str>) -> Result<Option<u16>, Fault<'a>> {
     }
 }
 
-/// Imports archives of space packets, one behind the other, into a stream, which is written beside its name and takes it at the
-/// end. An archive that ends early has another status; the stream is there all the same, with what stood before.
+/// Imports archives of space packets, in order, into the stream that `files` names last, through a draft that is
+/// renamed at the end; reports go to `out`. Errors: `Value` for an option; `Early` if an archive ends early, and
+/// then the stream is written all the same; others are of files and memory.
 pub fn import<'a, R: Files + AllocGlobal, W: Write>(
     rt: &R,
     files: &[&'a str],

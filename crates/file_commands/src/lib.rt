@@ -1,5 +1,5 @@
-//! The commands over files alone: what tables, streams and packets hold, as text and as rows; archives that become a stream, and
-//! a stream's packets.
+//! The commands that work on files alone: they list tables, streams and packets as text or rows, import archives as
+//! streams, and export the packets of streams.
 #![tactic(auto)]
 
 mod ends;

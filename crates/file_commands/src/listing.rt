@@ -1,4 +1,4 @@
-//! What is listed.
+//! The commands that list a file as text.
 
 use clap::Error;
 use judgement_listing::{Which, list_actionpoints};
@@ -15,16 +15,16 @@ use tool_faults::{
     Fault, Feed, LONGEST_TABLE, feed_of, judgement_fault, listed, read, written_fault,
 };
 
-/// Records and packets count up to here.
+/// The largest number that a listing gives a record or a packet.
 const MOST_COUNTED: usize = usize::MAX / 2;
 
-/// Writes the help or the version that was asked for.
+/// Writes the help or the version to `out`. The error is that of the output.
 pub fn said<'a, W: Write>(text: &Error, out: &mut W) -> Result<(), Fault<'a>> {
     listed(write!(out, "{text}"))?;
     listed(out.flush())
 }
 
-/// Writes the warnings of the actionpoints of a table whose watchpoints are in a file of this name.
+/// Writes the warnings about a table of actionpoints; the file `watchpoints` has its watchpoints.
 fn mark<'a, R: Files + AllocGlobal, W: Write>(
     rt: &R,
     watchpoints: &'a str,
@@ -45,8 +45,9 @@ fn mark<'a, R: Files + AllocGlobal, W: Write>(
     listed(out.flush())
 }
 
-/// Lists what a table file holds, and behind actionpoints, where the file with their watchpoints is named, what can be said of them
-/// before any packet comes. One with a fault ends the program with another status.
+/// Lists a table file; with `watchpoints`, the name of the file with the actionpoints' watchpoints, their warnings
+/// follow. Errors: `Table` if the file has a fault, which the listing reports; others are of files, output and
+/// memory.
 pub fn table<'a, R: Files + AllocGlobal, W: Write>(
     rt: &R,
     file: &'a str,
@@ -72,7 +73,7 @@ pub fn table<'a, R: Files + AllocGlobal, W: Write>(
     }
 }
 
-/// How many whole records stand in front, how long they are together, and what stands behind them.
+/// Returns the number of whole records at the front of `bytes`, their total length, and what follows them.
 pub fn whole_records(bytes: &[u8]) -> (usize, usize, Front) {
     let mut count = 0usize;
     let mut size = 0usize;
@@ -91,7 +92,7 @@ pub fn whole_records(bytes: &[u8]) -> (usize, usize, Front) {
     (count, size, front_of(rest))
 }
 
-/// The text of records, the first of which has this number.
+/// The text of records as a listing or as a script; `first` is the number of the first record.
 fn text_of<'a>(
     alloc: Global,
     first: usize,
@@ -106,8 +107,8 @@ fn text_of<'a>(
     Ok(text)
 }
 
-/// Lists the records of a stream, or writes the script that says them, piece by piece. A stream that ends early has another
-/// status.
+/// Lists the records of a stream piece by piece, or writes them as a script if `whole`. Error: `Early` if the stream
+/// ends early; others are of files, output and memory.
 pub fn stream<'a, R: Files + AllocGlobal, W: Write>(
     rt: &R,
     file: &'a str,
@@ -137,12 +138,12 @@ pub fn stream<'a, R: Files + AllocGlobal, W: Write>(
     Ok(())
 }
 
-/// The end of what is listed, which is whole or not.
+/// The result of a listing: `Early` if the file isn't whole.
 fn ended_with<'a>(is_whole: bool) -> Result<(), Fault<'a>> {
     if is_whole { Ok(()) } else { Err(Fault::Early) }
 }
 
-/// Lists the whole packets that are held, behind so many, and answers how many there are then, and how many bytes they have.
+/// Lists the whole packets at the front, after `before` earlier ones. Returns how many there are then, and their bytes.
 fn list_whole<W: Write>(
     packets: &[u8],
     before: u64,
@@ -161,7 +162,8 @@ fn list_whole<W: Write>(
     Ok((number, packets.len().saturating_sub(rest.len())))
 }
 
-/// Lists the packets of a file, piece by piece. Bytes behind the last whole packet have another status.
+/// Lists the packets of a file piece by piece. Error: `Early` if bytes follow the last whole packet; others are of
+/// files, output and memory.
 pub fn packets<'a, R: Files + AllocGlobal, W: Write>(
     rt: &R,
     file: &'a str,
@@ -181,7 +183,7 @@ pub fn packets<'a, R: Files + AllocGlobal, W: Write>(
     Ok(())
 }
 
-/// What is left behind the last packet.
+/// Writes a line for the bytes after the last packet, if there are any.
 fn end_of_packets<'a, F: Read + Drop, W: Write>(
     feed: &Feed<'_, F>,
     number: u64,

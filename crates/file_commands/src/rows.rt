@@ -1,4 +1,4 @@
-//! Packets and records as rows, for other programs.
+//! The commands that write packets and records as rows, for other programs.
 
 ghost use Rattle.file_commands.specs.Taken.{IsTaken};
 
@@ -15,14 +15,15 @@ use stream_script::{Front, front_of};
 use tool_faults::{Fault, epoch_of, feed_of, listed, output_fault};
 use tool_words::RowWords;
 
-/// How rows are written.
+/// How rows are written: as values or as objects, and from which epoch their times count.
 #[derive(Clone, Copy)]
 pub struct Rows {
     form: Form,
     epoch: Option<Epoch>,
 }
 
-/// How the rows are written that are asked for, where they are. Values and objects can't be had at once.
+/// Returns how rows are to be written, or `None` if the words ask for no rows. Error: `Value` if they ask for values
+/// and objects at once, or for an invalid epoch.
 pub fn wanted<'a>(words: RowWords<'a>) -> Result<Option<Rows>, Fault<'a>> {
     let epoch = epoch_of(words.epoch)?;
     match (words.csv, words.json) {
@@ -39,7 +40,7 @@ pub fn wanted<'a>(words: RowWords<'a>) -> Result<Option<Rows>, Fault<'a>> {
     }
 }
 
-/// What was written of rows to standard output, or why it wasn't taken, as `output_fault` says it.
+/// The result of writing rows to standard output; an error becomes a `Fault`, as `output_fault` has it.
 fn taken<T: Drop>(written: Result<T, RowError>) -> Result<T, Fault<'static>>
     ensures { IsTaken written result }
 {
@@ -50,11 +51,11 @@ fn taken<T: Drop>(written: Result<T, RowError>) -> Result<T, Fault<'static>>
     }
 }
 
-/// What is written, and how much of what is held that is.
+/// The number of the last row, and how many of the held bytes are written.
 type Written = Result<(u64, usize), RowError>;
 
-/// Writes the rows of the whole packets that are held, behind so many, and answers how many there are then, and how many bytes
-/// they have.
+/// Writes the rows of the whole packets at the front, after `before` earlier ones. Returns the number of the last
+/// one, and the bytes of all.
 fn write_packets<W: Write>(
     alloc: Global,
     rows: &Rows,
@@ -75,8 +76,8 @@ fn write_packets<W: Write>(
     Ok((number, packets.len().saturating_sub(rest.len())))
 }
 
-/// Writes the rows of the whole records that are held, behind so many, and answers how many there are then, and how many bytes
-/// they have.
+/// Writes the rows of the whole records at the front, after `before` earlier ones. Returns the number of the last
+/// one, and the bytes of all.
 fn write_records<W: Write>(
     alloc: Global,
     rows: &Rows,
@@ -98,7 +99,8 @@ fn write_records<W: Write>(
     Ok((number, records.len().saturating_sub(rest.len())))
 }
 
-/// Writes a row for each packet of a file, piece by piece. Bytes behind the last whole packet are a fault, which says where.
+/// Writes one row for each packet of a file, piece by piece. Error: `Packets` with the place if bytes follow the
+/// last whole packet; others are of files, output and memory.
 pub fn packets<'a, R: Files + AllocGlobal, W: Write>(
     rt: &R,
     file: &'a str,
@@ -121,7 +123,8 @@ pub fn packets<'a, R: Files + AllocGlobal, W: Write>(
     Ok(())
 }
 
-/// Writes a row for each record of a stream, piece by piece. A stream that ends early is a fault, which says where.
+/// Writes one row for each record of a stream, piece by piece. Error: `Stream` with the place if the stream ends early;
+/// others are of files, output and memory.
 pub fn records<'a, R: Files + AllocGlobal, W: Write>(
     rt: &R,
     file: &'a str,

@@ -1,4 +1,4 @@
-//! The calls of the Limit Checker's engine: packets of telemetry, and samples of all rules.
+//! Measures the calls of the Limit Checker's engine: telemetry packets, and samples of all rules.
 
 ghost use Rattle.std.specs.Prelude.{◌≡◌};
 ghost use Rattle.lc_model.specs.declared.kind.Kind.TheVariants.{Wdt, Adt};
@@ -10,13 +10,13 @@ use rpn_compiler::compile;
 use table_file::{open, preamble};
 use table_validator::{ValidImage, validate};
 
-/// How long a packet is.
+/// The length of a packet in bytes.
 const PACKET: usize = 16;
 
-/// How often the packets are seen in one measurement, and how often all rules are sampled.
+/// How often one measurement sees the packets, or samples all rules.
 const ROUNDS: usize = 1_000;
 
-/// Puts tables in force, where they belong together.
+/// Puts two tables in force if they have the same hash and number of watchpoints.
 fn put_in_force(engine: &mut Engine, wdt: &ValidImage<'_>, adt: &ValidImage<'_>)
     requires wdt { wdt.now.kind ≡ Wdt }
     requires adt { adt.now.kind ≡ Adt }
@@ -29,7 +29,7 @@ fn put_in_force(engine: &mut Engine, wdt: &ValidImage<'_>, adt: &ValidImage<'_>)
     }
 }
 
-/// A Limit Checker with the tables of a text.
+/// Creates an engine with the tables of a rule text in force.
 fn engine_with(rt: &HostRuntime, text: &[u8]) -> anyhow::Result<Engine> {
     let pair = compile(rt.alloc(), text)?;
     let wdt = open(pair.wdt.as_slice())?;
@@ -41,20 +41,20 @@ fn engine_with(rt: &HostRuntime, text: &[u8]) -> anyhow::Result<Engine> {
     Ok(engine)
 }
 
-/// Gives a packet to the engine, of which this place knows nothing.
+/// Gives one packet to the engine. It isn't inlined, so that the compiler knows nothing of the packet.
 #[inline(never)]
 fn see(engine: &mut Engine, packet: &[u8]) {
     engine.telemetry(packet);
 }
 
-/// Gives each packet to the engine.
+/// Gives each packet to the engine, one for every 16 bytes.
 fn see_all(engine: &mut Engine, packets: &[u8]) {
     for packet in packets.chunks(PACKET) {
         see(engine, packet);
     }
 }
 
-/// The engine sees packets, so many.
+/// The work of seeing packets; its amount is their number.
 #[derive(Drop)]
 struct Seeing<'a> {
     engine: Engine,
@@ -70,12 +70,14 @@ impl Work for Seeing<'_> {
     }
 }
 
+/// Measures `Engine::telemetry` with the tables of `text`, over packets of 16 bytes each; prints packets and time.
+/// The error is the text's or the system's.
 pub fn measure_telemetry(rt: &HostRuntime, text: &[u8], packets: &[u8]) -> anyhow::Result<()> {
     let engine = engine_with(rt, text)?;
     measure(rt, &mut Seeing { engine, packets })
 }
 
-/// The engine samples: so many words.
+/// The work of sampling all rules; its amount is the number of words evaluated, EQUAL included.
 #[derive(Drop)]
 struct Sampling {
     engine: Engine,
@@ -107,6 +109,8 @@ impl Work for Sampling {
     }
 }
 
+/// Measures samples of all rules of `text` after the packets, of 16 bytes each, are seen; prints words and time.
+/// The error is the text's or the system's.
 pub fn measure_samples(rt: &HostRuntime, text: &[u8], packets: &[u8]) -> anyhow::Result<()> {
     let mut engine = engine_with(rt, text)?;
     see_all(&mut engine, packets);

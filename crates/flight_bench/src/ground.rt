@@ -1,4 +1,4 @@
-//! The calls of the ground, over a rule text.
+//! Measures the calls on the ground: the lexer, the checker and the compiler.
 
 use crate::measuring::{Work, measure};
 use field_checker::check;
@@ -7,7 +7,7 @@ use rule_lexer::lex;
 use rule_parser::{RuleFile, parse};
 use std::alloc::Global;
 
-/// The lexer: so many bytes.
+/// The work of splitting a text into tokens; its amount is the text's bytes.
 #[derive(Drop)]
 struct Lexing<'a> {
     alloc: Global,
@@ -21,12 +21,13 @@ impl Work for Lexing<'_> {
     }
 }
 
+/// Measures `lex` over a rule text; prints its bytes and the time. The error is the text's or the system's.
 pub fn measure_lexer(rt: &HostRuntime, text: &[u8]) -> anyhow::Result<()> {
     let alloc = rt.alloc();
     measure(rt, &mut Lexing { alloc, text })
 }
 
-/// The checker: so many items.
+/// The work of checking a parsed text; its amount is the text's items.
 #[derive(Drop)]
 struct Checking<'a, 'b> {
     alloc: Global,
@@ -45,13 +46,15 @@ fn measure_check(rt: &HostRuntime, file: &RuleFile<'_>) -> anyhow::Result<()> {
     measure(rt, &mut Checking { alloc, file })
 }
 
+/// Measures `check` over a parsed rule text; prints its items and the time. The error is the text's or the
+/// system's.
 pub fn measure_checker(rt: &HostRuntime, text: &[u8]) -> anyhow::Result<()> {
     let tokens = lex(rt.alloc(), text)?;
     let file = parse(rt.alloc(), text, &tokens)?;
     measure_check(rt, &file)
 }
 
-/// The compiler: so many bytes.
+/// The work of compiling a text; its amount is the text's bytes.
 #[derive(Drop)]
 struct Compiling<'a> {
     alloc: Global,
@@ -65,6 +68,7 @@ impl Work for Compiling<'_> {
     }
 }
 
+/// Measures `compile` over a rule text; prints its bytes and the time. The error is the text's or the system's.
 pub fn measure_compiler(rt: &HostRuntime, text: &[u8]) -> anyhow::Result<()> {
     let alloc = rt.alloc();
     measure(rt, &mut Compiling { alloc, text })

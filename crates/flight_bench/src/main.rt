@@ -1,7 +1,6 @@
-//! How fast calls are: the lexer, the checker and the compiler over a rule text in a file, and the Limit Checker's engine with
-//! the text's tables over packets in a file, of 16 bytes each. `tools/dev/measure` makes the files.
-//!
-//! It prints what one measurement handled, and the least nanoseconds that one took.
+//! Measures how fast calls are: lexer, checker and compiler over a file's rule text, and the engine over a file's
+//! packets of 16 bytes each; `tools/dev/measure` makes the files. It prints the amount of one measurement and its
+//! least time in nanoseconds.
 #![tactic(auto)]
 
 mod engine;
@@ -12,7 +11,7 @@ use crate::engine::{measure_samples, measure_telemetry};
 use crate::ground::{measure_checker, measure_compiler, measure_lexer};
 use std::{env, fs};
 
-/// Measures what the word names.
+/// Measures the call that the word names; for another word, prints the usage.
 fn measure(rt: &HostRuntime, what: &str, text: &[u8], packets: &[u8]) -> anyhow::Result<()> {
     match what {
         "lexer" => measure_lexer(rt, text),
@@ -24,13 +23,13 @@ fn measure(rt: &HostRuntime, what: &str, text: &[u8], packets: &[u8]) -> anyhow:
     }
 }
 
-/// Prints which words there are.
+/// Prints the usage.
 fn tell_words(rt: &HostRuntime) -> anyhow::Result<()> {
     println!(rt; "usage: flight_bench lexer|checker|compiler|telemetry|samples RULES PACKETS")?;
     Ok(())
 }
 
-/// Measures over the files of these names.
+/// Measures over the files with these names.
 fn measure_files(rt: &HostRuntime, what: &str, rules: &str, packets: &str) -> anyhow::Result<()> {
     let text = fs::read(rt, rules)?;
     let packets = fs::read(rt, packets)?;

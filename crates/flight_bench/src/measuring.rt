@@ -1,17 +1,18 @@
-//! Measuring.
+//! How a call is measured.
 
 use std::time::Instant;
 
-/// How often each call is measured; the least time counts.
+/// The number of measurements of each call; the least time counts.
 const RUNS: u32 = 50;
 
-/// What is measured.
+/// Work whose time is measured.
 pub trait Work {
-    /// Does it once, and answers how much that was.
+    /// Does the work once and returns its amount: bytes, items, packets or words.
     fn once(&mut self) -> anyhow::Result<usize>;
 }
 
-/// Prints how much was done at once, and in which time.
+/// Does the work 50 times and prints its amount and the least time of one, in nanoseconds.
+/// The error is the work's, the clock's or the output's.
 pub fn measure<W: Work>(rt: &HostRuntime, work: &mut W) -> anyhow::Result<()> {
     let mut done = 0;
     let mut least = u128::MAX;

@@ -1,26 +1,26 @@
-//! Texts with the files that they are compiled to, byte for byte.
+//! Rule texts with the files to which they compile, byte for byte.
 
 use crate::shared::{LOW_VOLTS, same};
 use rpn_compiler::compile;
 use std::process::Abort;
 
-/// Bytes from a place on.
+/// Bytes of a file, and the place of the first of them.
 type Part<'a> = (usize, &'a [u8]);
 
-/// Where the hash stands in a file, and where the entries begin.
+/// The place of the hash in a file, and that of the first entry, counted from 0.
 const HASH: usize = 124;
 
 const ENTRIES: usize = 156;
 
-/// The bytes of an entry of each table.
+/// The length of an entry of each table in bytes.
 const WDT_ENTRY: usize = 24;
 
 const ADT_ENTRY: usize = 110;
 
-/// A text, how many entries of both tables it uses, and parts of both files.
+/// A text, the number of entries that it uses in both tables, and parts of both files.
 type Row<'a> = (&'a str, (u16, u16), &'a [Part<'a>], &'a [Part<'a>]);
 
-/// The text has no rules; its hash is the SHA-256 of no bytes.
+/// A text without rules; its hash is the SHA-256 of no bytes.
 const EMPTY: Row<'static> = (
     "",
     (0, 0),
@@ -40,7 +40,7 @@ const EMPTY: Row<'static> = (
     ],
 );
 
-/// One rule over one watchpoint: all that isn't blank.
+/// One rule over one watchpoint, with all bytes that aren't blank.
 const LOW: Row<'static> = (
     LOW_VOLTS,
     (1, 1),
@@ -84,8 +84,8 @@ const LOW: Row<'static> = (
     ],
 );
 
-/// Two packets, which are used before they are declared; a watchpoint that both rules mention; and, in the second rule's
-/// condition, the heavier operand first.
+/// Two packets that are used before they are declared, a watchpoint that both rules mention, and a condition with the
+/// heavier operand first.
 const TWO: Row<'static> = (
     "rule LOW passive fails 1 sequence 300 event debug 2000 \"\" report 1 2 3 when not (V < 2400 and X == -1);
     # used before they are declared
@@ -122,7 +122,7 @@ const TWO: Row<'static> = (
     ],
 );
 
-/// From each place on the bytes are these.
+/// Checks that the file has each part at its place.
 fn have<R: Abort>(rt: &R, bytes: &[u8], parts: &[Part]) {
     for &(place, expected) in parts {
         let there = bytes.get(place..).unwrap_or_default();
@@ -130,7 +130,7 @@ fn have<R: Abort>(rt: &R, bytes: &[u8], parts: &[Part]) {
     }
 }
 
-/// From the entry of this number on, entries of this size aren't used: each is 0xFF, and zeros.
+/// Checks that all entries from `number` on are blank: 0xFF and zeros.
 fn are_blank<R: Abort>(rt: &R, file: &[u8], size: usize, number: u16) {
     let from = size
         .saturating_mul(usize::from(number))
@@ -142,7 +142,7 @@ fn are_blank<R: Abort>(rt: &R, file: &[u8], size: usize, number: u16) {
     }
 }
 
-/// Each text has its files.
+/// Checks that each text compiles to its files.
 fn compile_so<R: Abort + AllocGlobal>(rt: &R, rows: &[Row]) {
     for &(text, counts, wdt, adt) in rows {
         let pair = compile(rt.alloc(), text.as_bytes()).expect(rt, "refused");

@@ -1,4 +1,4 @@
-//! A ground team makes table files from a rule text, and judges files before they go up.
+//! What a ground team does: it makes table files from a rule text, and judges files before their uplink.
 
 use crate::judging::{Unfit, judge};
 use crate::shared::LOW_VOLTS;
@@ -9,15 +9,15 @@ use std::test::Fail;
 use table_file::FileError;
 use table_validator::{FaultCode, TableFault, WHOLE_IMAGE};
 
-/// Where the low byte of the first word of the first actionpoint stands: behind both headers, the preamble and 46 bytes.
+/// The place of the low byte of the first actionpoint's first word: after both headers, the preamble and 46 bytes.
 const FIRST_WORD: usize = 116 + 40 + 46 + 1;
 
-/// The table may go up.
+/// Checks that the file is sound as this table.
 fn may_go_up<R: Abort>(rt: &R, kind: Kind, file: &[u8]) {
     assert_eq!(rt; judge(kind, file), Ok(()));
 }
 
-/// The table is refused, with this fault.
+/// Checks that the file's image is refused with this fault.
 fn is_refused<R: Abort>(rt: &R, kind: Kind, file: &[u8], code: FaultCode, entry: u16) {
     assert_eq!(rt;
         judge(kind, file),
@@ -30,7 +30,7 @@ fn both_files_of_a_text_may_go_up(rt: HostRuntime) -> Result<(), Fail> {
     let pair = compile(rt.alloc(), LOW_VOLTS.as_bytes())?;
     may_go_up(&rt, Kind::Wdt, pair.wdt.as_slice());
     may_go_up(&rt, Kind::Adt, pair.adt.as_slice());
-    // Each as the other's table: the image has another size.
+    // Each file as the other table: the image has another size.
     is_refused(
         &rt,
         Kind::Adt,

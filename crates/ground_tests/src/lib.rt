@@ -1,8 +1,5 @@
-//! The tests of the crates on the ground, by public calls alone; and what a ground team does with the files that come of a text.
-//!
-//! What a contract says exactly isn't tested again. What is here comes from outside (a text's tokens, and its files byte for
-//! byte, with its SHA-256), or no contract says it: that a call that takes memory succeeds, what `Memory` is answered for, and
-//! what errors read like.
+//! Tests of the crates on the ground, by public calls alone. They test what no contract says: bytes and tokens from
+//! outside, that calls which allocate succeed, what `Memory` is returned for, and the text of errors.
 #![tactic(auto)]
 
 #[cfg(test)]

@@ -1,5 +1,6 @@
-//! Want of memory: where an allocation fails, the answer is `Memory`, and no other. `rt try --test --fail-alloc N`, for each N
-//! up to the number of allocations, has one of them refused here. (The other tests want what is made, and fail then.)
+//! Lack of memory: if an allocation fails, the call returns `Memory` and no other error.
+//! `rt try --test --fail-alloc N`, for each N up to the number of allocations, refuses one of them. (The other tests
+//! need their results, and fail then.)
 
 use crate::shared::{LOW_VOLTS, same};
 use field_checker::{CheckError, check};
@@ -11,13 +12,13 @@ use std::fmt::Debug;
 use std::process::Abort;
 use watch_sharing::{ShareError, share};
 
-/// Every kind of item, and every operator.
+/// A text with every kind of item and every operator.
 const TEXT: &[u8] =
     b"packet P = mid 0x0883 length 16; field V = P u16be at 12; packet Q = mid 0x0884 length 16; \
     field W = Q u8 at 12; rule LOW active fails 2 sequence 7 event error 1001 \"low volts\" \
     when not V < 2400 and (W > 1 or V == 3) xor W == 4;";
 
-/// What was made, or `Memory` and no other error.
+/// The call's result, or `None` for `Memory`; any other error fails the test.
 fn made<R: Abort, T, E: Copy + Debug + PartialEq>(
     rt: &R,
     answer: Result<T, E>,
@@ -32,7 +33,7 @@ fn made<R: Abort, T, E: Copy + Debug + PartialEq>(
     }
 }
 
-/// The tokens' room and its growths; the items' room and its growths, and the box of each operator's operands.
+/// Lexes and parses the text. It allocates the lists of tokens and items, their growths, and a box for each operator.
 fn items<R: Abort + AllocGlobal>(rt: &R) -> Option<RuleFile<'static>> {
     let tokens = match lex(rt.alloc(), TEXT) {
         Ok(tokens) => tokens,
@@ -48,7 +49,7 @@ fn items<R: Abort + AllocGlobal>(rt: &R) -> Option<RuleFile<'static>> {
     Some(file)
 }
 
-/// The three maps, the list of rules, a rule's name and text, and its condition's boxes.
+/// Checks the items. It allocates three maps, the list of rules, a rule's name and text, and its condition's boxes.
 fn rules<R: Abort + AllocGlobal>(rt: &R) -> Option<RuleSet> {
     let file = items(rt)?;
     let set = made(rt, check(rt.alloc(), &file), CheckError::Memory)?;
@@ -56,7 +57,7 @@ fn rules<R: Abort + AllocGlobal>(rt: &R) -> Option<RuleSet> {
     Some(set)
 }
 
-/// The set of watchpoints, and each rule's mentions.
+/// Shares the watchpoints. It allocates the set of watchpoints, and each rule's mentions.
 #[test]
 fn watchpoints_or_no_memory(rt: HostRuntime) {
     if let Some(set) = rules(&rt) {
@@ -67,7 +68,7 @@ fn watchpoints_or_no_memory(rt: HostRuntime) {
     }
 }
 
-/// All of that, and both files.
+/// Compiles the text. It allocates all of that, and both files.
 fn compiles<R: Abort + AllocGlobal>(rt: &R, text: &[u8], entries: (u16, u16)) {
     let pair = made(rt, compile(rt.alloc(), text), CompileError::Memory);
     if let Some(pair) = pair {

@@ -1,4 +1,4 @@
-//! What a person reads of each error.
+//! The text of each error, as its reader sees it.
 
 use crate::shared::same;
 use field_checker::{CheckError, RuleNumber};
@@ -11,7 +11,7 @@ use table_file::FileError;
 use table_validator::{FaultCode, TableFault, WHOLE_IMAGE};
 use watch_sharing::ShareError;
 
-/// Each error is written so.
+/// Checks that each error displays as expected.
 fn all_read<R: Abort + AllocGlobal, E: Copy + Debug + Display>(rt: &R, rows: &[(E, &str)]) {
     for &(error, expected) in rows {
         let written = format!(in rt.alloc(); "{error}").expect(rt, "memory for a sentence");
@@ -19,7 +19,7 @@ fn all_read<R: Abort + AllocGlobal, E: Copy + Debug + Display>(rt: &R, rows: &[(
     }
 }
 
-/// What the lexer refuses is told by what is wrong with it.
+/// The lexer's error says what is wrong with the text.
 #[test]
 fn of_texts(rt: HostRuntime) {
     let rows = &[
@@ -56,7 +56,7 @@ fn of_texts(rt: HostRuntime) {
     all_read(&rt, rows);
 }
 
-/// What is wanted is named, at its place.
+/// The parser's error names what is expected, and its place.
 #[test]
 fn of_items(rt: HostRuntime) {
     let rows = &[
@@ -111,7 +111,7 @@ fn of_items(rt: HostRuntime) {
     all_read(&rt, rows);
 }
 
-/// A name is declared twice, or not at all, or its field doesn't lie in its packet.
+/// A name is declared twice or not at all, or its field does not lie in its packet.
 #[test]
 fn of_names(rt: HostRuntime) {
     let rows = &[
@@ -131,7 +131,7 @@ fn of_names(rt: HostRuntime) {
     all_read(&rt, rows);
 }
 
-/// A number out of its range is named, with its range.
+/// A number outside its range is reported with the range.
 #[test]
 fn of_numbers(rt: HostRuntime) {
     let rows = &[
@@ -188,7 +188,7 @@ fn of_numbers(rt: HostRuntime) {
     all_read(&rt, rows);
 }
 
-/// So are the ranges of message ids, lengths, masks and compared numbers.
+/// Message ids, lengths, masks and comparison numbers outside their ranges are reported with the range.
 #[test]
 fn of_ranges(rt: HostRuntime) {
     let rows = &[
@@ -216,7 +216,7 @@ fn of_ranges(rt: HostRuntime) {
     all_read(&rt, rows);
 }
 
-/// Rules are too many or too long for their tables.
+/// There are too many rules, or they are too long for their tables.
 #[test]
 fn of_rules(rt: HostRuntime) {
     let rows = &[
@@ -259,7 +259,7 @@ fn of_files(rt: HostRuntime) {
     all_read(&rt, rows);
 }
 
-/// A fault of an image stands behind its entry.
+/// A fault of an image is reported after its entry.
 #[test]
 fn of_images(rt: HostRuntime) {
     let rows = &[

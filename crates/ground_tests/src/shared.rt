@@ -1,11 +1,10 @@
-//! Claims of tests. Each ends the test where it doesn't hold, and says of what: a text, an error, or a part of what is made.
-//!
-//! A test's proof grows with the square of the assertions that stand in it, so they stand here once.
+//! Assertions that all tests share; a failed one ends its test and says what is wrong. They stand here once, since a
+//! test's proof grows with the square of its assertions.
 
 use std::fmt::Debug;
 use std::process::Abort;
 
-/// What was found is what was expected.
+/// Asserts that `found` is `expected`; `of` names the tested thing in the failure's message.
 pub fn same<R: Abort, W: Copy + Debug, T: Copy + Debug + PartialEq>(
     rt: &R,
     of: W,
@@ -15,6 +14,6 @@ pub fn same<R: Abort, W: Copy + Debug, T: Copy + Debug + PartialEq>(
     assert_eq!(rt; found, expected, "of {of:?}");
 }
 
-/// One rule over one watchpoint: two samples in a row with a voltage below 2,400 request command sequence 7.
+/// A text with one rule over one watchpoint: two samples in a row below 2,400 request command sequence 7.
 pub const LOW_VOLTS: &str =
     "packet P = mid 0x0883 length 16; field V = P u16be at 12 stale 2; rule LOW active fails 2 sequence 7 event error 1001 \"low volts\" when V < 2400;";

@@ -1,4 +1,4 @@
-//! A text and its tokens.
+//! A rule text and its tokens.
 
 use crate::shared::same;
 use lc_model::{ApMode, CmpOp, FieldType};
@@ -27,7 +27,7 @@ const TOKENS: &[(usize, &[u8], TokenKind)] = &[
     (75, b"-5", TokenKind::Number(-5)),
 ];
 
-/// These are the text's tokens.
+/// Checks that these are the text's tokens.
 fn are_tokens<R: Abort>(rt: &R, tokens: &[Token]) {
     same(rt, "the tokens", tokens.len(), TOKENS.len());
     for (token, row) in tokens.iter().zip(TOKENS) {

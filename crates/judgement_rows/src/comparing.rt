@@ -1,4 +1,4 @@
-//! What is found of rules made at random, beside what trying all values shows.
+//! Compares the judgements of rules made at random with what trying all values shows.
 
 use crate::making::two_rules;
 use crate::random::Random;
@@ -7,7 +7,7 @@ use lc_model::{Cond, FieldType, Rules};
 use rule_judgement::{Field, Finding, PairJudgement, Relation, judge, judge_pairs};
 use std::alloc::{AllocError, Global};
 
-/// How many texts of two rules are made.
+/// The number of texts, of two rules each, that are made for each set of fields.
 const TEXTS: u32 = 1_000;
 
 /// Fields that share no bit.
@@ -38,10 +38,10 @@ const FREE: [Field; 4] = [
     },
 ];
 
-/// Their bits in a body.
+/// The bits of the free fields in a packet's body.
 const FREE_BITS: [u8; BODY] = [0x05, 0x83, 0x01, 0x01, 0x80, 0x01, 0, 0];
 
-/// Fields that do.
+/// Fields that share bits.
 const SHARED: [Field; 4] = [
     Field {
         kind: FieldType::U8,
@@ -69,24 +69,29 @@ const SHARED: [Field; 4] = [
     },
 ];
 
-/// Their bits in a body.
+/// The bits of the shared fields in a packet's body.
 const SHARED_BITS: [u8; BODY] = [0x9F, 0x03, 0x01, 0, 0, 0, 0, 0];
 
-/// What was counted.
+/// The number of findings and of relations of each kind.
 #[derive(Clone, Copy)]
 pub struct Counts {
+    /// Findings that a condition never has the wanted value.
     pub never: u32,
+    /// Findings with packets that give the condition the value.
     pub possible: u32,
+    /// Findings without an answer.
     pub unknown: u32,
-    /// Unknown where all values show that there is none.
+    /// Findings without an answer for a condition that no body gives the value.
     pub never_unknown: u32,
+    /// Pairs whose rules always have the same value.
     pub same: u32,
+    /// Pairs of which one rule's failure follows from the other's.
     pub follow: u32,
-    /// What is found is not so.
+    /// Findings and relations that trying all bodies disproves.
     pub wrong: u32,
 }
 
-/// The body of a packet.
+/// The body of the first packet: its bytes from 12 on, counted from 0; zeros if it is shorter.
 fn body_of(packets: &[Vec<u8>]) -> [u8; BODY] {
     let mut body = [0; BODY];
     if let Some(packet) = packets.first() {
@@ -110,12 +115,12 @@ impl Counts {
         }
     }
 
-    /// Counts one more of these, unless the number is full.
+    /// Adds 1 to a count, unless it is at its maximum.
     fn more(number: &mut u32) {
         *number = number.saturating_add(1);
     }
 
-    /// Counts what is found of whether a condition can be as wanted.
+    /// Counts a finding on whether the condition can have the value `wanted`; `can` says what trying all bodies shows.
     fn count(&mut self, finding: &Finding, cond: &Cond, wanted: bool, can: bool) {
         match finding {
             Finding::Never => {
@@ -139,7 +144,7 @@ impl Counts {
         }
     }
 
-    /// Counts how two rules go together; where all fields are free, whether what isn't told isn't so.
+    /// Counts the relation of two rules. If the fields are free, a relation that holds but isn't reported is wrong too.
     fn count_pair(&mut self, pairs: &[PairJudgement], tried: &Tried, free: bool) {
         let (first_follows, second_follows) = match pairs.first() {
             Some(pair) => (
@@ -163,7 +168,7 @@ impl Counts {
         }
     }
 
-    /// Counts what is found of two rules.
+    /// Counts the findings and the relation of one text's two rules.
     fn count_text(
         &mut self,
         alloc: Global,
@@ -186,7 +191,7 @@ impl Counts {
         Ok(())
     }
 
-    /// Counts over many texts.
+    /// Counts over all texts of one set of fields.
     fn count_all(
         alloc: Global,
         fields: &[Field],
@@ -202,12 +207,12 @@ impl Counts {
         Ok(counts)
     }
 
-    /// Over fields that share no bit.
+    /// Counts over 1,000 texts whose fields share no bit. The error is a lack of memory.
     pub fn of_free_fields(alloc: Global) -> Result<Counts, AllocError> {
         Counts::count_all(alloc, &FREE, &FREE_BITS, true)
     }
 
-    /// Over fields that do.
+    /// Counts over 1,000 texts whose fields share bits. The error is a lack of memory.
     pub fn of_shared_bits(alloc: Global) -> Result<Counts, AllocError> {
         Counts::count_all(alloc, &SHARED, &SHARED_BITS, false)
     }

@@ -1,5 +1,5 @@
-//! Rule texts judged as data, each file of `data/` a row, two of them as tables and one by schedules, too; and 4,000 conditions
-//! made at random, whose judgements are compared with what trying all values shows.
+//! Judges the rule texts of `data/`, two of them also as tables and one by schedules. It also makes 4,000 conditions at
+//! random and compares their judgements with what trying all values shows.
 #![tactic(auto)]
 
 mod comparing;
@@ -25,7 +25,7 @@ const TEXTS: [&str; 6] = [
     "shared_bits.rules",
 ];
 
-/// Prints what is found of a text.
+/// Prints the judgement of a text.
 fn show(rt: &HostRuntime, name: &str) -> anyhow::Result<()> {
     println!(rt; "{name}")?;
     let source = fs::read(rt, name)?;
@@ -33,7 +33,7 @@ fn show(rt: &HostRuntime, name: &str) -> anyhow::Result<()> {
     Ok(())
 }
 
-/// Prints what was counted.
+/// Prints the counts of one set of fields.
 fn show_counts(rt: &HostRuntime, what: &str, counts: Counts) -> anyhow::Result<()> {
     let Counts {
         never,
@@ -51,7 +51,7 @@ fn show_counts(rt: &HostRuntime, what: &str, counts: Counts) -> anyhow::Result<(
     Ok(())
 }
 
-/// Prints which rules of a text a schedule never samples.
+/// Prints the rules of a text that a schedule never samples.
 fn show_unsampled(rt: &HostRuntime, name: &str, schedule: &str) -> anyhow::Result<()> {
     println!(rt; "{name} by {schedule}")?;
     let source = fs::read(rt, name)?;
@@ -61,7 +61,7 @@ fn show_unsampled(rt: &HostRuntime, name: &str, schedule: &str) -> anyhow::Resul
     Ok(())
 }
 
-/// Prints what is found of the actionpoints that a text is compiled to.
+/// Prints the judgement of the tables to which a text compiles.
 fn show_tables(rt: &HostRuntime, name: &str) -> anyhow::Result<()> {
     println!(rt; "the tables of {name}")?;
     let source = fs::read(rt, name)?;
@@ -76,7 +76,7 @@ fn show_tables(rt: &HostRuntime, name: &str) -> anyhow::Result<()> {
     Ok(())
 }
 
-/// Prints that tables of two texts don't go together.
+/// Prints the refusal of tables from two different texts.
 fn show_apart(rt: &HostRuntime, name: &str, other: &str) -> anyhow::Result<()> {
     let (source, second) = (fs::read(rt, name)?, fs::read(rt, other)?);
     let tables = compile(rt.alloc(), &source)?;
@@ -94,7 +94,7 @@ fn show_apart(rt: &HostRuntime, name: &str, other: &str) -> anyhow::Result<()> {
     Ok(())
 }
 
-/// Prints what is found of the texts, and what was counted.
+/// Prints all judgements, and then the counts.
 fn show_all(rt: &HostRuntime) -> anyhow::Result<()> {
     for name in TEXTS {
         show(rt, name)?;
@@ -108,7 +108,7 @@ fn show_all(rt: &HostRuntime) -> anyhow::Result<()> {
     show_counts(rt, "shared bits", Counts::of_shared_bits(rt.alloc())?)
 }
 
-/// Without words, shows all; with the word `measure`, measures.
+/// Without a word prints all judgements; with any word, such as `measure`, prints times.
 fn main(rt: HostRuntime) -> anyhow::Result<()> {
     match env::args(&rt)?.nth(1) {
         Some(_) => measure(&rt),

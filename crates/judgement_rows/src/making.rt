@@ -1,4 +1,4 @@
-//! Rules made at random, over a few fields of a few bits.
+//! Rules made at random, over fields of a few bits.
 
 use crate::random::Random;
 use lc_model::{
@@ -8,22 +8,22 @@ use lc_model::{
 use rule_judgement::Field;
 use std::alloc::{AllocError, Global};
 
-/// The most operators above a comparison.
+/// The most operators above a comparison in a rule of any shape.
 const DEPTH: u32 = 3;
 
-/// The operators above the comparisons of a full rule: it has sixteen.
+/// The number of operators above each comparison of a full rule, which has sixteen comparisons.
 const FULL_DEPTH: u32 = 4;
 
-/// What conditions are made.
+/// The shape of the conditions that are made.
 #[derive(Clone, Copy, PartialEq, Eq)]
 enum Shape {
-    /// Any, up to a depth.
+    /// Any operators, down to a depth at most.
     Any,
-    /// Two operands down to the depth.
+    /// Operators with two operands, down to the depth everywhere.
     Full,
 }
 
-/// One of the fields; the last where there are fewer.
+/// One of the fields at random; a field of one bit if there are none.
 fn one_of(fields: &[Field], random: &mut Random) -> Field {
     let chosen = random.below(fields.len() as u64);
     for (i, field) in fields.iter().enumerate() {
@@ -39,7 +39,7 @@ fn one_of(fields: &[Field], random: &mut Random) -> Field {
     }
 }
 
-/// One of the six comparisons.
+/// One of the six comparisons at random.
 fn operator(random: &mut Random) -> CmpOp {
     match random.below(6) {
         0 => CmpOp::Less,
@@ -51,7 +51,7 @@ fn operator(random: &mut Random) -> CmpOp {
     }
 }
 
-/// A number near those of the field.
+/// A number within 1 of some bits of the field's mask, or of those bits less 2^width for a signed type.
 fn number(field: &Field, random: &mut Random) -> i64 {
     let bits = i64::from((random.below(0x1_0000) % 0x1_0000) as u32 & field.mask);
     let below = match field.kind {
@@ -64,7 +64,7 @@ fn number(field: &Field, random: &mut Random) -> i64 {
     value.saturating_add(near).saturating_sub(1)
 }
 
-/// A comparison.
+/// A comparison of a field with a number near its values.
 fn comparison(fields: &[Field], random: &mut Random) -> Cond {
     let field = one_of(fields, random);
     let op = operator(random);
@@ -80,7 +80,7 @@ fn comparison(fields: &[Field], random: &mut Random) -> Cond {
     })
 }
 
-/// A condition with at most so many operators above each comparison.
+/// A condition with at most `depth` operators above each comparison.
 fn condition(
     alloc: Global,
     fields: &[Field],
@@ -130,7 +130,7 @@ fn rule(
     })
 }
 
-/// Two rules with one sequence.
+/// Makes two rules over the fields that request the same sequence. The error is a lack of memory.
 pub fn two_rules(
     alloc: Global,
     fields: &[Field],
@@ -142,7 +142,8 @@ pub fn two_rules(
     Ok(Rules::from_vec(rules))
 }
 
-/// A table of 176 rules of sixteen comparisons each, of one sequence or of one each.
+/// Makes a table of 176 rules with sixteen comparisons each, which request one sequence or a sequence each. The
+/// error is a lack of memory.
 pub fn full_table(
     alloc: Global,
     fields: &[Field],

@@ -1,4 +1,4 @@
-//! How long it takes to judge full tables.
+//! Measures how long it takes to judge full tables.
 
 use crate::making::full_table;
 use crate::random::Random;
@@ -7,7 +7,7 @@ use rule_judgement::{Field, judge, judge_pairs, spare_comparisons};
 use std::alloc::{AllocError, Global};
 use std::time::Instant;
 
-/// So many fields of 16 bits, one behind the other.
+/// A number of fields of 16 bits, one after the other from byte 12 on.
 fn fields(alloc: Global, count: u16) -> Result<Vec<Field>, AllocError> {
     let mut fields = Vec::new(alloc);
     for i in 0..count {
@@ -21,7 +21,7 @@ fn fields(alloc: Global, count: u16) -> Result<Vec<Field>, AllocError> {
     Ok(fields)
 }
 
-/// Prints how long a table over so many fields takes: its rules, its pairs, and which comparisons they can do without.
+/// Prints the times for a full table over `count` fields: to judge its rules, its pairs and its spare comparisons.
 fn measure_table(rt: &HostRuntime, count: u16) -> anyhow::Result<()> {
     let alloc = rt.alloc();
     let fields = fields(alloc, count)?;
@@ -43,7 +43,7 @@ fn measure_table(rt: &HostRuntime, count: u16) -> anyhow::Result<()> {
     Ok(())
 }
 
-/// Prints how long the pairs with a common field take of a table in which each rule has its own sequence.
+/// Prints the time for the pairs with a common field, in a full table whose rules have a sequence each.
 fn measure_pairs(rt: &HostRuntime, count: u16) -> anyhow::Result<()> {
     let alloc = rt.alloc();
     let fields = fields(alloc, count)?;
@@ -55,7 +55,8 @@ fn measure_pairs(rt: &HostRuntime, count: u16) -> anyhow::Result<()> {
     Ok(())
 }
 
-/// Measures tables over many fields, over few, and over one.
+/// Prints the times, in microseconds, for tables over 176, 16, 4 fields and one. The error is a lack of memory or of
+/// output.
 pub fn measure(rt: &HostRuntime) -> anyhow::Result<()> {
     for count in [176, 16, 4, 1] {
         measure_table(rt, count)?;

@@ -1,18 +1,18 @@
-//! Numbers that look random, the same in each run.
+//! Numbers that look random and are the same in each run.
 
-/// Where it stands.
+/// A generator of such numbers: a linear congruential one, of 64 bits.
 #[derive(Clone, Copy)]
 pub struct Random {
     state: u64,
 }
 
 impl Random {
-    /// Begins from a seed.
+    /// Creates a generator from a seed.
     pub fn from_seed(seed: u64) -> Random {
         Random { state: seed }
     }
 
-    /// The next number below this one; 0 where there is none.
+    /// Returns the next number below `end`, or 0 if `end` is 0.
     pub fn below(&mut self, end: u64) -> u64 {
         self.state = self
             .state

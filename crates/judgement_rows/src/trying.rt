@@ -1,11 +1,11 @@
-//! Conditions tried with all values: what they are is worked out here once more, by other code than that which is tested.
+//! Tries conditions with all values of their fields, by code that shares nothing with the judgement that is tested.
 
 use lc_model::{CmpOp, Cond, FieldType, Term};
 
-/// The bytes of a packet that fields are in, from its twelfth byte on.
+/// The number of bytes in a packet's body, which has all fields: bytes 12 to 19, counted from 0.
 pub const BODY: usize = 8;
 
-/// The byte at a place of the body.
+/// The byte at this place of the body; 0 after its end.
 fn byte(body: &[u8; BODY], at: u32) -> u8 {
     match body.get(at as usize) {
         Some(byte) => *byte,
@@ -13,7 +13,7 @@ fn byte(body: &[u8; BODY], at: u32) -> u8 {
     }
 }
 
-/// The value of a term's field.
+/// The value of a term's field, with its mask and sign.
 fn value(term: &Term, body: &[u8; BODY]) -> i64 {
     let at = term.offset.saturating_sub(12).min(100);
     let (here, next) = (byte(body, at), byte(body, at + 1));
@@ -30,7 +30,7 @@ fn value(term: &Term, body: &[u8; BODY]) -> i64 {
     }
 }
 
-/// Whether the condition is true of a packet's body.
+/// Whether the condition is true for a packet with this body.
 pub fn is_true(cond: &Cond, body: &[u8; BODY]) -> bool {
     match cond {
         Cond::Watch(term) => {
@@ -51,7 +51,7 @@ pub fn is_true(cond: &Cond, body: &[u8; BODY]) -> bool {
     }
 }
 
-/// The next body within these bits; none behind the last.
+/// The next body with no bits but these; `None` after the last.
 fn next_body(body: &[u8; BODY], bits: &[u8; BODY]) -> Option<[u8; BODY]> {
     let mut next = *body;
     for i in 0..BODY {
@@ -64,18 +64,24 @@ fn next_body(body: &[u8; BODY], bits: &[u8; BODY]) -> Option<[u8; BODY]> {
     None
 }
 
-/// What two conditions are of all bodies.
+/// The values that two conditions have over all bodies.
 #[derive(Clone, Copy)]
 pub struct Tried {
+    /// A body makes the first condition true.
     pub first_true: bool,
+    /// A body makes the first condition false.
     pub first_false: bool,
+    /// A body makes the second condition true.
     pub second_true: bool,
+    /// A body makes the second condition false.
     pub second_false: bool,
+    /// A body makes the first condition true and the second false.
     pub first_alone: bool,
+    /// A body makes the second condition true and the first false.
     pub second_alone: bool,
 }
 
-/// Tries two conditions with all bodies within these bits.
+/// Tries two conditions with all bodies that have no bits but these, up to 65,536 bodies.
 pub fn try_all(first: &Cond, second: &Cond, bits: &[u8; BODY]) -> Tried {
     let mut tried = Tried {
         first_true: false,

@@ -7,11 +7,11 @@ use Rattle.lc_model.specs.Tables.Image.{ImageFault, fault_of}
 use Rattle.lc_model.specs.Tables.InForce.{layouts}
 use Rattle.needlemauve_board.specs.declared.verdict.Verdict.{Verdict}
 
--- the table with this number
+-- the kind of the table with this number
 abbrev pub kind_of : ℕ → Option Kind
 kind_of number = if number == 1 then Some Wdt else if number == 2 then Some Adt else None
 
--- a verdict that names no entry
+-- a verdict without an entry
 abbrev pub of_all : ℕ → Verdict
 of_all code = record { code = code; entry = 65_535 }
 
@@ -23,7 +23,7 @@ verdict_of_fault (Some fault) = record { code = fault.code; entry = fault.entry 
 abbrev pub verdict_of_image : Kind → List ℕ → Verdict
 verdict_of_image kind image = verdict_of_fault (fault_of layouts kind image)
 
--- what does not open has the fault of its headers
+-- a file that does not open has the fault of its headers
 abbrev pub verdict_of_opened : Kind → Result TableFile ℕ → Verdict
 verdict_of_opened kind (Ok file) = verdict_of_image kind file.image
 verdict_of_opened kind (Err code) = of_all code
@@ -31,7 +31,7 @@ verdict_of_opened kind (Err code) = of_all code
 abbrev pub verdict : Kind → List ℕ → Verdict
 verdict kind file = verdict_of_opened kind (opened file)
 
--- no table has the number
+-- the code for a table number that no table has
 abbrev pub no_table : ℕ
 no_table = 251
 

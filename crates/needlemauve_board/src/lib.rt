@@ -1,4 +1,4 @@
-//! The library for C on board: table files are judged, without memory asked for.
+//! The library for C on board: it judges table files and needs no memory.
 #![tactic(auto)]
 
 mod verdict;

@@ -1,4 +1,4 @@
-//! A table file is opened, and its image judged.
+//! Opens a table file and judges its image.
 
 ghost use Rattle.std.specs.Prelude.{◌≡◌};
 ghost use Rattle.needlemauve_board.specs.Verdict.{kind_of, verdict, verdict_of_image, verdict_of_number};
@@ -7,14 +7,15 @@ use lc_model::Kind;
 use table_file::open;
 use table_validator::{WHOLE_IMAGE, validate};
 
-/// No table has this number.
+/// The code for a table number that no table has.
 const NO_TABLE: u32 = 251;
 
-/// What is told of a file: 0, or the number of its one fault; and the entry of the image that is at fault, from 0, or 65,535
-/// where none is.
+/// The verdict on a table file, as C sees it (`include/needlemauve.h`).
 #[repr(C)]
 #[derive(Clone, Copy, Debug, PartialEq, Eq)]
+/// 0 if the file is sound, else the number of its one fault: 51 to 56, 61 to 81, or 251.
 pub struct Verdict {
+    /// The image's entry that has the fault, counted from 0, or 65,535 if no entry has one.
     pub code: u32,
     pub entry: u32,
 }
@@ -30,7 +31,7 @@ impl Verdict {
     }
 }
 
-/// The verdict on an image.
+/// Judges an image.
 fn judge_image(kind: Kind, image: &[u8]) -> Verdict
     ensures { result ≡ verdict_of_image kind image.now }
 {
@@ -43,7 +44,7 @@ fn judge_image(kind: Kind, image: &[u8]) -> Verdict
     }
 }
 
-/// The verdict on a file.
+/// Judges a file.
 fn judge(kind: Kind, file: &[u8]) -> Verdict
     ensures { result ≡ verdict kind file.now }
 {
@@ -53,7 +54,7 @@ fn judge(kind: Kind, file: &[u8]) -> Verdict
     }
 }
 
-/// The table with this number: 1 has watchpoints, 2 actionpoints.
+/// The kind of the table with this number: 1 is watchpoints, 2 actionpoints.
 fn kind_numbered(number: u32) -> Option<Kind>
     ensures { result ≡ kind_of number }
 {
@@ -64,8 +65,9 @@ fn kind_numbered(number: u32) -> Option<Kind>
     }
 }
 
-/// Judges a table file as on board, and answers the verdict's number: 0 where the file opens and its image is sound, 51 to 56
-/// for the headers, 61 to 81 for the image, and 251 where no table has this number. It asks for no memory.
+/// Judges a table file as the host does on board, writes the verdict to `told` and returns its code. 0: sound; 51 to
+/// 56: its headers; 61 to 81: its image; 251: `kind` is neither 1 (watchpoints) nor 2 (actionpoints). It allocates
+/// nothing.
 #[unsafe(no_mangle)]
 pub extern "C" fn needlemauve_validate(kind: u32, file: &[u8], told: &mut Verdict) -> u32
     ensures told { told.new ≡ verdict_of_number kind file.now }

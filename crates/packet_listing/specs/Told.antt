@@ -1,5 +1,5 @@
--- What the packets say that a host writes: events and housekeeping as in the cFE and Limit Checker user's guides, and requests for
--- command sequences. Which of them is read is this project's own.
+-- The content of the packets that a host writes: events and housekeeping as in the cFE and Limit Checker user's
+-- guides, and requests for command sequences. Which packets are read is this project's own.
 use Rattle.std.specs.Prelude.{ℕ, ◌&&◌, ◌==◌, Bool, not, List, drop, length, nat_le, nat_lt, slice_range, Option, Some, None, if◌then◌else◌}
 use Rattle.lc_model.specs.declared.mode.LcMode.{LcMode}
 use Rattle.lc_model.specs.declared.mode.LcMode.TheVariants.{Active, Passive, Disabled}
@@ -13,14 +13,14 @@ use Rattle.packet_listing.specs.declared.sent.Sent.{Sent}
 use Rattle.packet_listing.specs.declared.sent.Sent.TheVariants as held
 use Rattle.packet_listing.specs.Words.{event_numbered}
 
--- a request for the command sequence of this number; an event with its moment, its sender, its number, its type and its text; how
--- the Limit Checker stands: its mode, how many rules there are, and a byte for each rule and behind them
+-- A request for the command sequence with this number; an event with its moment, sender, id, type and text; the Limit
+-- Checker's state: its mode, its number of rules, and the bytes from 16 on, one for each rule.
 pub data Told : Type 0 where
   Request : (sequence : ℕ) → Told
   Event : (moment : Moment) (sender : List ℕ) (id : ℕ) (kind : EventKind) (text : List ℕ) → Told
   Housekeeping : (mode : LcMode) (count : ℕ) (rules : List ℕ) → Told
 
--- a packet as it is held
+-- the program's event as content of a packet
 abbrev pub event_of : HeldEvent → Told
 event_of e = Event e.moment e.sender.now e.id e.kind e.text.now
 
@@ -29,7 +29,7 @@ told_of (held.Request sequence) = Request sequence
 told_of (held.Event event) = event_of event
 told_of (held.Housekeeping mode count rules) = Housekeeping mode count rules.now
 
--- the bytes of a request, of an event, and of housekeeping before the rules'
+-- the length of a request, of an event, and of housekeeping before the bytes of the rules
 abbrev pub request_size : ℕ
 request_size = 12
 
@@ -41,7 +41,7 @@ before_rules = 16
 
 -- ---- an event
 
--- an event of this type, where there is such a type
+-- an event of this type, if the type is known
 abbrev pub event_by : List ℕ → Option EventKind → Option Told
 event_by packet None = None
 event_by packet (Some kind) =
@@ -63,7 +63,7 @@ housekeeping_by packet (Some mode) = Some (Housekeeping mode (u16_at packet 14) 
 
 -- ---- any packet
 
--- what a packet says, where it is one of these
+-- the content of a packet, if it is one of these
 abbrev pub told_in : List ℕ → Option Told
 told_in packet =
     if nat_lt (length packet) request_size then None

@@ -1,4 +1,4 @@
--- The words for numbers in packets, and how a time is said. This project's own.
+-- The words for numbers in packets, and the text of a time. This project's own.
 use Rattle.std.specs.Prelude.{ℕ, List, [], ◌++◌, ◌*◌, ◌/◌, ◌==◌, ◌^◌, ◌-◌, false, codes, Option, Some, None, if◌then◌else◌}
 use Rattle.std.specs.Fmt.{decimal, digits, format_spec, padded_integral}
 use Rattle.lc_model.specs.declared.rule.EventKind.{EventKind}
@@ -10,14 +10,14 @@ event_numbered n =
     if n == 1 then Some Debug else if n == 2 then Some Information else if n == 3 then Some Error
     else if n == 4 then Some Critical else None
 
--- its word
+-- the word for the type
 abbrev pub event_word : EventKind → List ℕ
 event_word Debug = codes "debug"
 event_word Information = codes "information"
 event_word Error = codes "error"
 event_word Critical = codes "critical"
 
--- the word of a number, whether it is that of a type or not
+-- the word for a number, or `type` and the number if no type has it
 abbrev pub word_by : ℕ → Option EventKind → List ℕ
 word_by n None = codes "type " ++ decimal n
 word_by n (Some kind) = event_word kind
@@ -39,6 +39,6 @@ result_word n = if n == 0 then codes "none" else (if n == 1 then codes "pass" el
 abbrev pub five_digits : ℕ → List ℕ
 five_digits n = padded_integral (format_spec 32 0 4 5 (2 ^ 64 - 1)) false [] (digits 10 false n)
 
--- a time in seconds, with its part of a second, of which there are 65,536, rounded down to five digits
+-- a time: seconds, and parts of a second from 65,536ths, rounded down to five digits
 abbrev pub time_text : ℕ → ℕ → List ℕ
 time_text seconds part = decimal seconds ++ (codes "." ++ five_digits (part * 100000 / 65536))

@@ -1,4 +1,4 @@
-//! Event packets (cFE user's guide, event services), 168 bytes.
+//! Event packets (cFE user's guide, event services): 168 bytes.
 
 ghost use Rattle.std.specs.Prelude.{◌≡◌, length, Some};
 ghost use Rattle.packet_listing.specs.Words.{event_numbered, event_word, type_word};
@@ -7,10 +7,10 @@ use crate::text::{Field, time_of};
 use lc_model::{EventKind, u16_at};
 use std::fmt::{self, Display, Formatter, Write};
 
-/// The bytes of an event packet.
+/// The length of an event packet in bytes.
 pub const EVENT_SIZE: usize = 168;
 
-/// Writes time, sender, number, type and text.
+/// Writes an event packet's time, sender, event id, type and text on one line.
 pub fn say_event<W: Write>(packet: &[u8], f: &mut Formatter<W>) -> fmt::Result
     requires { length packet.now ≡ EVENT_SIZE }
 {
@@ -22,7 +22,7 @@ pub fn say_event<W: Write>(packet: &[u8], f: &mut Formatter<W>) -> fmt::Result
     write!(f, "{time} {sender} {id} {kind}: {text}")
 }
 
-/// The type of an event, by its number.
+/// The event type with this number, 1 to 4, or `None` for other numbers.
 pub(crate) fn event_numbered(number: u16) -> Option<EventKind>
     ensures { result ≡ event_numbered number }
 {
@@ -35,7 +35,7 @@ pub(crate) fn event_numbered(number: u16) -> Option<EventKind>
     }
 }
 
-/// The word of an event's type.
+/// Returns the word for an event's type: `debug`, `information`, `error` or `critical`.
 pub fn event_word(kind: EventKind) -> &'static str
     ensures { result.now ≡ event_word kind }
 {
@@ -47,7 +47,7 @@ pub fn event_word(kind: EventKind) -> &'static str
     }
 }
 
-/// An event's type by its number.
+/// An event's type as a number of any value; it displays as its word, or as `type` and the number.
 #[derive(Clone, Copy)]
 struct EventType(u16);
 

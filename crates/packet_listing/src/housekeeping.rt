@@ -1,4 +1,4 @@
-//! Housekeeping packets of the Limit Checker, 192 bytes.
+//! Housekeeping packets of the Limit Checker: 192 bytes.
 
 ghost use Rattle.std.specs.Prelude.{◌≡◌, length, Some};
 ghost use Rattle.packet_listing.specs.Words.{result_word, state_word};
@@ -7,10 +7,10 @@ use crate::text::time_of;
 use lc_model::u16_at;
 use std::fmt::{self, Display, Formatter, Write};
 
-/// The bytes of a housekeeping packet.
+/// The length of a housekeeping packet in bytes.
 pub const HOUSEKEEPING_SIZE: usize = 192;
 
-/// Writes the time, the mode, how many rules there are, and of each its number, its state and its last result.
+/// Writes the time, the mode and the number of rules, and then each rule's number, state and last result.
 pub fn say_housekeeping<W: Write>(packet: &[u8], f: &mut Formatter<W>) -> fmt::Result
     requires { length packet.now ≡ HOUSEKEEPING_SIZE }
 {
@@ -28,7 +28,7 @@ pub fn say_housekeeping<W: Write>(packet: &[u8], f: &mut Formatter<W>) -> fmt::R
     Ok(())
 }
 
-/// A mode or a state by its number.
+/// A mode, or a rule's state, as a number of any value; it displays as its word, or as `state` and the number.
 #[derive(Clone, Copy)]
 struct State(u16);
 
@@ -46,7 +46,7 @@ impl Display for State {
     }
 }
 
-/// A result by its number.
+/// A rule's result as a number of any value; it displays as its word, or as `result` and the number.
 #[derive(Clone, Copy)]
 struct Outcome(u8);
 

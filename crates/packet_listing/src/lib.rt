@@ -1,4 +1,4 @@
-//! The packets that a run writes, as text: a line each.
+//! Lists the packets that a host writes, one line each, and reads them.
 #![tactic(auto)]
 
 mod event;

@@ -1,4 +1,4 @@
-//! A line for a packet.
+//! The line that lists one packet.
 
 ghost use Rattle.std.specs.Prelude.{◌≡◌, length};
 
@@ -8,17 +8,19 @@ use lc_model::packet::{REQUEST_SIZE, message_id};
 use lc_model::{mids, u16_at};
 use std::fmt::{self, Display, Formatter, Write};
 
-/// The counts of packets are below this number; the two bits above it say that a packet is whole.
+/// Sequence counts are below this number; the two bits above them are the sequence flags (CCSDS 133.0-B).
 const COUNT_END: u16 = 16_384;
 
-/// A packet with its number, as the line that lists it, without the line's end.
+/// A packet with its number; it displays as its line without the line end (docs/TOOLS.md, this project's own).
 #[derive(Clone, Copy)]
 pub struct Line<'a> {
+    /// The packet's number, counted from 1 in `list_packets`.
     pub number: u64,
+    /// The packet's bytes, headers included; any bytes are accepted.
     pub packet: &'a [u8],
 }
 
-/// Writes the number of the sequence that is requested, and of the request. It has no time of its own.
+/// Writes a request's command sequence and its sequence count. A request has no time.
 fn say_request<W: Write>(packet: &[u8], f: &mut Formatter<W>) -> fmt::Result
     requires { length packet.now ≡ REQUEST_SIZE }
 {
@@ -27,7 +29,7 @@ fn say_request<W: Write>(packet: &[u8], f: &mut Formatter<W>) -> fmt::Result
     write!(f, "- sequence request {sequence}, count {count}")
 }
 
-/// Writes what a packet is that the host doesn't write, or not with this length.
+/// Writes the message id and length of a packet that no host writes in this form.
 fn say_other<W: Write>(packet: &[u8], f: &mut Formatter<W>) -> fmt::Result {
     let size = packet.len();
     if size < 2 {

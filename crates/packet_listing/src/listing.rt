@@ -1,10 +1,11 @@
-//! All packets of a file.
+//! Lists all packets of a file.
 
 use crate::line::Line;
 use lc_model::packet::first_packet;
 use std::io::{self, Write};
 
-/// Writes a line for each packet, counted from 1, and a last one where bytes are left that are no whole packet.
+/// Writes one line for each packet, counted from 1, and a last line if bytes are left that are no whole packet.
+/// The error is the writer's.
 pub fn list_packets<W: Write>(packets: &[u8], out: &mut W) -> io::Result<()> {
     let mut rest = packets;
     let mut number = 0u64;

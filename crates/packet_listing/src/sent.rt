@@ -1,4 +1,4 @@
-//! The packets that a host writes.
+//! Reads the packets that a host writes.
 
 ghost use Rattle.std.specs.Prelude.{◌≡◌, ◌==◌, ◌≤◌, length, option_map};
 ghost use Rattle.std.specs.List.{position_or_len};
@@ -10,26 +10,32 @@ use crate::event::{EVENT_SIZE, event_numbered};
 use lc_model::packet::{REQUEST_SIZE, message_id};
 use lc_model::{EventKind, LcMode, Moment, mids, u16_at, u32_at};
 
-/// The bytes of a housekeeping packet before the rules'.
+/// The number of bytes in a housekeeping packet before those of the rules.
 const BEFORE_RULES: usize = 16;
 
-/// An event.
+/// An event packet's content (cFE user's guide, event services; its layout here is this project's own).
 #[derive(Clone, Copy)]
 pub struct Event<'a> {
+    /// The time of the record that led to the event.
     pub moment: Moment,
+    /// The sender's name, up to 20 bytes, without the zeros after it.
     pub sender: &'a [u8],
+    /// The event id.
     pub id: u16,
+    /// The event's type.
     pub kind: EventKind,
+    /// The event's text, up to 122 bytes, without the zeros after it.
     pub text: &'a [u8],
 }
 
-/// What a packet is.
+/// The content of a packet that a host writes.
 #[derive(Clone, Copy)]
 pub enum Sent<'a> {
-    /// A request for the command sequence of this number.
+    /// A request for the command sequence with this number.
     Request(u16),
+    /// An event.
     Event(Event<'a>),
-    /// How the Limit Checker stands: its mode, how many rules there are, and a byte for each rule and behind them.
+    /// The Limit Checker's state: its mode, the number of its rules, and the bytes from 16 on, one for each rule.
     Housekeeping {
         mode: LcMode,
         count: u16,
@@ -37,21 +43,21 @@ pub enum Sent<'a> {
     },
 }
 
-/// How many bytes stand before the first zero, or all.
+/// The number of bytes before the first zero byte, or of all bytes if there is none.
 fn text_length(field: &[u8]) -> usize
     ensures { result ≡ position_or_len (λ b. b == 0) field.now }
 {
     field.iter().take_while(|byte| **byte != 0).count()
 }
 
-/// The bytes before the first zero.
+/// The bytes before the first zero byte.
 fn before_zero(field: &[u8]) -> &[u8]
     ensures { result.now ≡ name_in field.now }
 {
     &field[..text_length(field)]
 }
 
-/// A mode of the Limit Checker, by its number.
+/// The Limit Checker's mode with this number, or `None` for other numbers.
 fn mode_of(number: u16) -> Option<LcMode>
     ensures { result ≡ mode_numbered number }
 {
@@ -63,7 +69,7 @@ fn mode_of(number: u16) -> Option<LcMode>
     }
 }
 
-/// The event in an event packet.
+/// The event in an event packet; `None` for another length or an unknown type.
 fn event_in(packet: &[u8]) -> Option<Event<'_>>
     ensures { option_map event_of result ≡ event_told packet.now }
 {
@@ -82,7 +88,7 @@ fn event_in(packet: &[u8]) -> Option<Event<'_>>
     })
 }
 
-/// What a housekeeping packet tells.
+/// The content of a housekeeping packet; `None` for an unknown mode.
 fn housekeeping_in(packet: &[u8]) -> Option<Sent<'_>>
     requires { before_rules ≤ length packet.now }
     ensures { option_map told_of result ≡
@@ -96,7 +102,8 @@ fn housekeeping_in(packet: &[u8]) -> Option<Sent<'_>>
     })
 }
 
-/// What a packet is; nothing where it is none of these.
+/// Reads a packet by its message id. `None` for another message id, a length that doesn't fit, or an unknown mode or
+/// event type.
 pub fn read_packet(packet: &[u8]) -> Option<Sent<'_>>
     ensures { option_map told_of result ≡ told_in packet.now }
 {

@@ -1,4 +1,4 @@
-//! Times and names of packets, as text.
+//! Times and names of packets as text.
 
 ghost use Rattle.std.specs.Prelude.{◌≡◌, ◌≤◌, length, Some};
 ghost use Rattle.lc_model.specs.Bytes.{u16_at, u32_at};
@@ -7,19 +7,19 @@ ghost use Rattle.packet_listing.specs.Words.{time_text};
 use lc_model::{Moment, u16_at, u32_at};
 use std::fmt::{self, Display, Formatter, Write};
 
-/// What stands for a byte that is no printable ASCII character.
+/// The character that is shown for a byte that is no printable ASCII character.
 const UNPRINTABLE: char = '.';
 
-/// The bytes of telemetry's headers, whose last six are its time.
+/// The length in bytes of telemetry's headers; the last six bytes are its time.
 const TELEMETRY_HEADERS: usize = 12;
 
-/// The parts of a second that a time counts, in its last two bytes.
+/// The number of parts of a second that the last two bytes of a time count.
 const SUBSECONDS: u32 = 65_536;
 
-/// The parts of a second that are said. Times that differ are said differently.
+/// The number of parts of a second that are shown. Times that differ are shown differently.
 const SAID: u32 = 100_000;
 
-/// The time of telemetry: seconds, and the second's part in five digits, rounded down.
+/// A time of telemetry; it displays as seconds and five decimal digits of the second, rounded down.
 #[derive(Clone, Copy)]
 pub struct Time {
     seconds: u32,
@@ -27,7 +27,7 @@ pub struct Time {
 }
 
 impl Time {
-    /// The time of a record.
+    /// Returns the time of a moment.
     pub fn at(moment: Moment) -> Time
         ensures { (result.seconds ≡ moment.seconds) × (result.subseconds ≡ moment.subseconds) }
     {
@@ -38,7 +38,7 @@ impl Time {
     }
 }
 
-/// The time of telemetry that has its headers.
+/// Returns the time in a telemetry packet: seconds at byte 6, parts of a second at byte 10, both high byte first.
 pub fn time_of(packet: &[u8]) -> Time
     requires { TELEMETRY_HEADERS ≤ length packet.now }
     ensures { (result.seconds ≡ u32_at packet.now 6) × (result.subseconds ≡ u16_at packet.now 10) }
@@ -58,7 +58,7 @@ impl Display for Time {
     }
 }
 
-/// The characters of a field before its first zero byte.
+/// A field of text; it displays up to its first zero byte, with `.` for each byte that isn't printable ASCII.
 #[derive(Clone, Copy)]
 pub struct Field<'a>(pub &'a [u8]);
 

@@ -8,7 +8,7 @@ use Rattle.lc_model.specs.Text.Token.{number_of_digits, at_most_32_bits}
 abbrev pub is_digit_in : ℕ → ℕ → Bool
 is_digit_in base = if base == 16 then is_ascii_hexdigit else is_ascii_digit
 
--- one or more digits write this number, where it is below 2 ^ 32
+-- one or more digits write this number, if it is below 2 ^ 32
 abbrev pub value_in_base : ℕ → List ℕ → Option ℕ
 value_in_base base digits =
     if nat_lt 0 (length digits) && list_all (is_digit_in base) digits then at_most_32_bits (Some (number_of_digits base digits))

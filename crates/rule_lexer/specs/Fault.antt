@@ -4,7 +4,7 @@ use Rattle.lc_model.specs.Text.Token.{longest_text, HasBadToken, begins_nothing,
 use Rattle.rule_lexer.specs.declared.error.LexError.{LexError}
 use Rattle.rule_lexer.specs.declared.error.LexError.TheVariants.{BadByte, BadNumber, NameTooLong, BadString, TextTooLong, Memory}
 
--- the number of the fault; want of memory has none
+-- the number of the fault; an error for lack of memory has no number
 abbrev pub error_code : LexError → Option ℕ
 error_code (BadByte at) = Some begins_nothing
 error_code (BadNumber at) = Some not_a_number
@@ -17,7 +17,7 @@ error_code Memory = None
 abbrev HasFault : List ℕ → (code at : ℕ) → Type 0
 HasFault text code at = (length text ≤ longest_text) × HasBadToken text code at
 
--- this is the text's fault
+-- this error is the text's fault
 abbrev pub IsFault : List ℕ → LexError → Type 0
 IsFault text (BadByte at) = HasFault text begins_nothing at
 IsFault text (BadNumber at) = HasFault text not_a_number at
@@ -26,10 +26,10 @@ IsFault text (BadString at) = HasFault text not_a_string at
 IsFault text TextTooLong = longest_text < length text
 IsFault text Memory = ⊥
 
--- want of memory, or the text's fault
+-- the error is a lack of memory, or the text's fault
 abbrev pub IsFaultUnlessMemory : List ℕ → LexError → Type 0
 IsFaultUnlessMemory text error = (error ≡ Memory) ⊎ IsFault text error
 
--- this error, or want of memory
+-- the error is the expected one, or a lack of memory
 abbrev pub IsUnlessMemory : LexError → LexError → Type 0
 IsUnlessMemory expected error = (error ≡ Memory) ⊎ (error ≡ expected)

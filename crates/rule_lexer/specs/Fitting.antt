@@ -1,4 +1,4 @@
--- Which kinds of tokens are of which classes of the grammar. This project's own.
+-- Which kinds of tokens belong to which classes of the grammar. This project's own.
 use Rattle.std.specs.Prelude.{ℕ, Bool, true, false, ◌&&◌, IsTrue, List, Option, Some, None, codes, bytes_eq}
 use Rattle.std.specs.Option.{option_map_or}
 use Rattle.lc_model.specs.declared.field.FieldType.TheVariants.{U8, I8, U16Be, U16Le, I16Be, I16Le, U32Be, U32Le, I32Be, I32Le}
@@ -11,7 +11,7 @@ use Rattle.lc_model.specs.Text.Class.{Class, is_reserved}
 use Rattle.rule_lexer.specs.declared.token.TokenKind.{TokenKind}
 use Rattle.rule_lexer.specs.declared.token.TokenKind.TheVariants.{Packet, Field, Rule, Mid, Length, At, Mask, Stale, Fails, Sequence, Event, Report, When, Or, Xor, And, Not, FieldKind, State, Level, Name, Number, Text, Equals, Semicolon, Open, Close, Compare}
 
--- the one text of a kind; names, numbers and strings have many
+-- the one text of a kind; none for names, numbers and strings, which have many
 abbrev pub spelling : TokenKind → Option (List ℕ)
 spelling Packet = Some (codes "packet")
 spelling Field = Some (codes "field")
@@ -62,7 +62,7 @@ spelling (Compare Equal) = Some (codes "==")
 spelling (Compare GreaterOrEqual) = Some (codes ">=")
 spelling (Compare Greater) = Some (codes ">")
 
--- whether the tokens of the kind are of the class
+-- whether tokens of this kind belong to the class
 abbrev pub kind_fits : Class → TokenKind → Bool
 kind_fits class.Item Packet = true
 kind_fits class.Item Field = true
@@ -89,7 +89,7 @@ kind_fits class.Compare kind = false
 kind_fits (class.Word letters) kind = option_map_or (λ text. is_word text && bytes_eq letters text) (spelling kind) false
 kind_fits (class.Sign letters) kind = option_map_or (λ text. is_sign text && bytes_eq letters text) (spelling kind) false
 
--- the words that the grammar wants are reserved
+-- the words that the grammar needs are reserved
 abbrev pub IsOfGrammar : Class → Type 0
 IsOfGrammar (class.Word letters) = IsTrue (is_reserved letters)
 IsOfGrammar other = Unit {0}

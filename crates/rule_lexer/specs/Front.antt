@@ -7,12 +7,12 @@ use Rattle.rule_lexer.specs.declared.error.LexError.TheVariants.{BadByte, BadNum
 use Rattle.rule_lexer.specs.declared.lexeme.Lexeme.{Lexeme}
 use Rattle.rule_lexer.specs.Token.{IsKind}
 
--- the text has a first byte, and it passes
+-- the text has a first byte, and that byte passes the test
 abbrev pub begins : (ℕ → Bool) → List ℕ → Bool
 begins test [] = false
 begins test (c ∷ cs) = test c
 
--- a digit stands first, or behind a `-` that stands first
+-- a digit stands first, or directly after a `-` that stands first
 abbrev pub begins_numeral : List ℕ → Bool
 begins_numeral text = begins is_ascii_digit (magnitude_text text)
 
@@ -36,24 +36,24 @@ is_line_byte c = not (c == line_feed)
 abbrev pub is_gap_byte : ℕ → Bool
 is_gap_byte c = is_blank c || is_number_sign c
 
--- the first bytes of the text, this many, are such, and nothing more of the text can be taken in
+-- the first `count` bytes of the text pass the test, and no further bytes of the text extend them to a longer lexeme
 pub record IsFront (test : List ℕ → Bool) (text : List ℕ) (count : ℕ) : Type 0 where
   pub within : count ≤ length text
   pub passes : IsTrue (test (take count text))
   pub longest : IsLongest (take count text) (drop count text)
 
--- the first bytes of the text, this many, are blanks and comments, and neither stands behind them
+-- the first `count` bytes of the text are blanks and comments, and no blank or comment follows them
 pub record IsGap (text : List ℕ) (count : ℕ) : Type 0 where
   pub within : count ≤ length text
   pub cuts : (at : ℕ) → Cuts at text [] (at + count) (drop count text)
   pub stops : begins is_gap_byte (drop count text) ≡ false
 
--- the lexeme is a token in front, of its kind
+-- the lexeme is a token at the front of the text, with its kind
 pub record IsFrontToken (text : List ℕ) (lexeme : Lexeme) : Type 0 where
   pub front : IsFront is_token text lexeme.length
   pub kind : IsKind lexeme.kind (take lexeme.length text)
 
--- the lexeme is a sign in front, of its kind
+-- the lexeme is a sign at the front of the text, with its kind
 pub record IsFrontSign (text : List ℕ) (lexeme : Lexeme) : Type 0 where
   pub front : IsFront is_sign text lexeme.length
   pub kind : IsKind lexeme.kind (take lexeme.length text)
@@ -62,7 +62,7 @@ pub record IsFrontSign (text : List ℕ) (lexeme : Lexeme) : Type 0 where
 abbrev pub LacksSign : List ℕ → Type 0
 LacksSign text = (front rest : List ℕ) → front ++ rest ≡ text → IsFalse (is_sign front)
 
--- what stands in front is this fault, whose place is this one
+-- the front of the text has this fault, and its place is `here`
 abbrev pub IsBadFront : ℕ → List ℕ → LexError → Type 0
 IsBadFront here text (BadByte at) = (at ≡ here) × IsBad begins_nothing text
 IsBadFront here text (BadNumber at) = (at ≡ here) × IsBad not_a_number text

@@ -1,4 +1,4 @@
--- What the tokens of the program say of a text. This project's own.
+-- The tokens of the program as parts of a text. This project's own.
 use Rattle.std.specs.Prelude.{◌≡◌, ℕ, IsTrue, List, map, Some, codes}
 use Rattle.lc_model.specs.Text.Token as model
 use Rattle.lc_model.specs.Text.Token.{number, is_string}
@@ -7,7 +7,7 @@ use Rattle.rule_lexer.specs.declared.token.Token.{Token}
 use Rattle.rule_lexer.specs.declared.token.TokenKind.{TokenKind}
 use Rattle.rule_lexer.specs.declared.token.TokenKind.TheVariants.{Packet, Field, Rule, Mid, Length, At, Mask, Stale, Fails, Sequence, Event, Report, When, Or, Xor, And, Not, FieldKind, State, Level, Name, Number, Text, Equals, Semicolon, Open, Close, Compare}
 
--- the part of a text that a token is, with its place
+-- the part of a text that a token stands for, with its place
 abbrev pub token_of : Token → model.Token
 token_of t = record { at = t.at; text = t.text.now }
 
@@ -15,7 +15,7 @@ token_of t = record { at = t.at; text = t.text.now }
 abbrev pub tokens_of : List Token → List model.Token
 tokens_of = map token_of
 
--- the kind says this of the token's text: what it reads, or which word or sign it is
+-- what the kind says of the token's text: the value that it reads, or which word or sign it is
 abbrev pub IsKind : TokenKind → List ℕ → Type 0
 IsKind Packet text = text ≡ codes "packet"
 IsKind Field text = text ≡ codes "field"
@@ -46,6 +46,6 @@ IsKind Open text = text ≡ codes "("
 IsKind Close text = text ≡ codes ")"
 IsKind (Compare op) text = comparison text ≡ Some op
 
--- the token is of its kind
+-- the token's text fits its kind
 abbrev pub HasItsKind : Token → Type 0
 HasItsKind t = IsKind t.kind t.text.now

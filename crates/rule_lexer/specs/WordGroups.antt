@@ -1,4 +1,4 @@
--- The reserved words that stand for no value, by where they stand. This project's own.
+-- The reserved words without a value, by where they stand. This project's own.
 use Rattle.std.specs.Prelude.{ℕ, List, [], ◌∷◌, codes}
 
 -- the words that begin an item

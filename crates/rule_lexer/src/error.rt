@@ -1,4 +1,4 @@
-//! Why a text has no tokens.
+//! The lexer's errors: why a text does not split into tokens.
 
 ghost use Rattle.std.specs.Prelude.{◌≡◌};
 ghost use Rattle.rule_lexer.specs.Fault.{error_code};
@@ -7,25 +7,25 @@ ghost use Rattle.rule_lexer.specs.declared.error.LexError.TheVariants.{Memory};
 use std::alloc::{AllocError, AllocFailed};
 use thiserror::Error;
 
-/// The first fault of a text, with the number of bytes before it.
+/// The first fault of a text. `at` is the number of the text's bytes before it. The language is this project's own.
 #[derive(Clone, Copy, Debug, PartialEq, Eq, Error)]
 pub enum LexError {
-    /// A byte that begins no token, a lone `-` or `!` among them.
+    /// No token begins with this byte, or it is a lone `-` or `!`.
     #[error("no token begins with the byte at {at}")]
     BadByte { at: usize },
-    /// What begins as a number and isn't one, or is too large: the place is its first byte.
+    /// The token begins as a number but isn't one, or its magnitude is 2^32 or more. `at` is its first byte.
     #[error("no number below 2^32 at {at}")]
     BadNumber { at: usize },
-    /// A word of over 32 bytes.
+    /// A word has more than 32 bytes; `at` is its first byte.
     #[error("the name at {at} has over 32 bytes")]
     NameTooLong { at: usize },
-    /// A quote without its closing quote, or with another byte than 0x20 to 0x7E, or over 31 bytes, between them.
+    /// A quote begins no valid string: the string isn't closed, has a byte outside 0x20 to 0x7E, or over 31 bytes.
     #[error("no string of at most 31 printable bytes at {at}")]
     BadString { at: usize },
-    /// Over 65,536 bytes, whatever they are.
+    /// The text has more than 65,536 bytes, whichever they are.
     #[error("the text has over 65,536 bytes")]
     TextTooLong,
-    /// No memory for the tokens.
+    /// There is no memory for the tokens.
     #[error("out of memory")]
     Memory,
 }
@@ -47,7 +47,7 @@ impl From<AllocError> for LexError {
 }
 
 impl LexError {
-    /// The fault's number, 1 to 5. Want of memory has none, since the text isn't at fault.
+    /// Returns the fault's number, 1 to 5, or `None` for `Memory`: then the text isn't at fault.
     pub fn code(self) -> Option<u8>
         ensures { result ≡ error_code self }
     {

@@ -1,4 +1,4 @@
-//! What stands between tokens: blanks and comments.
+//! Gaps: the blanks and comments between tokens.
 
 ghost use Rattle.std.specs.Prelude.{◌≡◌, ◌<◌, ◌≤◌, IsTrue, length, take, drop};
 ghost use Rattle.std.specs.List.{prefix_len};
@@ -7,14 +7,14 @@ ghost use Rattle.rule_lexer.specs.Front.{IsGap, begins, is_line_byte, is_number_
 
 use crate::bytes::{LINE_FEED, NUMBER_SIGN, is_blank};
 
-/// The bytes in front of the next line feed, or all of them.
+/// The number of bytes before the next line feed, or of all bytes if there is none.
 fn line_length(rest: &[u8]) -> usize
     ensures { result ≡ prefix_len is_line_byte rest.now }
 {
     rest.iter().take_while(|byte| **byte != LINE_FEED).count()
 }
 
-/// The bytes of the comment in front: `#` and what follows it, up to the next line feed or the end.
+/// The length of the comment in front, in bytes: from `#` up to the next line feed or the end.
 fn comment_length(rest: &[u8]) -> usize
     requires { IsTrue (begins is_number_sign rest.now) }
     ensures within { result ≤ length rest.now }
@@ -24,7 +24,7 @@ fn comment_length(rest: &[u8]) -> usize
     line_length(rest)
 }
 
-/// The bytes of the blanks and comments in front.
+/// Returns the number of bytes that the blanks and comments at the front of `rest` take, 0 if there are none.
 pub fn gap_length(rest: &[u8]) -> usize
     ensures { IsGap rest.now result }
 {

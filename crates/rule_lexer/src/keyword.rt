@@ -1,4 +1,4 @@
-//! The kinds of words.
+//! The kind of each word: which reserved word it is, or a name.
 
 ghost use Rattle.std.specs.Prelude.{◌≡◌, IsTrue, IsFalse, MatchOption, bytes_eq};
 ghost use Rattle.std.specs.List.{list_any};
@@ -35,7 +35,7 @@ fn event_kind(word: &[u8]) -> Option<EventKind>
     }
 }
 
-/// A word that begins an item.
+/// The kind of a word that begins an item, or `None` for other words.
 fn item_word(word: &[u8]) -> Option<TokenKind>
     ensures { MatchOption result (IsFalse (list_any (bytes_eq word.now) item_words))
         (λ kind. IsKind kind word.now) }
@@ -48,7 +48,7 @@ fn item_word(word: &[u8]) -> Option<TokenKind>
     }
 }
 
-/// A word of a packet or a field.
+/// The kind of a word that stands in a packet or a field, or `None` for other words.
 fn field_word(word: &[u8]) -> Option<TokenKind>
     ensures { MatchOption result (IsFalse (list_any (bytes_eq word.now) field_words))
         (λ kind. IsKind kind word.now) }
@@ -63,7 +63,7 @@ fn field_word(word: &[u8]) -> Option<TokenKind>
     }
 }
 
-/// A word of a rule.
+/// The kind of a word that stands in a rule, or `None` for other words.
 fn rule_word(word: &[u8]) -> Option<TokenKind>
     ensures { MatchOption result (IsFalse (list_any (bytes_eq word.now) rule_words))
         (λ kind. IsKind kind word.now) }
@@ -78,7 +78,7 @@ fn rule_word(word: &[u8]) -> Option<TokenKind>
     }
 }
 
-/// An operator of a condition.
+/// The kind of an operator of a condition, or `None` for other words.
 fn operator_word(word: &[u8]) -> Option<TokenKind>
     ensures { MatchOption result (IsFalse (list_any (bytes_eq word.now) operator_words))
         (λ kind. IsKind kind word.now) }
@@ -92,7 +92,7 @@ fn operator_word(word: &[u8]) -> Option<TokenKind>
     }
 }
 
-/// The kind of a reserved word that stands for no value.
+/// The kind of a reserved word without a value, or `None` for other words.
 fn plain_word(word: &[u8]) -> Option<TokenKind>
     ensures { MatchOption result (IsFalse (list_any (bytes_eq word.now) other_words))
         (λ kind. IsKind kind word.now) }
@@ -108,7 +108,7 @@ fn plain_word(word: &[u8]) -> Option<TokenKind>
     }
 }
 
-/// The kind of a word: which reserved word it is, or a name.
+/// Returns the kind of a word: which reserved word it is, or `Name` if it is not reserved.
 pub fn word_kind(word: &[u8]) -> TokenKind
     requires { IsTrue (is_word word.now) }
     ensures { IsKind result word.now }

@@ -1,4 +1,4 @@
-//! The token in front of a text.
+//! The token at the front of a text.
 
 ghost use Rattle.std.specs.Prelude.{◌≡◌, ◌<◌, false, IsTrue, MatchResult, length};
 ghost use Rattle.lc_model.specs.Text.Token.{is_letter};
@@ -12,17 +12,19 @@ use crate::text::{begins_string, string_length};
 use crate::token::TokenKind;
 use crate::word::{begins_word, word_length};
 
-/// The most bytes of a name.
+/// The largest length of a name, in bytes.
 const LONGEST_NAME: usize = 32;
 
-/// What a token in front of a text is, and its number of bytes.
+/// A token at the front of a text: its length in bytes, quotes included, and its kind.
 #[derive(Clone, Copy, Debug, PartialEq, Eq)]
 pub struct Lexeme {
+    /// The token's bytes, quotes included.
     pub length: usize,
+    /// What the token is.
     pub kind: TokenKind,
 }
 
-/// The word in front, whose first byte is at `at`.
+/// Reads the word in front; `at` is the place of its first byte.
 fn word(at: usize, rest: &[u8]) -> Result<Lexeme, LexError>
     requires { IsTrue (begins is_letter rest.now) }
     ensures { MatchResult result (IsFrontToken rest.now) (IsBadFront at rest.now) }
@@ -35,7 +37,7 @@ fn word(at: usize, rest: &[u8]) -> Result<Lexeme, LexError>
     Ok(Lexeme { length, kind })
 }
 
-/// The number in front.
+/// Reads the number in front; `at` is the place of its first byte.
 fn numeral(at: usize, rest: &[u8]) -> Result<Lexeme, LexError>
     requires { IsTrue (begins_numeral rest.now) }
     ensures { MatchResult result (IsFrontToken rest.now) (IsBadFront at rest.now) }
@@ -50,7 +52,7 @@ fn numeral(at: usize, rest: &[u8]) -> Result<Lexeme, LexError>
     }
 }
 
-/// The string in front.
+/// Reads the string in front; `at` is the place of its opening quote.
 fn string(at: usize, rest: &[u8]) -> Result<Lexeme, LexError>
     requires { IsTrue (begins is_quote rest.now) }
     ensures { MatchResult result (IsFrontToken rest.now) (IsBadFront at rest.now) }
@@ -64,8 +66,8 @@ fn string(at: usize, rest: &[u8]) -> Result<Lexeme, LexError>
     }
 }
 
-/// The token in front, behind blanks and comments: the longest that fits, which is then judged. The first byte is at
-/// `at`, where an error stands.
+/// Reads the longest token at the front of `rest`, which must not begin with a blank or comment.
+/// `at` is the place of its first byte, for the error: `BadByte`, `BadNumber`, `NameTooLong` or `BadString`.
 pub fn front_lexeme(at: usize, rest: &[u8]) -> Result<Lexeme, LexError>
     requires some { 0 < length rest.now }
     requires no_gap { begins is_gap_byte rest.now ≡ false }

@@ -1,4 +1,4 @@
-//! A text's tokens.
+//! The lexer's public call: a text becomes its tokens.
 
 ghost use Rattle.std.specs.Prelude.{◌≡◌, List, All, IfErr, IfOk, MatchResult};
 ghost use Rattle.lc_model.specs.Text.Token as model;
@@ -13,14 +13,14 @@ use crate::scanner::Scanner;
 use crate::token::Token;
 use std::alloc::Global;
 
-/// The most bytes of a text.
+/// The largest length of a text, in bytes.
 const LONGEST_TEXT: usize = 65_536;
 
-/// For each two bytes of a text there is room for a token at once; rules and declarations have fewer tokens. A text that has more
-/// lets the list grow.
+/// The list starts with room for one token per two bytes of text. Rules and declarations have fewer tokens;
+/// for a text with more, the list grows.
 const BYTES_PER_TOKEN: usize = 2;
 
-/// The tokens up to the end of the text or its first fault.
+/// Collects the tokens up to the end of the text or its first fault.
 fn scan<'a>(alloc: Global, text: &'a [u8]) -> Result<Vec<Token<'a>>, LexError>
     ensures splits { IfOk result (λ found. Splits text.now (tokens_of found.items)) }
     ensures kinds { IfOk result (λ found. All HasItsKind found.items) }
@@ -37,12 +37,9 @@ fn scan<'a>(alloc: Global, text: &'a [u8]) -> Result<Vec<Token<'a>>, LexError>
     Ok(tokens)
 }
 
-/// Splits a rule text into its tokens, in order, in one pass. Blanks (space, tab, line feed, carriage return) and
-/// comments (`#` up to the next line feed or the end) stand between tokens; a token is the longest that fits. Only the
-/// list is allocated: each token's text is a slice of the source.
-///
-/// Errors: the text's length is judged first; then the first token that isn't one, at its first byte; `Memory` where
-/// the list finds no room.
+/// Splits a rule text into its tokens, in order; each takes the longest text that fits, a slice of `text`. Blanks
+/// and comments (`#` to the end of its line) separate tokens. Errors: `TextTooLong` first, then the first bad
+/// token with its place, or `Memory` if the list finds no room. This project's own language (docs/RULES.md).
 pub fn lex<'a>(alloc: Global, text: &'a [u8]) -> Result<Vec<Token<'a>>, LexError>
     ensures splits { IfOk result (λ found. Splits text.now (tokens_of found.items)) }
     ensures kinds { IfOk result (λ found. All HasItsKind found.items) }

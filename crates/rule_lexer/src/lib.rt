@@ -1,4 +1,5 @@
-//! The lexer of rule texts: a text becomes its tokens, each with its place and its kind, or the first fault that stops it.
+//! The lexer of rule texts. It splits a text into tokens, each with its place and kind, or returns the text's first
+//! fault.
 #![tactic(auto)]
 
 mod bytes;

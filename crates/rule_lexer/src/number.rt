@@ -1,4 +1,4 @@
-//! Numbers.
+//! Numbers: where they end, and which value they have.
 
 ghost use Rattle.std.specs.Prelude.{◌≡◌, ℕ, ◌⊎◌, IsTrue};
 ghost use Rattle.lc_model.specs.Text.Token.{at_most_32_bits, is_numeral, magnitude, magnitude_text, number};
@@ -8,28 +8,29 @@ ghost use Rattle.rule_lexer.specs.Digits.{value_in_base};
 use crate::bytes::MINUS;
 use crate::word::run_length;
 
-/// Whether `-` stands in front.
+/// Whether the text begins with `-`.
 fn is_negative(text: &[u8]) -> bool
     ensures { result ≡ begins is_minus text.now }
 {
     matches!(text, [MINUS, ..])
 }
 
-/// The text without the `-` in front.
+/// Returns the text without the `-` at its front, or all of it if there is none.
 pub fn unsigned<'a>(text: &'a [u8]) -> &'a [u8]
     ensures { result.now ≡ magnitude_text text.now }
 {
     if is_negative(text) { &text[1..] } else { text }
 }
 
-/// Whether a number stands in front, right or wrong: a digit, or `-` and a digit.
+/// Whether the text begins as a number, valid or not: with a digit, or with `-` and a digit.
 pub fn begins_numeral(rest: &[u8]) -> bool
     ensures { result ≡ begins_numeral rest.now }
 {
     matches!(unsigned(rest), [byte, ..] if byte.is_ascii_digit())
 }
 
-/// The bytes of the number in front, with the letters and digits that follow it directly, which make it a wrong one.
+/// Returns the length in bytes of the number in front. It includes letters directly after the digits: they make
+/// the number invalid.
 pub fn numeral_length(rest: &[u8]) -> usize
     requires { IsTrue (begins_numeral rest.now) }
     ensures { IsFront is_numeral rest.now result }
@@ -38,7 +39,7 @@ pub fn numeral_length(rest: &[u8]) -> usize
     rest.len() - digits.len() + run_length(digits)
 }
 
-/// The number that digits write in base 10 or 16, where it is below 2^32 and each byte is a digit.
+/// The value of the digits in base 10 or 16, or `None` if a byte is no digit or the value is 2^32 or more.
 fn value_in_base(base: u32, digits: &[u8]) -> Option<u32>
     requires { (base ≡ 10) ⊎ (base ≡ 16) }
     ensures { result ≡ value_in_base base digits.now }
@@ -54,7 +55,7 @@ fn value_in_base(base: u32, digits: &[u8]) -> Option<u32>
     Some(value)
 }
 
-/// The number without its sign: `0x` and hexadecimal digits of either case, or decimal digits.
+/// The value without its sign: `0x` and hexadecimal digits of either case, or decimal digits.
 fn magnitude(text: &[u8]) -> Option<u32>
     ensures { result ≡ at_most_32_bits (magnitude text.now) }
 {
@@ -64,7 +65,7 @@ fn magnitude(text: &[u8]) -> Option<u32>
     }
 }
 
-/// The number that the text writes, where its magnitude is below 2^32.
+/// Returns the number that the text writes, or `None` if the text is no number or its magnitude is 2^32 or more.
 pub fn number_value(text: &[u8]) -> Option<i64>
     ensures { result ≡ number text.now }
 {

@@ -1,4 +1,4 @@
-//! What is wrong with a text, more finely than the number of an error says (this project's own).
+//! Reasons: what is wrong with a text, more precisely than an error's number says (this project's own).
 
 ghost use Rattle.std.specs.Prelude.{◌≡◌, drop, is_some};
 ghost use Rattle.std.specs.List.{list_all};
@@ -13,39 +13,39 @@ use crate::text::inner_length;
 use crate::word::run_length;
 use thiserror::Error;
 
-/// What a person is told of a text's first fault, with the number of bytes before what it names.
+/// A text's first fault in words for its author. `at` is the number of the text's bytes before it.
 #[derive(Clone, Copy, Debug, PartialEq, Eq, Error)]
 pub enum LexReason {
-    /// A byte that begins no token.
+    /// No token begins with this byte.
     #[error("no token begins with the byte at {at}")]
     NoToken { at: usize },
-    /// `12ab`, `0x` or `1_`.
+    /// A number in another form than digits, or `0x` and hexadecimal digits: `12ab`, `0x` or `1_`.
     #[error("the number at {at} isn't of digits alone, or of `0x` and hexadecimal digits")]
     NotANumber { at: usize },
-    /// Its digits write 2^32 or more.
+    /// A number of magnitude 2^32 or more.
     #[error("the number at {at} is over 4,294,967,295")]
     NumberTooLarge { at: usize },
-    /// A word of over 32 bytes.
+    /// A word has more than 32 bytes.
     #[error("the name at {at} has over 32 bytes")]
     NameTooLong { at: usize },
-    /// The line, or the text, ends before the closing quote.
+    /// The line, or the text, ends before the string's closing quote.
     #[error("the string at {at} isn't closed on its line")]
     Unclosed { at: usize },
-    /// Over 31 bytes between the quotes.
+    /// More than 31 bytes stand between the quotes.
     #[error("the string at {at} has over 31 bytes")]
     StringTooLong { at: usize },
-    /// Another byte than 0x20 to 0x7E between the quotes; the place is the byte's.
+    /// A byte outside 0x20 to 0x7E stands between the quotes; `at` is that byte's place.
     #[error("the byte at {at} may not stand in a string")]
     ForbiddenByte { at: usize },
-    /// Over 65,536 bytes, whatever they are.
+    /// The text has more than 65,536 bytes, whichever they are.
     #[error("the text has over 65,536 bytes")]
     TextTooLong,
-    /// No memory for the tokens.
+    /// There is no memory for the tokens.
     #[error("out of memory")]
     Memory,
 }
 
-/// The text behind so many bytes, if there are as many.
+/// The text after its first `count` bytes; it is empty if there are no more.
 fn behind(text: &[u8], count: usize) -> &[u8]
     ensures { result.now ≡ drop count text.now }
 {
@@ -68,7 +68,7 @@ fn are_decimal(digits: &[u8]) -> bool
     digits.iter().all(|byte| byte.is_ascii_digit())
 }
 
-/// Whether a text has the form of a number without its sign, however large.
+/// Whether the text has the form of a number without its sign, of any size.
 fn is_magnitude(text: &[u8]) -> bool
     ensures { result ≡ is_some (magnitude text.now) }
 {
@@ -78,7 +78,7 @@ fn is_magnitude(text: &[u8]) -> bool
     }
 }
 
-/// Why what begins as a number isn't one.
+/// The reason for a bad number at this place.
 fn number_reason(text: &[u8], at: usize) -> LexReason
     ensures { result ≡ number_reason text.now at }
 {
@@ -90,7 +90,7 @@ fn number_reason(text: &[u8], at: usize) -> LexReason
     }
 }
 
-/// Why what begins as a string isn't one.
+/// The reason for a bad string whose opening quote is at this place.
 fn string_reason(text: &[u8], at: usize) -> LexReason
     ensures { result ≡ string_reason_at text.now at }
 {
@@ -110,7 +110,7 @@ fn string_reason(text: &[u8], at: usize) -> LexReason
 }
 
 impl LexError {
-    /// What is wrong with the text that has this error, in words for the person who wrote it.
+    /// Returns the reason for this error in words for the text's author; `text` is the text that has the error.
     pub fn reason(self, text: &[u8]) -> LexReason
         ensures { result ≡ reason_of self text.now }
     {

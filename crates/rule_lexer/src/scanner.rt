@@ -1,4 +1,4 @@
-//! A walk over a text, from token to token.
+//! The scanner: reads a text from token to token.
 
 ghost use Rattle.std.specs.Prelude.{◌≡◌, ◌+◌, ◌≤◌, length, take, drop, MatchResult};
 ghost use Rattle.lc_model.specs.Text.Token.{longest_text};
@@ -9,7 +9,7 @@ use crate::gap::gap_length;
 use crate::lexeme::{Lexeme, front_lexeme};
 use crate::token::Token;
 
-/// What is left of a text, and its place.
+/// The part of a text that isn't read yet, and the number of the text's bytes before it.
 #[derive(Drop)]
 pub struct Scanner<'a> {
     at: usize,
@@ -17,7 +17,7 @@ pub struct Scanner<'a> {
 }
 
 impl<'a> Scanner<'a> {
-    /// At the text's beginning.
+    /// Creates a scanner at the text's first byte.
     pub fn new(text: &'a [u8]) -> Scanner<'a>
         ensures at { result.at ≡ 0 }
         ensures rest { result.rest.now ≡ text.now }
@@ -25,7 +25,7 @@ impl<'a> Scanner<'a> {
         Scanner { at: 0, rest: text }
     }
 
-    /// Goes over the next bytes, and gives them.
+    /// Moves over `count` bytes and returns them.
     fn advance(&mut self, count: usize) -> &'a [u8]
         requires within { count ≤ length self.old.rest.now }
         requires fits { self.old.at + length self.old.rest.now ≤ longest_text }
@@ -39,7 +39,7 @@ impl<'a> Scanner<'a> {
         front
     }
 
-    /// Goes over the lexeme in front, and gives it with its place.
+    /// Moves over the lexeme in front and returns it as a token with its place.
     fn take(&mut self, lexeme: Lexeme) -> Token<'a>
         requires within { lexeme.length ≤ length self.old.rest.now }
         requires fits { self.old.at + length self.old.rest.now ≤ longest_text }
@@ -58,8 +58,8 @@ impl<'a> Scanner<'a> {
         }
     }
 
-    /// Goes over blanks, comments and the next token, and gives that token; none at the end. The error is of what stands
-    /// behind the blanks and comments.
+    /// Moves over blanks, comments and the next token; returns that token, or `None` at the end of the text.
+    /// The error is that of the first bad token, with its place.
     pub fn next_token(&mut self) -> Result<Option<Token<'a>>, LexError>
         requires { self.old.at + length self.old.rest.now ≤ longest_text }
         ensures { MatchResult result

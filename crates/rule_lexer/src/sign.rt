@@ -1,4 +1,4 @@
-//! Signs.
+//! Signs: comparisons, `=`, `;` and parentheses.
 
 ghost use Rattle.std.specs.Prelude.{MatchOption};
 ghost use Rattle.lc_model.specs.Text.Token.{is_sign};
@@ -8,7 +8,7 @@ use crate::lexeme::Lexeme;
 use crate::token::TokenKind;
 use lc_model::CmpOp;
 
-/// The sign in front, the longest that fits.
+/// Reads the longest sign at the front of `rest`, one or two bytes; `None` if no sign stands there.
 pub fn sign(rest: &[u8]) -> Option<Lexeme>
     ensures { MatchOption result (LacksSign rest.now) (IsFrontSign rest.now) }
 {

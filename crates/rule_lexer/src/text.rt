@@ -1,4 +1,4 @@
-//! Strings.
+//! Strings: printable bytes between two quotes.
 
 ghost use Rattle.std.specs.Prelude.{◌≡◌, ◌≤◌, IsTrue, MatchOption, length};
 ghost use Rattle.std.specs.List.{prefix_len};
@@ -8,10 +8,10 @@ ghost use Rattle.rule_lexer.specs.Front.{IsFront, begins, is_quote};
 use crate::bytes::QUOTE;
 use lc_model::is_text_byte;
 
-/// The most bytes between the quotes.
+/// The largest number of bytes between the quotes.
 const LONGEST_STRING: usize = 31;
 
-/// The number of bytes in front that may stand between quotes.
+/// Returns the number of bytes at the front that may stand between quotes (0x20 to 0x7E without the quote).
 pub fn inner_length(rest: &[u8]) -> usize
     ensures value { result ≡ prefix_len is_text_byte rest.now }
     ensures within { result ≤ length rest.now }
@@ -19,14 +19,14 @@ pub fn inner_length(rest: &[u8]) -> usize
     rest.iter().take_while(|byte| is_text_byte(**byte)).count()
 }
 
-/// Whether a string begins in front.
+/// Whether the text begins with a quote.
 pub fn begins_string(rest: &[u8]) -> bool
     ensures { result ≡ begins is_quote rest.now }
 {
     matches!(rest, [QUOTE, ..])
 }
 
-/// The bytes of the string in front, with its quotes, where the quote in front begins one.
+/// Returns the length in bytes of the string in front, both quotes included; `None` if no valid string stands there.
 pub fn string_length(rest: &[u8]) -> Option<usize>
     requires { IsTrue (begins is_quote rest.now) }
     ensures { MatchOption result (BeginsNoLexeme rest.now) (IsFront is_string rest.now) }

@@ -2,17 +2,18 @@
 
 use lc_model::{ApMode, CmpOp, EventKind, FieldType};
 
-/// A part of a rule text that the grammar takes as one.
+/// One token of a rule text: a word, a number, a string or a sign.
 #[derive(Clone, Copy, Debug, PartialEq, Eq)]
 pub struct Token<'a> {
-    /// Bytes of the text before the token.
+    /// The number of the text's bytes before the token.
     pub at: usize,
-    /// The token's bytes in the text, a string's with its quotes.
+    /// The token's bytes as they stand in the text; a string's include its quotes.
     pub text: &'a [u8],
+    /// What the token is, with its value if it has one.
     pub kind: TokenKind,
 }
 
-/// What a token is. Each reserved word and each sign has one kind, so no later layer compares texts.
+/// The kind of a token. Each reserved word and each sign has its own kind, so that no later layer compares texts.
 #[derive(Clone, Copy, Debug, PartialEq, Eq)]
 pub enum TokenKind {
     /// `packet`
@@ -55,11 +56,11 @@ pub enum TokenKind {
     State(ApMode),
     /// `debug`, `info`, `error` or `critical`.
     Level(EventKind),
-    /// A word that isn't reserved, of at most 32 bytes.
+    /// A word of at most 32 bytes that isn't reserved.
     Name,
-    /// A number, decimal or hexadecimal, of magnitude below 2^32.
+    /// A number, decimal or hexadecimal, with magnitude below 2^32.
     Number(i64),
-    /// A string of at most 31 bytes between its quotes.
+    /// A string with at most 31 bytes between its quotes.
     Text,
     /// `=`
     Equals,

@@ -1,4 +1,4 @@
-//! Words.
+//! Words: reserved words and names.
 
 ghost use Rattle.std.specs.Prelude.{◌≡◌, IsTrue};
 ghost use Rattle.std.specs.List.{prefix_len};
@@ -7,21 +7,21 @@ ghost use Rattle.rule_lexer.specs.Front.{IsFront, begins};
 
 use crate::bytes::{is_letter, is_word_byte};
 
-/// Whether a word stands in front.
+/// Whether the text begins with a letter or `_`, as words do.
 pub fn begins_word(rest: &[u8]) -> bool
     ensures { result ≡ begins is_letter rest.now }
 {
     matches!(rest, [byte, ..] if is_letter(*byte))
 }
 
-/// The number of letters, digits and `_` in front.
+/// Returns the number of letters, digits and `_` at the front.
 pub fn run_length(rest: &[u8]) -> usize
     ensures { result ≡ prefix_len is_word_byte rest.now }
 {
     rest.iter().take_while(|byte| is_word_byte(**byte)).count()
 }
 
-/// The bytes of the word in front, however long it is.
+/// Returns the length in bytes of the word in front, whatever its length.
 pub fn word_length(rest: &[u8]) -> usize
     requires { IsTrue (begins is_letter rest.now) }
     ensures { IsFront is_word rest.now result }

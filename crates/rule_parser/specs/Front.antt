@@ -1,4 +1,4 @@
--- What stands in front of some tokens. This project's own.
+-- The first tokens of a list. This project's own.
 use Rattle.std.specs.Prelude.{◌≡◌, ℕ, Bool, true, false, if◌then◌else◌, List, [], ◌∷◌, Option, Some, None}
 use Rattle.lc_model.specs.Text.Token as model
 use Rattle.lc_model.specs.Text.Token.{string_text}
@@ -43,7 +43,7 @@ class_of Open = sign "("
 class_of Close = sign ")"
 class_of (Compare op) = class.Compare
 
--- a kind that has no value beside it
+-- the kind has no value
 abbrev pub is_plain : TokenKind → Bool
 is_plain (FieldKind kind) = false
 is_plain (State mode) = false
@@ -52,25 +52,25 @@ is_plain (Number value) = false
 is_plain (Compare op) = false
 is_plain kind = true
 
--- the token is of its kind, which decides of which classes it is
+-- the token fits its kind, and the kind decides to which classes the token belongs
 pub record IsRead (t : Token) : Type 0 where
   pub kind : HasItsKind t
   pub classes : (wanted : Class) → IsOfGrammar wanted → fits wanted t.text.now ≡ kind_fits wanted t.kind
 
--- the first of the tokens before is this one, and those after it are left; or there are none
+-- the first of the tokens before is this one, and those after it are left; or there are no tokens
 abbrev pub IsNext : (before after : List model.Token) → Option Token → Type 0
 IsNext before after None = before ≡ []
 IsNext before after (Some t) = (before ≡ token_of t ∷ after) × IsRead t
 
 -- ---- reading from left to right
 
--- where the first step gives something, the second goes on behind it
+-- if the first step reads something, the second step reads on after it
 infixl 10 ◌>>=◌
 abbrev pub ◌>>=◌ : {A B : Type 0} → Option A → (A → Option B) → Option B
 None >>= f = None
 (Some x) >>= f = f x
 
--- what a function returned, and the tokens that it left, are what reading gives
+-- a function's result, and the tokens that it left, are those of this reading
 abbrev pub Gives : {X Y : Type 0} → (X → Y) → (after : List model.Token) → Option X → Option (Y × List model.Token) → Type 0
 Gives view after (Some x) read = read ≡ Some (view x, after)
 Gives view after None read = read ≡ None
@@ -90,7 +90,7 @@ unfoldable pub token_at : Class → List model.Token → Option (model.Token × 
 token_at wanted [] = None
 token_at wanted (t ∷ ts) = if fits wanted t.text then Some (t, ts) else None
 
--- a token of the class that reads a value
+-- a token of the class, with the value that it reads
 unfoldable pub value_at : {A : Type 0} → Class → (List ℕ → Option A) → List model.Token → Option (A × List model.Token)
 value_at wanted read tokens = do
   t ← token_at wanted tokens
@@ -103,13 +103,13 @@ number_at tokens = do
   t ← token_at class.Number tokens
   Some (number_of t.0, t.1)
 
--- what stands between the quotes of a string
+-- the bytes between the quotes of a string
 unfoldable pub string_at : List model.Token → Option (List ℕ × List model.Token)
 string_at tokens = do
   t ← token_at class.Text tokens
   Some (string_text t.0.text, t.1)
 
--- whether a token of the class is the first
+-- whether the first token is of the class
 unfoldable pub begins : Class → List model.Token → Bool
 begins wanted [] = false
 begins wanted (t ∷ ts) = fits wanted t.text

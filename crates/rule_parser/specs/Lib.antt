@@ -1,5 +1,5 @@
--- What the parser's contracts cite. The public ones name `Fault`, `What`, `Syntax` and `Laws` alone, over the grammar of
--- `lc_model`; the others say how the functions inside read, and nobody above has to believe them.
+-- What the parser's contracts cite. The public ones name `Fault`, `What`, `Syntax` and `Laws` alone, over the grammar
+-- in `lc_model`. The others describe the functions inside; no crate above relies on them.
 pub mod What
 pub mod Fault
 pub mod Syntax

@@ -1,12 +1,12 @@
--- What is left to be read behind some tokens, as a stack, and the first token that doesn't fit on it. This project's own.
+-- What must still be read after some tokens, as a stack, and the first token that doesn't fit it. This project's own.
 use Rattle.std.specs.Prelude.{codes, ℕ, zero, suc, Bool, true, false, ◌||◌, if◌then◌else◌, List, [], ◌∷◌, ◌++◌, map, Option, Some, None}
 use Rattle.std.specs.Option.{option_map_or}
 use Rattle.lc_model.specs.Text.Token.{Token}
 use Rattle.lc_model.specs.Text.Class.{Class, Item, Name, Number, State, Level, Text, FieldKind, Operand, Compare, Word, word, sign, fits}
 use Rattle.lc_model.specs.Text.Reading.{ParseFault, Expected, TooNested, nests, ends_item, most_nested}
 
--- what may be left: a token of a class; a word and what follows it, which may be left out; the rest of a condition that
--- begins with an operand, or that begins behind one, with the token behind the condition
+-- What may still be read: a token of a class; an optional word with its following tokens; the rest of a condition that
+-- begins with an operand or after one, with the token that follows the condition.
 pub data Symbol : Type 0 where
   one : (class : Class) → Symbol
   option : (letters : List ℕ) (following : List Class) → Symbol
@@ -15,27 +15,27 @@ pub data Symbol : Type 0 where
 abbrev pub ones : List Class → List Symbol
 ones = map one
 
--- a packet behind `packet`
+-- a packet after the word `packet`
 abbrev pub packet_left : List Symbol
 packet_left = ones (Name ∷ sign "=" ∷ word "mid" ∷ Number ∷ word "length" ∷ Number ∷ sign ";" ∷ [])
 
--- a field behind `field`
+-- a field after the word `field`
 abbrev pub field_left : List Symbol
 field_left =
     ones (Name ∷ sign "=" ∷ Name ∷ FieldKind ∷ word "at" ∷ Number ∷ [])
     ++ option (codes "mask") (Number ∷ []) ∷ option (codes "stale") (Number ∷ []) ∷ one (sign ";") ∷ []
 
--- a rule behind `rule`
+-- a rule after the word `rule`
 abbrev pub rule_left : List Symbol
 rule_left =
     ones (Name ∷ State ∷ word "fails" ∷ Number ∷ word "sequence" ∷ Number ∷ word "event" ∷ Level ∷ Number ∷ Text ∷ [])
     ++ option (codes "report") (Number ∷ Number ∷ Number ∷ []) ∷ one (word "when") ∷ operand (sign ";") ∷ []
 
--- an operator between two operands
+-- the token is an operator between two operands
 abbrev pub joins : Token → Bool
 joins t = fits (word "and") t.text || (fits (word "xor") t.text || fits (word "or") t.text)
 
--- what is left behind a token, if it fits. With nothing left an item may begin.
+-- what must still be read after a token, if the token fits. With nothing left an item may begin.
 abbrev pub step : List Symbol → Token → Option (List Symbol)
 step [] t =
     if fits (word "packet") t.text then Some packet_left else
@@ -49,7 +49,7 @@ step (operand close ∷ s) t =
     if fits (sign "(") t.text then Some (operand (sign ")") ∷ after close ∷ s) else None
 step (after close ∷ s) t = if joins t then Some (operand close ∷ s) else if fits close t.text then Some s else None
 
--- what is wanted, leaving out what may be left out
+-- the class that is needed next; optional symbols are left out
 abbrev pub wanted : List Symbol → Class
 wanted [] = Item
 wanted (one class ∷ s) = class
@@ -57,7 +57,7 @@ wanted (option letters following ∷ s) = wanted s
 wanted (operand close ∷ s) = Operand
 wanted (after close ∷ s) = close
 
--- nothing is left but what may be left out
+-- only optional symbols are left
 abbrev pub is_finished : List Symbol → Bool
 is_finished [] = true
 is_finished (option letters following ∷ s) = is_finished s
@@ -65,24 +65,24 @@ is_finished s = false
 
 -- ---- nesting
 
--- whether a condition is being read, and how many more of its tokens may nest
+-- whether a condition is being read, and how many of its tokens may still nest
 pub data Room : Type 0 where
   outside : Room
   inside : (left : ℕ) → Room
 
--- with one token less
+-- the room with one token less
 abbrev pub less : ℕ → Option Room
 less zero = None
 less (suc left) = Some (inside left)
 
--- behind a token
+-- the room after a token
 abbrev pub narrowed : Room → Token → Option Room
 narrowed outside t = Some (if fits (word "when") t.text then inside most_nested else outside)
 narrowed (inside left) t = if ends_item t then Some outside else if nests t then less left else Some (inside left)
 
 -- ---- the first fault
 
--- the first token that doesn't fit, or that nests too deep; or the end, where something is left
+-- the first token that doesn't fit or nests too deep, or the end if something is left to be read
 unfoldable pub fault_at : (end : ℕ) → Room → List Symbol → List Token → Option ParseFault
 fault_at end room s [] = if is_finished s then None else Some (Expected end (wanted s))
 fault_at end room s (t ∷ ts) =

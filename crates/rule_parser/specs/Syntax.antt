@@ -1,4 +1,4 @@
--- The items of the program, as those of the grammar. This project's own.
+-- The program's items as those of the grammar. This project's own.
 use Rattle.std.specs.Prelude.{List, map, option_map}
 use Rattle.lc_model.specs.Text.Token.{Token}
 use Rattle.lc_model.specs.Condition.{And, Or, Xor}
@@ -15,7 +15,7 @@ use Rattle.rule_parser.specs.declared.syntax.RuleItem.{RuleItem}
 use Rattle.rule_parser.specs.declared.syntax.Item.{Item}
 use Rattle.rule_parser.specs.declared.syntax.Item.TheVariants as item
 
--- the token that a name is
+-- a name as a token
 abbrev pub name_of : Name → Token
 name_of n = record { at = n.at; text = n.text.now }
 

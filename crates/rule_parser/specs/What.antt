@@ -1,4 +1,4 @@
--- What is wanted at a place, and the kinds of its tokens. This project's own.
+-- The classes that are expected at a place, and the kinds of their tokens. This project's own.
 use Rattle.std.specs.Prelude.{codes, ℕ, List, [], ◌++◌}
 use Rattle.lc_model.specs.Text.Class as class
 use Rattle.lc_model.specs.Text.Class.{Class}
@@ -31,7 +31,7 @@ kind_of_sign Equals = kind.Equals
 kind_of_sign Semicolon = kind.Semicolon
 kind_of_sign Close = kind.Close
 
--- the class that is wanted
+-- the class of the grammar
 abbrev pub class_of_what : What → Class
 class_of_what what.Item = class.Item
 class_of_what what.Name = class.Name
@@ -45,20 +45,20 @@ class_of_what what.Compare = class.Compare
 class_of_what (what.Word w) = class_of (kind_of_word w)
 class_of_what (what.Sign s) = class_of (kind_of_sign s)
 
--- the letters of a word or a sign; no other class has any of its own
+-- the letters of a word or a sign; other classes have no letters of their own
 abbrev pub letters_of : Class → List ℕ
 letters_of (class.Word letters) = letters
 letters_of (class.Sign letters) = letters
 letters_of other = []
 
--- what an engineer reads of a word that is wanted, and of a sign
+-- the text that an error shows for a word, and for a sign
 abbrev pub word_text : Word → List ℕ
 word_text w = letters_of (class_of (kind_of_word w))
 
 abbrev pub sign_text : Sign → List ℕ
 sign_text s = letters_of (class_of (kind_of_sign s))
 
--- what an engineer reads of a class that is wanted
+-- the text that an error shows for a class
 abbrev pub what_text : What → List ℕ
 what_text what.Item = codes "`packet`, `field` or `rule`"
 what_text what.Name = codes "a name"

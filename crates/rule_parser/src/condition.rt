@@ -1,5 +1,5 @@
-//! The condition of a rule, from its tokens. Parentheses and `not` lead deeper, and each takes one of the room for tokens
-//! that nest, so no text can exhaust the stack.
+//! The condition of a rule, from its tokens. Its tokens `(`, `not`, `and`, `xor` and `or` are counted and limited to
+//! 64, so no text can exhaust the stack.
 
 ghost use Rattle.std.specs.Prelude.{◌≡◌, MatchResult, true};
 ghost use Rattle.lc_model.specs.Text.Class.{sign, word};
@@ -19,10 +19,10 @@ use crate::what::Sign;
 use rule_lexer::TokenKind;
 use std::alloc::Global;
 
-/// How many tokens of one condition may nest: `(`, `not`, `and`, `xor` and `or` together.
+/// The most nesting tokens of one condition: `(`, `not`, `and`, `xor` and `or`, counted together over all of it.
 const MOST_NESTING: usize = 64;
 
-/// `FIELD OPERATOR NUMBER`
+/// Reads `FIELD OPERATOR NUMBER`.
 #[tactic(auto, unfolding(crate::specs::Left::comparison_in))]
 fn comparison<'a>(tokens: &mut Reader<'_, 'a>) -> Result<Comparison<'a>, ParseError>
     ensures { Reads comparison_of tokens.new result (comparison_in tokens.old) }
@@ -33,7 +33,7 @@ fn comparison<'a>(tokens: &mut Reader<'_, 'a>) -> Result<Comparison<'a>, ParseEr
     Ok(Comparison { field, op, value })
 }
 
-/// `not` and an operand.
+/// Reads `not` and an operand.
 #[cycle(condition)]
 fn negated<'a>(
     alloc: Global,
@@ -50,7 +50,7 @@ fn negated<'a>(
     Ok(Expression::Not(Box::new(alloc, negated)?))
 }
 
-/// A condition in parentheses.
+/// Reads a condition in parentheses.
 #[cycle(condition)]
 fn parenthesized<'a>(
     alloc: Global,
@@ -68,8 +68,8 @@ fn parenthesized<'a>(
     Ok(inner)
 }
 
-/// `not` and an operand, a condition in parentheses, or a comparison. What the first two wait with stands in functions of their
-/// own, so that a comparison costs none of it.
+/// Reads `not` and an operand, a condition in parentheses, or a comparison. The first two stand in functions of their
+/// own, so that a comparison needs no stack for their locals.
 #[cycle(condition)]
 fn operand<'a>(
     alloc: Global,
@@ -89,7 +89,7 @@ fn operand<'a>(
     Ok(Expression::Compare(comparison(tokens)?))
 }
 
-/// What the operator joins: the parts that the next tighter one joins, or operands.
+/// Reads one part between this operator's tokens: parts of the next tighter operator, or an operand.
 #[cycle(condition)]
 fn part<'a>(
     operator: Operator,
@@ -108,7 +108,7 @@ fn part<'a>(
     }
 }
 
-/// Parts with the operator between them, from left to right.
+/// Reads parts with the operator between them and joins them from left to right.
 #[cycle(condition)]
 fn joined<'a>(
     operator: Operator,
@@ -129,7 +129,7 @@ fn joined<'a>(
     Ok(left)
 }
 
-/// A whole condition, whose tokens may nest as often as those of any condition.
+/// Reads a whole condition, with 64 nesting tokens at most. Errors: `Expected`, `TooNested` or `Memory`.
 pub fn condition<'a>(
     alloc: Global,
     tokens: &mut Reader<'_, 'a>,

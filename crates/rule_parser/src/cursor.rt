@@ -1,4 +1,4 @@
-//! A place between the tokens of a text, and what stands behind it.
+//! The cursor: a place in a list of tokens, with steps that read one token each.
 
 ghost use Rattle.std.specs.Prelude.{◌≡◌, ◌≤◌, All, IsTrue, length, option_map};
 ghost use Rattle.lc_model.specs.Text.Token.{string_text};
@@ -14,7 +14,7 @@ use rule_lexer::laws::kinds_decide_classes;
 use rule_lexer::{Token, TokenKind};
 use std::marker::Model;
 
-/// What stands between the first byte and the last.
+/// The text without its first and last byte.
 fn inner<'a>(text: &'a [u8]) -> &'a [u8]
     requires { 2 ≤ length text.now }
     ensures { result.now ≡ string_text text.now }
@@ -22,12 +22,12 @@ fn inner<'a>(text: &'a [u8]) -> &'a [u8]
     &text[1..text.len() - 1]
 }
 
-/// The tokens that aren't read yet. Contracts see them as the text's parts that are left. A step that answers `None` may
-/// have read a token: nothing is read behind it.
+/// The tokens that aren't read yet. Contracts see them as a list of the text's remaining parts. A step that returns
+/// `None` may have read a token; the parser stops there and reads no more.
 #[derive(Drop)]
 pub struct Cursor<'t, 'a> {
     tokens: &'t [Token<'a>],
-    /// How many are read.
+    /// The number of tokens that are read.
     count: usize,
 }
 
@@ -44,7 +44,7 @@ impl<'t, 'a> Model for Cursor<'t, 'a> {
 }
 
 impl<'t, 'a> Cursor<'t, 'a> {
-    /// Before the first token.
+    /// Creates a cursor before the first token.
     pub fn new(tokens: &'t [Token<'a>]) -> Cursor<'t, 'a>
         requires { All HasItsKind tokens.now }
         ensures { result ≡ tokens_of tokens.now }
@@ -59,7 +59,7 @@ impl<'t, 'a> Cursor<'t, 'a> {
         self.count >= self.tokens.len()
     }
 
-    /// The place of the next token, or `end` where all are read.
+    /// Returns the next token's place in the text, or `end` if all tokens are read.
     pub fn place(&self, end: usize) -> usize
         ensures { result ≡ place_in end self.now }
     {
@@ -69,7 +69,7 @@ impl<'t, 'a> Cursor<'t, 'a> {
         }
     }
 
-    /// The next token, if there is one.
+    /// Reads the next token; `None` if all tokens are read.
     pub fn next(&mut self) -> Option<Token<'a>>
         ensures { IsNext self.old self.new result }
     {
@@ -80,7 +80,7 @@ impl<'t, 'a> Cursor<'t, 'a> {
         Some(token)
     }
 
-    /// Whether the next token is of this kind: a reserved word, a sign, a name or a string.
+    /// Whether the next token is of this kind, which has no value: a reserved word, a sign, a name or a string.
     pub fn begins(&self, kind: TokenKind) -> bool
         requires { IsTrue (is_plain kind) }
         ensures { result ≡ begins (class_of kind) self.now }
@@ -93,7 +93,7 @@ impl<'t, 'a> Cursor<'t, 'a> {
         }
     }
 
-    /// The next token, which is to be of this kind: a reserved word, a sign, a name or a string.
+    /// Reads the next token if it is of this kind, else returns `None`. The kind has no value, as with `begins`.
     pub fn take(&mut self, kind: TokenKind) -> Option<Token<'a>>
         requires { IsTrue (is_plain kind) }
         ensures { Gives token_of self.new result (token_at (class_of kind) self.old) }
@@ -104,6 +104,7 @@ impl<'t, 'a> Cursor<'t, 'a> {
         self.next()
     }
 
+    /// Reads the next token if it is a name; `None` if it is another token or none is left. So do the next five calls.
     pub fn name(&mut self) -> Option<Name<'a>>
         ensures { Gives name_of self.new result (token_at class.Name self.old) }
     {
@@ -117,6 +118,7 @@ impl<'t, 'a> Cursor<'t, 'a> {
         }
     }
 
+    /// Reads a number.
     pub fn number(&mut self) -> Option<Number>
         ensures { Gives number_of self.new result (number_at self.old) }
     {
@@ -130,6 +132,7 @@ impl<'t, 'a> Cursor<'t, 'a> {
         }
     }
 
+    /// Reads a field's type.
     pub fn field_type(&mut self) -> Option<FieldType>
         ensures { Gives (λ kind. kind) self.new result
             (value_at class.FieldKind field_type self.old) }
@@ -141,6 +144,7 @@ impl<'t, 'a> Cursor<'t, 'a> {
         }
     }
 
+    /// Reads a rule's state.
     pub fn state(&mut self) -> Option<ApMode>
         ensures { Gives (λ mode. mode) self.new result (value_at class.State state self.old) }
     {
@@ -151,6 +155,7 @@ impl<'t, 'a> Cursor<'t, 'a> {
         }
     }
 
+    /// Reads an event's level.
     pub fn level(&mut self) -> Option<EventKind>
         ensures { Gives (λ kind. kind) self.new result (value_at class.Level event_kind self.old) }
     {
@@ -161,6 +166,7 @@ impl<'t, 'a> Cursor<'t, 'a> {
         }
     }
 
+    /// Reads a comparison sign.
     pub fn comparison(&mut self) -> Option<CmpOp>
         ensures { Gives (λ op. op) self.new result (value_at class.Compare comparison self.old) }
     {
@@ -171,7 +177,7 @@ impl<'t, 'a> Cursor<'t, 'a> {
         }
     }
 
-    /// What stands between the quotes of a string.
+    /// Reads a string and returns the bytes between its quotes.
     #[tactic(auto, unfolding(crate::specs::Front::string_at))]
     pub fn string(&mut self) -> Option<&'a [u8]>
         ensures { Gives (λ text. text.now) self.new result (string_at self.old) }

@@ -1,4 +1,4 @@
-//! Why a text isn't parsed.
+//! The parser's errors.
 
 ghost use Rattle.std.specs.Prelude.{◌≡◌};
 ghost use Rattle.rule_parser.specs.declared.error.ParseError.TheVariants.{Memory};
@@ -8,17 +8,17 @@ use crate::what::What;
 use std::alloc::{AllocError, AllocFailed};
 use thiserror::Error;
 
-/// The first fault of a text's tokens, with the number of bytes before it.
+/// The first fault of a text's tokens. `at` is the number of the text's bytes before it.
 #[derive(Clone, Copy, Debug, PartialEq, Eq, Error)]
 pub enum ParseError {
-    /// The token at this place, or the text's end, where the grammar wants another: one of this class, or one that may
-    /// stand before it and may be left out.
+    /// The token at this place, or the end of the text, is not what the grammar needs. `what` is the class that must
+    /// stand there; it leaves out classes that may stand before it but needn't.
     #[error("expected {what} at {at}")]
     Expected { at: usize, what: What },
-    /// The 65th token of one condition that is `(`, `not`, `and`, `xor` or `or`.
+    /// The 65th token of one condition among `(`, `not`, `and`, `xor` and `or`.
     #[error("over 64 parentheses and operators in one condition, at {at}")]
     TooNested { at: usize },
-    /// No memory for the items.
+    /// There is no memory for the items.
     #[error("out of memory")]
     Memory,
 }
@@ -40,7 +40,7 @@ impl From<AllocError> for ParseError {
 }
 
 impl ParseError {
-    /// The fault's number, 11 or 12. Want of memory has none, since the text isn't at fault.
+    /// Returns the fault's number, 11 or 12, or `None` for `Memory`: then the text isn't at fault.
     pub fn code(self) -> Option<u8>
         ensures { result ≡ error_code self }
     {

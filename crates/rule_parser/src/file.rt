@@ -1,4 +1,4 @@
-//! The items of a rule text, from its tokens, from left to right.
+//! Reads all items of a rule text from its tokens, from left to right.
 
 ghost use Rattle.std.specs.Prelude.{All, IsFalse, [], MatchResult};
 ghost use Rattle.lc_model.specs.Text.Class.{Fits, word};
@@ -20,7 +20,7 @@ use crate::what::{Sign, What};
 use rule_lexer::{Token, TokenKind};
 use std::alloc::Global;
 
-/// A rule, behind `rule`.
+/// Reads a rule whose word `rule` is already read.
 fn rule_item<'a>(alloc: Global, tokens: &mut Reader<'_, 'a>) -> Result<RuleItem<'a>, ParseError>
     ensures { MatchResult result (λ found. (t : text.Token) → Fits (word "rule") t →
         TookRule t tokens.old tokens.new (model.Rule (rule_of found)))
@@ -42,7 +42,7 @@ fn rule_item<'a>(alloc: Global, tokens: &mut Reader<'_, 'a>) -> Result<RuleItem<
     })
 }
 
-/// The item that stands next.
+/// Reads the next item.
 fn item<'a>(alloc: Global, tokens: &mut Reader<'_, 'a>) -> Result<Item<'a>, ParseError>
     requires { IsFalse (is_empty tokens.old.tokens) }
     ensures { MatchResult result (λ found. TookItem tokens.old tokens.new (item_of found))
@@ -60,10 +60,10 @@ fn item<'a>(alloc: Global, tokens: &mut Reader<'_, 'a>) -> Result<Item<'a>, Pars
     Err(tokens.expected(What::Item))
 }
 
-/// The tokens of the shortest items, as a packet. So a text of no fault has no more items than there is room for at once.
+/// The number of tokens of the shortest item, a packet. The list starts with room for all items of a valid text.
 const SHORTEST_ITEM: usize = 8;
 
-/// All items, up to the last token of a text of this length.
+/// Reads all items from the tokens of a text of `end` bytes. The error is the first fault, or `Memory`.
 pub fn items<'a>(
     alloc: Global,
     tokens: &[Token<'a>],

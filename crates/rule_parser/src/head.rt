@@ -1,5 +1,5 @@
-//! Items of a rule text, from their tokens: a packet, a field, and a rule up to its condition. Nothing is judged but which
-//! token follows which.
+//! Items without conditions, from their tokens: a packet, a field, and a rule up to its condition. Only the order of
+//! the tokens is checked.
 
 ghost use Rattle.std.specs.Prelude.{◌≡◌};
 ghost use Rattle.rule_parser.specs.File.{head_of};
@@ -13,7 +13,7 @@ use crate::syntax::{FieldItem, Name, Number, PacketItem, ReportItem};
 use crate::what::{Sign, Word};
 use lc_model::{ApMode, EventKind};
 
-/// What a rule says before its condition.
+/// A rule's parts before its condition, as in `RuleItem`.
 #[derive(Clone, Copy)]
 pub struct RuleHead<'a> {
     pub name: Name<'a>,
@@ -26,7 +26,7 @@ pub struct RuleHead<'a> {
     pub report: Option<ReportItem>,
 }
 
-/// `NAME = mid NUMBER length NUMBER ;`, behind `packet`.
+/// Reads `NAME = mid NUMBER length NUMBER ;`, after the word `packet`.
 #[tactic(auto, unfolding(crate::specs::Head::packet_in))]
 pub fn packet_item<'a>(tokens: &mut Reader<'_, 'a>) -> Result<PacketItem<'a>, ParseError>
     ensures { Reads packet_of tokens.new result (packet_in tokens.old) }
@@ -39,7 +39,7 @@ pub fn packet_item<'a>(tokens: &mut Reader<'_, 'a>) -> Result<PacketItem<'a>, Pa
     Ok(PacketItem { name, mid, length })
 }
 
-/// `NAME = PACKET TYPE at NUMBER [mask NUMBER] [stale NUMBER] ;`, behind `field`.
+/// Reads `NAME = PACKET TYPE at NUMBER [mask NUMBER] [stale NUMBER] ;`, after the word `field`.
 #[tactic(auto, unfolding(crate::specs::Head::field_in))]
 pub fn field_item<'a>(tokens: &mut Reader<'_, 'a>) -> Result<FieldItem<'a>, ParseError>
     ensures { Reads field_of tokens.new result (field_in tokens.old) }
@@ -62,7 +62,8 @@ pub fn field_item<'a>(tokens: &mut Reader<'_, 'a>) -> Result<FieldItem<'a>, Pars
     })
 }
 
-/// `NAME STATE fails NUMBER sequence NUMBER event LEVEL NUMBER STRING [report NUMBER NUMBER NUMBER] when`, behind `rule`.
+/// Reads `NAME STATE fails NUMBER sequence NUMBER event LEVEL NUMBER STRING [report NUMBER NUMBER NUMBER] when`, after
+/// the word `rule`.
 #[tactic(auto, unfolding(crate::specs::Head::head_in))]
 pub fn rule_head<'a>(tokens: &mut Reader<'_, 'a>) -> Result<RuleHead<'a>, ParseError>
     ensures { Reads head_of tokens.new result (head_in tokens.old) }

@@ -1,5 +1,5 @@
-//! The parser of rule texts: from the tokens of a text to its items, each name and number with its place. Nothing is judged
-//! but which token follows which.
+//! The parser of rule texts: from a text's tokens to its syntax tree, each name and number with its place. It checks
+//! the order of the tokens only; later crates check what the items mean.
 #![tactic(auto)]
 
 mod condition;

@@ -9,7 +9,7 @@ use crate::syntax::Expression;
 use rule_lexer::TokenKind;
 use std::alloc::{AllocError, Global};
 
-/// What joins operands, the loosest first.
+/// An operator between operands, the loosest first.
 #[derive(Clone, Copy)]
 pub enum Operator {
     Or,
@@ -18,7 +18,7 @@ pub enum Operator {
 }
 
 impl Operator {
-    /// The kind of its tokens.
+    /// Returns the kind of this operator's tokens.
     pub fn kind(self) -> TokenKind
         ensures { result ≡ kind_of_operator self }
     {
@@ -29,7 +29,7 @@ impl Operator {
         }
     }
 
-    /// Two operands, joined.
+    /// Builds a condition from two operands and this operator; the error is a lack of memory for their box.
     pub fn join<'a>(
         self,
         alloc: Global,

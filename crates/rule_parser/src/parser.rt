@@ -1,4 +1,4 @@
-//! The items of a text, from its tokens.
+//! The parser's public call: a text's tokens become its items.
 
 ghost use Rattle.std.specs.Prelude.{◌≡◌, All, List, IfErr, IfOk, MatchResult, length};
 ghost use Rattle.lc_model.specs.Text.Reading.{HasParseFault, ParseFault, Parses};
@@ -15,7 +15,7 @@ use crate::syntax::RuleFile;
 use rule_lexer::Token;
 use std::alloc::Global;
 
-/// The items of the tokens of a text of this length.
+/// Reads the items from the tokens of a text of `end` bytes.
 fn read<'a>(alloc: Global, tokens: &[Token<'a>], end: usize) -> Result<RuleFile<'a>, ParseError>
     requires { All HasItsKind tokens.now }
     ensures derives { IfOk result
@@ -27,13 +27,9 @@ fn read<'a>(alloc: Global, tokens: &[Token<'a>], end: usize) -> Result<RuleFile<
     })
 }
 
-/// Parses the tokens of a rule text: any number of packets, fields and rules. One pass from left to right, with one token
-/// of look-ahead; only the list of items is allocated, and a box for each `not`, `and`, `or` and `xor`. Nothing is
-/// judged but which token follows which: what the items mean is checked later.
-///
-/// Errors: `Expected` at the first token that continues no text, or at the text's length where the tokens end too early; what
-/// is wanted there leaves out what may be left out. `TooNested` at the 65th token of one condition that is `(`, `not`, `and`,
-/// `xor` or `or`. `Memory` where the items find no room.
+/// Parses a text's tokens in one pass, with one token of look-ahead. It checks only the order of the tokens
+/// (grammar: docs/RULES.md, this project's own). Errors: `Expected` at the first token that fits no valid text, or at
+/// the text's end; `TooNested` at a condition's 65th nesting token; `Memory` for the list or an operator's box.
 pub fn parse<'a>(
     alloc: Global,
     text: &[u8],

@@ -1,4 +1,4 @@
-//! Reading the tokens of a text from left to right: what stands next, or the fault that it doesn't.
+//! The reader: takes tokens from left to right and returns an error if the expected one doesn't come next.
 
 ghost use Rattle.std.specs.Prelude.{◌≡◌, All, IsTrue, MatchResult, option_map, true};
 ghost use Rattle.lc_model.specs.Text.Class as class;
@@ -20,12 +20,12 @@ use lc_model::{ApMode, CmpOp, EventKind, FieldType};
 use rule_lexer::{Token, TokenKind};
 use std::marker::Model;
 
-/// The tokens that aren't read yet, and the place where the text ends. A step that answers an error may have read a token:
-/// nothing is read behind it.
+/// The tokens that aren't read yet, and the text's length for errors at its end. A step that returns an error may
+/// have read a token; the parser stops there and reads no more.
 #[derive(Drop)]
 pub struct Reader<'t, 'a> {
     cursor: Cursor<'t, 'a>,
-    /// The text's length.
+    /// The text's length in bytes.
     end: usize,
 }
 
@@ -38,7 +38,7 @@ impl<'t, 'a> Model for Reader<'t, 'a> {
 }
 
 impl<'t, 'a> Reader<'t, 'a> {
-    /// Before the first token of a text of this length.
+    /// Creates a reader before the first token of a text of `end` bytes.
     pub fn new(tokens: &'t [Token<'a>], end: usize) -> Reader<'t, 'a>
         requires { All HasItsKind tokens.now }
         ensures { result ≡ record { tokens = tokens_of tokens.now; end = end } }
@@ -56,7 +56,7 @@ impl<'t, 'a> Reader<'t, 'a> {
         self.cursor.is_at_end()
     }
 
-    /// Whether the next token is of this kind: a reserved word, a sign, a name or a string.
+    /// Whether the next token is of this kind, which has no value: a reserved word, a sign, a name or a string.
     pub fn begins(&self, kind: TokenKind) -> bool
         requires { IsTrue (is_plain kind) }
         ensures { result ≡ begins (class_of kind) self.now.tokens }
@@ -64,7 +64,7 @@ impl<'t, 'a> Reader<'t, 'a> {
         self.cursor.begins(kind)
     }
 
-    /// Takes the next token, where it is of this kind: a reserved word, a sign, a name or a string.
+    /// Reads the next token if it is of this kind, and returns whether it was. The kind has no value, as with `begins`.
     pub fn takes(&mut self, kind: TokenKind) -> bool
         requires { IsTrue (is_plain kind) }
         ensures { Takes (class_of kind) self.old self.new result }
@@ -76,8 +76,8 @@ impl<'t, 'a> Reader<'t, 'a> {
         true
     }
 
-    /// Takes the next token as one of those that nest in a condition: an error where `room`, how many more of them may stand in
-    /// it, is none.
+    /// Reads the next token as one that nests in a condition and takes 1 from `room`, the number of such tokens that
+    /// may still come. `TooNested` if `room` is 0.
     pub fn nest(&mut self, room: &mut usize) -> Result<(), ParseError>
         ensures { (wanted : Class) → begins wanted self.old.tokens ≡ true
             → MatchResult result (λ _. Nested wanted self.old self.new room.old room.new)
@@ -91,14 +91,14 @@ impl<'t, 'a> Reader<'t, 'a> {
         Ok(())
     }
 
-    /// The place of the next token, or of the text's end.
+    /// Returns the next token's place in the text, or the text's length if all tokens are read.
     pub fn place(&self) -> usize
         ensures { result ≡ place self.now }
     {
         self.cursor.place(self.end)
     }
 
-    /// The fault that this is wanted next.
+    /// Returns the error that `what` is expected at the present place.
     pub fn expected(&self, what: What) -> ParseError
         ensures { result ≡ Expected (place self.now) what }
     {
@@ -108,7 +108,7 @@ impl<'t, 'a> Reader<'t, 'a> {
         }
     }
 
-    /// This reserved word.
+    /// Reads this reserved word.
     #[tactic(auto, unfolding(crate::specs::Left::token_in))]
     pub fn word(&mut self, word: Word) -> Result<Token<'a>, ParseError>
         ensures { Reads token_of self.new result
@@ -118,7 +118,7 @@ impl<'t, 'a> Reader<'t, 'a> {
         self.cursor.take(word.kind()).ok_or(missing)
     }
 
-    /// This sign.
+    /// Reads this sign.
     #[tactic(auto, unfolding(crate::specs::Left::token_in))]
     pub fn sign(&mut self, sign: Sign) -> Result<Token<'a>, ParseError>
         ensures { Reads token_of self.new result
@@ -128,7 +128,7 @@ impl<'t, 'a> Reader<'t, 'a> {
         self.cursor.take(sign.kind()).ok_or(missing)
     }
 
-    /// A word that isn't reserved.
+    /// Reads a name.
     #[tactic(auto, unfolding(crate::specs::Left::name_in))]
     pub fn name(&mut self) -> Result<Name<'a>, ParseError>
         ensures { Reads name_of self.new result (name_in self.old) }
@@ -137,7 +137,7 @@ impl<'t, 'a> Reader<'t, 'a> {
         self.cursor.name().ok_or(missing)
     }
 
-    /// A name, where `not` or `(` could stand too.
+    /// Reads a name at the beginning of an operand; its error names `not` and `(` as well.
     #[tactic(auto, unfolding(crate::specs::Left::operand_name_in))]
     pub fn operand_name(&mut self) -> Result<Name<'a>, ParseError>
         ensures { Reads name_of self.new result (operand_name_in self.old) }
@@ -146,7 +146,7 @@ impl<'t, 'a> Reader<'t, 'a> {
         self.cursor.name().ok_or(missing)
     }
 
-    /// A number.
+    /// Reads a number.
     #[tactic(auto, unfolding(crate::specs::Left::number_in))]
     pub fn number(&mut self) -> Result<Number, ParseError>
         ensures { Reads number_of self.new result (number_in self.old) }
@@ -155,7 +155,7 @@ impl<'t, 'a> Reader<'t, 'a> {
         self.cursor.number().ok_or(missing)
     }
 
-    /// What stands between the quotes of a string.
+    /// Reads a string and returns the bytes between its quotes.
     #[tactic(auto, unfolding(crate::specs::Left::string_in))]
     pub fn string(&mut self) -> Result<&'a [u8], ParseError>
         ensures { Reads (λ text. text.now) self.new result (string_in self.old) }
@@ -164,7 +164,7 @@ impl<'t, 'a> Reader<'t, 'a> {
         self.cursor.string().ok_or(missing)
     }
 
-    /// A field's type.
+    /// Reads a field's type.
     #[tactic(auto, unfolding(crate::specs::Left::value_in))]
     pub fn field_type(&mut self) -> Result<FieldType, ParseError>
         ensures { Reads (λ kind. kind) self.new result
@@ -174,7 +174,7 @@ impl<'t, 'a> Reader<'t, 'a> {
         self.cursor.field_type().ok_or(missing)
     }
 
-    /// A rule's state.
+    /// Reads a rule's state.
     #[tactic(auto, unfolding(crate::specs::Left::value_in))]
     pub fn state(&mut self) -> Result<ApMode, ParseError>
         ensures { Reads (λ mode. mode) self.new result (value_in class.State state self.old) }
@@ -183,7 +183,7 @@ impl<'t, 'a> Reader<'t, 'a> {
         self.cursor.state().ok_or(missing)
     }
 
-    /// An event's level.
+    /// Reads an event's level.
     #[tactic(auto, unfolding(crate::specs::Left::value_in))]
     pub fn level(&mut self) -> Result<EventKind, ParseError>
         ensures { Reads (λ kind. kind) self.new result (value_in class.Level event_kind self.old) }
@@ -192,7 +192,7 @@ impl<'t, 'a> Reader<'t, 'a> {
         self.cursor.level().ok_or(missing)
     }
 
-    /// A comparison's sign.
+    /// Reads a comparison sign.
     #[tactic(auto, unfolding(crate::specs::Left::value_in))]
     pub fn comparison(&mut self) -> Result<CmpOp, ParseError>
         ensures { Reads (λ op. op) self.new result (value_in class.Compare comparison self.old) }
@@ -201,7 +201,7 @@ impl<'t, 'a> Reader<'t, 'a> {
         self.cursor.comparison().ok_or(missing)
     }
 
-    /// A reserved word and a number.
+    /// Reads a reserved word and the number after it.
     #[tactic(auto, unfolding(crate::specs::Left::labelled_in))]
     pub fn labelled(&mut self, word: Word) -> Result<Number, ParseError>
         ensures { Reads number_of self.new result
@@ -211,7 +211,7 @@ impl<'t, 'a> Reader<'t, 'a> {
         self.number()
     }
 
-    /// A reserved word and a number, or nothing where the word doesn't stand next.
+    /// Reads a reserved word and the number after it; `None` if the word doesn't come next.
     #[tactic(auto, unfolding(crate::specs::Left::option_in, crate::specs::Left::some_in))]
     pub fn optional(&mut self, word: Word) -> Result<Option<Number>, ParseError>
         ensures { Reads (option_map number_of) self.new result
@@ -224,7 +224,7 @@ impl<'t, 'a> Reader<'t, 'a> {
         }
     }
 
-    /// `report` and the three numbers behind it.
+    /// Reads `report` and the three numbers after it.
     #[tactic(auto, unfolding(crate::specs::Left::reports_in))]
     fn reports(&mut self) -> Result<Option<ReportItem>, ParseError>
         ensures { Reads (option_map report_of) self.new result (reports_in self.old) }
@@ -240,7 +240,7 @@ impl<'t, 'a> Reader<'t, 'a> {
         }))
     }
 
-    /// A report, or nothing where `report` doesn't stand next.
+    /// Reads `report` and the three numbers after it; `None` if `report` doesn't come next.
     #[tactic(auto, unfolding(crate::specs::Left::report_in))]
     pub fn report(&mut self) -> Result<Option<ReportItem>, ParseError>
         ensures { Reads (option_map report_of) self.new result (report_in self.old) }

@@ -1,25 +1,29 @@
-//! What the items of a rule text say, before names are replaced by what they name.
+//! The syntax tree of a rule text. Names still stand as written; a later crate resolves them.
 
 ghost use Rattle.std.specs.Prelude.{◌^◌, ◌<◌, nat_abs};
 
 use lc_model::{ApMode, CmpOp, EventKind, FieldType};
 
-/// A name, with the number of bytes of the text before it.
+/// A name as it stands in the text.
 #[derive(Clone, Copy, Debug)]
 pub struct Name<'a> {
+    /// The number of the text's bytes before the name.
     pub at: usize,
+    /// The name's bytes.
     pub text: &'a [u8],
 }
 
-/// A number, with the number of bytes of the text before it.
+/// A number of the text, of magnitude below 2^32.
 #[derive(Clone, Copy, Debug)]
 pub struct Number {
+    /// The number of the text's bytes before the number.
     pub at: usize,
+    /// Its value; whether it is in range is checked later.
     pub value: i64,
     ghost of_32_bits: { nat_abs value < 2 ^ 32 },
 }
 
-/// `packet NAME = mid NUMBER length NUMBER ;`
+/// A packet's declaration: `packet NAME = mid NUMBER length NUMBER ;`. The length is in bytes.
 #[derive(Clone, Copy, Debug)]
 pub struct PacketItem<'a> {
     pub name: Name<'a>,
@@ -27,7 +31,8 @@ pub struct PacketItem<'a> {
     pub length: Number,
 }
 
-/// `field NAME = PACKET TYPE at NUMBER [mask NUMBER] [stale NUMBER] ;`
+/// A field's declaration: `field NAME = PACKET TYPE at NUMBER [mask NUMBER] [stale NUMBER] ;`. `offset` counts bytes
+/// from the packet's first byte; `stale` counts agings.
 #[derive(Clone, Copy, Debug)]
 pub struct FieldItem<'a> {
     pub name: Name<'a>,
@@ -38,7 +43,7 @@ pub struct FieldItem<'a> {
     pub stale: Option<Number>,
 }
 
-/// `FIELD OPERATOR NUMBER`
+/// One comparison of a condition: `FIELD OPERATOR NUMBER`.
 #[derive(Clone, Copy, Debug)]
 pub struct Comparison<'a> {
     pub field: Name<'a>,
@@ -46,7 +51,7 @@ pub struct Comparison<'a> {
     pub value: Number,
 }
 
-/// The most reports of each kind.
+/// How many events of each kind a rule may send: while passive, from pass to fail, and from fail to pass.
 #[derive(Clone, Copy, Debug)]
 pub struct ReportItem {
     pub passive: Number,
@@ -54,7 +59,7 @@ pub struct ReportItem {
     pub fail_to_pass: Number,
 }
 
-/// A condition over fields that are named. The operands of `and`, `or` and `xor` lie in one box, so that each costs one allocation.
+/// A condition over fields by name. The operands of `and`, `or` and `xor` share a box: one allocation each.
 #[derive(Debug, Drop)]
 pub enum Expression<'a> {
     Compare(Comparison<'a>),
@@ -64,7 +69,8 @@ pub enum Expression<'a> {
     Xor(Box<(Expression<'a>, Expression<'a>)>),
 }
 
-/// `rule NAME STATE fails NUMBER sequence NUMBER event LEVEL NUMBER STRING [report NUMBER NUMBER NUMBER] when CONDITION ;`
+/// A rule: `rule HEAD when CONDITION ;`, with this HEAD:
+/// `NAME STATE fails NUMBER sequence NUMBER event LEVEL NUMBER STRING [report NUMBER NUMBER NUMBER]`.
 #[derive(Debug, Drop)]
 pub struct RuleItem<'a> {
     pub name: Name<'a>,
@@ -73,13 +79,13 @@ pub struct RuleItem<'a> {
     pub sequence: Number,
     pub event_kind: EventKind,
     pub event_id: Number,
-    /// The bytes between the quotes.
+    /// The event's text: the bytes between the quotes.
     pub text: &'a [u8],
     pub report: Option<ReportItem>,
     pub condition: Expression<'a>,
 }
 
-/// One item of a rule text.
+/// One item of a rule text: a packet, a field or a rule.
 #[derive(Debug, Drop)]
 pub enum Item<'a> {
     Packet(PacketItem<'a>),
@@ -87,8 +93,7 @@ pub enum Item<'a> {
     Rule(RuleItem<'a>),
 }
 
-/// What a rule text says, before names are replaced by what they name: its items in the text's order, each name and number
-/// with the number of bytes before it.
+/// The syntax tree of a rule text: its items in the text's order. Each name and number has its place in the text.
 #[derive(Debug, Drop)]
 pub struct RuleFile<'a> {
     pub items: Vec<Item<'a>>,

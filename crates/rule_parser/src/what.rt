@@ -1,4 +1,4 @@
-//! What can be wanted at a place of a rule text.
+//! What the parser expects at a place of a rule text, for its errors.
 
 ghost use Rattle.std.specs.Prelude.{◌≡◌, Some};
 ghost use Rattle.rule_parser.specs.What.{kind_of_sign, kind_of_word, sign_text, what_text, word_text};
@@ -6,13 +6,14 @@ ghost use Rattle.rule_parser.specs.What.{kind_of_sign, kind_of_word, sign_text, 
 use rule_lexer::TokenKind;
 use std::fmt;
 
-/// A class of tokens of which one is wanted.
+/// A class of tokens that the parser expects. It displays as in an error's text.
 #[derive(Clone, Copy, Debug, PartialEq, Eq)]
 pub enum What {
     /// `packet`, `field` or `rule`, which begin an item.
     Item,
-    /// A word that isn't reserved.
+    /// A name: a word that isn't reserved.
     Name,
+    /// A number.
     Number,
     /// A string.
     Text,
@@ -22,9 +23,9 @@ pub enum What {
     State,
     /// `debug`, `info`, `error` or `critical`.
     Level,
-    /// What begins an operand of a condition: a name, `not` or `(`.
+    /// The first token of a condition's operand: a name, `not` or `(`.
     Operand,
-    /// `<`, `<=`, `!=`, `==`, `>=` or `>`.
+    /// A comparison sign: `<`, `<=`, `!=`, `==`, `>=` or `>`.
     Compare,
     /// This reserved word.
     Word(Word),
@@ -32,7 +33,7 @@ pub enum What {
     Sign(Sign),
 }
 
-/// A reserved word inside an item that stands for no value.
+/// A reserved word inside an item that has no value; each variant stands for the word in lower case.
 #[derive(Clone, Copy, Debug, PartialEq, Eq)]
 pub enum Word {
     Mid,
@@ -47,7 +48,7 @@ pub enum Word {
     When,
 }
 
-/// A sign that stands for no value.
+/// A sign without a value: `=`, `;` or `)`.
 #[derive(Clone, Copy, Debug, PartialEq, Eq)]
 pub enum Sign {
     Equals,
@@ -56,7 +57,7 @@ pub enum Sign {
 }
 
 impl Word {
-    /// The kind of its tokens.
+    /// Returns the kind of this word's tokens.
     pub fn kind(self) -> TokenKind
         ensures { result ≡ kind_of_word self }
     {
@@ -76,7 +77,7 @@ impl Word {
 }
 
 impl Sign {
-    /// The kind of its tokens.
+    /// Returns the kind of this sign's tokens.
     pub fn kind(self) -> TokenKind
         ensures { result ≡ kind_of_sign self }
     {

@@ -1,4 +1,5 @@
--- The text of a decompiled condition, in the rule language with `w0`, `w1` and so on for comparisons. This project's own.
+-- The text of a decompiled condition, in the rule language with `w0`, `w1` and so on for comparisons. This project's
+-- own.
 use Rattle.std.specs.Prelude.{ℕ, Bool, if◌then◌else◌, nat_lt, nat_le, List, ◌++◌, codes}
 use Rattle.std.specs.Fmt.{decimal}
 use Rattle.lc_model.specs.Condition.{Operator, And, Or, Xor}
@@ -22,8 +23,8 @@ tightness (Watch n) = 3
 tightness (Not f) = 3
 tightness (Join o a b) = tightness_of o
 
--- where a formula stands, parentheses are needed: as the operand of `not` where it binds less tightly, as the first operand
--- of an operator where it binds less tightly, as the second one where it doesn't bind more tightly
+-- Whether a formula needs parentheses: as the operand of `not` and as an operator's first operand if it binds less
+-- tightly, as the second operand if it doesn't bind more tightly.
 abbrev pub needed_in_not : Formula → Bool
 needed_in_not f = nat_lt (tightness f) 3
 
@@ -33,7 +34,7 @@ needed_first o a = nat_lt (tightness a) (tightness_of o)
 abbrev pub needed_second : Operator → Formula → Bool
 needed_second o b = nat_le (tightness b) (tightness_of o)
 
--- a text, in parentheses where they are needed
+-- the text, with parentheses if they are needed
 abbrev pub parenthesized : Bool → List ℕ → List ℕ
 parenthesized needed text = if needed then codes "(" ++ (text ++ codes ")") else text
 

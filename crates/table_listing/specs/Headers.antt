@@ -26,10 +26,10 @@ preamble_text kind version entries watchpoints hash =
     codes "image: kind " ++ (decimal kind ++ (codes " " ++ (kind_word kind ++ (codes " version " ++ (decimal version ++ (codes " entries "
     ++ (decimal entries ++ (codes " watchpoints " ++ (decimal watchpoints ++ (codes "\nhash: " ++ in_hex hash))))))))))
 
--- those of a value of the program
+-- the lines of the program's value
 abbrev pub preamble_lines_of : PreambleLines → List ℕ
 preamble_lines_of p = preamble_text p.kind p.version p.entries p.watchpoints p.hash.now
 
--- those of an image
+-- the lines of an image
 abbrev pub preamble_lines : List ℕ → List ℕ
 preamble_lines image = preamble_text (u16_at image 2) (u16_at image 0) (own_count image) (watchpoint_count image) (hash_of image)

@@ -1,4 +1,4 @@
--- What a sound table file is listed as: its headers, its preamble, and each used entry. This project's own.
+-- The listing of a sound table file: its headers, its preamble, and each used entry. This project's own.
 use Rattle.std.specs.Prelude.{◌≡◌, ℕ, suc, List, [], ◌++◌, length, codes, nat_le, if◌then◌else◌, Option, Result, Ok, Err}
 use Rattle.std.specs.Io.KnownBytes.{Appends}
 use Rattle.lc_model.specs.declared.kind.Kind.{Kind}
@@ -13,7 +13,7 @@ use Rattle.table_listing.specs.Headers.{file_line, table_line, preamble_lines}
 use Rattle.table_listing.specs.Judged.{kind_judged}
 use Rattle.table_listing.specs.Lines.{watchpoint_line, actionpoint_line}
 
--- a text was written of which this is true
+-- a text with this property is written
 pub record Adds (IsText : List ℕ → Type 0) (before now : Option (List ℕ)) : Type 0 where
   pub text : List ℕ
   pub is : IsText text
@@ -36,7 +36,7 @@ abbrev pub IsEntryListed : Kind → List ℕ → ℕ → List ℕ → Type 0
 IsEntryListed Wdt image n text = text ≡ ended (watchpoint_line n (spelled_term (entry_at Watchpoints image n)))
 IsEntryListed Adt image n text = IsActionpointListed (entry_at (adt_layout image) image n) n text
 
--- the lines of the first entries, one behind the other
+-- the lines of the first entries, in order
 pub data AreListed (IsLine : ℕ → List ℕ → Type 0) : ℕ → List ℕ → Type 0 where
   nothing : AreListed IsLine 0 []
   more : {n : ℕ} {lines line : List ℕ} → AreListed IsLine n lines → IsLine n line → AreListed IsLine (suc n) (lines ++ line)
@@ -47,29 +47,29 @@ AreEntriesListed kind image lines = AreListed (IsEntryListed kind image) (own_co
 
 -- ---- files
 
--- the lines of the preamble, where there is one
+-- the lines of the preamble, if the image is long enough to have one
 abbrev pub preamble_shown : List ℕ → List ℕ
 preamble_shown image = if nat_le preamble_length (length image) then ended (preamble_lines image) else []
 
--- a sound image
+-- the listing of a sound image
 pub record IsImageListed (image text : List ℕ) : Type 0 where
   pub entries : List ℕ
   pub listed : AreEntriesListed (kind_judged image) image entries
   pub is : text ≡ preamble_shown image ++ entries
 
--- the lines of the headers
+-- the lines of the two headers
 abbrev pub headers_shown : TableFile → List ℕ
 headers_shown f =
     ended (file_line f.spacecraft f.processor f.application f.seconds f.subseconds)
     ++ ended (table_line (name_in f.name_field) (name_in f.description) f.reserved (length f.image))
 
--- a sound file that was opened
+-- the listing of a sound file that opens
 pub record IsOpenedListed (f : TableFile) (text : List ℕ) : Type 0 where
   pub image : List ℕ
   pub listed : IsImageListed f.image image
   pub is : text ≡ headers_shown f ++ image
 
--- a sound file
+-- the listing of a sound file
 abbrev pub IsFileListed : Result TableFile ℕ → List ℕ → Type 0
 IsFileListed (Ok f) text = IsOpenedListed f text
 IsFileListed (Err code) text = ⊥

@@ -1,5 +1,5 @@
--- How the text of a decompiled condition is read by the grammar of rule texts, where a comparison stands for each watchpoint.
--- This project's own.
+-- How the grammar of rule texts reads the text of a decompiled condition, with a comparison for each watchpoint. This
+-- project's own.
 use Rattle.std.specs.Prelude.{◌≡◌, ℕ, Bool, if◌then◌else◌, List, [], ◌∷◌, ◌++◌, flat_map, codes}
 use Rattle.std.specs.Fmt.{decimal}
 use Rattle.lc_model.specs.Condition.{Operator, And, Or, Xor}
@@ -11,13 +11,13 @@ use Rattle.lc_model.specs.Text.Grammar.{Derives, cond, nots}
 use Rattle.table_listing.specs.Formula.{Formula, Watch, Not, Join}
 use Rattle.table_listing.specs.ConditionText.{condition_text, operator_name, needed_in_not, needed_first, needed_second}
 
--- what stands in the text of a condition
+-- the symbols of a condition's text
 pub data Symbol : Type 0 where
   Watchpoint : (n : ℕ) → Symbol
   Joining : (o : Operator) → Symbol
   Negating Opening Closing : Symbol
 
--- symbols, in parentheses where they are needed
+-- the symbols, with parentheses if they are needed
 abbrev pub enclosed : Bool → List Symbol → List Symbol
 enclosed needed symbols = if needed then Opening ∷ symbols ++ Closing ∷ [] else symbols
 
@@ -33,7 +33,7 @@ class_of And = word "and"
 class_of Or = word "or"
 class_of Xor = word "xor"
 
--- tokens that stand for symbols, and what the tokens of a watchpoint say
+-- the tokens for each symbol, and the meaning of a watchpoint's tokens
 pub record Tokens : Type 0 where
   pub comparison : ℕ → List Token
   pub said : ℕ → Expression
@@ -42,7 +42,7 @@ pub record Tokens : Type 0 where
   pub opening : Token
   pub closing : Token
 
--- for each watchpoint they are a comparison that says this, and for each word and parenthesis its own
+-- a watchpoint's tokens are a comparison with this meaning, and each word and parenthesis has its own token
 pub record Stand (t : Tokens) : Type 0 where
   pub compares : (n : ℕ) → Derives nots (t.comparison n) (t.said n)
   pub joins : (o : Operator) → Fits (class_of o) (t.joining o)
@@ -58,18 +58,18 @@ tokens_of t Negating = t.negating ∷ []
 tokens_of t Opening = t.opening ∷ []
 tokens_of t Closing = t.closing ∷ []
 
--- what a formula says, where a comparison stands for each watchpoint
+-- the meaning of a formula, with a comparison for each watchpoint
 abbrev pub expression_of : Tokens → Formula → Expression
 expression_of t (Watch n) = t.said n
 expression_of t (Not f) = syntax.Not (expression_of t f)
 expression_of t (Join o a b) = syntax.Join o (expression_of t a) (expression_of t b)
 
--- the tokens of a formula's text say the formula, and nothing else
+-- the tokens of a formula's text mean the formula, and nothing else
 pub record ReadsAs (t : Tokens) (f : Formula) : Type 0 where
   pub derives : Derives cond (flat_map (tokens_of t) (symbols_of f)) (expression_of t f)
   pub only : (e : Expression) → Derives cond (flat_map (tokens_of t) (symbols_of f)) e → e ≡ expression_of t f
 
--- so it is of every formula
+-- this holds for every formula
 abbrev pub TextsReadAsTheirTrees : Type 0
 TextsReadAsTheirTrees = (t : Tokens) (f : Formula) → Stand t → ReadsAs t f
 
@@ -82,13 +82,13 @@ symbol_text Negating = codes "not"
 symbol_text Opening = codes "("
 symbol_text Closing = codes ")"
 
--- a blank stands between two symbols, but not behind an opening and before a closing parenthesis
+-- a blank stands between two symbols, but not after an opening and not before a closing parenthesis
 abbrev pub blank_between : Symbol → Symbol → List ℕ
 blank_between Opening after = []
 blank_between before Closing = []
 blank_between before after = codes " "
 
--- symbols, one behind the other
+-- the symbols in order, with their blanks
 abbrev pub spaced : List Symbol → List ℕ
 spaced [] = []
 spaced (s ∷ []) = symbol_text s

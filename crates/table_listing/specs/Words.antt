@@ -1,4 +1,4 @@
--- The words of the rule language for the values in an entry. This project's own.
+-- The words of the rule language for values in tables. This project's own.
 use Rattle.std.specs.Prelude.{ℕ, List, codes, if◌then◌else◌, ◌==◌}
 use Rattle.lc_model.specs.declared.field.FieldType.{FieldType}
 use Rattle.lc_model.specs.declared.field.FieldType.TheVariants.{U8, I8, U16Be, U16Le, I16Be, I16Le, U32Be, U32Le, I32Be, I32Le}
@@ -31,7 +31,7 @@ comparison_sign Equal = codes "=="
 comparison_sign GreaterOrEqual = codes ">="
 comparison_sign Greater = codes ">"
 
--- the word of the state in which a rule begins; no rule begins off for good
+-- the word for the state in which a rule begins; no rule begins off for good
 abbrev pub state_word : ApMode → List ℕ
 state_word Active = codes "active"
 state_word Passive = codes "passive"
@@ -45,6 +45,6 @@ level_word Information = codes "info"
 level_word Error = codes "error"
 level_word Critical = codes "critical"
 
--- the word of the table that an image is of, by the number of its kind
+-- the word for the number of an image's kind
 abbrev pub kind_word : ℕ → List ℕ
 kind_word kind = if kind == 1 then codes "watchpoints" else if kind == 2 then codes "actionpoints" else codes "unknown"

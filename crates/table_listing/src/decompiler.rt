@@ -1,5 +1,5 @@
-//! The decompiler: from the words of an equation back to the condition that they spell (cFS Limit Checker user's guide,
-//! actionpoint definitions; the words are this project's own).
+//! The decompiler: turns the words of an equation back into a condition (cFS Limit Checker user's guide, actionpoint
+//! definitions; the words are this project's own).
 
 ghost use Rattle.std.specs.Prelude.{◌≡◌, ◌≤◌, ◌<◌, ◌+◌, ◌⊎◌, ℕ, List, [], ◌∷◌, ◌++◌, OnOk, IfOk, vec_len};
 ghost use Rattle.lc_model.specs.Codes.{table_entries};
@@ -13,7 +13,7 @@ use lc_model::TABLE_ENTRIES;
 use lc_model::words::{AND, NOT, OR, XOR};
 use std::alloc::{AllocError, Global};
 
-/// Negates the last operand that waits.
+/// Negates the last waiting operand.
 fn negate(alloc: Global, waiting: &mut Vec<Equation>) -> Result<(), AllocError>
     requires { 1 ≤ vec_len waiting.old }
     ensures words { OnOk result
@@ -27,7 +27,7 @@ fn negate(alloc: Global, waiting: &mut Vec<Equation>) -> Result<(), AllocError>
     Ok(())
 }
 
-/// Joins the last two operands that wait.
+/// Joins the last two waiting operands.
 fn join(alloc: Global, waiting: &mut Vec<Equation>, operator: Operator) -> Result<(), AllocError>
     requires { 2 ≤ vec_len waiting.old }
     ensures words { OnOk result
@@ -44,7 +44,7 @@ fn join(alloc: Global, waiting: &mut Vec<Equation>, operator: Operator) -> Resul
     Ok(())
 }
 
-/// Reads one word more.
+/// Reads one more word.
 fn read_word(alloc: Global, waiting: &mut Vec<Equation>, word: u16) -> Result<(), AllocError>
     requires known { (word < TABLE_ENTRIES) ⊎ ((AND ≤ word) × (word ≤ NOT)) }
     requires enough { operands_of word ≤ vec_len waiting.old }
@@ -66,10 +66,8 @@ fn read_word(alloc: Global, waiting: &mut Vec<Equation>, word: u16) -> Result<()
     }
 }
 
-/// The condition whose words these are, without EQUAL: the words of a sound equation, so none is unknown and no operand is
-/// missing.
-///
-/// Errors: want of memory.
+/// Decompiles the words of a sound equation, without EQUAL, to the condition that they spell. The first operand of an
+/// operator stands left. The only error is a lack of memory.
 pub fn decompile(alloc: Global, words: &[u16]) -> Result<Equation, AllocError>
     requires { (count : ℕ) × (count ≤ table_entries) × IsSoundEquation count words.now }
     ensures { IfOk result (λ equation. IsTreeOf words.now (formula_of equation)) }

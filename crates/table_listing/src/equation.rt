@@ -1,4 +1,4 @@
-//! Conditions over watchpoints that are known by their numbers alone, and their text.
+//! Conditions over watchpoint numbers, and their text.
 
 ghost use Rattle.std.specs.Prelude.{◌≡◌, Some, nat_lt, nat_le};
 ghost use Rattle.table_listing.specs.ConditionText.{condition_text, operator_name, tightness as binds, tightness_of};
@@ -6,7 +6,7 @@ ghost use Rattle.table_listing.specs.Formula.{formula_of, operator_of};
 
 use std::fmt::{self, Display, Formatter, Write};
 
-/// What joins two operands.
+/// An operator between two operands; it displays as its word.
 #[derive(Clone, Copy, Debug, PartialEq, Eq)]
 pub enum Operator {
     And,
@@ -15,7 +15,7 @@ pub enum Operator {
 }
 
 impl Operator {
-    /// How tightly it binds: `or` the least, then `xor`, then `and`.
+    /// How tightly the operator binds: `or` the least, then `xor`, then `and`.
     fn tightness(self) -> u8
         ensures { result ≡ tightness_of (operator_of self) }
     {
@@ -39,20 +39,20 @@ impl Display for Operator {
     }
 }
 
-/// A condition over watchpoints, by their numbers in the watchpoint table: what the words of an equation spell. Two operands
-/// lie in one box.
-///
-/// Its text is the condition of a rule, with `w0`, `w1` and so on where a rule has comparisons. Parentheses stand where the
-/// text would be read as another condition without them.
+/// The condition that an equation's words spell, over watchpoint numbers; two operands share a box. It displays as a
+/// rule's condition with `w0`, `w1` and so on for comparisons, and with parentheses only where the meaning needs them.
 #[derive(Debug, Drop)]
 pub enum Equation {
+    /// The watchpoint with this number, counted from 0.
     Watch(u16),
+    /// True if the operand is false.
     Not(Box<Equation>),
+    /// Two operands with an operator between them.
     Join(Operator, Box<(Equation, Equation)>),
 }
 
 impl Equation {
-    /// How tightly its outermost part binds; `not` and watchpoints the most.
+    /// How tightly the outermost part binds: `not` and watchpoints the most.
     fn tightness(&self) -> u8
         ensures { result ≡ binds (formula_of self.now) }
     {

@@ -1,4 +1,4 @@
-//! Why a listing ends early.
+//! The errors of writing a listing.
 
 ghost use Rattle.std.specs.Prelude.{◌≡◌};
 ghost use Rattle.table_listing.specs.declared.error.ListingError.TheVariants.{Memory, Write};
@@ -7,10 +7,10 @@ use std::alloc::AllocError;
 use std::io;
 use thiserror::Error;
 
-/// What was met while a listing was written. A file's fault is none of these: the listing says it.
+/// Why a listing ends early. A fault of the file is no error: the listing reports it.
 #[derive(Clone, Copy, Debug, PartialEq, Eq, Error)]
 pub enum ListingError {
-    /// No memory for the condition of an equation.
+    /// There is no memory for an equation's condition.
     #[error("out of memory")]
     Memory,
     /// The writer refused bytes.

@@ -11,22 +11,22 @@ use crate::words::kind_word;
 use std::fmt::{self, Display, Formatter, Write};
 use table_file::{TableFile, preamble};
 
-/// The bytes before the first zero byte, or all of them: how many.
+/// The number of bytes before the first zero byte, or of all bytes if there is none.
 fn text_length(field: &[u8]) -> usize
     ensures { result ≡ position_or_len (λ b. b == 0) field.now }
 {
     field.iter().take_while(|byte| **byte != 0).count()
 }
 
-/// The bytes before the first zero byte, or all of them.
+/// The bytes before the first zero byte, or all bytes if there is none.
 fn text_in(field: &[u8]) -> &[u8]
     ensures { result.now ≡ name_in field.now }
 {
     &field[..text_length(field)]
 }
 
-/// The line of a file's header, as `file: content type 0x63464531 subtype 8 spacecraft 66 processor 1 application 0 seconds 0
-/// subseconds 0`. Each file that is opened has these two first fields.
+/// The line of the cFE file header (cFE user's guide); every file that opens has this content type and subtype:
+/// `file: content type 0x63464531 subtype 8 spacecraft 66 processor 1 application 0 seconds 0 subseconds 0`.
 #[derive(Clone, Copy)]
 pub struct FileLine {
     pub spacecraft: u32,
@@ -37,7 +37,7 @@ pub struct FileLine {
 }
 
 impl FileLine {
-    /// That of this file.
+    /// Returns the line of this file.
     pub fn of(file: &TableFile) -> FileLine
         ensures { result ≡ record {
           spacecraft = file.now.spacecraft;
@@ -76,19 +76,22 @@ impl Display for FileLine {
     }
 }
 
-/// The line of a table's header, with the file's description, as `table: "LC.LC_WDT" description "" reserved 0 offset 0 bytes
-/// 4264`: both texts up to their first zero byte, in which
-/// quotes and backslashes are `\x22` and `\x5c`, and the bytes of the image. Each file that is opened has offset 0.
+/// The line of the table header, as `table: "LC.LC_WDT" description "" reserved 0 offset 0 bytes 4264`. Name and
+/// description end at their first zero byte and display as `Named`. Every file that opens has offset 0.
 #[derive(Clone, Copy)]
 pub struct TableLine<'a> {
+    /// The table's name.
     pub name: &'a [u8],
+    /// The file's description.
     pub description: &'a [u8],
+    /// The reserved field of the header.
     pub reserved: u32,
+    /// The length of the image in bytes.
     pub size: usize,
 }
 
 impl<'a> TableLine<'a> {
-    /// That of this file.
+    /// Returns the line of this file.
     pub fn of(file: &TableFile<'a>) -> TableLine<'a>
         ensures name { result.name.now ≡ name_in file.now.name_field }
         ensures description { result.description.now ≡ name_in file.now.description }
@@ -122,19 +125,23 @@ impl Display for TableLine<'_> {
     }
 }
 
-/// The lines of the preamble of an image of 40 bytes at least, the last one without its end.
+/// The two lines of an image's preamble (docs/FORMATS.md); the second has no line end.
 #[derive(Clone, Copy)]
 pub struct PreambleLines<'a> {
+    /// The number of the image's kind: 1 for watchpoints, 2 for actionpoints.
     pub kind: u16,
+    /// The version of the image's layout.
     pub version: u16,
+    /// The number of used entries.
     pub entries: u16,
+    /// The number of watchpoints of the rule text.
     pub watchpoints: u16,
-    /// The SHA-256 of the rule text.
+    /// The SHA-256 of the rule text, 32 bytes.
     pub hash: &'a [u8],
 }
 
 impl<'a> PreambleLines<'a> {
-    /// Those of this image.
+    /// Returns the lines of an image of at least 40 bytes.
     pub fn of(image: &'a [u8]) -> PreambleLines<'a>
         requires { preamble_length ≤ length image.now }
         ensures { preamble_lines_of result ≡ preamble_lines image.now }

@@ -1,4 +1,4 @@
-//! Which table an image is judged as, and the lines of faults.
+//! As which table an image is judged, and the lines of faults.
 
 ghost use Rattle.std.specs.Prelude.{◌≡◌};
 ghost use Rattle.table_listing.specs.Judged.{kind_judged};
@@ -8,11 +8,11 @@ use std::fmt::{self, Display, Formatter, Write};
 use table_file::{FileError, Layout, preamble};
 use table_validator::{TableFault, WHOLE_IMAGE};
 
-/// The bytes of an image's preamble.
+/// The length of an image's preamble in bytes.
 pub const PREAMBLE: usize = 40;
 
-/// The table that an image is judged as: the one whose kind its preamble has, where that is 1 or 2; else the one of
-/// actionpoints where it has the length of one, and the one of watchpoints where it hasn't.
+/// Returns the table as which an image is judged. The kind in its preamble decides if it is 1 or 2; else an image
+/// with the length of an actionpoint image is judged as one, and any other as a watchpoint image.
 pub fn kind_of_image(image: &[u8]) -> Kind
     ensures { result ≡ kind_judged image.now }
 {
@@ -29,7 +29,7 @@ pub fn kind_of_image(image: &[u8]) -> Kind
     }
 }
 
-/// The line of a file that can't be opened, as `refused 52: no cFE file`.
+/// The line of a file that can't be opened; it displays as `refused 52: no cFE file`.
 #[derive(Clone, Copy)]
 pub struct RefusalLine(pub FileError);
 
@@ -43,7 +43,8 @@ impl Display for RefusalLine {
     }
 }
 
-/// The line of an image's fault, as `fault 66 entry 3: no such type`, or `fault 62 image: another table's kind`.
+/// The line of an image's fault, with its entry counted from 0 if it has one; it displays as
+/// `fault 66 entry 3: no such type`, or `fault 62 image: another table's kind`.
 #[derive(Clone, Copy)]
 pub struct FaultLine(pub TableFault);
 

@@ -1,5 +1,5 @@
-//! Table files as text that a flight team reads: equations are decompiled to conditions, and each entry of a sound image is
-//! listed in the words of the rule language.
+//! Lists table files as text for a flight team: equations are decompiled to conditions, and each used entry of a sound
+//! image is a line in the words of the rule language.
 #![tactic(auto)]
 
 mod decompiler;

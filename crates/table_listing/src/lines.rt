@@ -1,4 +1,4 @@
-//! The lines of entries.
+//! The lines that list one entry each.
 
 ghost use Rattle.std.specs.Prelude.{Some, [], ◌≡◌};
 ghost use Rattle.table_listing.specs.Formula.{formula_of};
@@ -10,10 +10,12 @@ use crate::words::{comparison_sign, level_word, state_word, type_word};
 use lc_model::{ApMode, EventKind, ReportMaxima, Term};
 use std::fmt::{self, Display, Formatter, Write};
 
-/// The line of a watchpoint, as `w0: u16be at 12 mask 0xFFFF of 0x0883 < 2400 stale 2`.
+/// The line of a watchpoint; it displays as `w0: u16be at 12 mask 0xFFFF of 0x0883 < 2400 stale 2`.
 #[derive(Clone, Copy)]
 pub struct WatchpointLine {
+    /// The watchpoint's number, counted from 0.
     pub number: u16,
+    /// The watchpoint as its entry defines it.
     pub term: Term,
 }
 
@@ -40,16 +42,21 @@ impl Display for WatchpointLine {
 }
 
 /// The line of an actionpoint, as `a0: active fails 2 sequence 7 event error 1001 "low volts" report 0 0 0 when w0`.
+/// Its fields are those of the entry (docs/FORMATS.md).
 #[derive(Clone, Copy)]
 pub struct ActionpointLine<'a> {
+    /// The actionpoint's number, counted from 0.
     pub number: u16,
+    /// The state in which it begins.
     pub mode: ApMode,
     pub fails: u16,
     pub sequence: u16,
     pub event_kind: EventKind,
     pub event_id: u16,
+    /// The event's text without the zeros after it.
     pub text: &'a [u8],
     pub report: ReportMaxima,
+    /// The condition that the entry's words spell.
     pub condition: &'a Equation,
 }
 

@@ -1,4 +1,4 @@
-//! The listing of a table file.
+//! Lists a whole table file.
 
 ghost use Rattle.std.specs.Prelude.{ℕ, ◌≡◌, ◌<◌, ◌≤◌, ◌++◌, true, IfOk, OnOk, codes};
 ghost use Rattle.std.specs.Io.KnownBytes.{Appends};
@@ -36,7 +36,7 @@ fn words_of(alloc: Global, entry: &ActionpointEntry) -> Result<Vec<u16>, AllocEr
     Ok(words)
 }
 
-/// The condition of an entry's equation.
+/// The condition that an entry's equation spells.
 fn condition_of(alloc: Global, entry: &ActionpointEntry) -> Result<Equation, AllocError>
     requires { (count : ℕ) × (count ≤ table_entries) ×
         IsSoundEquation count (words_before_equal (all_words entry.now)) }
@@ -47,7 +47,7 @@ fn condition_of(alloc: Global, entry: &ActionpointEntry) -> Result<Equation, All
     decompile(alloc, words.as_slice())
 }
 
-/// The line of a watchpoint.
+/// Writes the line of a watchpoint.
 fn list_watchpoint<W: Write>(
     valid: &ValidImage,
     number: u16,
@@ -64,7 +64,7 @@ fn list_watchpoint<W: Write>(
     Ok(())
 }
 
-/// The line of an actionpoint.
+/// Writes the line of an actionpoint.
 fn list_actionpoint<W: Write>(
     alloc: Global,
     valid: &ValidImage,
@@ -95,7 +95,7 @@ fn list_actionpoint<W: Write>(
     Ok(())
 }
 
-/// The lines of the used entries of an image of watchpoints.
+/// Writes the lines of all used entries of a watchpoint image.
 fn list_watchpoints<W: Write>(valid: &ValidImage, out: &mut W) -> Result<(), ListingError>
     requires kind { valid.now.kind ≡ Wdt }
     ensures { OnOk result
@@ -107,7 +107,7 @@ fn list_watchpoints<W: Write>(valid: &ValidImage, out: &mut W) -> Result<(), Lis
     Ok(())
 }
 
-/// The lines of the used entries of an image of actionpoints.
+/// Writes the lines of all used entries of an actionpoint image.
 fn list_actionpoints<W: Write>(
     alloc: Global,
     valid: &ValidImage,
@@ -123,7 +123,7 @@ fn list_actionpoints<W: Write>(
     Ok(())
 }
 
-/// The lines of the used entries of an image.
+/// Writes the lines of all used entries of an image.
 fn list_entries<W: Write>(
     alloc: Global,
     valid: &ValidImage,
@@ -139,7 +139,7 @@ fn list_entries<W: Write>(
     }
 }
 
-/// The lines of a file's headers.
+/// Writes the lines of a file's two headers.
 fn list_headers<W: Write>(file: &TableFile, out: &mut W) -> Result<(), ListingError>
     ensures { OnOk result
         (Appends (W.contents out.old) (W.contents out.new) (headers_shown file.now)) }
@@ -149,7 +149,7 @@ fn list_headers<W: Write>(file: &TableFile, out: &mut W) -> Result<(), ListingEr
     Ok(())
 }
 
-/// The lines of an image's preamble, where there is one.
+/// Writes the lines of an image's preamble, if the image is long enough to have one.
 fn list_preamble<W: Write>(image: &[u8], out: &mut W) -> Result<(), ListingError>
     ensures { OnOk result
         (Appends (W.contents out.old) (W.contents out.new) (preamble_shown image.now)) }
@@ -161,7 +161,7 @@ fn list_preamble<W: Write>(image: &[u8], out: &mut W) -> Result<(), ListingError
     Ok(())
 }
 
-/// The lines of an image: its preamble, and its entries or its fault.
+/// Writes an image's preamble, and then its entries or its fault; returns whether the image is sound.
 fn list_image<W: Write>(alloc: Global, image: &[u8], out: &mut W) -> Result<bool, ListingError>
     ensures judged { IfOk result (λ sound. sound ≡ is_sound_image image.now) }
     ensures listed { IfOk result (λ sound. sound ≡ true →
@@ -180,16 +180,9 @@ fn list_image<W: Write>(alloc: Global, image: &[u8], out: &mut W) -> Result<bool
     }
 }
 
-/// Writes what a table file holds, a line each: the fields of its headers and of its image's preamble, and the watchpoint or
-/// the actionpoint of each used entry, with its equation as a condition. The answer is whether the file is sound; of one that
-/// isn't, the last line says the fault by its number and its meaning, and its entries aren't listed.
-///
-/// A file that can't be opened has that one line. An image is judged as the table whose kind its preamble has, 1 watchpoints
-/// and 2 actionpoints. Where it has another, it is judged as one of actionpoints if it has the length of such an image, and
-/// as one of watchpoints if not; so it has a fault either way. An image of under 40 bytes has no line for its preamble.
-///
-/// Memory is taken for one equation at a time. Errors: want of memory; bytes that the writer refuses. What was written by then
-/// stands.
+/// Lists a table file: headers, preamble and a line for each used entry (docs/TOOLS.md), or a last line with its fault.
+/// Returns whether the file is sound. A kind other than 1 or 2 is judged by the image's length. Errors: `Memory`, or
+/// `Write` if the writer refuses bytes; earlier lines stay written.
 pub fn list_table<W: Write>(alloc: Global, file: &[u8], out: &mut W) -> Result<bool, ListingError>
     ensures judged { IfOk result (λ sound. sound ≡ is_sound_file file.now) }
     ensures listed { IfOk result (λ sound. sound ≡ true →

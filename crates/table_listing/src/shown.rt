@@ -1,11 +1,11 @@
-//! Bytes as they are shown.
+//! Bytes as printable text.
 
 ghost use Rattle.std.specs.Prelude.{Some};
 ghost use Rattle.table_listing.specs.Shown.{in_hex, named, named_byte, shown, shown_byte};
 
 use std::fmt::{self, Display, Formatter, Write};
 
-/// A byte: as it is where it is printable ASCII, else `\x` and two digits.
+/// A byte that displays as itself if it is printable ASCII, else as `\x` and two hexadecimal digits.
 #[derive(Clone, Copy)]
 struct ShownByte(u8);
 
@@ -23,8 +23,7 @@ impl Display for ShownByte {
     }
 }
 
-/// The text of an event, each byte that can't be printed as `\x` and two digits. A backslash stands for itself, as in the texts of
-/// rules, none of which has a quote.
+/// An event's text. An unprintable byte displays as `\x` and two digits; a backslash stays as it is, as in rule texts.
 #[derive(Clone, Copy)]
 pub struct Shown<'a>(pub &'a [u8]);
 
@@ -40,7 +39,7 @@ impl Display for Shown<'_> {
     }
 }
 
-/// A byte of a name: a quote and a backslash are `\x` and two digits, and others as they are shown.
+/// A byte of a name: a quote or a backslash displays as `\x` and two digits, other bytes as `ShownByte`.
 #[derive(Clone, Copy)]
 struct NamedByte(u8);
 
@@ -58,8 +57,8 @@ impl Display for NamedByte {
     }
 }
 
-/// The bytes of a name, to stand between quotes: each byte that can't be printed, each quote and each backslash as `\x` and two
-/// digits. So a name ends where its quote stands.
+/// A name for between quotes. Each unprintable byte, quote and backslash displays as `\x` and two digits, so the name
+/// ends at the closing quote.
 #[derive(Clone, Copy)]
 pub struct Named<'a>(pub &'a [u8]);
 
@@ -75,7 +74,7 @@ impl Display for Named<'_> {
     }
 }
 
-/// Bytes in hexadecimal, two digits each.
+/// Bytes that display as hexadecimal, two small digits each.
 #[derive(Clone, Copy)]
 pub struct InHex<'a>(pub &'a [u8]);
 

@@ -1,11 +1,11 @@
-//! The words of the rule language for the values in an entry.
+//! The words of the rule language for values in tables.
 
 ghost use Rattle.std.specs.Prelude.{◌≡◌};
 ghost use Rattle.table_listing.specs.Words as model;
 
 use lc_model::{ApMode, CmpOp, EventKind, FieldType};
 
-/// The word of a field's type.
+/// Returns the word for a field's type, as `u16be`.
 pub fn type_word(kind: FieldType) -> &'static str
     ensures { result.now ≡ model.type_word kind }
 {
@@ -23,7 +23,7 @@ pub fn type_word(kind: FieldType) -> &'static str
     }
 }
 
-/// The sign of a comparison.
+/// Returns the sign of a comparison, as `<=`.
 pub fn comparison_sign(operator: CmpOp) -> &'static str
     ensures { result.now ≡ model.comparison_sign operator }
 {
@@ -37,7 +37,7 @@ pub fn comparison_sign(operator: CmpOp) -> &'static str
     }
 }
 
-/// The word of the state in which a rule begins. No rule begins off for good.
+/// Returns the word for the state in which a rule begins; `off` for a rule off for good, in which none begins.
 pub fn state_word(mode: ApMode) -> &'static str
     ensures { result.now ≡ model.state_word mode }
 {
@@ -49,7 +49,7 @@ pub fn state_word(mode: ApMode) -> &'static str
     }
 }
 
-/// The word of an event's type.
+/// Returns the word for an event's type, as rule texts have it.
 pub fn level_word(kind: EventKind) -> &'static str
     ensures { result.now ≡ model.level_word kind }
 {
@@ -61,7 +61,7 @@ pub fn level_word(kind: EventKind) -> &'static str
     }
 }
 
-/// The word of the table that an image is of, by the number of its kind.
+/// Returns the word for the number of an image's kind: `watchpoints` for 1, `actionpoints` for 2, else `unknown`.
 pub fn kind_word(kind: u16) -> &'static str
     ensures { result.now ≡ model.kind_word kind }
 {

@@ -1,4 +1,4 @@
--- The numbers of the faults of images, and what an answer by them says. This project's own.
+-- The numbers of the faults of images, and results as the definitions give them. This project's own.
 use Rattle.std.specs.Prelude.{ℕ, Option, Some, None, Result, Ok, Err}
 use Rattle.lc_model.specs.Tables.Image.{ImageFault}
 use Rattle.table_validator.specs.declared.fault.FaultCode.{FaultCode}
@@ -29,11 +29,11 @@ code_number TooManyOperands = 79
 code_number OperandsLeft = 80
 code_number ZeroSequenceOrFails = 81
 
--- the fault of the definitions that this one is
+-- this fault as one of the definitions
 abbrev pub fault_in : TableFault → ImageFault
 fault_in fault = record { code = code_number fault.code; entry = fault.entry }
 
--- the fault by which an image is refused; none where it is taken
+-- the fault by which an image is refused; none if it is sound
 abbrev pub refusal : {X : Type 0} → Result X TableFault → Option ImageFault
 refusal (Ok image) = None
 refusal (Err fault) = Some (fault_in fault)

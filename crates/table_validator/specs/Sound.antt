@@ -1,4 +1,4 @@
--- What a sound image gives its readers. This project's own.
+-- What readers of a sound image may rely on. This project's own.
 use Rattle.std.specs.Prelude.{◌≡◌, ◌≢◌, ℕ, ◌<◌, ◌≤◌, ◌⊎◌, ◌==◌, List, length, take, Some, None, unwrap_or, slice_index, IsTrue}
 use Rattle.std.specs.List.{list_all}
 use Rattle.lc_model.specs.declared.kind.Kind.{Kind}
@@ -13,14 +13,15 @@ use Rattle.lc_model.specs.Tables.Image.{Layout, Watchpoints, Actionpoints, kind_
 use Rattle.lc_model.specs.Tables.InForce.{layouts}
 use Rattle.lc_model.specs.Tables.Spelled.{spelled_term, state_of_code, event_of_code}
 
--- an image, and the table that it is of
+-- an image, and the kind of its table
 pub record TableImage : Type 0 where
   pub kind : Kind
   pub bytes : List ℕ
 
 -- ---- watchpoints
 
--- the entry of a watchpoint has a type, a comparison and a message id that may be watched, and what the type allows
+-- a watchpoint's entry has a known type and comparison, a message id that may be watched, and a mask and a value of
+-- the type
 pub record IsSoundWatchpoint (e : List ℕ) : Type 0 where
   pub has_type : type_of_code (type_field e) ≡ Some (spelled_term e).kind
   pub has_operator : operator_code (spelled_term e).op ≡ operator_field e
@@ -40,15 +41,16 @@ pub record HasSoundWatchpoints (image : List ℕ) : Type 0 where
 
 -- ---- equations
 
--- what an evaluation meets at a word: a watchpoint below the count or an operator, the operands that it takes, and at most
--- eight that wait
+-- At a word, an evaluation finds a watchpoint below the count or an operator, enough operands for it, and at most eight
+-- that wait.
 pub record IsMet (count : ℕ) (ws : List ℕ) (n : ℕ) : Type 0 where
   pub known : (slice_index ws n < count) ⊎ ((operator_word And ≤ slice_index ws n) × (slice_index ws n ≤ not_word))
   pub enough : operands_of (slice_index ws n) ≤ waiting (take n ws)
   pub few : waiting (take n ws) ≤ most_waiting
 
--- words that can be evaluated over so many watchpoints: they pass the tests of equations; they spell a condition over
--- watchpoints below the count, with a need of at most eight; so each word is met, and EQUAL finds one operand
+-- Words that can be evaluated over this number of watchpoints. They pass the tests of equations and spell a condition
+-- over watchpoints below the count, with a need of at most eight. So each word is valid in turn, and EQUAL has one
+-- operand.
 pub record IsSoundEquation (count : ℕ) (ws : List ℕ) : Type 0 where
   pub passes : first_code (equation_tests count ws) ≡ None
   pub need : ℕ
@@ -59,7 +61,7 @@ pub record IsSoundEquation (count : ℕ) (ws : List ℕ) : Type 0 where
 
 -- ---- actionpoints
 
--- the entry of an actionpoint has a state, an event and a text, words that end and can be evaluated, and a sequence and a
+-- an actionpoint's entry has a known state, an event, a text, an equation that can be evaluated, a sequence and a
 -- number of fails
 pub record IsSoundActionpoint (count : ℕ) (e : List ℕ) : Type 0 where
   pub has_state : state_code (state_of_code (state_field e)) ≡ state_field e

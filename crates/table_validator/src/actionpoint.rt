@@ -14,20 +14,20 @@ use crate::words::words_fault;
 use lc_model::is_text_byte;
 use table_file::{ActionpointEntry, are_zeros};
 
-/// The bytes of the text's field; at least one zero byte follows the text there.
+/// The length of the text field in bytes; at least one zero byte follows the text in it.
 const TEXT_FIELD: usize = 32;
 
-/// The least event id: those below are the Limit Checker's own.
+/// The least event id of a rule; the ids below belong to the Limit Checker.
 const FIRST_EVENT_ID: u16 = 1_000;
 
-/// How many bytes of a text the field begins with.
+/// The number of text bytes (0x20 to 0x7E without the quote) at the front of the field.
 fn text_length(field: &[u8]) -> usize
     ensures { result ≡ length (take_while token.is_text_byte field.now) }
 {
     field.iter().take_while(|byte| is_text_byte(**byte)).count()
 }
 
-/// Whether a field holds a text that isn't too long, and then zeros.
+/// Whether the field has a text of at most 31 bytes and then zeros only.
 fn is_text_field(field: &[u8]) -> bool
     ensures { result ≡ model.is_text_field field.now }
 {
@@ -35,14 +35,14 @@ fn is_text_field(field: &[u8]) -> bool
     length < TEXT_FIELD && are_zeros(&field[length..])
 }
 
-/// Whether an actionpoint may begin in the state with this number.
+/// Whether the number is that of a default state, 1 to 3.
 fn is_state(code: u8) -> bool
     ensures { result ≡ is_in_range 1 3 code }
 {
     (1..=3).contains(&code)
 }
 
-/// Whether the entry's event has no type, or an id below 1,000.
+/// Whether the entry's event type isn't 1 to 4, or its event id is below 1,000.
 fn has_wrong_event(entry: &ActionpointEntry<'_>) -> bool
     ensures { result ≡
         (not (is_in_range 1 4 (event_type_field entry.now)) || nat_lt (event_id_field entry.now)
@@ -58,7 +58,8 @@ fn has_zero(entry: &ActionpointEntry<'_>) -> bool
     entry.sequence() == 0 || entry.fails() == 0
 }
 
-/// The least code of an actionpoint's entry, in a table over so many watchpoints.
+/// Returns the least code among an actionpoint entry's faults, or `None` if it has none. `watchpoints` is the number
+/// of watchpoints that its equation may name.
 pub fn actionpoint_fault(entry: &ActionpointEntry<'_>, watchpoints: u16) -> Option<FaultCode>
     ensures { option_map code_number result ≡ actionpoint_code watchpoints entry.now }
 {

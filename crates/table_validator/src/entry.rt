@@ -1,4 +1,4 @@
-//! The faults of an image's entries, used or not.
+//! The faults of an image's entries, used or unused.
 
 ghost use Rattle.std.specs.Prelude.{◌≡◌, ◌<◌, length, option_map};
 ghost use Rattle.lc_model.specs.Codes.{table_entries};
@@ -11,7 +11,8 @@ use crate::fault::FaultCode;
 use crate::watchpoint::watchpoint_fault;
 use table_file::{ActionpointEntry, Layout, WatchpointEntry, entry_bytes, is_blank, preamble};
 
-/// The least code of entry `number`: of its fields where it is used, and else that it isn't blank.
+/// Returns the least code among the faults of entry `number`, counted from 0; `None` if it has none. An unused entry
+/// has one fault, `NotBlank`.
 pub fn entry_fault(layout: Layout, image: &[u8], number: usize) -> Option<FaultCode>
     requires whole { length image.now ≡ image_length (layout_of layout) }
     requires within { number < table_entries }

@@ -1,4 +1,4 @@
-//! Images that are sound, and the test by which they come to be known so.
+//! The validator's public call, and the type of images that have passed it.
 
 ghost use Rattle.std.specs.Prelude.{◌≡◌, ◌<◌, IfOk};
 ghost use Rattle.lc_model.specs.declared.kind.Kind.TheVariants.{Wdt, Adt};
@@ -14,7 +14,7 @@ use lc_model::{Kind, TABLE_ENTRIES};
 use std::marker::Model;
 use table_file::{ActionpointEntry, Layout, WatchpointEntry};
 
-/// A sound image, lent from the bytes that it stands in. Contracts see its kind and its bytes.
+/// A sound image, borrowed from the caller's bytes. Contracts see its kind and its bytes.
 #[derive(Debug, Drop)]
 pub struct ValidImage<'a> {
     layout: Layout,
@@ -39,18 +39,16 @@ impl<'a> Model for ValidImage<'a> {
 }
 
 impl<'a> ValidImage<'a> {
-    /// The table that the image is of.
+    /// Returns the kind of the image's table.
     pub fn kind(&self) -> Kind
         ensures { result ≡ self.now.kind }
     {
         self.layout.kind()
     }
 
-    /// The image, as it was handed in, for the readers of `table_file`.
-    ///
-    /// Of a table of watchpoints each used entry has a type, a comparison and a message id that may be watched, and its
-    /// mask and its comparison value are of its type. Of a table of actionpoints the words before EQUAL of each used entry
-    /// spell a condition over watchpoints below the count: none is unknown, no operand is missing, and at most eight wait.
+    /// Returns the image's bytes as they were passed in, for the readers of `table_file`. Each used watchpoint has a
+    /// valid type, comparison, message id, mask and value. Each used actionpoint has an equation that can be evaluated
+    /// without further tests: known words, no operand missing, at most eight waiting.
     pub fn image(&self) -> &'a [u8]
         ensures bytes { result.now ≡ self.now.bytes }
         ensures sound { IsSound layouts self.now.kind self.now.bytes }
@@ -60,7 +58,7 @@ impl<'a> ValidImage<'a> {
         self.bytes
     }
 
-    /// The watchpoint's entry `number`, from 0. Conditions: the table is of watchpoints, and the entry is used.
+    /// Returns the watchpoint entry `number`, counted from 0, of a watchpoint table. The entry must be used.
     pub fn watchpoint(&self, number: usize) -> WatchpointEntry<'a>
         requires kind { self.now.kind ≡ Wdt }
         requires used { number < own_count self.now.bytes }
@@ -70,7 +68,7 @@ impl<'a> ValidImage<'a> {
         WatchpointEntry::of(self.image(), number)
     }
 
-    /// The actionpoint's entry `number`, from 0. Conditions: the table is of actionpoints, and the entry is used.
+    /// Returns the actionpoint entry `number`, counted from 0, of an actionpoint table. The entry must be used.
     pub fn actionpoint(&self, number: usize) -> ActionpointEntry<'a>
         requires kind { self.now.kind ≡ Adt }
         requires used { number < own_count self.now.bytes }
@@ -81,7 +79,7 @@ impl<'a> ValidImage<'a> {
     }
 }
 
-/// Takes an image that is known to be sound, as one that was judged before: its length alone is looked at. Condition: it is sound.
+/// Returns an image that is known to be sound, without judging it again: only its length is read.
 pub fn judged_before(kind: Kind, image: &[u8]) -> ValidImage<'_>
     requires sound { IsSound layouts kind image.now }
     ensures lends { result ≡ record { kind = kind; bytes = image.now } }
@@ -92,15 +90,13 @@ pub fn judged_before(kind: Kind, image: &[u8]) -> ValidImage<'_>
     }
 }
 
-/// Takes the image of a table where it is sound: 4,264 bytes of watchpoints, or of actionpoints 15,176 of version 1, with 20
-/// words an equation, or 19,400 of version 2, with 32. Each entry is read once, and no memory is taken.
-///
-/// Errors: the image's one fault. The length counts first, then version, kind and counts; then the first entry with a
-/// fault, used or not, and of its faults the one with the least number.
+/// Judges a table image; each entry is read once, without allocation. Sizes in bytes: 4,264 for watchpoints, 15,176 or
+/// 19,400 for actionpoints (versions 1 and 2). The error is the image's one fault: length, version, kind, counts, then
+/// the first entry with a fault, by its least code. Layout and codes: docs/FORMATS.md, this project's own.
 pub fn validate(kind: Kind, image: &[u8]) -> Result<ValidImage<'_>, TableFault>
-    // Each image has the answer that the definitions give it.
+    // The result is the one that the definitions give for the image.
     ensures exact { refusal result ≡ fault_of layouts kind image.now }
-    // What is taken is that image, unchanged.
+    // A valid image is lent unchanged.
     ensures lends { IfOk result (λ valid. valid ≡ record { kind = kind; bytes = image.now }) }
 {
     let Some(layout) = Layout::of_image(kind, image) else {

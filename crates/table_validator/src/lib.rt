@@ -1,5 +1,5 @@
-//! The validator of table images: an image is taken exactly where it is sound, and else its fault is named. What is taken
-//! is lent to `table_file`'s readers, and its equations can be evaluated without a further test.
+//! The validator of table images. It returns a sound image, or the fault by which the image is refused. `table_file`
+//! reads what is returned, and its equations can be evaluated without further tests.
 #![tactic(auto)]
 
 mod actionpoint;

@@ -1,4 +1,4 @@
-//! The operands that wait while an equation is evaluated, counted.
+//! The number of operands that wait while an equation is evaluated.
 
 ghost use Rattle.std.specs.Prelude.{◌≡◌, ◌+◌, ◌<◌, ◌^◌, false};
 ghost use Rattle.std.specs.Int.{is_in_range};
@@ -9,28 +9,28 @@ ghost use Rattle.table_validator.specs.Scan.{operands_waiting, word_counted};
 use lc_model::words::{AND, EQUAL, NOT, XOR};
 use lc_model::{MOST_WAITING, TABLE_ENTRIES};
 
-/// Whether the word is a number of a watchpoint.
+/// Whether the word is a watchpoint's number, below 176.
 pub fn is_mention(word: u16) -> bool
     ensures { result ≡ equation.is_mention word }
 {
     (word as usize) < TABLE_ENTRIES
 }
 
-/// Whether the word is an operator with two operands: AND, OR or XOR, whose words follow one another.
+/// Whether the word is an operator with two operands: AND, OR or XOR, which have consecutive codes.
 fn is_binary(word: u16) -> bool
     ensures { result ≡ equation.is_binary word }
 {
     (AND..=XOR).contains(&word)
 }
 
-/// Whether the word is an operator.
+/// Whether the word is an operator: AND, OR, XOR or NOT.
 pub fn is_operator(word: u16) -> bool
     ensures { result ≡ is_in_range AND NOT word }
 {
     (AND..=NOT).contains(&word)
 }
 
-/// How many operands a word takes.
+/// The number of operands that a word takes.
 fn operands_of(word: u16) -> usize
     ensures { result ≡ model.operands_of word }
 {
@@ -41,22 +41,22 @@ fn operands_of(word: u16) -> usize
     }
 }
 
-/// The operands of the words that were counted. Those that wait are the mentions less the binary operators, since a mention
-/// is one more, and a binary operator makes one of two. Where an operand was missing the number says no more, but the
-/// codes that it decides are greater than that of a missing operand.
+/// The operands after some words. Each mention adds one, and each binary operator turns two into one, so mentions less
+/// binary operators wait. If an operand was missing that number is meaningless, but the codes that it decides are
+/// greater than `MissingOperand` and aren't chosen.
 #[derive(Clone, Copy, Debug)]
 pub struct OperandCount {
     mentions: usize,
-    /// Binary operators.
+    /// The number of binary operators.
     joins: usize,
-    /// Whether a word found fewer operands than it takes.
+    /// Whether a word had fewer operands than it takes.
     pub missing: bool,
-    /// Whether more than eight waited.
+    /// Whether more than eight operands waited at once.
     pub crowded: bool,
 }
 
 impl OperandCount {
-    /// Before the first word.
+    /// Creates the count before the first word.
     pub fn new() -> OperandCount
         ensures { result ≡ record { mentions = 0; joins = 0; missing = false; crowded = false } }
     {
@@ -68,14 +68,14 @@ impl OperandCount {
         }
     }
 
-    /// How many operands wait.
+    /// Returns the number of operands that wait.
     pub fn waiting(&self) -> usize
         ensures { result ≡ operands_waiting self.now }
     {
         self.mentions.saturating_sub(self.joins)
     }
 
-    /// Counts one word more.
+    /// Counts one more word.
     pub fn count(&mut self, word: u16)
         requires mentions { self.old.mentions + 1 < 2 ^ 64 }
         requires joins { self.old.joins + 1 < 2 ^ 64 }

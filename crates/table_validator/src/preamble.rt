@@ -12,7 +12,7 @@ use crate::fault::FaultCode;
 use lc_model::TABLE_ENTRIES;
 use table_file::{Layout, preamble};
 
-/// Whether the counts can't be those of an image in this layout.
+/// Whether a count is over 176, or the two counts of a watchpoint table differ.
 fn has_wrong_counts(layout: Layout, image: &[u8]) -> bool
     requires { preamble_length ≤ length image.now }
     ensures { result ≡ (nat_lt table_entries (model.own_count image.now)
@@ -29,7 +29,7 @@ fn has_wrong_counts(layout: Layout, image: &[u8]) -> bool
     own as usize > TABLE_ENTRIES || watchpoints as usize > TABLE_ENTRIES || differ
 }
 
-/// The preamble's first fault: version, kind, counts.
+/// Returns the preamble's first fault, in the order version, kind, counts; `None` if it has none.
 pub fn preamble_fault(layout: Layout, image: &[u8]) -> Option<FaultCode>
     requires { preamble_length ≤ length image.now }
     ensures { option_map code_number result ≡ preamble_code (layout_of layout) image.now }

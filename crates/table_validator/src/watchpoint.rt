@@ -13,7 +13,7 @@ use lc_model::FieldType;
 use lc_model::mids::{EVENT, FIRST_TELEMETRY, LAST_TELEMETRY, LC_HOUSEKEEPING};
 use table_file::WatchpointEntry;
 
-/// Whether packets with this message id can't be watched: they are no telemetry, or the host's own.
+/// Whether the message id may not be watched: it isn't telemetry's, or it is one of the host's own.
 fn is_unwatchable(message_id: u16) -> bool
     ensures { result ≡ (not (is_telemetry_mid message_id)
         || list_any (◌==◌ message_id) reserved_mids) }
@@ -23,21 +23,22 @@ fn is_unwatchable(message_id: u16) -> bool
         || message_id == LC_HOUSEKEEPING
 }
 
-/// Whether a comparison has this number.
+/// Whether the number is that of a comparison, 1 to 6.
 fn is_operator(code: u8) -> bool
     ensures { result ≡ is_in_range 1 6 code }
 {
     (1..=6).contains(&code)
 }
 
-/// Whether a mask has a bit, and none outside the type.
+/// Whether the mask has at least one bit, and none outside the type.
 fn is_mask_of(kind: FieldType, mask: u32) -> bool
     ensures { result ≡ is_in_range 1 (full_mask kind) mask }
 {
     (1..=kind.full_mask()).contains(&mask)
 }
 
-/// The least code of a watchpoint's entry. Mask and comparison value are judged by the type, so not without one.
+/// Returns the least code among a watchpoint entry's faults, or `None` if it has none. Mask and comparison value are
+/// judged by the type, and not at all if the type is unknown.
 pub fn watchpoint_fault(entry: &WatchpointEntry<'_>) -> Option<FaultCode>
     ensures { option_map code_number result ≡ watchpoint_code entry.now }
 {

@@ -1,4 +1,4 @@
-//! The faults of an actionpoint's words: one pass finds them all, and then the least code is chosen.
+//! The faults of an actionpoint's words. One pass finds all faults, and then the least code is chosen.
 
 ghost use Rattle.std.specs.Prelude.{◌≡◌, ◌+◌, ◌<◌, ◌^◌, ◌==◌, ℕ, true, false, not, drop, fold, option_map};
 ghost use Rattle.std.specs.List.{list_all};
@@ -11,12 +11,12 @@ use crate::operands::{OperandCount, is_mention, is_operator};
 use lc_model::words::EQUAL;
 use table_file::ActionpointEntry;
 
-/// What a pass over an entry's words has met.
+/// What a pass over an entry's words has found so far.
 #[derive(Clone, Copy, Debug)]
 struct WordScan {
-    /// Whether EQUAL was there.
+    /// Whether EQUAL was read.
     ended: bool,
-    /// Whether a word that isn't 0 follows it.
+    /// Whether a word other than 0 follows it.
     word_behind: bool,
     unknown_word: bool,
     unknown_watchpoint: bool,
@@ -24,7 +24,7 @@ struct WordScan {
 }
 
 impl WordScan {
-    /// Before the first word.
+    /// Creates the scan before the first word.
     fn new() -> WordScan
         ensures { result ≡ unread }
     {
@@ -37,7 +37,7 @@ impl WordScan {
         }
     }
 
-    /// Reads one word more of an equation over so many watchpoints. Condition: EQUAL wasn't there.
+    /// Reads one more word of an equation over `watchpoints` watchpoints. EQUAL must not have been read.
     fn read(&mut self, word: u16, watchpoints: u16)
         requires before_equal { self.old.ended ≡ false }
         requires mentions { self.old.operands.mentions + 1 < 2 ^ 64 }
@@ -54,7 +54,7 @@ impl WordScan {
         }
     }
 
-    /// Reads the words from this one on, all of them behind EQUAL.
+    /// Reads all words from number `first` on. EQUAL must have been read.
     fn read_behind(&mut self, entry: &ActionpointEntry<'_>, first: usize)
         requires ended { self.old.ended ≡ true }
         ensures { (watchpoints : ℕ) → self.new ≡ fold (word_read watchpoints) self.old
@@ -63,7 +63,7 @@ impl WordScan {
         self.word_behind |= has_word_from(entry, first);
     }
 
-    /// The least code of what was met.
+    /// The least code among the faults so far.
     fn fault(&self) -> Option<FaultCode>
         ensures { option_map code_number result ≡ first_code (scan_tests self.now) }
     {
@@ -92,7 +92,8 @@ impl WordScan {
     }
 }
 
-/// The least code of an entry's words, in a table over so many watchpoints.
+/// Returns the least code among the faults of an entry's words, or `None` if they have none. `watchpoints` is the
+/// number of watchpoints that they may name.
 pub fn words_fault(entry: &ActionpointEntry<'_>, watchpoints: u16) -> Option<FaultCode>
     ensures { option_map code_number result ≡
         first_code (word_tests watchpoints (all_words entry.now)) }
@@ -108,7 +109,7 @@ pub fn words_fault(entry: &ActionpointEntry<'_>, watchpoints: u16) -> Option<Fau
     scan.fault()
 }
 
-/// Whether a word from this one on isn't 0. All are read, so that no jump stands between them.
+/// Whether a word from number `first` on isn't 0. It reads all of them, so that the loop has no branch.
 fn has_word_from(entry: &ActionpointEntry<'_>, first: usize) -> bool
     ensures { result ≡ not (list_all (◌==◌ 0) (drop first (all_words entry.now))) }
 {

@@ -1,4 +1,4 @@
--- The images of a table by what is kept of them.
+-- The images of a table, from the program's fields.
 use Rattle.std.specs.Prelude.{ℕ, Bool, List, Option, Some, None, option_map, if◌then◌else◌}
 use Rattle.lc_model.specs.Tables.Slot as model
 use Rattle.lc_model.specs.Tables.Slot.{Slot, Waiting}
@@ -18,11 +18,11 @@ move_of Validate = model.Validate
 move_of Activate = model.Activate
 move_of Abort = model.Abort
 
--- an image that waits
+-- a waiting image
 abbrev pub waiting_seen : Stage → List ℕ → Waiting (List ℕ)
 waiting_seen stage image = record { stage = stage_of stage; image = image }
 
--- the image in use, if there is one, and the one that waits, if there is one
+-- the active image and the waiting one, if they exist
 abbrev pub slot_of : List ℕ → Bool → List ℕ → Option Stage → Slot (List ℕ)
 slot_of active is_active waiting stage = record {
   active = if is_active then Some active else None;

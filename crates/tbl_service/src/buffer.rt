@@ -1,4 +1,4 @@
-//! Room for the bytes of one file or of one image.
+//! A buffer for the bytes of one file or one image.
 
 ghost use Rattle.std.specs.Prelude.{◌≡◌, ◌≤◌, [], length, IfErr, IfOk};
 ghost use Rattle.lc_model.specs.Host.React.{max_file_size};
@@ -8,10 +8,10 @@ use crate::error::TableError;
 use std::alloc::Global;
 use std::marker::Model;
 
-/// The most bytes of a file, headers included.
+/// The largest length of a file in bytes, headers included.
 pub(crate) const MAX_FILE: usize = 32_768;
 
-/// Bytes on the heap, with room for a file. Contracts see the bytes.
+/// Bytes on the heap, with room for the longest file. Contracts see the bytes.
 #[derive(Debug, Drop)]
 pub(crate) struct Buffer {
     bytes: Vec<u8>,
@@ -30,7 +30,7 @@ impl Model for Buffer {
 }
 
 impl Buffer {
-    /// Empty. Out of memory is the only error.
+    /// Creates an empty buffer. The only error is a lack of memory.
     pub(crate) fn new(alloc: Global) -> Result<Buffer, TableError>
         ensures empty { IfOk result (λ buffer. buffer ≡ []) }
         ensures memory { IfErr result (λ e. e ≡ Memory) }
@@ -40,7 +40,7 @@ impl Buffer {
         })
     }
 
-    /// Has these bytes from now on.
+    /// Replaces the buffer's bytes with these.
     pub(crate) fn fill(&mut self, bytes: &[u8])
         requires { length bytes.now ≤ max_file_size }
         ensures { self.new ≡ bytes.now }

@@ -1,4 +1,4 @@
-//! Why a call of the table services is refused.
+//! The errors of the table services.
 
 ghost use Rattle.std.specs.Prelude.{◌≡◌};
 ghost use Rattle.tbl_service.specs.Error.{error_code};
@@ -8,40 +8,40 @@ use std::alloc::{AllocError, AllocFailed};
 use table_file::FileError;
 use thiserror::Error;
 
-/// Why a call is refused; it changes nothing then.
+/// Why a call is refused; a refused call changes nothing.
 #[derive(Clone, Copy, Debug, PartialEq, Eq, Error)]
 pub enum TableError {
-    /// No file of that name is stored.
+    /// No file with this name is stored.
     #[error("no such file")]
     NoFile,
-    /// The file doesn't open, for its own fault.
+    /// The file isn't a valid table file; the file's own fault says why.
     #[error("the file does not open: {0}")]
     FileFault(FileError),
-    /// No table of that name is registered.
+    /// No table with this name is registered.
     #[error("no such table")]
     UnknownTable,
-    /// The image has none of the table's sizes.
+    /// The image's length is none of the table's sizes.
     #[error("the image has another size than the table")]
     WrongSize,
-    /// An image waits activated for its owner to take it.
+    /// An activated image waits for its owner to take it.
     #[error("an activated image waits")]
     UpdatePending,
-    /// No image waits.
+    /// The table has no waiting image.
     #[error("no image waits")]
     NothingLoaded,
-    /// The image that waits was not found valid.
+    /// The owner has not found the waiting image valid.
     #[error("the image was not found valid")]
     NotValidated,
-    /// Eight files of other names are stored.
+    /// Eight files with other names are stored.
     #[error("eight files are stored")]
     StoreFull,
-    /// The file has over 32,768 bytes.
+    /// The file has more than 32,768 bytes.
     #[error("the file is too long")]
     FileTooLong,
-    /// The seat has two tables, or the name is taken.
+    /// The seat has two tables already, or the name is taken.
     #[error("no place for the table, or its name is taken")]
     NoSlot,
-    /// No memory for the files and images; only `Tables::new` answers it.
+    /// There is no memory for files and images. Only `Tables::new` returns this error.
     #[error("out of memory")]
     Memory,
 }
@@ -63,7 +63,7 @@ impl From<AllocError> for TableError {
 }
 
 impl TableError {
-    /// The refusal's number, 111 to 120. Want of memory has none, since the call isn't at fault.
+    /// Returns the refusal's number, 111 to 120, or `None` for `Memory`: then the call isn't at fault.
     pub fn code(self) -> Option<u8>
         ensures { result ≡ error_code self }
     {

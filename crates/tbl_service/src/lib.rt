@@ -1,5 +1,5 @@
-//! Table services (cFE user's guide, table services): the stored files, and the tables that applications register, each with
-//! an image in use and one that waits.
+//! Table services (cFE user's guide, table services): the stored files, and the tables that applications register. Each
+//! table has an active and a waiting image.
 #![tactic(auto)]
 
 mod buffer;

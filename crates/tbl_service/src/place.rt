@@ -1,4 +1,4 @@
-//! The tables of one seat, and the images that are free for another.
+//! The tables of one seat, and the image buffers that no table uses.
 
 ghost use Rattle.std.specs.Prelude.{◌≡◌, ◌<◌, ◌≤◌, [], ◌∷◌, ◌++◌, length, slice_index_or, slice_set, option_map, IfErr, IfOk, IfSome, IsTrue, is_some, Some, None, OnErr, nat_le, if◌then◌else◌};
 ghost use Rattle.std.specs.List.{position_from};
@@ -18,10 +18,10 @@ use arrayvec::ArrayVec;
 use std::alloc::Global;
 use std::marker::Model;
 
-/// The most tables of a seat.
+/// The largest number of tables a seat.
 const MAX_TABLES: usize = 2;
 
-/// A registered table: its name, the sizes that its images may have, in bytes, and its images.
+/// A registered table: its name, the one or two sizes that its images may have, in bytes, and its images.
 #[derive(Debug, Drop)]
 pub(crate) struct Table {
     name: ArrayVec<u8, MAX_NAME>,
@@ -40,7 +40,7 @@ impl Model for Table {
 }
 
 impl Table {
-    /// A table without images; these two are its buffers.
+    /// Creates a table without images; `images` becomes its pair of buffers.
     fn new(name: &[u8], size: usize, other: Option<usize>, mut images: Images) -> Table
         requires { length name.now ≤ name_size }
         ensures { result ≡ new_table name.now size other }
@@ -68,7 +68,7 @@ impl Table {
         name == self.name.as_slice()
     }
 
-    /// Whether an image may have this size.
+    /// Whether an image of this many bytes fits the table.
     fn fits(&self, size: usize) -> bool
         ensures { result ≡ fits_table self.now size }
     {
@@ -127,7 +127,7 @@ impl Table {
     }
 }
 
-/// At most two tables, in the order in which they were registered.
+/// At most two tables, in the order of their registration.
 #[derive(Debug, Drop)]
 pub(crate) struct Place {
     tables: Vec<Table>,
@@ -148,7 +148,7 @@ impl Model for Place {
 }
 
 impl Place {
-    /// None. Out of memory is the only error.
+    /// Creates a place without tables. The only error is a lack of memory.
     pub(crate) fn new(alloc: Global) -> Result<Place, TableError>
         ensures empty { IfOk result (λ place. place ≡ []) }
         ensures memory { IfErr result (λ e. e ≡ Memory) }
@@ -161,7 +161,7 @@ impl Place {
         Ok(Place { tables, spare })
     }
 
-    /// One table more, without images. It answers the number of it, or none where there are two.
+    /// Adds a table without images and returns its number, or `None` if there are two tables already.
     pub(crate) fn register(
         &mut self,
         name: &[u8],
@@ -182,7 +182,7 @@ impl Place {
         Some(number)
     }
 
-    /// No table from now on.
+    /// Removes all tables.
     pub(crate) fn clear(&mut self)
         ensures { self.new ≡ [] }
     {
@@ -191,14 +191,14 @@ impl Place {
         }
     }
 
-    /// The tables.
+    /// All tables.
     pub(crate) fn tables(&self) -> &[Table]
         ensures { result.now ≡ self.now }
     {
         self.tables.as_slice()
     }
 
-    /// A load onto the table of this number. Errors: `WrongSize`, `UpdatePending`.
+    /// Loads an image to the table with this number. Errors: `WrongSize`, `UpdatePending`.
     pub(crate) fn load(&mut self, number: usize, image: &[u8]) -> Result<(), TableError>
         requires inside { number < length self.old }
         requires fits { length image.now ≤ max_file_size }
@@ -212,7 +212,7 @@ impl Place {
         self.tables[number].load(image)
     }
 
-    /// A command to the table of this number.
+    /// Applies a command to the table with this number.
     pub(crate) fn change(&mut self, number: usize, change: Move) -> Result<(), TableError>
         requires inside { number < length self.old }
         ensures answer { (d : Kept) →
@@ -222,7 +222,7 @@ impl Place {
         self.tables[number].change(change)
     }
 
-    /// The verdict on the image that waits at the table of this number.
+    /// Sets the verdict on the waiting image of the table with this number.
     pub(crate) fn judge(&mut self, number: usize, valid: bool)
         requires inside { number < length self.old }
         requires asked { (d : Kept) →
@@ -232,7 +232,7 @@ impl Place {
         self.tables[number].judge(valid);
     }
 
-    /// The activated image of the table of this number comes into use.
+    /// Makes the activated image of the table with this number the active one.
     pub(crate) fn take(&mut self, number: usize)
         requires inside { number < length self.old }
         requires activated { (d : Kept) →
@@ -242,7 +242,7 @@ impl Place {
         self.tables[number].take();
     }
 
-    /// An image of the owner's comes into use at the table of this number.
+    /// Makes `image` the active image of the table with this number.
     pub(crate) fn install(&mut self, number: usize, image: &[u8])
         requires inside { number < length self.old }
         requires fits { length image.now ≤ max_file_size }
@@ -252,7 +252,7 @@ impl Place {
     }
 }
 
-/// The number of the first table of a name.
+/// The number of the first table with this name.
 pub(crate) fn number_of(tables: &[Table], name: &[u8]) -> Option<usize>
     ensures number { result ≡ number_named name.now tables.now }
     ensures inside { IfSome result (λ number. number < length tables.now) }

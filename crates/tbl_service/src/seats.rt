@@ -1,4 +1,4 @@
-//! The tables of the eight seats: which one has a name, and what is done to the one that has it.
+//! The tables of the eight seats: how they are found by name, and how calls change them.
 
 ghost use Rattle.std.specs.Prelude.{◌≡◌, ◌≤◌, List, length, IfOk, IfSome, IsTrue, is_some, OnErr};
 ghost use Rattle.lc_model.specs.Host.React.{max_file_size};
@@ -19,7 +19,7 @@ use lc_model::Seat;
 use std::marker::Model;
 use table_file::open;
 
-/// A registered table. Contracts see its seat, and its number among the seat's.
+/// A handle of a registered table. Contracts see its seat, and its number among the seat's tables.
 #[derive(Clone, Copy, Debug, PartialEq, Eq)]
 pub struct Slot {
     pub(crate) seat: Seat,
@@ -37,7 +37,7 @@ impl Model for Slot {
 }
 
 impl Slot {
-    /// The table that a seat registered as this one, 0 or 1. Each call asks that it is there.
+    /// Returns the handle of table `number`, 0 or 1, of a seat. The calls that take a handle need a registered table.
     pub fn new(seat: Seat, number: usize) -> Slot
         ensures { result ≡ record { seat = seat; number = number } }
     {
@@ -45,7 +45,7 @@ impl Slot {
     }
 }
 
-/// The first table of a name.
+/// The first table with this name, over all seats.
 pub(crate) fn find(places: &[Place], name: &[u8]) -> Option<Slot>
     requires { length places.now ≡ seat_count }
     ensures slot { result ≡ handle_named name.now places.now }
@@ -59,7 +59,7 @@ pub(crate) fn find(places: &[Place], name: &[u8]) -> Option<Slot>
     None
 }
 
-/// A seat has one table more, without images. Error: `NoSlot`, where the seat has two tables or the name is taken.
+/// Adds a table without images to a seat. Error: `NoSlot` if the seat has two tables or the name is taken.
 pub(crate) fn register(
     places: &mut [Place],
     seat: Seat,
@@ -86,7 +86,7 @@ pub(crate) fn register(
     }
 }
 
-/// Loads a file onto the table that it names.
+/// Loads a table file to the table that the file names.
 pub(crate) fn load_into(places: &mut [Place], bytes: &[u8]) -> Result<(), TableError>
     requires seats { length places.old ≡ seat_count }
     requires fits { length bytes.now ≤ max_file_size }
@@ -100,7 +100,7 @@ pub(crate) fn load_into(places: &mut [Place], bytes: &[u8]) -> Result<(), TableE
     }
 }
 
-/// Loads an image onto the table of a name.
+/// Loads an image to the table with this name.
 fn load_among(places: &mut [Place], table: &[u8], image: &[u8]) -> Result<(), TableError>
     requires seats { length places.old ≡ seat_count }
     requires fits { length image.now ≤ max_file_size }
@@ -115,7 +115,7 @@ fn load_among(places: &mut [Place], table: &[u8], image: &[u8]) -> Result<(), Ta
     places[slot.seat.index()].load(slot.number, image)
 }
 
-/// The image of a file comes into use at a slot's table, where the file opens.
+/// Makes a file's image the active image of a handle's table, if the file opens.
 pub(crate) fn install_into(places: &mut [Place], slot: Slot, bytes: &[u8])
     requires seats { length places.old ≡ seat_count }
     requires registered { IsTrue (is_some (table_at slot places.old)) }
@@ -130,7 +130,7 @@ pub(crate) fn install_into(places: &mut [Place], slot: Slot, bytes: &[u8])
     }
 }
 
-/// An image comes into use at a slot's table.
+/// Makes `image` the active image of a handle's table.
 fn install_image(places: &mut [Place], slot: Slot, image: &[u8])
     requires seats { length places.old ≡ seat_count }
     requires registered { IsTrue (is_some (table_at slot places.old)) }
@@ -141,7 +141,7 @@ fn install_image(places: &mut [Place], slot: Slot, image: &[u8])
     places[slot.seat.index()].install(slot.number, image);
 }
 
-/// Moves the waiting image of the table of a name.
+/// Applies a command to the waiting image of the table with this name.
 pub(crate) fn change_among(
     places: &mut [Place],
     table: &[u8],
@@ -159,7 +159,7 @@ pub(crate) fn change_among(
     places[slot.seat.index()].change(slot.number, change)
 }
 
-/// The owner's verdict on the image that it is asked about at a slot's table.
+/// Sets the owner's verdict on the image that it is asked about.
 pub(crate) fn judge(places: &mut [Place], slot: Slot, valid: bool)
     requires seats { length places.old ≡ seat_count }
     requires registered { IsTrue (is_some (table_at slot places.old)) }
@@ -170,7 +170,7 @@ pub(crate) fn judge(places: &mut [Place], slot: Slot, valid: bool)
     places[slot.seat.index()].judge(slot.number, valid);
 }
 
-/// The activated image of a slot's table comes into use.
+/// Makes the activated image of a handle's table the active one.
 pub(crate) fn take(places: &mut [Place], slot: Slot)
     requires seats { length places.old ≡ seat_count }
     requires registered { IsTrue (is_some (table_at slot places.old)) }

@@ -1,5 +1,5 @@
-//! The table services: stored files and registered tables (cFE user's guide, table services; that tables belong to seats, and
-//! the limits, are this project's own).
+//! The public calls of the table services, over stored files and registered tables (cFE user's guide, table services).
+//! The seats of tables and all limits are this project's own.
 
 ghost use Rattle.std.specs.Prelude.{◌≡◌, ◌≤◌, length, option_map, IfErr, IfOk, IfSome, IsSomeAnd, IsTrue, is_some, OnErr, Some};
 ghost use Rattle.lc_model.specs.Name.{value_under, name_size};
@@ -19,8 +19,8 @@ use lc_model::Seat;
 use std::alloc::Global;
 use std::marker::Model;
 
-/// Stored files, at most eight of at most 32,768 bytes, and the tables of the eight seats, at most two of each, with an image
-/// in use and one that waits. Contracts see the files under their names and the tables by seat.
+/// The table services: at most eight files of at most 32,768 bytes, and at most two tables for each of eight seats,
+/// each with an active and a waiting image. Contracts see the files by name and the tables by seat.
 #[derive(Debug, Drop)]
 pub struct Tables {
     files: Files,
@@ -38,7 +38,8 @@ impl Model for Tables {
 }
 
 impl Tables {
-    /// No file and no table. It takes all the memory there will ever be; out of memory is the only error.
+    /// Creates the services without files and tables. It allocates all memory they ever need; `Memory` is the only
+    /// error.
     pub fn new(alloc: Global) -> Result<Tables, TableError>
         ensures first { IfOk result (λ tables. tables ≡ first_tables) }
         ensures memory { IfErr result (λ e. e ≡ Memory) }
@@ -51,8 +52,8 @@ impl Tables {
         Ok(Tables { files, places })
     }
 
-    /// Stores a file, in place of another of its name. Errors: `FileTooLong`, over 32,768 bytes; `StoreFull`, where eight
-    /// files of other names are stored.
+    /// Stores a file, in place of one with the same name. Errors: `FileTooLong` for over 32,768 bytes; `StoreFull`
+    /// if eight files with other names are stored.
     pub fn put_file(&mut self, name: &[u8], bytes: &[u8]) -> Result<(), TableError>
         requires { length name.now ≤ name_size }
         ensures answer { answered result self.new ≡ file_put name.now bytes.now self.old }
@@ -61,15 +62,15 @@ impl Tables {
         self.files.put(name, bytes)
     }
 
-    /// The bytes of the file of a name.
+    /// Returns the bytes of the file with this name, or `None` if it isn't stored.
     pub fn file(&self, name: &[u8]) -> Option<&[u8]>
         ensures { option_map (λ bytes. bytes.now) result ≡ value_under name.now self.now.files }
     {
         self.files.find(name)
     }
 
-    /// The seat has one table more, without images, for images of `size` bytes or of the other size. Error: `NoSlot`, where
-    /// the seat has two tables or the name is taken.
+    /// Registers a table without images for a seat and returns its handle; images have `size` or `other` bytes. Error:
+    /// `NoSlot` if the seat has two tables or the name is taken.
     pub fn register(
         &mut self,
         seat: Seat,
@@ -86,15 +87,15 @@ impl Tables {
         register(self.places.as_mut_slice(), seat, name, size, other)
     }
 
-    /// The seat has no table from now on.
+    /// Removes all tables of a seat.
     pub fn unregister(&mut self, seat: Seat)
         ensures { self.new ≡ tables_unregistered seat self.old }
     {
         self.places[seat.index()].clear();
     }
 
-    /// The image of a stored file waits at the table that the file names. Errors, the first that stands: `NoFile`; `FileFault`
-    /// with the file's own; `UnknownTable`; `WrongSize`; `UpdatePending`, where an activated image waits.
+    /// Makes a stored file's image the waiting image of the table that the file names. Errors, the first that holds:
+    /// `NoFile`, `FileFault`, `UnknownTable`, `WrongSize`, `UpdatePending` if an activated image waits.
     pub fn load(&mut self, file: &[u8]) -> Result<(), TableError>
         ensures answer { answered result self.new ≡ table_commanded (Load file.now) self.old }
         ensures refused { OnErr result (self.new ≡ self.old) }
@@ -105,7 +106,7 @@ impl Tables {
         }
     }
 
-    /// The owner of the table is asked whether the image that waits is valid. Errors, the first that stands: `UnknownTable`,
+    /// Asks the table's owner to validate the waiting image. Errors, the first that holds: `UnknownTable`,
     /// `NothingLoaded`, `UpdatePending`.
     pub fn request_validate(&mut self, table: &[u8]) -> Result<(), TableError>
         ensures answer { answered result self.new ≡ table_commanded (Manage Validate table.now)
@@ -115,7 +116,7 @@ impl Tables {
         change_among(self.places.as_mut_slice(), table, Move::Validate)
     }
 
-    /// The owner of the table is to take the valid image that waits. Errors, the first that stands: `UnknownTable`,
+    /// Activates the valid waiting image, so that the owner may take it. Errors, the first that holds: `UnknownTable`,
     /// `NothingLoaded`, `UpdatePending`, `NotValidated`.
     pub fn request_activate(&mut self, table: &[u8]) -> Result<(), TableError>
         ensures answer { answered result self.new ≡ table_commanded (Manage Activate table.now)
@@ -125,7 +126,7 @@ impl Tables {
         change_among(self.places.as_mut_slice(), table, Move::Activate)
     }
 
-    /// The image that waits goes. Errors, the first that stands: `UnknownTable`, `NothingLoaded`.
+    /// Drops the waiting image. Errors, the first that holds: `UnknownTable`, `NothingLoaded`.
     pub fn abort(&mut self, table: &[u8]) -> Result<(), TableError>
         ensures answer { answered result self.new ≡ table_commanded (Manage Abort table.now)
             self.old }
@@ -134,7 +135,7 @@ impl Tables {
         change_among(self.places.as_mut_slice(), table, Move::Abort)
     }
 
-    /// The image that waits, and how far it has come.
+    /// Returns the waiting image and its stage, or `None` if there is none. The table must be registered.
     pub fn pending(&self, slot: Slot) -> Option<(Stage, &[u8])>
         requires { IsTrue (is_some (table_at slot self.now.places)) }
         ensures { option_map (λ pending. waiting_seen pending.0 pending.1.now) result ≡
@@ -143,7 +144,7 @@ impl Tables {
         self.table(slot).pending()
     }
 
-    /// The image in use.
+    /// Returns the active image, or `None` if there is none. The table must be registered.
     pub fn active(&self, slot: Slot) -> Option<&[u8]>
         requires { IsTrue (is_some (table_at slot self.now.places)) }
         ensures { option_map (λ image. image.now) result ≡ (slot_at slot self.now).active }
@@ -151,7 +152,7 @@ impl Tables {
         self.table(slot).active()
     }
 
-    /// The owner's verdict on the image that it is asked about: it is valid, or it is loaded as before.
+    /// Sets the owner's verdict on the image that it is asked about: the stage becomes `Valid`, or `Loaded` again.
     pub fn set_verdict(&mut self, slot: Slot, valid: bool)
         requires registered { IsTrue (is_some (table_at slot self.old.places)) }
         requires asked { IsTrue (is_some (waiting_at Asked (slot_at slot self.old))) }
@@ -160,7 +161,7 @@ impl Tables {
         judge(self.places.as_mut_slice(), slot, valid);
     }
 
-    /// The activated image comes into use; no byte is copied.
+    /// Makes the activated image the active one, without copying. An activated image must wait.
     pub fn take(&mut self, slot: Slot)
         requires registered { IsTrue (is_some (table_at slot self.old.places)) }
         requires activated { IsTrue (is_some (waiting_at Activated (slot_at slot self.old))) }
@@ -169,8 +170,8 @@ impl Tables {
         take(self.places.as_mut_slice(), slot);
     }
 
-    /// The image of a stored file comes into use; the one that waits stays. The file opens, and its image has one of the
-    /// table's sizes.
+    /// Makes a stored file's image the active one; the waiting image stays. The file must open, and its image must
+    /// have one of the table's sizes.
     pub fn install(&mut self, slot: Slot, file: &[u8])
         requires registered { IsTrue (is_some (table_at slot self.old.places)) }
         requires fits { IsSomeAnd (stored_image file.now self.old)
@@ -183,15 +184,15 @@ impl Tables {
         }
     }
 
-    /// The files are at most eight, each within its bound and under a name of its own, and no seat has over two tables, nor two
-    /// tables one name. It does nothing.
+    /// States the invariant: at most eight files of bounded length with distinct names, at most two tables a seat,
+    /// distinct table names. The body does nothing.
     pub fn is_service(&self)
         ensures { IsTableService self.now }
     {
         let _files = &self.files;
     }
 
-    /// The table of a slot.
+    /// The table of a handle.
     fn table(&self, slot: Slot) -> &Table
         requires { IsTrue (is_some (table_at slot self.now.places)) }
         ensures { Some result.now ≡ table_at slot self.now.places }

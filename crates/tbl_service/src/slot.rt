@@ -1,4 +1,4 @@
-//! The two images of a table, and how commands and their owner move them (cFE user's guide, table services).
+//! The two images of a table, and how commands and the table's owner change them (cFE user's guide, table services).
 
 ghost use Rattle.std.specs.Prelude.{◌≡◌, ◌≤◌, length, Some, IsTrue, is_some, option_map, IfErr, IfOk, OnErr};
 ghost use Rattle.lc_model.specs.Host.React.{max_file_size};
@@ -13,20 +13,20 @@ use std::alloc::Global;
 use std::marker::Model;
 use std::mem;
 
-/// How far an image that waits has come.
+/// How far a waiting image has come.
 #[derive(Clone, Copy, Debug, PartialEq, Eq)]
 pub enum Stage {
-    /// It was loaded, or was found invalid.
+    /// The image was loaded, or its owner found it invalid.
     Loaded,
-    /// Its owner is asked whether it is valid.
+    /// A command has asked the owner to validate the image.
     Asked,
-    /// Its owner found it valid.
+    /// The owner found the image valid.
     Valid,
-    /// Its owner is to take it into use.
+    /// A command has activated the image, and its owner may take it.
     Activated,
 }
 
-/// A command to a table that has an image waiting.
+/// A command to the waiting image of a table.
 #[derive(Clone, Copy, Debug, PartialEq, Eq)]
 pub(crate) enum Move {
     Validate,
@@ -34,7 +34,7 @@ pub(crate) enum Move {
     Abort,
 }
 
-/// The image in use and the one that waits, each in a buffer of its own.
+/// The active and the waiting image of a table, each in its own buffer.
 #[derive(Debug, Drop)]
 pub(crate) struct Images {
     active: Buffer,
@@ -54,7 +54,7 @@ impl Model for Images {
 }
 
 impl Images {
-    /// None. Out of memory is the only error.
+    /// Creates the buffers without images. The only error is a lack of memory.
     pub(crate) fn new(alloc: Global) -> Result<Images, TableError>
         ensures empty { IfOk result (λ images. images ≡ no_images) }
         ensures memory { IfErr result (λ e. e ≡ Memory) }
@@ -67,7 +67,7 @@ impl Images {
         })
     }
 
-    /// None from now on.
+    /// Removes both images.
     pub(crate) fn clear(&mut self)
         ensures { self.new ≡ no_images }
     {
@@ -75,7 +75,8 @@ impl Images {
         self.stage = None;
     }
 
-    /// An image waits, in place of another. Error: `UpdatePending`, where that one is activated.
+    /// Makes `image` the waiting image, in place of an earlier one. Error: `UpdatePending` if the earlier one is
+    /// activated.
     pub(crate) fn load(&mut self, image: &[u8]) -> Result<(), TableError>
         requires { length image.now ≤ max_file_size }
         ensures answer { answered result self.new ≡ loaded image.now self.old }
@@ -89,7 +90,7 @@ impl Images {
         Ok(())
     }
 
-    /// Moves the image that waits. Errors: `NothingLoaded`, `UpdatePending`, `NotValidated`.
+    /// Applies a command to the waiting image. Errors: `NothingLoaded`, `UpdatePending`, `NotValidated`.
     pub(crate) fn change(&mut self, change: Move) -> Result<(), TableError>
         ensures answer { answered result self.new ≡ moved (move_of change) self.old }
         ensures refused { OnErr result (self.new ≡ self.old) }
@@ -107,7 +108,7 @@ impl Images {
         Ok(())
     }
 
-    /// The owner's verdict on the image that it is asked about.
+    /// Sets the owner's verdict on the image that it is asked about.
     pub(crate) fn judge(&mut self, valid: bool)
         requires { IsTrue (is_some (waiting_at Asked self.old)) }
         ensures { self.new ≡ judged valid self.old }
@@ -115,7 +116,7 @@ impl Images {
         self.stage = Some(if valid { Stage::Valid } else { Stage::Loaded });
     }
 
-    /// The activated image comes into use; no byte is copied.
+    /// Makes the activated image the active one; no byte is copied.
     pub(crate) fn take(&mut self)
         requires { IsTrue (is_some (waiting_at Activated self.old)) }
         ensures { self.new ≡ taken self.old }
@@ -124,7 +125,7 @@ impl Images {
         self.is_active = self.stage.take().is_some();
     }
 
-    /// An image of the owner's comes into use; the one that waits stays.
+    /// Makes `image` the active image; the waiting one stays.
     pub(crate) fn install(&mut self, image: &[u8])
         requires { length image.now ≤ max_file_size }
         ensures { self.new ≡ installed image.now self.old }
@@ -133,7 +134,7 @@ impl Images {
         self.is_active = true;
     }
 
-    /// The image in use.
+    /// The active image, if there is one.
     pub(crate) fn active(&self) -> Option<&[u8]>
         ensures { option_map (λ image. image.now) result ≡ self.now.active }
     {
@@ -144,7 +145,7 @@ impl Images {
         }
     }
 
-    /// The image that waits, and how far it has come.
+    /// The waiting image and its stage, if there is one.
     pub(crate) fn pending(&self) -> Option<(Stage, &[u8])>
         ensures { option_map (λ pending. waiting_seen pending.0 pending.1.now) result ≡
             self.now.waiting }

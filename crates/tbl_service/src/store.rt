@@ -1,4 +1,4 @@
-//! The stored files, each under a name of its own.
+//! The stored files, by name.
 
 ghost use Rattle.std.specs.Prelude.{◌≡◌, ◌<◌, ◌≤◌, [], length, option_map, IfErr, IfOk, IfSome, OnErr};
 ghost use Rattle.std.specs.List.{position_from};
@@ -15,13 +15,13 @@ use arrayvec::ArrayVec;
 use std::alloc::Global;
 use std::marker::Model;
 
-/// The most bytes of a file's or a table's name.
+/// The largest length of a file's or a table's name, in bytes.
 pub(crate) const MAX_NAME: usize = 40;
 
-/// The most files.
+/// The largest number of stored files.
 const MAX_FILES: usize = 8;
 
-/// A file under its name.
+/// A file with its name.
 #[derive(Debug, Drop)]
 struct StoredFile {
     name: ArrayVec<u8, MAX_NAME>,
@@ -70,7 +70,7 @@ impl StoredFile {
     }
 }
 
-/// At most eight files, in the order in which their names came, and the buffers that are still free.
+/// At most eight files, in the order in which their names were first stored, and the free buffers.
 #[derive(Debug, Drop)]
 pub(crate) struct Files {
     list: Vec<StoredFile>,
@@ -89,7 +89,7 @@ impl Model for Files {
 }
 
 impl Files {
-    /// None. Out of memory is the only error.
+    /// Creates an empty store. The only error is a lack of memory.
     pub(crate) fn new(alloc: Global) -> Result<Files, TableError>
         ensures empty { IfOk result (λ files. files ≡ []) }
         ensures memory { IfErr result (λ e. e ≡ Memory) }
@@ -102,7 +102,7 @@ impl Files {
         Ok(Files { list, spare })
     }
 
-    /// Stores a file, in place of another of its name. Errors: `FileTooLong`, over 32,768 bytes; `StoreFull`.
+    /// Stores a file, in place of one with the same name. Errors: `FileTooLong` for over 32,768 bytes, `StoreFull`.
     pub(crate) fn put(&mut self, name: &[u8], bytes: &[u8]) -> Result<(), TableError>
         requires { length name.now ≤ name_size }
         ensures answer { answered result self.new ≡ files_with name.now bytes.now self.old }
@@ -124,7 +124,7 @@ impl Files {
         Ok(())
     }
 
-    /// The bytes of the file of a name.
+    /// The bytes of the file with this name, if it is stored.
     pub(crate) fn find(&self, name: &[u8]) -> Option<&[u8]>
         ensures bytes { option_map (λ bytes. bytes.now) result ≡ value_under name.now self.now }
         ensures fits { IfSome result (λ bytes. length bytes.now ≤ max_file_size) }
@@ -136,7 +136,7 @@ impl Files {
     }
 }
 
-/// Where the file of a name stands.
+/// The index of the file with this name, from 0.
 fn place_of(files: &[StoredFile], name: &[u8]) -> Option<usize>
     ensures place { result ≡ position_from (λ (file : NamedFile). is_named name.now file.0) 0
         files.now }

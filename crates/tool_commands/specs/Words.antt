@@ -1,4 +1,4 @@
--- Which fault words are that are no plan. This project's own.
+-- The faults for words that are no command. This project's own.
 use Rattle.tool_words.specs.declared.error.WordsError.{WordsError}
 use Rattle.tool_words.specs.declared.error.WordsError.TheVariants as words
 use Rattle.tool_faults.specs.declared.fault.Fault.{Fault}

@@ -1,5 +1,5 @@
-//! What a flight team looks at: tables, streams, packets and runs as text, streams from scripts, and runs as they come, by the
-//! words of a command line.
+//! The commands of `flight_tools`, chosen by the words of a command line: listings, streams from scripts, checks,
+//! reports and live runs.
 #![tactic(auto)]
 
 ghost use Rattle.std.specs.Prelude.{◌≡◌};
@@ -12,10 +12,9 @@ use std::io::{self, BufWriter, Eprint, Input, Print, Read, Write};
 use tool_faults::Fault;
 use tool_words::{Plan, WordsError, read_words};
 
-/// Does what the words say, the program's name first, and answers the exit status. A listing goes to standard output, with what
-/// it finds wrong with its file, and so do help, the version, and the packets of a run as it comes; all else to standard error.
-/// Where a person watches standard error, a report tells there how far it is. What is left of a listing where standard output
-/// fails is not tried again.
+/// Does what the words ask for, with the program's name first, and returns the exit status (docs/TOOLS.md).
+/// Listings, help and live packets go to standard output, all else to standard error; so does progress if
+/// `is_watched`. Output that fails is not tried again.
 pub fn main_on<R: Files + Input + Print + Eprint + AllocGlobal>(
     rt: &R,
     words: &[&str],
@@ -29,7 +28,7 @@ pub fn main_on<R: Files + Input + Print + Eprint + AllocGlobal>(
     tell(rt, &answer)
 }
 
-/// The fault of words that are no plan.
+/// The fault for words that are no command.
 fn words_fault(error: WordsError) -> Fault<'static>
     ensures { result ≡ fault_of_words error }
 {
@@ -39,8 +38,8 @@ fn words_fault(error: WordsError) -> Fault<'static>
     }
 }
 
-/// Does what the words say. A run as it comes reads from `input`, which stands for standard input; listings and packets are
-/// written to `out`, which stands for standard output.
+/// Does what the words ask for. A live run reads `input` in place of standard input; listings and packets go to
+/// `out` in place of standard output. The error is the command's fault, which `tell` prints.
 pub fn obey<'a, R: Files + Eprint + AllocGlobal, I: Read + Drop, W: Write>(
     rt: &R,
     words: &'a [&'a str],
@@ -105,7 +104,7 @@ pub fn obey<'a, R: Files + Eprint + AllocGlobal, I: Read + Drop, W: Write>(
     }
 }
 
-/// Says on standard error what the fault is, where there is one, and answers the status.
+/// Prints the fault on standard error, if there is one, and returns the exit status, 0 without a fault.
 pub fn tell<R: Eprint>(rt: &R, answer: &Result<(), Fault<'_>>) -> u8
     ensures { result ≡ status_by answer.now }
 {

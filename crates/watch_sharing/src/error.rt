@@ -1,4 +1,4 @@
-//! Why watchpoints aren't shared.
+//! The error of sharing watchpoints.
 
 ghost use Rattle.std.specs.Prelude.{◌≡◌};
 ghost use Rattle.watch_sharing.specs.Fault.{error_code};
@@ -7,13 +7,13 @@ ghost use Rattle.watch_sharing.specs.declared.error.ShareError.TheVariants.{Memo
 use std::alloc::{AllocError, AllocFailed};
 use thiserror::Error;
 
-/// Why the rules have no list of watchpoints.
+/// Why the rules' watchpoints can't be listed.
 #[derive(Clone, Copy, Debug, PartialEq, Eq, Error)]
 pub enum ShareError {
-    /// The rules mention over 176 distinct watchpoints.
+    /// The rules mention more than 176 distinct watchpoints.
     #[error("the rules mention over 176 watchpoints")]
     TooManyWatchpoints,
-    /// No memory for the watchpoints or their numbers.
+    /// There is no memory for the watchpoints or their numbers.
     #[error("out of memory")]
     Memory,
 }
@@ -35,7 +35,7 @@ impl From<AllocError> for ShareError {
 }
 
 impl ShareError {
-    /// The refusal's number, 31. Want of memory has none, since the rules aren't at fault.
+    /// Returns the refusal's number, 31, or `None` for `Memory`: then the rules aren't at fault.
     pub fn code(self) -> Option<u8>
         ensures { result ≡ error_code self }
     {

@@ -1,4 +1,4 @@
-//! The watchpoints of rules: each once, in order of first mention, and which of them each rule mentions.
+//! The watchpoints of some rules: each once, in the order of first mention, with the numbers that each rule mentions.
 #![tactic(auto)]
 
 mod error;

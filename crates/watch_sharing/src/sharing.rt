@@ -1,4 +1,4 @@
-//! From rules to their watchpoints, in one pass over all mentions.
+//! Numbers the watchpoints of rules, in one pass over all mentions.
 
 ghost use Rattle.std.specs.Prelude.{◌≡◌, ◌≤◌, ◌<◌, ◌++◌, length, map, IfOk, IfErr, IsErr, OnOk};
 ghost use Rattle.lc_model.specs.Rule.{rules_of};
@@ -15,10 +15,10 @@ use indexmap::IndexSet;
 use lc_model::{Cond, EQUATION_WORDS, Rule, RuleSet, TABLE_ENTRIES, Term};
 use std::alloc::Global;
 
-/// The most mentions of an equation that fits its words, since there is an operator or EQUAL for each. Others get more room.
+/// The most mentions in an equation that fits its words: each needs an operator or EQUAL. Longer lists grow.
 const MENTIONS: usize = EQUATION_WORDS / 2;
 
-/// The number of the watchpoint among those so far, to which it is added where it's new.
+/// Returns the watchpoint's number; a new watchpoint is added at the end first.
 fn number(terms: &mut IndexSet<Term>, term: Term) -> Result<u16, ShareError>
     requires { length terms.old.keys ≤ table_entries }
     ensures number { IfOk result (λ number. number ≡ number_among terms.old.keys term) }
@@ -61,7 +61,7 @@ fn number_mentions(
     Ok(())
 }
 
-/// The numbers of each rule's mentions.
+/// Numbers the mentions of all rules, one list for each rule.
 fn number_rules(
     alloc: Global,
     terms: &mut IndexSet<Term>,
@@ -85,10 +85,9 @@ fn number_rules(
     Ok(mentions)
 }
 
-/// Shares the watchpoints of rules: two mentions are one watchpoint where all seven parts are equal. Time grows with the
-/// number of mentions; each is looked up in a hash set.
-///
-/// Errors: `TooManyWatchpoints` for over 176 distinct ones; `Memory` only where the lists find no room.
+/// Lists the distinct watchpoints of rules; two mentions are one watchpoint if all seven parts are equal. Time grows
+/// with the number of mentions: each is looked up in a hash set. Errors: `TooManyWatchpoints` for over 176, or
+/// `Memory`. This project's own.
 #[tactic(auto, using(crate::proofs::Distinct::terms_are, crate::proofs::Distinct::numbers_are_the_rules))]
 pub fn share(alloc: Global, rules: &RuleSet) -> Result<Shared, ShareError>
     ensures terms { IfOk result (λ shared. shared.terms.items ≡ terms_of rules.now.rules) }
