@@ -117,13 +117,13 @@ fn of_the_host(rt: HostRuntime) {
 #[test]
 fn of_states(rt: HostRuntime) {
     let rows = &[
-        (StateRefusal::NoRule, "no rule has the number"),
+        (StateRefusal::BadIndex, "no rule has the number"),
         (
-            StateRefusal::NoState,
+            StateRefusal::BadMode,
             "no mode or no state that may be set has the number",
         ),
         (
-            StateRefusal::RuleStands,
+            StateRefusal::NotSettable,
             "the rule's state does not allow the change",
         ),
     ];

@@ -5,4 +5,5 @@ mod Keys
 mod Indexing
 mod Meant
 mod Named
+mod Placed
 mod Verdicts

@@ -21,7 +21,7 @@ error_says fault = of_check fault.check fault.at
     of_check check.FieldOutside at = refl
     of_check check.MaskRange at = refl
     of_check check.ConstRange at = refl
-    of_check (check.NumberRange number) at = refl
+    of_check check.NumberRange at = refl
     of_check check.LengthRange at = refl
 
 -- there is a first fault where there are faults

@@ -16,7 +16,7 @@ number_of_check check.ReservedMid = 24
 number_of_check check.FieldOutside = 25
 number_of_check check.MaskRange = 26
 number_of_check check.ConstRange = 27
-number_of_check (check.NumberRange number) = 28
+number_of_check check.NumberRange = 28
 number_of_check check.LengthRange = 29
 
 -- the fault of a text that a fault of the program is
@@ -35,7 +35,7 @@ error_of f = answer f.check f.at
     answer check.FieldOutside at = FieldOutside at
     answer check.MaskRange at = MaskRange at
     answer check.ConstRange at = ConstRange at
-    answer (check.NumberRange number) at = NumberRange at number
+    answer check.NumberRange at = NumberRange at
     answer check.LengthRange at = LengthRange at
 
 -- the fault of a text that an error is; want of memory is none
@@ -47,7 +47,7 @@ text_fault_of (ReservedMid at) = Some (record { code = 24; at = at })
 text_fault_of (FieldOutside at) = Some (record { code = 25; at = at })
 text_fault_of (MaskRange at) = Some (record { code = 26; at = at })
 text_fault_of (ConstRange at) = Some (record { code = 27; at = at })
-text_fault_of (NumberRange at number) = Some (record { code = 28; at = at })
+text_fault_of (NumberRange at) = Some (record { code = 28; at = at })
 text_fault_of (LengthRange at) = Some (record { code = 29; at = at })
 text_fault_of Memory = None
 

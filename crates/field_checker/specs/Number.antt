@@ -1,7 +1,8 @@
--- The numbers of a rule text that have ranges of their own, and which of them an error names. This project's own; the
+-- The numbers of a rule text that have ranges of their own, and where one of them is out of its range. This project's own; the
 -- ranges are those of the cFS Limit Checker's tables.
-use Rattle.std.specs.Prelude.{◌≡◌, ℕ, codes, ⊤, Bool, true, ◌||◌, List, Option, Some, None, option_map, pos, int_lt}
+use Rattle.std.specs.Prelude.{◌≡◌, ℕ, codes, ⊤, Bool, true, false, ◌&&◌, ◌||◌, ◌==◌, List, Option, Some, None, option_map, pos, int_lt}
 use Rattle.std.specs.List.{Contains}
+use Rattle.std.specs.Option.{option_map_or}
 use Rattle.lc_model.specs.Text.Syntax.{Item, Number, Field, Rule}
 use Rattle.field_checker.specs.declared.number.RuleNumber.{RuleNumber}
 use Rattle.field_checker.specs.declared.number.RuleNumber.TheVariants.{Fails, Sequence, EventId, ReportPassive, ReportPassToFail, ReportFailToPass, Stale}
@@ -61,7 +62,11 @@ pub record StandsOutside (items : List Item) (number : RuleNumber) (at : ℕ) : 
   pub place : written.at ≡ at
   pub outside : is_out_of_range number written ≡ true
 
--- the number that an error names is the one that is out of its range
+-- whether an item has a number of this kind at this place, out of its range
+abbrev pub stands_at : RuleNumber → ℕ → Item → Bool
+stands_at number at item = option_map_or (λ (n : Number). n.at == at && is_out_of_range number n) (number_in number item) false
+
+-- where an error says that a number is out of its range, there is one
 abbrev pub NamesItsNumber : List Item → CheckError → Type 0
-NamesItsNumber items (NumberRange at number) = StandsOutside items number at
+NamesItsNumber items (NumberRange at) = (number : RuleNumber) × StandsOutside items number at
 NamesItsNumber items error = ⊤

@@ -24,8 +24,8 @@ use std::alloc::Global;
 /// are spread from the names' bytes. Memory: the maps, which go at the end, and the rules. The stack grows with the depth of the
 /// conditions.
 ///
-/// Errors: of all faults of all items the one at the least place, at one place the one with the least number, and where
-/// that is a number out of its range, which number is meant; `Memory` where the names or the rules find no room.
+/// Errors: of all faults of all items the one at the least place, at one place the one with the least number. Which
+/// number is out of its range, `number_at` says; `Memory` where the names or the rules find no room.
 pub fn check(alloc: Global, file: &RuleFile) -> Result<RuleSet, CheckError>
     ensures means { IfOk result (λ set. Means (items_of file.now.items.items) set.rules) }
     ensures refused { IfErr result

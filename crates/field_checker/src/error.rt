@@ -5,7 +5,6 @@ ghost use Rattle.field_checker.specs.declared.error.CheckError.TheVariants.{Memo
 ghost use Rattle.field_checker.specs.Fault.{error_code, error_of};
 
 use crate::fault::{Check, Fault};
-use crate::number::RuleNumber;
 use std::alloc::AllocError;
 use thiserror::Error;
 
@@ -33,9 +32,9 @@ pub enum CheckError {
     /// A comparison's number that the field's type doesn't have.
     #[error("the number at {at} isn't in the field's type: u8 0 to 255, i8 -128 to 127, u16 0 to 65,535, i16 -32,768 to 32,767, u32 0 to 4,294,967,295, i32 -2,147,483,648 to 2,147,483,647")]
     ConstRange { at: usize },
-    /// This number of a rule, or a stale age, outside the range of its place in a table.
-    #[error("the number at {at} is out of range: {number}")]
-    NumberRange { at: usize, number: RuleNumber },
+    /// A number of a rule, or a stale age, outside the range of its place in a table. Which number it is, `number_at` says.
+    #[error("the number at {at} is out of range")]
+    NumberRange { at: usize },
     /// A packet's length outside 12 to 2,048 bytes.
     #[error("the packet length at {at} isn't from 12 to 2,048")]
     LengthRange { at: usize },
@@ -65,7 +64,7 @@ impl From<Fault> for CheckError {
             Check::FieldOutside => CheckError::FieldOutside { at },
             Check::MaskRange => CheckError::MaskRange { at },
             Check::ConstRange => CheckError::ConstRange { at },
-            Check::NumberRange(number) => CheckError::NumberRange { at, number },
+            Check::NumberRange => CheckError::NumberRange { at },
             Check::LengthRange => CheckError::LengthRange { at },
         }
     }

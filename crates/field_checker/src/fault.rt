@@ -4,8 +4,6 @@ ghost use Rattle.std.specs.Prelude.{◌≡◌};
 ghost use Rattle.lc_model.specs.Text.Meaning.{precedes};
 ghost use Rattle.field_checker.specs.Fault.{fault_of, number_of_check};
 
-use crate::number::RuleNumber;
-
 /// What is checked of items.
 #[derive(Clone, Copy)]
 pub(crate) enum Check {
@@ -16,7 +14,7 @@ pub(crate) enum Check {
     FieldOutside,
     MaskRange,
     ConstRange,
-    NumberRange(RuleNumber),
+    NumberRange,
     LengthRange,
 }
 
@@ -33,7 +31,7 @@ impl Check {
             Check::FieldOutside => 25,
             Check::MaskRange => 26,
             Check::ConstRange => 27,
-            Check::NumberRange(_) => 28,
+            Check::NumberRange => 28,
             Check::LengthRange => 29,
         }
     }

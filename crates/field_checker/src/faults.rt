@@ -81,7 +81,6 @@ impl Faults {
             → (is_out_of_range kind (number_of number) ≡ true →
             StandsOutside items kind number.at) → NamesItsFault items self.new.first }
     {
-        let check = Check::NumberRange(kind);
-        self.refuse_outside(number, kind.least(), kind.most(), check);
+        self.refuse_outside(number, kind.least(), kind.most(), Check::NumberRange);
     }
 }

@@ -12,7 +12,6 @@ ghost use Rattle.field_checker.specs.Faults.{NamesItsFault, after, first_of};
 use crate::fault::Check;
 use crate::faults::Faults;
 use crate::names::Names;
-use crate::number::RuleNumber;
 use lc_model::FieldType;
 use rule_parser::{FieldItem, Number, PacketItem};
 
@@ -64,8 +63,7 @@ impl Faults {
             → NamesItsFault items self.old.first → NamesItsFault items self.new.first }
     {
         if let Some(age) = stale {
-            let check = Check::NumberRange(RuleNumber::Stale);
-            self.refuse_if(is_negative(age), check, age.at);
+            self.refuse_if(is_negative(age), Check::NumberRange, age.at);
         }
     }
 

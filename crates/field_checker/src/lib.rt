@@ -13,9 +13,11 @@ mod key;
 mod meaning;
 mod names;
 mod number;
+mod number_place;
 mod packet;
 mod rule;
 
 pub use checker::check;
 pub use error::CheckError;
 pub use number::RuleNumber;
+pub use number_place::number_at;

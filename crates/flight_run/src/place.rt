@@ -44,7 +44,7 @@ pub fn place_of(error: CompileError) -> Place
             | CheckError::FieldOutside { at }
             | CheckError::MaskRange { at }
             | CheckError::ConstRange { at }
-            | CheckError::NumberRange { at, number: _ }
+            | CheckError::NumberRange { at }
             | CheckError::LengthRange { at } => Place::At(at),
             CheckError::Memory => Place::Whole,
         },

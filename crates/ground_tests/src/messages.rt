@@ -1,10 +1,10 @@
 //! The text of each error, as its reader sees it.
 
 use crate::shared::same;
-use field_checker::{CheckError, RuleNumber};
+use field_checker::{CheckError, RuleNumber, number_at};
 use rpn_compiler::CompileError;
-use rule_lexer::LexReason;
-use rule_parser::{ParseError, Sign, What, Word};
+use rule_lexer::{LexReason, lex};
+use rule_parser::{ParseError, Sign, What, Word, parse};
 use std::fmt::{Debug, Display};
 use std::process::Abort;
 use table_file::FileError;
@@ -131,64 +131,44 @@ fn of_names(rt: HostRuntime) {
     all_read(&rt, rows);
 }
 
-/// A number outside its range is reported with the range.
+/// A number outside its range is reported by its place.
 #[test]
 fn of_numbers(rt: HostRuntime) {
+    let rows = &[(
+        CheckError::NumberRange { at: 100 },
+        "the number at 100 is out of range",
+    )];
+    all_read(&rt, rows);
+}
+
+/// Which number it is, with its range.
+#[test]
+fn of_the_numbers_of_rules(rt: HostRuntime) {
     let rows = &[
+        (RuleNumber::Fails, "`fails` takes 1 to 65,535"),
+        (RuleNumber::Sequence, "`sequence` takes 1 to 65,535"),
         (
-            CheckError::NumberRange {
-                at: 100,
-                number: RuleNumber::Fails,
-            },
-            "the number at 100 is out of range: `fails` takes 1 to 65,535",
+            RuleNumber::EventId,
+            "an event has a number from 1,000 to 65,535",
         ),
         (
-            CheckError::NumberRange {
-                at: 111,
-                number: RuleNumber::Sequence,
-            },
-            "the number at 111 is out of range: `sequence` takes 1 to 65,535",
+            RuleNumber::ReportPassive,
+            "the first number of `report` is 0 to 255",
         ),
         (
-            CheckError::NumberRange {
-                at: 125,
-                number: RuleNumber::EventId,
-            },
-            "the number at 125 is out of range: an event has a number from 1,000 to 65,535",
+            RuleNumber::ReportPassToFail,
+            "the second number of `report` is 0 to 65,535",
         ),
         (
-            CheckError::NumberRange {
-                at: 149,
-                number: RuleNumber::ReportPassive,
-            },
-            "the number at 149 is out of range: the first number of `report` is 0 to 255",
+            RuleNumber::ReportFailToPass,
+            "the third number of `report` is 0 to 65,535",
         ),
-        (
-            CheckError::NumberRange {
-                at: 151,
-                number: RuleNumber::ReportPassToFail,
-            },
-            "the number at 151 is out of range: the second number of `report` is 0 to 65,535",
-        ),
-        (
-            CheckError::NumberRange {
-                at: 153,
-                number: RuleNumber::ReportFailToPass,
-            },
-            "the number at 153 is out of range: the third number of `report` is 0 to 65,535",
-        ),
-        (
-            CheckError::NumberRange {
-                at: 75,
-                number: RuleNumber::Stale,
-            },
-            "the number at 75 is out of range: `stale` takes 0 to 4,294,967,295",
-        ),
+        (RuleNumber::Stale, "`stale` takes 0 to 4,294,967,295"),
     ];
     all_read(&rt, rows);
 }
 
-/// Message ids, lengths, masks and comparison numbers outside their ranges are reported with the range.
+/// A number outside its range is reported by its place.
 #[test]
 fn of_ranges(rt: HostRuntime) {
     let rows = &[

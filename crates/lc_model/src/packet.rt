@@ -7,7 +7,7 @@ ghost use Rattle.lc_model.specs.Packet.{function_code, header_fault, is_own_mid,
 ghost use Rattle.lc_model.specs.Events.Outgoing.{sequence_request};
 
 use crate::mids;
-use crate::numbers::u16_at;
+use crate::numbers::{u16_at, u16_bytes};
 
 /// The bytes of the primary header.
 const PRIMARY_HEADER: usize = 6;
@@ -138,8 +138,8 @@ pub fn sequence_request(count: u16, number: u16) -> [u8; REQUEST_SIZE]
     requires { count < COUNT_END }
     ensures { result ≡ sequence_request count number }
 {
-    let [count_high, count_low] = (0xC000 + count).to_be_bytes();
-    let [number_high, number_low] = number.to_be_bytes();
+    let [count_high, count_low] = u16_bytes(0xC000 + count);
+    let [number_high, number_low] = u16_bytes(number);
     let mut packet = [
         0x18,
         0xA9,

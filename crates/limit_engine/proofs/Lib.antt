@@ -1,4 +1,5 @@
 mod Ascending
+mod Halves
 mod Places
 mod Ranges
 mod LowBytes

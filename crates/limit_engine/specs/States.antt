@@ -2,13 +2,13 @@
 use Rattle.std.specs.Prelude.{ℕ, [], ◌∷◌, Result, Ok, Err}
 use Rattle.lc_model.specs.Refusal.{Refusal}
 use Rattle.limit_engine.specs.declared.states.StateRefusal.{StateRefusal}
-use Rattle.limit_engine.specs.declared.states.StateRefusal.TheVariants.{NoRule, NoState, RuleStands}
+use Rattle.limit_engine.specs.declared.states.StateRefusal.TheVariants.{BadIndex, BadMode, NotSettable}
 
 -- the number of a refusal
 abbrev pub refusal_number : StateRefusal → ℕ
-refusal_number NoRule = 153
-refusal_number NoState = 154
-refusal_number RuleStands = 155
+refusal_number BadIndex = 153
+refusal_number BadMode = 154
+refusal_number NotSettable = 155
 
 -- an answer without a value, with the refusal's number
 abbrev pub answered : Result (Unit {0}) StateRefusal → Result (Unit {0}) Refusal

@@ -45,7 +45,7 @@ abbrev pub most_steps : ℕ
 most_steps = 5632
 
 abbrev pub most_probes : ℕ
-most_probes = 1
+most_probes = 8
 
 -- so many words were evaluated at most, and so many message ids compared
 pub record IsFewEffort (steps probes : ℕ) : Type 0 where

@@ -175,7 +175,8 @@ impl Engine {
         self.steps
     }
 
-    /// The message ids that the last packet of telemetry was compared with, at most one.
+    /// The message ids that the last packet of telemetry was compared with, three-way: one for an id that is watched, at most
+    /// eight for any other.
     pub fn probes(&self) -> usize
         ensures probes { result ≡ self.now.effort.probes }
         ensures few { result ≤ most_probes }
@@ -285,7 +286,7 @@ impl Engine {
             } }
     {
         let Some(mode) = states::mode_numbered(number) else {
-            return Err(StateRefusal::NoState);
+            return Err(StateRefusal::BadMode);
         };
         self.mode = mode;
         Ok(())

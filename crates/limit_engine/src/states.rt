@@ -14,13 +14,13 @@ use thiserror::Error;
 pub enum StateRefusal {
     /// No rule has the number.
     #[error("no rule has the number")]
-    NoRule,
+    BadIndex,
     /// No mode or no state that may be set has the number.
     #[error("no mode or no state that may be set has the number")]
-    NoState,
+    BadMode,
     /// The rule's state does not allow the change.
     #[error("the rule's state does not allow the change")]
-    RuleStands,
+    NotSettable,
 }
 
 impl StateRefusal {
@@ -29,9 +29,9 @@ impl StateRefusal {
         ensures { result ≡ refusal_number self }
     {
         match self {
-            StateRefusal::NoRule => 153,
-            StateRefusal::NoState => 154,
-            StateRefusal::RuleStands => 155,
+            StateRefusal::BadIndex => 153,
+            StateRefusal::BadMode => 154,
+            StateRefusal::NotSettable => 155,
         }
     }
 }
@@ -77,13 +77,13 @@ fn set_one(points: &mut [Point], index: u16, number: u16) -> Result<(), StateRef
 {
     let index = usize::from(index);
     if points.len() <= index {
-        return Err(StateRefusal::NoRule);
+        return Err(StateRefusal::BadIndex);
     }
     let Some(state) = state_numbered(number) else {
-        return Err(StateRefusal::NoState);
+        return Err(StateRefusal::BadMode);
     };
     if points[index].is_permanently_off() {
-        return Err(StateRefusal::RuleStands);
+        return Err(StateRefusal::NotSettable);
     }
     points[index].set(state);
     Ok(())
@@ -98,7 +98,7 @@ pub(crate) fn set_state(points: &mut [Point], index: u16, number: u16) -> Result
         return set_one(points, index, number);
     }
     let Some(state) = state_numbered(number) else {
-        return Err(StateRefusal::NoState);
+        return Err(StateRefusal::BadMode);
     };
     set_all(points, state);
     Ok(())
@@ -112,10 +112,10 @@ pub(crate) fn turn_permanently_off(points: &mut [Point], index: u16) -> Result<(
 {
     let index = usize::from(index);
     if points.len() <= index {
-        return Err(StateRefusal::NoRule);
+        return Err(StateRefusal::BadIndex);
     }
     if !points[index].is_disabled() {
-        return Err(StateRefusal::RuleStands);
+        return Err(StateRefusal::NotSettable);
     }
     points[index].set(ApMode::PermOff);
     Ok(())

@@ -3,7 +3,7 @@
 ghost use Rattle.std.specs.Prelude.{◌≡◌, ◌<◌, ◌≤◌, ◌+◌, ◌++◌, length, drop, fold, bit_xor};
 ghost use Rattle.lc_model.specs.Packet.{primary_header, command, telemetry, command_header_size, count_end, longest_packet, telemetry_header_size};
 
-use lc_model::Moment;
+use lc_model::{Moment, u16_bytes, u32_bytes};
 
 /// The six bytes of a primary header, of a packet of `size` bytes in all, whole (flags 3).
 fn primary_header(message_id: u16, sequence_count: u16, size: usize) -> [u8; 6]
@@ -11,9 +11,9 @@ fn primary_header(message_id: u16, sequence_count: u16, size: usize) -> [u8; 6]
     requires size { (7 ≤ size) × (size ≤ longest_packet) }
     ensures { result ≡ primary_header message_id sequence_count size }
 {
-    let [id_high, id_low] = message_id.to_be_bytes();
-    let [count_high, count_low] = (0xC000 + sequence_count).to_be_bytes();
-    let [size_high, size_low] = ((size - 7) as u16).to_be_bytes();
+    let [id_high, id_low] = u16_bytes(message_id);
+    let [count_high, count_low] = u16_bytes(0xC000 + sequence_count);
+    let [size_high, size_low] = u16_bytes((size - 7) as u16);
     [id_high, id_low, count_high, count_low, size_high, size_low]
 }
 
@@ -78,7 +78,7 @@ pub fn build_telemetry(
         drop (telemetry_header_size + length payload.now) out.old }
 {
     let [a, b, c, d, e, f] = primary_header(message_id, sequence_count, 12 + payload.len());
-    let [s, t, u, v] = moment.seconds.to_be_bytes();
-    let [x, y] = moment.subseconds.to_be_bytes();
+    let [s, t, u, v] = u32_bytes(moment.seconds);
+    let [x, y] = u16_bytes(moment.subseconds);
     write(&[a, b, c, d, e, f, s, t, u, v, x, y], payload, out)
 }

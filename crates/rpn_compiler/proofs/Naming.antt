@@ -58,7 +58,7 @@ module _ (text : List ℕ) where
     of_checker (checker.FieldOutside at) names = said (checker.FieldOutside at) names
     of_checker (checker.MaskRange at) names = said (checker.MaskRange at) names
     of_checker (checker.ConstRange at) names = said (checker.ConstRange at) names
-    of_checker (checker.NumberRange at number) names = said (checker.NumberRange at number) names
+    of_checker (checker.NumberRange at) names = said (checker.NumberRange at) names
     of_checker (checker.LengthRange at) names = said (checker.LengthRange at) names
 
 -- what is shared is of the tables

@@ -78,7 +78,7 @@ module _ (text : List ℕ) where
       inr (AtPlace (record { code = 26; at = at }), refl, model.no_meaning splits parses (sym first))
   of_checker tokens items (checker.ConstRange at) splits parses (inr first) =
       inr (AtPlace (record { code = 27; at = at }), refl, model.no_meaning splits parses (sym first))
-  of_checker tokens items (checker.NumberRange at number) splits parses (inr first) =
+  of_checker tokens items (checker.NumberRange at) splits parses (inr first) =
       inr (AtPlace (record { code = 28; at = at }), refl, model.no_meaning splits parses (sym first))
   of_checker tokens items (checker.LengthRange at) splits parses (inr first) =
       inr (AtPlace (record { code = 29; at = at }), refl, model.no_meaning splits parses (sym first))

@@ -1,4 +1,4 @@
--- Which number of a text is out of its range. This project's own.
+-- Where a number of a text is out of its range. This project's own.
 use Rattle.std.specs.Prelude.{ℕ, List, ⊤}
 use Rattle.lc_model.specs.Text.Token.{Token, Splits}
 use Rattle.lc_model.specs.Text.Syntax.{Item}
@@ -8,7 +8,7 @@ use Rattle.field_checker.specs.Number.{NamesItsNumber}
 use Rattle.rpn_compiler.specs.declared.error.CompileError.{CompileError}
 use Rattle.rpn_compiler.specs.declared.error.CompileError.TheVariants.{Lex, Parse, Check, TooManyWatchpoints, TooManyRules, EquationTooLong, Memory}
 
--- the number that the error names is the one of the text's items that is out of its range; a text has one list of items
+-- where the error says that a number is out of its range, one of the text's items has one there; a text has one list of items
 pub record NamesItsNumberIn (text : List ℕ) (error : CheckError) : Type 0 where
   pub tokens : List Token
   pub items : List Item
@@ -16,7 +16,7 @@ pub record NamesItsNumberIn (text : List ℕ) (error : CheckError) : Type 0 wher
   pub parses : Parses tokens items
   pub names : NamesItsNumber items error
 
--- the compiler's error names its number, where it has one
+-- the compiler's error names the place of such a number, where it is of one
 abbrev pub NamesTheNumberIn : List ℕ → CompileError → Type 0
 NamesTheNumberIn text (Check error) = NamesItsNumberIn text error
 NamesTheNumberIn text error = ⊤

@@ -113,7 +113,7 @@ pub fn compile(alloc: Global, text: &[u8]) -> Result<TablePair, CompileError>
     ensures compiles { IfOk result (λ pair. (rules : List NamedRule) ×
         Compiles limits text.now rules × AreTables text.now rules pair) }
     ensures refused { IfErr result (Refuses (IsRefused limits text.now)) }
-    // Of a number out of its range, which of the text's numbers that is.
+    // Where a number is said to be out of its range, one of the text's numbers is.
     ensures named { IfErr result (NamesTheNumberIn text.now) }
     ensures accepts { (rules : List NamedRule) → Compiles limits text.now rules →
         MatchResult result (AreTables text.now rules) (λ error. error ≡ Memory) }

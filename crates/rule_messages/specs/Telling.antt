@@ -103,6 +103,6 @@ place_of_check (checker.ReservedMid at) = at
 place_of_check (checker.FieldOutside at) = at
 place_of_check (checker.MaskRange at) = at
 place_of_check (checker.ConstRange at) = at
-place_of_check (checker.NumberRange at number) = at
+place_of_check (checker.NumberRange at) = at
 place_of_check (checker.LengthRange at) = at
 place_of_check checker.Memory = 0

@@ -27,7 +27,7 @@ pub fn check_place(error: CheckError) -> usize
         | CheckError::FieldOutside { at }
         | CheckError::MaskRange { at }
         | CheckError::ConstRange { at }
-        | CheckError::NumberRange { at, .. }
+        | CheckError::NumberRange { at }
         | CheckError::LengthRange { at } => at,
         CheckError::Memory => 0,
     }
@@ -70,7 +70,7 @@ pub fn check_message(
         CheckError::FieldOutside { .. } => outside(alloc, source, number, token),
         CheckError::MaskRange { .. } => bad_mask(alloc, source, number, token),
         CheckError::ConstRange { .. } => bad_compared(alloc, source, number, token),
-        CheckError::NumberRange { number, .. } => bad_number(alloc, token, number),
+        CheckError::NumberRange { .. } => bad_number(alloc, source, number, token),
         CheckError::LengthRange { .. } => bad_length(alloc, token),
         CheckError::Memory => Err(AllocError),
     }

@@ -284,10 +284,7 @@ impl<'s, 'a> Checked<'s, 'a> {
         let least = i64::from(number.least());
         let most = i64::from(number.most());
         if is_outside(value_of(token), least, most) {
-            found.push(CheckError::NumberRange {
-                at: token.at,
-                number,
-            })?;
+            found.push(CheckError::NumberRange { at: token.at })?;
         }
         Ok(())
     }

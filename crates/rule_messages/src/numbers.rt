@@ -11,7 +11,7 @@ use crate::source::{Kind, Source};
 use field_checker::RuleNumber;
 use lc_model::FieldType;
 use message_words::{Grouped, push_quoted};
-use rule_lexer::Token;
+use rule_lexer::{Token, TokenKind};
 use std::alloc::{AllocError, Global};
 
 /// The type's least number.
@@ -126,15 +126,43 @@ fn number_label(alloc: Global, number: RuleNumber) -> Result<String, AllocError>
     format!(in alloc; "write {least} to {most}{never}")
 }
 
+/// The kind of the token so many before the one with this number.
+fn kind_before(source: &Source<'_>, number: usize, back: usize) -> Option<TokenKind> {
+    match source.token(number.checked_sub(back)?) {
+        Some(token) => Some(token.kind),
+        None => None,
+    }
+}
+
+/// Which number of an item the token is, by the words before it.
+fn rule_number(source: &Source<'_>, number: usize) -> RuleNumber {
+    match kind_before(source, number, 1) {
+        Some(TokenKind::Fails) => return RuleNumber::Fails,
+        Some(TokenKind::Sequence) => return RuleNumber::Sequence,
+        Some(TokenKind::Stale) => return RuleNumber::Stale,
+        Some(TokenKind::Report) => return RuleNumber::ReportPassive,
+        _ => {}
+    }
+    if kind_before(source, number, 2) == Some(TokenKind::Report) {
+        RuleNumber::ReportPassToFail
+    } else if kind_before(source, number, 3) == Some(TokenKind::Report) {
+        RuleNumber::ReportFailToPass
+    } else {
+        RuleNumber::EventId
+    }
+}
+
 /// A number that is out of its range.
 pub fn bad_number(
     alloc: Global,
+    source: &Source<'_>,
+    number: usize,
     token: Token<'_>,
-    number: RuleNumber,
 ) -> Result<Message, AllocError>
     ensures { IfOk result (IsAt 28 token.entry.at) }
 {
-    let head = String::from_str(alloc, number_head(number))?;
-    let label = number_label(alloc, number)?;
+    let kind = rule_number(source, number);
+    let head = String::from_str(alloc, number_head(kind))?;
+    let label = number_label(alloc, kind)?;
     Ok(Message::at(alloc, 28, head, mark(token, label)))
 }

@@ -6,3 +6,4 @@ pub mod Words
 pub mod Versions
 pub mod WatchpointsAgain
 pub mod ActionpointsAgain
+mod HeaderFields

@@ -1,5 +1,5 @@
 -- The layouts that images are written and read in. This project's own.
-use Rattle.std.specs.Prelude.{ℕ}
+use Rattle.std.specs.Prelude.{ℕ, Option, Some, None, if◌then◌else◌, ◌==◌}
 use Rattle.lc_model.specs.Tables.Image as model
 use Rattle.table_file.specs.declared.layout.Layout.{Layout}
 use Rattle.table_file.specs.declared.layout.Layout.TheVariants.{Watchpoints, Actionpoints, WideActionpoints}
@@ -20,3 +20,11 @@ layout_of WideActionpoints = model.WideActionpoints
 abbrev pub layout_of_version : AdtVersion → model.Layout
 layout_of_version One = model.Actionpoints
 layout_of_version Two = model.WideActionpoints
+
+-- the number of a version of actionpoints, as it stands in the preamble
+abbrev pub number_of : AdtVersion → ℕ
+number_of version = model.version_of (layout_of_version version)
+
+-- the version with a number
+abbrev pub version_numbered : ℕ → Option AdtVersion
+version_numbered number = if number == number_of One then Some One else if number == number_of Two then Some Two else None

@@ -1,4 +1,5 @@
 pub mod Error
+pub mod File
 pub mod Layout
 pub mod Parts
 pub mod Laws

@@ -1,12 +1,13 @@
 //! Table files: a cFE file header, a table header and an image (cFE user's guide, table services; which fields are read
 //! is this project's own).
 
-ghost use Rattle.std.specs.Prelude.{◌≡◌, Ok, IfOk};
+ghost use Rattle.std.specs.Prelude.{◌≡◌, length, Ok, IfOk};
 ghost use Rattle.lc_model.specs.Name.{name_in};
 ghost use Rattle.lc_model.specs.Tables.File as model;
 ghost use Rattle.lc_model.specs.Tables.File.{file_bytes, opened};
 ghost use Rattle.lc_model.specs.Laws.Tables.{IsTableFile};
 ghost use Rattle.table_file.specs.Error.{Answers};
+ghost use Rattle.table_file.specs.File.{content_type_in, subtype_in, header_length_in, offset_in, number_of_bytes_in};
 
 use crate::error::FileError;
 use lc_model::{name_in, u32_at};
@@ -40,6 +41,7 @@ pub struct TableFile<'a> {
 
 impl<'a> Model for TableFile<'a> {
     ghost use Rattle.lc_model.specs.Tables.File.{TableFile};
+    ghost use Rattle.table_file.specs.File.{HasWholeHeaders};
 
     ghost Value = { TableFile };
 
@@ -54,9 +56,32 @@ impl<'a> Model for TableFile<'a> {
       name_field = f.name_field.now;
       image = f.image.now;
     } };
+
+    ghost invariant = { λ f. HasWholeHeaders f.description.now f.image.now };
 }
 
 impl<'a> TableFile<'a> {
+    /// What the file is, bytes 0 to 3: `cFE1`.
+    pub fn content_type(&self) -> u32
+        ensures { result ≡ content_type_in (file_bytes self.now) }
+    {
+        CONTENT_TYPE
+    }
+
+    /// What its content is, bytes 4 to 7: 8, a table.
+    pub fn subtype(&self) -> u32
+        ensures { result ≡ subtype_in (file_bytes self.now) }
+    {
+        SUBTYPE
+    }
+
+    /// The bytes of the cFE file header, said in bytes 8 to 11: 64.
+    pub fn header_length(&self) -> u32
+        ensures { result ≡ header_length_in (file_bytes self.now) }
+    {
+        FILE_HEADER_LENGTH
+    }
+
     /// The spacecraft that the file is for.
     pub fn spacecraft(&self) -> u32
         ensures { result ≡ self.now.spacecraft }
@@ -104,6 +129,23 @@ impl<'a> TableFile<'a> {
         ensures { result ≡ self.now.reserved }
     {
         self.reserved
+    }
+
+    /// Where in the table the image begins, in bytes, said in bytes 68 to 71: 0, since a table is loaded whole.
+    pub fn offset(&self) -> u32
+        ensures { result ≡ offset_in (file_bytes self.now) }
+    {
+        // Where the field stands depends on the description's size, which is known by the invariant: a use of a field brings it.
+        let _ = &self.description;
+        0
+    }
+
+    /// The bytes of the image, said in bytes 72 to 75.
+    pub fn number_of_bytes(&self) -> u32
+        ensures field { result ≡ number_of_bytes_in (file_bytes self.now) }
+        ensures image { result ≡ length self.now.image }
+    {
+        self.image.len() as u32
     }
 
     /// The field with the table's name, 40 bytes.

@@ -1,7 +1,7 @@
 //! What the images of the two tables hold.
 
-ghost use Rattle.std.specs.Prelude.{◌≡◌};
-ghost use Rattle.table_file.specs.Layout.{layout_of, layout_of_version};
+ghost use Rattle.std.specs.Prelude.{◌≡◌, IfSome};
+ghost use Rattle.table_file.specs.Layout.{layout_of, layout_of_version, number_of, version_numbered};
 
 use crate::layout::Layout;
 use lc_model::{ApMode, Bytes, EventKind, ReportMaxima, Term};
@@ -33,6 +33,28 @@ impl AdtVersion {
         match self {
             AdtVersion::One => Layout::Actionpoints,
             AdtVersion::Two => Layout::WideActionpoints,
+        }
+    }
+
+    /// The version's number, 1 or 2, as it stands in the preamble.
+    pub fn number(self) -> u16
+        ensures { result ≡ number_of self }
+    {
+        match self {
+            AdtVersion::One => 1,
+            AdtVersion::Two => 2,
+        }
+    }
+
+    /// The version with a number: none but for 1 and 2.
+    pub fn numbered(number: u16) -> Option<AdtVersion>
+        ensures version { result ≡ version_numbered number }
+        ensures number { IfSome result (λ version. number_of version ≡ number) }
+    {
+        match number {
+            1 => Some(AdtVersion::One),
+            2 => Some(AdtVersion::Two),
+            _ => None,
         }
     }
 }

@@ -4,7 +4,7 @@ ghost use Rattle.std.specs.Prelude.{◌≡◌, ◌++◌, length, drop};
 ghost use Rattle.lc_model.specs.Host.Schedule.{entry_packet};
 ghost use Rattle.tick_scheduler.specs.Entry.{entry_of};
 
-use lc_model::mids;
+use lc_model::{mids, u16_bytes};
 use packet_bus::build_command;
 
 /// The most bytes of an entry's packet.
@@ -31,8 +31,8 @@ impl Entry {
     {
         match self {
             Entry::Sample { first, last, ages } => {
-                let [a, b] = first.to_be_bytes();
-                let [c, d] = last.to_be_bytes();
+                let [a, b] = u16_bytes(first);
+                let [c, d] = u16_bytes(last);
                 let payload = [a, b, c, d, 0, u8::from(ages), 0, 0];
                 build_command(mids::SAMPLE, 0, 0, &payload, buffer)
             }

@@ -10,7 +10,7 @@ use Rattle.lc_model.specs.Tables.HalvesAndBytes.{TextImage, as_halves}
 use Rattle.lc_model.specs.Host.Schedule.{Schedule, Sample, Housekeeping}
 use Rattle.lc_model.specs.Host.Stream.{StreamEntry}
 use Rattle.lc_model.specs.Host.Run.{input_of}
-use Rattle.lc_model.specs.Kept.Effort.{Effort, no_effort, with_id, watched_ids, compared_with, probes_for, sampled_words}
+use Rattle.lc_model.specs.Kept.Effort.{Effort, no_effort, with_id, watched_ids, place_among, first_place, compared_from, compared_with, probes_for, sampled_words}
 use Rattle.lc_model.specs.Kept.Summary.{AppState, LcState, SchState, CounterState, Other}
 use Rattle.lc_model.specs.Kept.Call.{with_mids}
 use Rattle.lc_model.specs.Kept.Executive.{Member, all_published_to, drained, seated, written_from, first_executive}
@@ -49,7 +49,7 @@ effort_in Other = no_effort
 
 -- a tick is one call of the scheduler, and one of the Limit Checker for the request of its slot
 calls_of_a_tick : (host_after 65536 (prelude ++ order 1 sch_name ∷ volts 2399 ∷ tick ∷ []) (first_host spares)).calls ≡ 2
-unfolding digits every_other_tick spares host_after stop_at delivery_stations last_calls drained all_published_to with_mids sampled_words compared_with watched_ids with_id
+unfolding digits every_other_tick spares host_after stop_at delivery_stations last_calls drained all_published_to with_mids sampled_words compared_from first_place place_among watched_ids with_id
 calls_of_a_tick = refl
 
 -- a command of the host's own is none
@@ -61,23 +61,24 @@ no_calls = refl
 
 -- a mention and EQUAL are two words; one message id is found by one comparison
 effort_of_a_sample : effort_in (seated (host_after 65536 (prelude ++ volts 2399 ∷ sample ∷ []) (first_host spares)).executive.seats 0).state ≡ record { steps = 2; probes = 1 }
-unfolding digits every_other_tick spares host_after effort_in stop_at delivery_stations last_calls drained all_published_to with_mids sampled_words compared_with watched_ids with_id
+unfolding digits every_other_tick spares host_after effort_in stop_at delivery_stations last_calls drained all_published_to with_mids sampled_words compared_from first_place place_among watched_ids with_id
 effort_of_a_sample = refl
 
--- of three ids one that is there is compared with itself, and one that is not with the first
-three : List ℕ
-three = 3 ∷ 5 ∷ 7 ∷ []
+-- of seven ids each one that is there is compared with itself alone; one that is not is compared with the middle, then with the
+-- middle of the half that is left
+seven : List ℕ
+seven = 1 ∷ 3 ∷ 5 ∷ 7 ∷ 9 ∷ 11 ∷ 13 ∷ []
 
-found_at_its_place : compared_with 5 three ≡ 5 ∷ []
-unfolding three compared_with
+found_at_its_place : compared_with 1 seven ≡ 1 ∷ []
+unfolding seven compared_from first_place place_among
 found_at_its_place = refl
 
-not_found : compared_with 6 three ≡ 3 ∷ []
-unfolding three compared_with
+not_found : compared_with 8 seven ≡ 7 ∷ 11 ∷ 9 ∷ []
+unfolding seven compared_from first_place place_among
 not_found = refl
 
 no_comparison : probes_for 5 [] ≡ 0
-unfolding compared_with
+unfolding compared_from
 no_comparison = refl
 
 -- ---- writers that fail

@@ -4,7 +4,7 @@ use Rattle.lc_model.specs.Packet.{message_id}
 use Rattle.lc_model.specs.Kept.Summary.{WatchResult}
 use Rattle.lc_model.specs.Kept.Next.{seen_result, results_by}
 use Rattle.lc_model.specs.Kept.Effort.{probes_for, watched_ids}
-use Rattle.lc_model.proofs.LimitChecker.EffortLaws.{one_probe}
+use Rattle.lc_model.proofs.LimitChecker.EffortLaws.{few_probes}
 use Rattle.limit_engine.specs.Engine.{after_telemetry, tells_short}
 use Rattle.limit_engine.specs.Grouped.{watch_seen, watches_for, lacks_field}
 use Rattle.limit_engine.specs.Tables.{AreTables}
@@ -39,7 +39,7 @@ invariant_of-self-2 c =
       c.self.invariant.1,
       record {
         few_steps = c.self.invariant.2.few_steps;
-        few_probes = omega (arith, c.find-found.ensures.probes, one_probe c.message_id.result (watched_ids terms));
+        few_probes = omega (arith, c.find-found.ensures.probes, few_probes c.message_id.result terms tables.few);
       },
       c.self.invariant.3,
     )
