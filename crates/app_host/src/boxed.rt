@@ -28,19 +28,19 @@ impl<B: App> App for Box<B> {
     ghost meaning = { λ b. B.meaning b.value };
 
     fn name(&self) -> &[u8] {
-        (**self).name()
+        B::name(self)
     }
 
     fn start(&mut self, seat: Seat, services: &mut Services) {
-        (**self).start(seat, services)
+        B::start(self, seat, services)
     }
 
     #[inline(always)]
     fn on_packet(&mut self, services: &mut Services, packet: &[u8]) {
-        (**self).on_packet(services, packet)
+        B::on_packet(self, services, packet)
     }
 
     fn retire(&mut self, services: &mut Services) {
-        (**self).retire(services)
+        B::retire(self, services)
     }
 }
