@@ -1,8 +1,7 @@
 -- The box that left a seat.
-use Rattle.std.proofs.Common.{◌≡◌, refl, sym, ap, ◌∙◌, subst, ℕ, zero, suc, ◌<◌, List, [], ◌∷◌, length, map, get_or, arith, Option, Some, None, Result, Ok, Err}
+use Rattle.std.proofs.Common.{◌≡◌, ◌≢◌, refl, sym, ap, ◌∙◌, subst, ℕ, zero, suc, ◌<◌, List, [], ◌∷◌, length, map, get_or, arith, Option, Some, None, Result, Ok, Err}
 use Rattle.std.specs.Prelude.{IfSome, IsSomeAnd, slice_index_or}
-use Rattle.std.specs.Global.{Global}
-use Rattle.std.specs.declared.boxed.Box.{Box}
+use Rattle.lc_model.proofs.Facts.{test_unequal}
 use Rattle.lc_model.specs.declared.record.Body.{Body}
 use Rattle.lc_model.specs.declared.record.Body.TheVariants as variant
 use Rattle.lc_model.specs.declared.record.Moment.{Moment}
@@ -59,6 +58,9 @@ module _ (Gone : ℕ → Type 0) where
     pub routed_tables : message_id packet ≡ table_services_mid → By (routed_to packet h)
     routed_tables is = subst By (is_for_tables packet h is) (by_tables packet h (tables_by (table_command_in packet) h.services.tables))
 
+    pub routed_others : message_id packet ≢ event_services_mid → message_id packet ≢ table_services_mid → message_id packet ≢ executive_services_mid → By (routed_to packet h)
+    routed_others no_events no_tables no_orders = rw (test_unequal _ _ no_events, test_unequal _ _ no_tables, test_unequal _ _ no_orders) tt
+
     pub routed_orders : message_id packet ≡ executive_services_mid → By (obeying_orders packet h (succession_by packet (roster_of h))) → By (routed_to packet h)
     routed_orders is gone = subst By (is_for_orders packet h is) gone
 
@@ -70,23 +72,23 @@ module _ (Gone : ℕ → Type 0) where
 
 -- ---- a place
 
-module _ {B : Type 0} (meaning : B → Object) (seats : List (Option (Box B Global))) (before after : Services) (app : Box B Global) where
-  box_at : (seat : ℕ) (place : Option (Box B Global)) → slice_index_or seats seat None ≡ place → IsSomeAnd (object_in meaning place) (MayRetire seat before) →
-      IfSome (object_in meaning place) (λ (o : Object). HasRetired seat before after o (meaning app.value)) → IfSome place (λ (there : Box B Global). (meaning app.value).called ≡ (meaning there.value).called) → BoxHasGone meaning seats before seat
+module _ {B : Type 0} (meaning : B → Object) (seats : List (Option B)) (before after : Services) (app : B) where
+  box_at : (seat : ℕ) (place : Option B) → slice_index_or seats seat None ≡ place → IsSomeAnd (object_in meaning place) (MayRetire seat before) →
+      IfSome (object_in meaning place) (λ (o : Object). HasRetired seat before after o (meaning app)) → IfSome place (λ (there : B). (meaning app).called ≡ (meaning there).called) → BoxHasGone meaning seats before seat
   box_at seat None at there left same = absurd there
   box_at seat (Some box) at there left same = record {
     after = after;
     gone = app;
-    retired = subst (λ (p : Option (Box B Global)). IsSomeAnd p (λ (x : Box B Global). ((meaning app.value).called ≡ (meaning x.value).called) × HasRetired seat before after (meaning x.value) (meaning app.value))) (sym at) (same, left);
+    retired = subst (λ (p : Option B). IsSomeAnd p (λ (x : B). ((meaning app).called ≡ (meaning x).called) × HasRetired seat before after (meaning x) (meaning app))) (sym at) (same, left);
   }
 
-  same_place : (xs : List (Option (Box B Global))) (i : ℕ) (x : Option (Box B Global)) → i < length xs → get_or xs i None ≡ get_or xs i x
+  same_place : (xs : List (Option B)) (i : ℕ) (x : Option B) → i < length xs → get_or xs i None ≡ get_or xs i x
   same_place [] i x less = absurd (omega arith)
   same_place (y ∷ xs) zero x less = refl
   same_place (y ∷ xs) (suc i) x less = same_place xs i x (omega arith)
 
-  pub box_there : (k seat : ℕ) (old : Option (Box B Global)) → k ≡ seat → k < 8 → length seats ≡ 8 → IsSomeAnd (object_at seat (map (object_in meaning) seats)) (MayRetire seat before) →
-      IfSome (object_in meaning (get_or seats k old)) (λ (o : Object). HasRetired seat before after o (meaning app.value)) → IfSome (get_or seats k old) (λ (there : Box B Global). (meaning app.value).called ≡ (meaning there.value).called) →
+  pub box_there : (k seat : ℕ) (old : Option B) → k ≡ seat → k < 8 → length seats ≡ 8 → IsSomeAnd (object_at seat (map (object_in meaning) seats)) (MayRetire seat before) →
+      IfSome (object_in meaning (get_or seats k old)) (λ (o : Object). HasRetired seat before after o (meaning app)) → IfSome (get_or seats k old) (λ (there : B). (meaning app).called ≡ (meaning there).called) →
       BoxHasGone meaning seats before seat
   box_there k seat old is less eight there left same =
       let inside : k < length seats = omega (arith, less, eight) in
@@ -96,7 +98,7 @@ module _ {B : Type 0} (meaning : B → Object) (seats : List (Option (Box B Glob
 -- ---- a step
 
 module _ {B : Type 0} (meaning : B → Object) where
-  pub gone_then : (moment : Moment) (body : Body) (old begun : Hosted) (began : StepHasBegun moment old begun) (seats seats' : List (Option (Box B Global))) → seats' ≡ seats →
+  pub gone_then : (moment : Moment) (body : Body) (old begun : Hosted) (began : StepHasBegun moment old begun) (seats seats' : List (Option B)) → seats' ≡ seats →
       IfSome (response_to body begun).leaves (BoxHasGone meaning seats' begun.services) → IfSome (response_to body old).leaves (BoxHasGone meaning seats (at_moment moment old.services))
   gone_then moment body old begun began seats seats' same gone =
-      subst (λ (x : Response × List (Option (Box B Global)) × Services). IfSome x.0.leaves (BoxHasGone meaning x.1 x.2)) (λ i. (begun_response moment body old begun began i, same i, began.services i)) gone
+      subst (λ (x : Response × List (Option B) × Services). IfSome x.0.leaves (BoxHasGone meaning x.1 x.2)) (λ i. (begun_response moment body old begun began i, same i, began.services i)) gone

@@ -4,8 +4,6 @@ use Rattle.std.specs.Prelude.{option_map, All, slice_set}
 use Rattle.std.specs.List.{remove}
 use Rattle.std.proofs.lemmas.List.{take-map, drop-map, map-append, length-map}
 use Rattle.std.proofs.lemmas.List.Elements.{All-append, All-take, All-drop}
-use Rattle.std.specs.Global.{Global}
-use Rattle.std.specs.declared.boxed.Box.{Box}
 use Rattle.lc_model.specs.Kept.Executive.{no_member, spare_at, begun_on, without_spare}
 use Rattle.lc_model.specs.Services.Bus.{seen}
 use Rattle.app_host.specs.declared.services.Services.{Services}
@@ -104,14 +102,36 @@ module _ (old mid : Hosted) (place : ℕ) (less : place < length old.stock) (sto
 
 -- by what was taken out of a list of boxes
 module _ {B : Type 0} (meaning : B → Object) where
-  pub spare_came : (xs ys : List (Box B Global)) (x : Box B Global) (old mid new : Hosted) (place seat : ℕ) (next : Successor B) → next ≡ successor.Spare place seat →
+  pub spare_came : (xs ys : List B) (x : B) (old mid new : Hosted) (place seat : ℕ) (next : Successor B) → next ≡ successor.Spare place seat →
       MayFollow old (next_of meaning next) → old.stock ≡ objects_in meaning xs → mid.stock ≡ objects_in meaning ys → x ≡ get_or xs place x → ys ≡ remove xs place → mid.seats ≡ old.seats → mid.services ≡ old.services →
-      mid.is_closed ≡ old.is_closed → mid.calls ≡ old.calls → AreSeated old.seats old.services → old.services.outgoing ≡ [] → AreSpares old.stock → ObjectHasBegun seat (meaning x.value) mid new →
+      mid.is_closed ≡ old.is_closed → mid.calls ≡ old.calls → AreSeated old.seats old.services → old.services.outgoing ≡ [] → AreSpares old.stock → ObjectHasBegun seat (meaning x) mid new →
       HasFollowed (next_of meaning next) old new
   spare_came xs ys x old mid new place seat next is may stock stock' at rest seats services closed calls seated idle spares begun =
       let so : MayFollow old (Spare place seat) = subst (λ (n : Successor B). MayFollow old (next_of meaning n)) is may in
       let inside : place < length (objects_in meaning xs) = subst (λ (objects : List Object). place < length objects) stock so.0 in
-      let spare : meaning x.value ≡ spare_in old.stock place = spare_is (λ (b : Box B Global). meaning b.value) xs place x inside at (subst (λ n. place < n) (length-map xs (λ (b : Box B Global). meaning b.value)) inside) ∙ ap (λ (objects : List Object). spare_in objects place) (sym stock) in
-      let left : mid.stock ≡ remove old.stock place = stock' ∙ stock_is (λ (b : Box B Global). meaning b.value) xs ys place rest ∙ ap (λ (objects : List Object). remove objects place) (sym stock) in
+      let spare : meaning x ≡ spare_in old.stock place = spare_is meaning xs place x inside at (subst (λ n. place < n) (length-map xs meaning) inside) ∙ ap (λ (objects : List Object). spare_in objects place) (sym stock) in
+      let left : mid.stock ≡ remove old.stock place = stock' ∙ stock_is meaning xs ys place rest ∙ ap (λ (objects : List Object). remove objects place) (sym stock) in
       subst (λ (n : Successor B). HasFollowed (next_of meaning n) old new) (sym is)
-      (spare_followed old mid place so.0 left seats services closed calls seat (meaning x.value) new spare seated idle spares begun)
+      (spare_followed old mid place so.0 left seats services closed calls seat (meaning x) new spare seated idle spares begun)
+
+  -- the spare that was taken out may begin
+  pub spare_may : (xs : List B) (x : B) (old mid : Hosted) (place seat : ℕ) (next : Successor B) → next ≡ successor.Spare place seat → MayFollow old (next_of meaning next) → old.stock ≡ objects_in meaning xs →
+      x ≡ get_or xs place x → mid.seats ≡ old.seats → mid.services ≡ old.services → MayBegin seat mid (meaning x)
+  spare_may xs x old mid place seat next is may stock at seats services =
+      let so : MayFollow old (Spare place seat) = subst (λ (n : Successor B). MayFollow old (next_of meaning n)) is may in
+      let inside : place < length (objects_in meaning xs) = subst (λ (objects : List Object). place < length objects) stock so.0 in
+      let spare : meaning x ≡ spare_in old.stock place = spare_is meaning xs place x inside at (subst (λ n. place < n) (length-map xs meaning) inside) ∙ ap (λ (objects : List Object). spare_in objects place) (sym stock) in
+      rw spare (record { free = rw seats so.1.free; spare = so.1.spare; unused = rw seats so.1.unused })
+
+  -- the one that comes again
+  pub same_came : (app : B) (old new : Hosted) (seat : ℕ) (next : Successor B) → next ≡ successor.Same app seat → AreSpares old.stock → ObjectHasBegun seat (meaning app) old new → HasFollowed (next_of meaning next) old new
+  same_came app old new seat next is spares begun =
+      subst (λ (n : Successor B). HasFollowed (next_of meaning n) old new) (sym is)
+      (record {
+        whole = begun.whole;
+        spares = rw begun.stock spares;
+        own = begun.own;
+        known = begun.known;
+        exact = begun.exact;
+        came = begun.taken;
+      })

@@ -1,6 +1,7 @@
 -- What a record asks of HOST, by what the record is.
-use Rattle.std.proofs.Common.{◌≡◌, refl, ap, sym, ◌∙◌, subst, ℕ, List, Option, Some, Result, Ok, Err}
+use Rattle.std.proofs.Common.{◌≡◌, ◌≢◌, refl, ap, sym, ◌∙◌, subst, ℕ, List, Option, Some, Result, Ok, Err}
 use Rattle.std.specs.Option.{option_map_or}
+use Rattle.lc_model.proofs.Facts.{test_unequal}
 use Rattle.lc_model.specs.declared.record.Body.{Body}
 use Rattle.lc_model.specs.declared.record.Body.TheVariants as variant
 use Rattle.lc_model.specs.declared.record.Moment.{Moment}
@@ -60,6 +61,9 @@ module _ (moment : Moment) (old new : Hosted) (before now : Option (List ℕ)) (
 
   pub routed_tables : message_id packet ≡ table_services_mid → By (for_tables packet old) → By (routed_to packet old)
   routed_tables is = subst By (is_for_tables packet old is)
+
+  pub routed_others : message_id packet ≢ event_services_mid → message_id packet ≢ table_services_mid → message_id packet ≢ executive_services_mid → By (passing_on packet old) → By (routed_to packet old)
+  routed_others no_events no_tables no_orders by = rw (test_unequal _ _ no_events, test_unequal _ _ no_tables, test_unequal _ _ no_orders) by
 
   pub routed_orders : message_id packet ≡ executive_services_mid → By (for_orders packet old) → By (routed_to packet old)
   routed_orders is = subst By (is_for_orders packet old is)

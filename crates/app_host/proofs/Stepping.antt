@@ -3,6 +3,7 @@ use Rattle.std.proofs.Common.{◌≡◌, ◌≢◌, refl, ap, sym, ◌∙◌, su
 use Rattle.std.specs.Prelude.{option_map, All, Contains}
 use Rattle.std.specs.Option.{option_map_or}
 use Rattle.std.specs.List.{AllByRecursion, concat}
+use Rattle.lc_model.proofs.Facts.{test_unequal}
 use Rattle.lc_model.specs.declared.record.Moment.{Moment}
 use Rattle.lc_model.specs.Device.{Sink}
 use Rattle.lc_model.specs.Name.{Name}
@@ -25,7 +26,7 @@ use Rattle.app_host.specs.Whole.{AreKnown, IsWhole}
 use Rattle.app_host.specs.Load.{all_ticks}
 use Rattle.app_host.specs.Party.{Party, Hearers, Waiting, Holders, Only, nobody, scheduled_mids, passing, party_by, AreKnownHearers, IsKnownOnSeat, IsKnownSpare, AreKnownIn}
 use Rattle.app_host.specs.Delivered.{executive_in}
-use Rattle.app_host.specs.Writing.{IsDone, IsCut, Handles}
+use Rattle.app_host.specs.Writing.{IsDone, IsCut, Handles, PassesOn}
 use Rattle.app_host.specs.Told.{TellsAlone, Files, ObeysEvents, ObeysTables}
 use Rattle.app_host.specs.Ordered.{ObeysOrders}
 use Rattle.app_host.specs.Step.{party_of, routed_party, StepHasBegun, HandlesInput, StepsSo, StopsSo, Steps, without_count, Counts}
@@ -217,6 +218,9 @@ module _ (old new : Hosted) (before now : Sink) (result : Result ℕ WriteFault)
 
       pub for_tables : message_id packet ≡ table_services_mid → ObeysTables packet old new before now result → HandlesInput (Packet packet) old new before now result
       for_tables is obeys = routed_so (subst ByMid (sym is) (once Holders tables_step obeys))
+
+      pub for_others : message_id packet ≢ event_services_mid → message_id packet ≢ table_services_mid → message_id packet ≢ executive_services_mid → PassesOn packet old new before now result → HandlesInput (Packet packet) old new before now result
+      for_others no_events no_tables no_orders passes = routed_so (rw (test_unequal _ _ no_events, test_unequal _ _ no_tables, test_unequal _ _ no_orders) passes)
 
       pub for_orders : message_id packet ≡ executive_services_mid → ObeysOrders packet old new before now result → HandlesInput (Packet packet) old new before now result
       for_orders is obeys = routed_so (subst ByMid (sym is)

@@ -1,15 +1,13 @@
 -- Which box is meant, and not only what it means.
 use Rattle.std.specs.Prelude.{◌≡◌, ℕ, List, Option, None, IsSomeAnd, slice_index_or}
-use Rattle.std.specs.Global.{Global}
-use Rattle.std.specs.declared.boxed.Box.{Box}
 use Rattle.app_host.specs.declared.services.Services.{Services}
 use Rattle.app_host.specs.Object.{Object}
 use Rattle.app_host.specs.Objects.{HasRetired}
 
-module _ {B : Type 0} (meaning : B → Object) (seats : List (Option (Box B Global))) (before : Services) where
+module _ {B : Type 0} (meaning : B → Object) (seats : List (Option B)) (before : Services) where
   -- the box of this seat was retired there, from these services to some: it holds no seat from then on. Nothing but the box's own
   -- `retire` makes a box of its application of which this is so.
   pub record BoxHasGone (seat : ℕ) : Type 0 where
     pub after : Services
-    pub gone : Box B Global
-    pub retired : IsSomeAnd (slice_index_or seats seat None) (λ (there : Box B Global). ((meaning gone.value).called ≡ (meaning there.value).called) × HasRetired seat before after (meaning there.value) (meaning gone.value))
+    pub gone : B
+    pub retired : IsSomeAnd (slice_index_or seats seat None) (λ (there : B). ((meaning gone).called ≡ (meaning there).called) × HasRetired seat before after (meaning there) (meaning gone))

@@ -1,7 +1,5 @@
 -- The host as contracts see it: its objects by what they mean, and its services.
 use Rattle.std.specs.Prelude.{ℕ, Bool, List, [], map, slice_index_or, Option, None, option_map}
-use Rattle.std.specs.Global.{Global}
-use Rattle.std.specs.declared.boxed.Box.{Box}
 use Rattle.lc_model.specs.Kept.Summary.{Other}
 use Rattle.lc_model.specs.Kept.Executive.{Member, Executive}
 use Rattle.lc_model.specs.Kept.Stations as model
@@ -31,12 +29,12 @@ pub record Hosted : Type 0 where
   pub is_closed : Bool
   pub calls : ℕ
 
--- what objects in boxes mean: of a list, and of a place that has one or none
-abbrev pub objects_in : {B : Type 0} → (B → Object) → List (Box B Global) → List Object
-objects_in meaning = map (λ (b : Box _ Global). meaning b.value)
+-- what applications mean: of a list, and of a place that has one or none
+abbrev pub objects_in : {B : Type 0} → (B → Object) → List B → List Object
+objects_in meaning = map meaning
 
-abbrev pub object_in : {B : Type 0} → (B → Object) → Option (Box B Global) → Option Object
-object_in meaning = option_map (λ (b : Box _ Global). meaning b.value)
+abbrev pub object_in : {B : Type 0} → (B → Object) → Option B → Option Object
+object_in meaning = option_map meaning
 
 -- a host by the meanings of its objects
 abbrev pub shown : {B : Type 0} → (B → Object) → Host B → Hosted

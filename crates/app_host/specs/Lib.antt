@@ -5,7 +5,6 @@ pub mod Seating
 pub mod Statements
 pub mod Error
 pub mod Object
-pub mod Kinds
 pub mod Hosted
 pub mod Objects
 pub mod Boxes

@@ -43,7 +43,7 @@ pub data Next : Type 0 where
 abbrev pub next_of : {B : Type 0} → (B → Object) → Successor B → Next
 next_of meaning successor.Nobody = Nobody
 next_of meaning (successor.Spare place seat) = Spare place seat
-next_of meaning (successor.Same app seat) = Same (meaning app.value) seat
+next_of meaning (successor.Same app seat) = Same (meaning app) seat
 
 -- an object that holds no seat may begin on this one, which is free: no seat has its name
 pub record MayBegin (seat : ℕ) (h : Hosted) (o : Object) : Type 0 where

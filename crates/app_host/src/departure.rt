@@ -12,7 +12,7 @@ use lc_model::Seat;
 
 impl<B: App> Host<B> {
     /// The object of a seat retires, if there is one, and is handed on.
-    pub(crate) fn vacate(&mut self, seat: Seat) -> Option<Box<B>>
+    pub(crate) fn vacate(&mut self, seat: Seat) -> Option<B>
         requires seated { AreSeated (shown B.meaning self.old).seats
             (shown B.meaning self.old).services }
         requires idle { self.old.services.outgoing ≡ [] }
@@ -30,11 +30,11 @@ impl<B: App> Host<B> {
 
     /// All that run give their seats back by `retire`, seat by seat, and are handed on; what they ask for then is let go. Nothing
     /// runs any more, and nothing is registered: no pipe, subscription, sender of events and table. What is in stock stays.
-    fn retire_all(&mut self) -> [Option<Box<B>>; Seat::COUNT]
+    fn retire_all(&mut self) -> [Option<B>; Seat::COUNT]
         requires whole { IsWhole (shown B.meaning self.old) }
         ensures closed { HasClosed (shown B.meaning self.old) (shown B.meaning self.new) }
     {
-        let mut retired: [Option<Box<B>>; Seat::COUNT] = [
+        let mut retired: [Option<B>; Seat::COUNT] = [
             None, None, None, None, None, None, None, None,
         ];
         for index in 0..8u8 {

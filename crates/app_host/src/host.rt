@@ -16,11 +16,12 @@ use lc_model::Seat;
 use packet_bus::PACKET_SIZE;
 use std::alloc::Global;
 
-/// The host: applications in stock and on eight seats, and what they share.
+/// The host: applications in stock and on eight seats, and what they share. `B` is the type of an application. `Host` alone is
+/// a host of boxed applications of any kinds, side by side.
 #[derive(Drop)]
-pub struct Host<B: App> {
-    pub(crate) stock: Vec<Box<B>>,
-    pub(crate) seats: [Option<Box<B>>; Seat::COUNT],
+pub struct Host<B: App = Box<dyn App>> {
+    pub(crate) stock: Vec<B>,
+    pub(crate) seats: [Option<B>; Seat::COUNT],
     pub(crate) services: Services,
     /// The packet that is delivered, in front, and what was there before behind it: a delivery clears nothing.
     pub(crate) packet: [u8; PACKET_SIZE],
@@ -33,7 +34,7 @@ pub struct Host<B: App> {
 impl<B: App> Host<B> {
     /// A host that runs nothing; these are its spares. It takes all the memory there will ever be; out of memory is the only
     /// error, and gives the stock back. Condition: no object holds a seat.
-    pub fn new(alloc: Global, stock: Vec<Box<B>>) -> Result<Host<B>, (HostError, Vec<Box<B>>)>
+    pub fn new(alloc: Global, stock: Vec<B>) -> Result<Host<B>, (HostError, Vec<B>)>
         requires spares { AreSpares (objects_in B.meaning stock.items) }
         ensures whole { IfOk result (λ host. IsWhole (shown B.meaning host)) }
         ensures quiet { IfOk result (λ host. IsQuiet (shown B.meaning host)) }
@@ -79,7 +80,7 @@ impl<B: App> Host<B> {
             object_at seat (shown B.meaning self.now).seats }
     {
         match &self.seats[seat.index()] {
-            Some(app) => Some(&**app),
+            Some(app) => Some(app),
             None => None,
         }
     }

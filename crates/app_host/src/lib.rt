@@ -3,6 +3,7 @@
 #![tactic(auto)]
 
 mod app;
+mod boxed;
 mod counts;
 mod deliveries;
 mod departure;
@@ -13,7 +14,6 @@ mod host;
 pub mod laws;
 mod numbers;
 mod objects;
-mod one_of;
 mod orders;
 mod outgoing;
 mod own_events;
@@ -33,7 +33,6 @@ pub use app::App;
 pub use counts::Counts;
 pub use error::{HostError, WriteFault};
 pub use host::Host;
-pub use one_of::OneOf;
 pub use outgoing::Outgoing;
 pub use resubscribing::{subscribe_to, unsubscribe_from};
 pub use seat::subscribe;

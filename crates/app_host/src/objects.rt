@@ -13,10 +13,10 @@ use crate::services::Services;
 use lc_model::Seat;
 
 /// The object takes a free seat.
-pub(crate) fn start<B: App>(app: &mut Box<B>, seat: Seat, services: &mut Services)
-    requires { MayStartOn seat services.old (B.meaning app.old.value) }
-    ensures { HasStarted seat services.old services.new (B.meaning app.old.value)
-        (B.meaning app.new.value) }
+pub(crate) fn start<B: App>(app: &mut B, seat: Seat, services: &mut Services)
+    requires { MayStartOn seat services.old (B.meaning app.old) }
+    ensures { HasStarted seat services.old services.new (B.meaning app.old)
+        (B.meaning app.new) }
 {
     // For the proof: an object stays at home on its seat, whatever packets it has.
     objects_are_at_home();
@@ -25,10 +25,10 @@ pub(crate) fn start<B: App>(app: &mut Box<B>, seat: Seat, services: &mut Service
 
 /// The object of a seat answers a packet.
 #[inline(always)]
-pub(crate) fn give<B: App>(app: &mut Box<B>, seat: Seat, services: &mut Services, packet: &[u8])
-    requires { MayAnswer seat packet.now services.old (B.meaning app.old.value) }
-    ensures { HasAnswered seat packet.now services.old services.new (B.meaning app.old.value)
-        (B.meaning app.new.value) }
+pub(crate) fn give<B: App>(app: &mut B, seat: Seat, services: &mut Services, packet: &[u8])
+    requires { MayAnswer seat packet.now services.old (B.meaning app.old) }
+    ensures { HasAnswered seat packet.now services.old services.new (B.meaning app.old)
+        (B.meaning app.new) }
 {
     // For the proof: an object stays at home on its seat, whatever packets it has.
     objects_are_at_home();
@@ -36,25 +36,25 @@ pub(crate) fn give<B: App>(app: &mut Box<B>, seat: Seat, services: &mut Services
 }
 
 /// The object of a seat gives it back.
-pub(crate) fn retire<B: App>(app: &mut Box<B>, seat: Seat, services: &mut Services)
-    requires { MayRetire seat services.old (B.meaning app.old.value) }
-    ensures retired { HasRetired seat services.old services.new (B.meaning app.old.value)
-        (B.meaning app.new.value) }
-    ensures same { (B.meaning app.new.value).called ≡ (B.meaning app.old.value).called }
+pub(crate) fn retire<B: App>(app: &mut B, seat: Seat, services: &mut Services)
+    requires { MayRetire seat services.old (B.meaning app.old) }
+    ensures retired { HasRetired seat services.old services.new (B.meaning app.old)
+        (B.meaning app.new) }
+    ensures same { (B.meaning app.new).called ≡ (B.meaning app.old).called }
 {
     app.retire(services);
 }
 
 /// Whether the object goes by the name.
-fn is_called<B: App>(app: &Box<B>, name: &[u8]) -> bool
-    ensures called { result ≡ is_called name.now (member_of (B.meaning app.now.value)) }
-    ensures kind { IsObject (B.meaning app.now.value).state (B.meaning app.now.value).called }
+fn is_called<B: App>(app: &B, name: &[u8]) -> bool
+    ensures called { result ≡ is_called name.now (member_of (B.meaning app.now)) }
+    ensures kind { IsObject (B.meaning app.now).state (B.meaning app.now).called }
 {
     name == app.name()
 }
 
 /// Whether there is an object that goes by the name.
-fn is_seated<B: App>(place: &Option<Box<B>>, name: &[u8]) -> bool
+fn is_seated<B: App>(place: &Option<B>, name: &[u8]) -> bool
     ensures { result ≡ is_seated name.now (option_map member_of (object_in B.meaning place.now)) }
 {
     match place {
@@ -64,7 +64,7 @@ fn is_seated<B: App>(place: &Option<Box<B>>, name: &[u8]) -> bool
 }
 
 /// Whether there is no object.
-fn is_free<B: App>(place: &Option<Box<B>>) -> bool
+fn is_free<B: App>(place: &Option<B>) -> bool
     ensures { result ≡ is_none (option_map member_of (object_in B.meaning place.now)) }
 {
     match place {
@@ -74,7 +74,7 @@ fn is_free<B: App>(place: &Option<Box<B>>) -> bool
 }
 
 /// The first spare of a name.
-pub(crate) fn spare_of<B: App>(stock: &[Box<B>], name: &[u8]) -> Option<usize>
+pub(crate) fn spare_of<B: App>(stock: &[B], name: &[u8]) -> Option<usize>
     ensures first { result ≡ position_from (λ o. is_called name.now (member_of o)) 0
         (objects_in B.meaning stock.now) }
     ensures kind { IfSome result
@@ -90,7 +90,7 @@ pub(crate) fn spare_of<B: App>(stock: &[Box<B>], name: &[u8]) -> Option<usize>
 }
 
 /// How many spares have a name.
-pub(crate) fn spares_of<B: App>(stock: &[Box<B>], name: &[u8]) -> usize
+pub(crate) fn spares_of<B: App>(stock: &[B], name: &[u8]) -> usize
     ensures { result ≡ count_by (λ o. is_called name.now (member_of o))
         (objects_in B.meaning stock.now) }
 {
@@ -104,7 +104,7 @@ pub(crate) fn spares_of<B: App>(stock: &[Box<B>], name: &[u8]) -> usize
 }
 
 /// The seat of a name.
-pub(crate) fn seat_of<B: App>(seats: &[Option<Box<B>>], name: &[u8]) -> Option<usize>
+pub(crate) fn seat_of<B: App>(seats: &[Option<B>], name: &[u8]) -> Option<usize>
     ensures { result ≡ position_from (λ o. is_seated name.now (option_map member_of o)) 0
         (map (object_in B.meaning) seats.now) }
 {
@@ -117,7 +117,7 @@ pub(crate) fn seat_of<B: App>(seats: &[Option<Box<B>>], name: &[u8]) -> Option<u
 }
 
 /// The least free seat.
-pub(crate) fn free_seat<B: App>(seats: &[Option<Box<B>>]) -> Option<usize>
+pub(crate) fn free_seat<B: App>(seats: &[Option<B>]) -> Option<usize>
     ensures { result ≡ position_from (λ o. is_none (option_map member_of o)) 0
         (map (object_in B.meaning) seats.now) }
 {

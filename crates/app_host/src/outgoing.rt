@@ -81,7 +81,7 @@ impl Outgoing {
             (event_asked from moment id kind text.now events.old).1 }
         ensures size { length self.new ≤ length self.old + event_packet_size }
     {
-        events.send(from, moment, id, kind, text, &mut self.bytes);
+        events.send_into(from, moment, id, kind, text, &mut self.bytes);
     }
 
     /// Nothing waits from now on.

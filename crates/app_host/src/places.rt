@@ -13,7 +13,7 @@ use lc_model::Seat;
 
 /// The object of a place answers a packet.
 #[inline(always)]
-fn give_in<B: App>(place: &mut Option<Box<B>>, seat: Seat, services: &mut Services, packet: &[u8])
+fn give_in<B: App>(place: &mut Option<B>, seat: Seat, services: &mut Services, packet: &[u8])
     requires { IfSome (object_in B.meaning place.old) (MayAnswer seat packet.now services.old) }
     ensures { IfBoth (object_in B.meaning place.old) (object_in B.meaning place.new)
         (HasAnswered seat packet.now services.old services.new) }
@@ -26,7 +26,7 @@ fn give_in<B: App>(place: &mut Option<Box<B>>, seat: Seat, services: &mut Servic
 /// The object of a seat answers a packet.
 #[inline(always)]
 pub(crate) fn give_at<B: App>(
-    seats: &mut [Option<Box<B>>; Seat::COUNT],
+    seats: &mut [Option<B>; Seat::COUNT],
     seat: Seat,
     services: &mut Services,
     packet: &[u8],
@@ -44,11 +44,7 @@ pub(crate) fn give_at<B: App>(
 }
 
 /// The object of a place gives its seat back, if there is one, and is handed on.
-fn retire_in<B: App>(
-    place: &mut Option<Box<B>>,
-    seat: Seat,
-    services: &mut Services,
-) -> Option<Box<B>>
+fn retire_in<B: App>(place: &mut Option<B>, seat: Seat, services: &mut Services) -> Option<B>
     requires { IfSome (object_in B.meaning place.old) (MayRetire seat services.old) }
     ensures gone { place.new ≡ None }
     ensures left { LeftBy seat services.old services.new (object_in B.meaning place.old) }
@@ -62,10 +58,10 @@ fn retire_in<B: App>(
 
 /// The object of a seat gives it back, if there is one, and is handed on.
 pub(crate) fn retire_at<B: App>(
-    seats: &mut [Option<Box<B>>; Seat::COUNT],
+    seats: &mut [Option<B>; Seat::COUNT],
     seat: Seat,
     services: &mut Services,
-) -> Option<Box<B>>
+) -> Option<B>
     requires { IfSome (object_at seat (map (object_in B.meaning) seats.old))
         (MayRetire seat services.old) }
     ensures gone { map (object_in B.meaning) seats.new ≡

@@ -21,24 +21,24 @@ pub(crate) enum Successor<B: App> {
     /// The spare at a place of the stock.
     Spare(usize, Seat),
     /// An object that gave the seat back.
-    Same(Box<B>, Seat),
+    Same(B, Seat),
 }
 
 /// What every object is.
-fn is_object<B: App>(app: &Box<B>)
-    ensures { IsObject (B.meaning app.now.value).state (B.meaning app.now.value).called }
+fn is_object<B: App>(app: &B)
+    ensures { IsObject (B.meaning app.now).state (B.meaning app.now).called }
 {
     app.name();
 }
 
 /// The object of a place gives its seat back. Condition: there is one.
-fn withdraw_in<B: App>(place: &mut Option<Box<B>>, seat: Seat, services: &mut Services) -> Box<B>
+fn withdraw_in<B: App>(place: &mut Option<B>, seat: Seat, services: &mut Services) -> B
     requires { IsSomeAnd (object_in B.meaning place.old) (MayRetire seat services.old) }
     ensures gone { place.new ≡ None }
     ensures left { IfSome (object_in B.meaning place.old)
-        (λ o. HasRetired seat services.old services.new o (B.meaning result.value)) }
+        (λ o. HasRetired seat services.old services.new o (B.meaning result)) }
     ensures same { IfSome place.old
-        (λ there. (B.meaning result.value).called ≡ (B.meaning there.value).called) }
+        (λ there. (B.meaning result).called ≡ (B.meaning there).called) }
 {
     let mut app = place.take().unwrap();
     retire(&mut app, seat, services);
@@ -47,26 +47,26 @@ fn withdraw_in<B: App>(place: &mut Option<Box<B>>, seat: Seat, services: &mut Se
 
 /// The object of a seat gives it back. Condition: there is one.
 fn withdraw_at<B: App>(
-    seats: &mut [Option<Box<B>>; Seat::COUNT],
+    seats: &mut [Option<B>; Seat::COUNT],
     seat: Seat,
     services: &mut Services,
-) -> Box<B>
+) -> B
     requires { IsSomeAnd (object_at seat (map (object_in B.meaning) seats.old))
         (MayRetire seat services.old) }
     ensures gone { map (object_in B.meaning) seats.new ≡
         slice_set (map (object_in B.meaning) seats.old) seat None }
     ensures left { IfSome (object_at seat (map (object_in B.meaning) seats.old))
-        (λ o. HasRetired seat services.old services.new o (B.meaning result.value)) }
+        (λ o. HasRetired seat services.old services.new o (B.meaning result)) }
     ensures boxes { BoxHasGone B.meaning seats.old services.old seat }
 {
     withdraw_in(&mut seats[seat.index()], seat, services)
 }
 
 /// An object starts, and is at a place from then on.
-fn begin_in<B: App>(place: &mut Option<Box<B>>, seat: Seat, services: &mut Services, app: Box<B>)
-    requires { MayStartOn seat services.old (B.meaning app.value) }
+fn begin_in<B: App>(place: &mut Option<B>, seat: Seat, services: &mut Services, app: B)
+    requires { MayStartOn seat services.old (B.meaning app) }
     ensures { IsSomeAnd (object_in B.meaning place.new)
-        (HasStarted seat services.old services.new (B.meaning app.value)) }
+        (HasStarted seat services.old services.new (B.meaning app)) }
 {
     let mut app = app;
     start(&mut app, seat, services);
@@ -75,14 +75,14 @@ fn begin_in<B: App>(place: &mut Option<Box<B>>, seat: Seat, services: &mut Servi
 
 /// An object starts on a seat.
 fn begin_at<B: App>(
-    seats: &mut [Option<Box<B>>; Seat::COUNT],
+    seats: &mut [Option<B>; Seat::COUNT],
     seat: Seat,
     services: &mut Services,
-    app: Box<B>,
+    app: B,
 )
-    requires { MayStartOn seat services.old (B.meaning app.value) }
+    requires { MayStartOn seat services.old (B.meaning app) }
     ensures started { IsSomeAnd (object_at seat (map (object_in B.meaning) seats.new))
-        (HasStarted seat services.old services.new (B.meaning app.value)) }
+        (HasStarted seat services.old services.new (B.meaning app)) }
     ensures others { map (object_in B.meaning) seats.new ≡
         slice_set (map (object_in B.meaning) seats.old) seat
         (object_at seat (map (object_in B.meaning) seats.new)) }
@@ -92,13 +92,13 @@ fn begin_at<B: App>(
 
 impl<B: App> Host<B> {
     /// The object of a seat gives it back. Condition: there is one.
-    pub(crate) fn withdraw(&mut self, seat: Seat) -> Box<B>
+    pub(crate) fn withdraw(&mut self, seat: Seat) -> B
         requires seated { AreSeated (shown B.meaning self.old).seats
             (shown B.meaning self.old).services }
         requires idle { self.old.services.outgoing ≡ [] }
         requires there { IsSome (object_at seat (shown B.meaning self.old).seats) }
         ensures withdrawn { HasWithdrawn seat (shown B.meaning self.old) (shown B.meaning self.new)
-            (B.meaning result.value) }
+            (B.meaning result) }
         ensures boxes { BoxHasGone B.meaning self.old.seats self.old.services seat }
     {
         // For the proof: tables and files are within their bounds, each under a name of its own.
@@ -110,12 +110,12 @@ impl<B: App> Host<B> {
     }
 
     /// An object begins on a seat that is free. Conditions: it holds no seat, and no seat has its name.
-    fn begin(&mut self, seat: Seat, app: Box<B>)
+    fn begin(&mut self, seat: Seat, app: B)
         requires seated { AreSeated (shown B.meaning self.old).seats
             (shown B.meaning self.old).services }
         requires idle { self.old.services.outgoing ≡ [] }
-        requires may { MayBegin seat (shown B.meaning self.old) (B.meaning app.value) }
-        ensures { ObjectHasBegun seat (B.meaning app.value) (shown B.meaning self.old)
+        requires may { MayBegin seat (shown B.meaning self.old) (B.meaning app) }
+        ensures { ObjectHasBegun seat (B.meaning app) (shown B.meaning self.old)
             (shown B.meaning self.new) }
     {
         // For the proof: the object is of the kind that goes by its name, and tables and files are within their bounds, each

@@ -32,19 +32,15 @@ const START: &[u8] = &[
 const COUNT: &[u8] = &[0x18, 0xC1, 0xC0, 0, 0, 1, 1, 0];
 
 /// The first spare that a counter is, and one of any kind behind it. Condition: they hold no seats.
-fn stock_of<B: App>(
-    alloc: Global,
-    counter: Box<B>,
-    other: Box<B>,
-) -> Result<Vec<Box<B>>, AllocError>
-    requires counter { (B.meaning counter.value).seat ≡ None }
-    requires other { (B.meaning other.value).seat ≡ None }
+fn stock_of<B: App>(alloc: Global, counter: B, other: B) -> Result<Vec<B>, AllocError>
+    requires counter { (B.meaning counter).seat ≡ None }
+    requires other { (B.meaning other).seat ≡ None }
     ensures spares { IfOk result (λ stock. AreSpares (objects_in B.meaning stock.items)) }
     ensures items { IfOk result
         (λ stock. objects_in B.meaning stock.items ≡
-        B.meaning counter.value ∷ B.meaning other.value ∷ []) }
+        B.meaning counter ∷ B.meaning other ∷ []) }
 {
-    let mut stock: Vec<Box<B>> = Vec::new(alloc);
+    let mut stock: Vec<B> = Vec::new(alloc);
     stock.push(counter)?;
     stock.push(other)?;
     Ok(stock)

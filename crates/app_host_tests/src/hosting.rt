@@ -16,7 +16,7 @@ const NOW: Moment = Moment {
 };
 
 /// A host with these spares. On an error they come back. Condition: none of them holds a seat.
-pub fn begin<B: App>(alloc: Global, stock: Vec<Box<B>>) -> Result<Host<B>, (HostError, Vec<Box<B>>)>
+pub fn begin<B: App>(alloc: Global, stock: Vec<B>) -> Result<Host<B>, (HostError, Vec<B>)>
     requires { AreSpares (objects_in B.meaning stock.items) }
     ensures { IfOk result (λ host. IsBetween (shown B.meaning host)) }
 {

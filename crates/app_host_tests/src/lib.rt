@@ -10,8 +10,7 @@ pub mod beside;
 mod hosting;
 #[cfg(test)]
 mod leaving;
-#[cfg(test)]
-mod named;
+pub mod named;
 #[cfg(test)]
 mod output;
 #[cfg(test)]

@@ -1,6 +1,6 @@
 //! A host plays a script.
 
-ghost use Rattle.std.specs.Prelude.{◌≡◌, OnOk, None};
+ghost use Rattle.std.specs.Prelude.{◌≡◌, map, OnOk, None};
 ghost use Rattle.app_host.specs.Hosted.{shown, objects_in};
 ghost use Rattle.app_host.specs.Whole.{AreSpares};
 ghost use Rattle.app_host.specs.Step.{IsBetween};
@@ -12,13 +12,10 @@ use crate::script::{Given, Line, Said, Spare};
 use crate::speaking::Speaking;
 use crate::tally::Tally;
 use crate::tracked::Tracked;
-use app_host::{App, Host, OneOf, WriteFault};
+use app_host::{App, Host, WriteFault};
 use command_counter::Counter;
 use lc_model::{Body, ByteSink, Limited};
 use std::alloc::{AllocError, Global};
-
-/// An application of a script: the counter, one that publishes, or one that speaks.
-type Playing = OneOf<Tracked<Counter>, OneOf<Tracked<Named>, Tracked<Speaking>>>;
 
 /// The most bytes that a record leads to.
 const ROOM: usize = 2_048;
@@ -103,10 +100,10 @@ fn follow<B: App>(host: &mut Host<B>, tally: &Tally, script: &[Line<'_>]) -> Opt
 }
 
 /// One spare more. Condition: it holds no seat.
-fn add<B: App>(stock: &mut Vec<Box<B>>, app: Box<B>) -> Result<(), AllocError>
-    requires spares { AreSpares (objects_in B.meaning stock.old.items) }
-    requires spare { (B.meaning app.value).seat ≡ None }
-    ensures { OnOk result (AreSpares (objects_in B.meaning stock.new.items)) }
+fn add(stock: &mut Vec<Box<dyn App>>, app: Box<dyn App>) -> Result<(), AllocError>
+    requires spares { AreSpares (map meaning stock.old.items) }
+    requires spare { (meaning app).seat ≡ None }
+    ensures { OnOk result (AreSpares (map meaning stock.new.items)) }
 {
     stock.push(app)?;
     Ok(())
@@ -117,7 +114,7 @@ fn add<B: App>(stock: &mut Vec<Box<B>>, app: Box<B>) -> Result<(), AllocError>
 /// often, or the close dropped one before another had retired; else none. Out of memory is the only error.
 fn perform<B: App>(
     alloc: Global,
-    stock: Vec<Box<B>>,
+    stock: Vec<B>,
     tally: &Tally,
     script: &[Line<'_>],
 ) -> Result<Option<usize>, AllocError>
@@ -145,20 +142,22 @@ pub fn plays(
     script: &[Line<'_>],
 ) -> Result<Option<usize>, AllocError> {
     let tally = Tally::new(alloc)?;
-    let mut stock: Vec<Box<Playing>> = Vec::new(alloc);
+    let mut stock: Vec<Box<dyn App>> = Vec::new(alloc);
     for spare in spares {
-        let app = match *spare {
-            Spare::Counting => OneOf::First(Tracked::new(Counter::new(), tally.share()?)),
-            Spare::Publishing(number) => OneOf::Second(OneOf::First(Tracked::new(
-                Named::new(number),
-                tally.share()?,
-            ))),
-            Spare::Speaking(number) => OneOf::Second(OneOf::Second(Tracked::new(
-                Speaking::new(number),
-                tally.share()?,
-            ))),
-        };
-        add(&mut stock, Box::new(alloc, app)?)?;
+        match *spare {
+            Spare::Counting => {
+                let counting = Tracked::new(Counter::new(), tally.share()?);
+                add(&mut stock, Box::new(alloc, counting)?)?;
+            }
+            Spare::Publishing(number) => {
+                let publishing = Tracked::new(Named::new(number), tally.share()?);
+                add(&mut stock, Box::new(alloc, publishing)?)?;
+            }
+            Spare::Speaking(number) => {
+                let speaking = Tracked::new(Speaking::new(number), tally.share()?);
+                add(&mut stock, Box::new(alloc, speaking)?)?;
+            }
+        }
     }
     perform(alloc, stock, &tally, script)
 }

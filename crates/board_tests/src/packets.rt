@@ -65,9 +65,9 @@ fn a_rules_event(rt: HostRuntime) {
         subseconds: 0,
     };
     let text = b"low volts: AP = 0, FailCount = 2, RTS = 7";
-    let mut out = Vec::with_capacity(rt.alloc(), PACKET_SIZE).expect(&rt, "out of memory");
-    events.send(Some(seat), moment, 1001, EventKind::Error, text, &mut out);
-    is_event(&rt, out.as_slice(), RULE_EVENT);
+    let sent = events.send(Some(seat), moment, 1001, EventKind::Error, text);
+    let packet = sent.expect(&rt, "not sent");
+    is_event(&rt, packet.as_bytes(), RULE_EVENT);
 }
 
 /// A sample of rules 0 to 175 with aging.

@@ -70,7 +70,7 @@ fn is_sent(events: &mut Events, id: u16, text: &[u8], out: &mut Vec<u8>) -> bool
         subseconds: 0,
     };
     out.clear();
-    events.send(Some(Seat::new(3)), moment, id, EventKind::Error, text, out);
+    events.send_into(Some(Seat::new(3)), moment, id, EventKind::Error, text, out);
     !out.is_empty()
 }
 

@@ -1,3 +1,4 @@
+pub mod Behind
 pub mod FilterLists
 pub mod Joined
 pub mod Stays

@@ -12,7 +12,7 @@ mod text;
 mod types;
 
 pub use error::EventError;
-pub use packet::PACKET_SIZE;
+pub use packet::{EventPacket, PACKET_SIZE};
 pub use service::Events;
 pub use text::{EventText, MAX_TEXT};
 pub use types::EventTypes;

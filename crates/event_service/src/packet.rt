@@ -11,6 +11,7 @@ ghost use Rattle.event_service.specs.Packet.{laid};
 use crate::name::SenderName;
 use byteorder::{BigEndian, ByteOrder};
 use lc_model::{EventKind, Moment};
+use std::marker::Model;
 
 /// The bytes of an event packet.
 pub const PACKET_SIZE: usize = 168;
@@ -28,9 +29,54 @@ const SPACECRAFT: u32 = 66;
 
 const PROCESSOR: u32 = 1;
 
-/// The packet of an event, with this sequence count, comes behind the bytes of `out`: 168 bytes with big-endian numbers, the
-/// primary header (6), seconds (4) and subseconds (2), the sender's name (20, zero filled), the event's id (2) and type (2),
-/// spacecraft 66 (4), processor 1 (4), and the text (124, zero filled). Condition: room for them.
+/// An event packet: 168 bytes with big-endian numbers, the primary header (6), seconds (4) and subseconds (2), the sender's
+/// name (20, zero filled), the event's id (2) and type (2), spacecraft 66 (4), processor 1 (4), and the text (124, zero
+/// filled). Contracts see the bytes.
+#[derive(Clone, Debug, Drop)]
+pub struct EventPacket {
+    bytes: [u8; PACKET_SIZE],
+}
+
+impl Model for EventPacket {
+    ghost use Rattle.std.specs.Prelude.{ℕ, List, ◌≡◌, length};
+    ghost use Rattle.lc_model.specs.Events.Outgoing.{event_packet_size};
+
+    ghost Value = { List ℕ };
+
+    ghost view = { λ packet. packet.bytes };
+
+    ghost invariant = { λ packet. length packet.bytes ≡ event_packet_size };
+}
+
+impl EventPacket {
+    /// The packet's bytes, as they go to the ground.
+    pub fn as_bytes(&self) -> &[u8]
+        ensures bytes { result.now ≡ self.now }
+        ensures size { length self.now ≡ event_packet_size }
+    {
+        &self.bytes
+    }
+
+    /// The packet of an event, with this sequence count.
+    pub(crate) fn new(
+        count: u16,
+        moment: Moment,
+        sender: &SenderName,
+        id: u16,
+        kind: EventKind,
+        text: &[u8],
+    ) -> EventPacket
+        requires count { count < count_end }
+        requires text { length text.now ≤ longest_event_text }
+        ensures { result ≡ event_packet count moment sender.now id kind text.now }
+    {
+        let mut bytes = [0; PACKET_SIZE];
+        lay(&mut bytes, count, moment, sender, id, kind, text);
+        EventPacket { bytes }
+    }
+}
+
+/// Appends the packet of an event, with this sequence count, to `out`. Condition: room for its 168 bytes.
 #[inline(always)]
 pub(crate) fn append_packet(
     out: &mut Vec<u8>,

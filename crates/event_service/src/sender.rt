@@ -1,9 +1,11 @@
 //! A sender of events: its name, its types and its filters (cFE user's guide, event services).
 
-ghost use Rattle.std.specs.Prelude.{◌≡◌, ◌+◌, ◌<◌, ◌≤◌, [], length, vec_capacity, OnErr};
+ghost use Rattle.std.specs.Prelude.{◌≡◌, ◌+◌, ◌%◌, ◌<◌, ◌≤◌, [], length, vec_capacity, OnErr};
 ghost use Rattle.lc_model.specs.Events.Outgoing.{event_packet_size, longest_event_text};
 ghost use Rattle.lc_model.specs.Name.{is_named, app_name_size};
+ghost use Rattle.lc_model.specs.Events.Log.{Requested};
 ghost use Rattle.lc_model.specs.Kept.Call.{new_sender};
+ghost use Rattle.lc_model.specs.Kept.Next.{next_chosen, events_after};
 ghost use Rattle.lc_model.specs.Kept.Executive.{joined_now};
 ghost use Rattle.lc_model.specs.Packet.{count_end};
 ghost use Rattle.lc_model.specs.Services.Events.{Sender as Kept, asked_by};
@@ -14,7 +16,7 @@ ghost use Rattle.event_service.specs.Packet.{with_packet};
 use crate::error::EventError;
 use crate::filter::Filters;
 use crate::name::SenderName;
-use crate::packet::append_packet;
+use crate::packet::{EventPacket, append_packet};
 use crate::types::EventTypes;
 use lc_model::{EventKind, Moment};
 use std::marker::Model;
@@ -70,10 +72,49 @@ impl Sender {
         name == self.name.as_slice()
     }
 
-    /// Asks for an event to be sent, where `sent` event packets were sent before; its packet, where it is sent, comes behind the
-    /// bytes of `out`, which have room for it.
+    /// Counts a request for an event, and answers whether it is sent: its type is on, and its filter lets it through.
     #[inline(always)]
+    fn admits(&mut self, id: u16, kind: EventKind) -> bool
+        ensures chosen { result ≡ next_chosen id kind self.old.events }
+        ensures after { self.new ≡
+            record {
+              name = self.old.name;
+              events = events_after (Requested id kind) self.old.events;
+            } }
+    {
+        self.types.has(kind) && self.filters.ask(id)
+    }
+
+    /// The packet of an event, where it is sent, after `sent` event packets.
     pub(crate) fn ask(
+        &mut self,
+        sent: &mut u16,
+        moment: Moment,
+        id: u16,
+        kind: EventKind,
+        text: &[u8],
+    ) -> Option<EventPacket>
+        requires count { sent.old < count_end }
+        requires text { length text.now ≤ longest_event_text }
+        ensures packet { result ≡ (asked_by self.old moment id kind text.now sent.old).packet }
+        ensures events { self.new ≡
+            record {
+              name = self.old.name;
+              events = (asked_by self.old moment id kind text.now sent.old).events;
+            } }
+        ensures sent { sent.new ≡ (asked_by self.old moment id kind text.now sent.old).sent }
+        ensures count { sent.new < count_end }
+    {
+        if !self.admits(id, kind) {
+            return None;
+        }
+        let count = next_count(sent);
+        Some(EventPacket::new(count, moment, &self.name, id, kind, text))
+    }
+
+    /// Sends an event after `sent` event packets: its packet, where it is sent, is appended to `out`, which has room for it.
+    #[inline(always)]
+    pub(crate) fn ask_into(
         &mut self,
         sent: &mut u16,
         moment: Moment,
@@ -97,11 +138,11 @@ impl Sender {
         ensures sent { sent.new ≡ (asked_by self.old moment id kind text.now sent.old).sent }
         ensures count { sent.new < count_end }
     {
-        if self.types.has(kind) && self.filters.ask(id) {
-            let count = *sent;
-            *sent = (count + 1) % 16384;
-            append_packet(out, count, moment, &self.name, id, kind, text);
+        if !self.admits(id, kind) {
+            return;
         }
+        let count = next_count(sent);
+        append_packet(out, count, moment, &self.name, id, kind, text);
     }
 
     /// Changes its types or filters.
@@ -122,4 +163,17 @@ impl Sender {
         }
         Ok(())
     }
+}
+
+/// The sequence count of the next event packet, after `sent` packets, which is one more from now on, modulo 16,384.
+#[inline(always)]
+fn next_count(sent: &mut u16) -> u16
+    requires { sent.old < count_end }
+    ensures count { result ≡ sent.old }
+    ensures sent { sent.new ≡ (sent.old + 1) % count_end }
+    ensures below { sent.new < count_end }
+{
+    let count = *sent;
+    *sent = (count + 1) % 16384;
+    count
 }

@@ -13,6 +13,7 @@ ghost use Rattle.event_service.specs.Packet.{with_packet};
 ghost use Rattle.event_service.specs.Types.{bits_of};
 
 use crate::error::EventError;
+use crate::packet::EventPacket;
 use crate::sender::{Change, Sender};
 use crate::types::EventTypes;
 use lc_model::{EventKind, Moment, Seat};
@@ -100,15 +101,37 @@ impl Events {
     }
 
     /// An event of the seat's sender, or of `HOST` where `from` is none, with a text of at most 121 bytes: the packet, where
-    /// it is sent, comes behind the bytes of `out`. Condition: room for its 168 bytes. It is not where nobody is registered at the seat, where its type is off, and where its filter holds it
+    /// it is sent. It is not sent where nobody is registered at the seat, where its type is off, and where its filter holds it
     /// back: an id's filter lets a request through where the requests before it, those with their type off left out and
     /// counted up to 65,535 since the filter was set or reset, have no bit in common with the mask. The packet's sequence
     /// count is the number of event packets sent before, modulo 16,384.
     ///
     /// Over every list of calls that is what the log of each sender since it was registered chooses:
     /// `lc_model::laws::senders::event_services_go_by_logs`.
-    #[inline(always)]
     pub fn send(
+        &mut self,
+        from: Option<Seat>,
+        moment: Moment,
+        id: u16,
+        kind: EventKind,
+        text: &[u8],
+    ) -> Option<EventPacket>
+        requires { length text.now ≤ longest_event_text }
+        ensures after { self.new ≡ (event_asked from moment id kind text.now self.old).0 }
+        ensures packet { result ≡ (event_asked from moment id kind text.now self.old).1 }
+    {
+        match from {
+            None => self.host.ask(&mut self.sent, moment, id, kind, text),
+            Some(seat) => match &mut self.places[seat.index()] {
+                None => None,
+                Some(sender) => sender.ask(&mut self.sent, moment, id, kind, text),
+            },
+        }
+    }
+
+    /// Sends an event as `send` does, and appends its packet, where it is sent, to `out`. Condition: room for its 168 bytes.
+    #[inline(always)]
+    pub fn send_into(
         &mut self,
         from: Option<Seat>,
         moment: Moment,
@@ -126,10 +149,12 @@ impl Events {
         ensures room { vec_capacity out.old ≤ vec_capacity out.new }
     {
         match from {
-            None => self.host.ask(&mut self.sent, moment, id, kind, text, out),
+            None => self
+                .host
+                .ask_into(&mut self.sent, moment, id, kind, text, out),
             Some(seat) => match &mut self.places[seat.index()] {
                 None => {}
-                Some(sender) => sender.ask(&mut self.sent, moment, id, kind, text, out),
+                Some(sender) => sender.ask_into(&mut self.sent, moment, id, kind, text, out),
             },
         }
     }

@@ -20,3 +20,4 @@ pub mod Fitting
 pub mod Asides
 pub mod Promises
 pub mod Worlds
+pub mod Room

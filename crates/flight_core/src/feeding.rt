@@ -19,7 +19,7 @@ use std::alloc::Global;
 
 /// A host, what is held of its stream, and the files of its rule texts. Contracts see it as these three (`Feeding`).
 #[derive(Drop)]
-pub struct FedHost<B: App> {
+pub struct FedHost<B: App = Box<dyn App>> {
     host: Host<B>,
     records: Records,
     pairs: Vec<TablePair>,
@@ -30,7 +30,7 @@ impl<B: App> FedHost<B> {
     /// memory there will ever be. Condition: none of them holds a seat.
     ///
     /// Errors: `Compile` with the first text that does not compile, numbered from 0, and `Memory`.
-    pub fn new(alloc: Global, texts: &[&[u8]], stock: Vec<Box<B>>) -> Result<FedHost<B>, RunError>
+    pub fn new(alloc: Global, texts: &[&[u8]], stock: Vec<B>) -> Result<FedHost<B>, RunError>
         requires { AreSpares (objects_in B.meaning stock.items) }
         ensures begun { IfOk result (λ fed. HasBegun (sources_of texts.now)
             (objects_in B.meaning stock.items) (feeding_of B.meaning fed)) }

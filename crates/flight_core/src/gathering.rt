@@ -23,7 +23,7 @@ fn gather<R: ByteSource, W: ByteSink, S: Outset, B: App>(
     alloc: Global,
     texts: &[&[u8]],
     schedule: &Schedule,
-    stock: Vec<Box<B>>,
+    stock: Vec<B>,
     reader: &mut R,
     device: W,
     held: Vec<u8>,
@@ -61,7 +61,7 @@ pub fn run_gathered<R: ByteSource, W: ByteSink, B: App>(
     alloc: Global,
     texts: &[&[u8]],
     schedule: &Schedule,
-    stock: Vec<Box<B>>,
+    stock: Vec<B>,
     reader: &mut R,
     device: W,
 ) -> (Result<Report, RunError>, W)

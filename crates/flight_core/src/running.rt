@@ -1,6 +1,7 @@
 //! A whole run: from rule texts and a stream of records to the packets that the host writes.
 
-ghost use Rattle.std.specs.Prelude.{◌≡◌, ◌≤◌, false, [], length, IfErr};
+ghost use Rattle.std.specs.Prelude.{◌≡◌, ◌≤◌, true, false, [], length, IfErr};
+ghost use Rattle.std.specs.Mem.{FitsInMemory};
 ghost use Rattle.lc_model.specs.Host.Outcome.{devices};
 ghost use Rattle.lc_model.specs.Host.Promise.{IsRun};
 ghost use Rattle.app_host.specs.Hosted.{objects_in};
@@ -10,6 +11,7 @@ ghost use Rattle.flight_core.specs.Compiled.{NamesTheNumber, sources_of};
 ghost use Rattle.flight_core.specs.Ending.{ending_of};
 ghost use Rattle.flight_core.specs.Fitting.{RefusesUnfitAlone};
 ghost use Rattle.flight_core.specs.Promises.{Promises};
+ghost use Rattle.flight_core.specs.Room.{HostFits};
 ghost use Rattle.flight_core.specs.Steps.{AnswersForItsReason, RunsForItsReason};
 ghost use Rattle.flight_core.specs.Run.{AreOfProfile, IsOfProfile, RefusesNone, RunsSo, members_of, mission_of};
 
@@ -25,13 +27,29 @@ use host_laws::writes_a_mission;
 use lc_model::{ByteSink, ByteSource};
 use rpn_compiler::TablePair;
 use std::alloc::Global;
+use std::mem::size_of_val;
 use tick_scheduler::Schedule;
+
+/// Whether the type fits in memory, as any does of which there is a value.
+fn fits_in_memory<T>(none: &Option<T>) -> bool
+    ensures { result ≡ true → FitsInMemory T.row }
+{
+    size_of_val(none) <= isize::MAX as usize
+}
+
+/// Whether a host of such applications fits in memory.
+fn host_fits<B: App>() -> bool
+    ensures { result ≡ true → HostFits B.row }
+{
+    let none: Option<Host<B>> = None;
+    fits_in_memory(&none)
+}
 
 /// Takes all memory, and then handles all records, with these files in the places of halves.
 fn run_compiled<R: ByteSource, T: ByteSink, O: Outlet<T>, B: App>(
     alloc: Global,
     pairs: &[TablePair],
-    stock: Vec<Box<B>>,
+    stock: Vec<B>,
     reader: &mut R,
     out: &mut T,
     reads: u64,
@@ -57,6 +75,10 @@ fn run_compiled<R: ByteSource, T: ByteSink, O: Outlet<T>, B: App>(
         (O.device out.new)) result }
     ensures bounded { (R.source reader.new).reads ≤ reads }
 {
+    // Always so, and known where it is compiled. It tells the proof that a host fits in memory, whatever its applications are.
+    if !host_fits::<B>() {
+        return Err(RunError::Memory);
+    }
     let mut records = Records::new(alloc, pairs.len())?;
     let mut room = vec![in alloc; 0; PIECE]?;
     match Host::new(alloc, stock) {
@@ -82,7 +104,7 @@ pub fn run_within<R: ByteSource, W: ByteSink, B: App>(
     alloc: Global,
     texts: &[&[u8]],
     schedule: &Schedule,
-    stock: Vec<Box<B>>,
+    stock: Vec<B>,
     reader: &mut R,
     writer: &mut W,
     reads: u64,
@@ -110,7 +132,7 @@ pub(crate) fn begin<R: ByteSource, T: ByteSink, O: Outlet<T>, B: App>(
     alloc: Global,
     texts: &[&[u8]],
     schedule: &Schedule,
-    stock: Vec<Box<B>>,
+    stock: Vec<B>,
     reader: &mut R,
     out: &mut T,
     reads: u64,
@@ -162,7 +184,7 @@ pub fn run<R: ByteSource, W: ByteSink, B: App>(
     alloc: Global,
     texts: &[&[u8]],
     schedule: &Schedule,
-    stock: Vec<Box<B>>,
+    stock: Vec<B>,
     reader: &mut R,
     writer: &mut W,
 ) -> Result<Report, RunError>

@@ -2,14 +2,14 @@
 
 ghost use Rattle.std.specs.Prelude.{◌≡◌, false, IfOk};
 ghost use Rattle.lc_model.specs.Host.Outcome.{devices};
-ghost use Rattle.flight_stock.specs.Stock.{own_mission};
+ghost use Rattle.flight_profile.specs.Stock.{own_mission};
 ghost use Rattle.flight_run.specs.Dispatch.{IsFlown};
 ghost use Rattle.flight_run.specs.Flown.{Flies};
 
 use crate::done::Done;
 use crate::fault::Fault;
 use crate::files::{is_apart, read};
-use flight_stock::launch;
+use flight_profile::launch;
 use lc_model::{ByteSink, ByteSource, Reading, Writing};
 use std::alloc::Global;
 use std::fs::{File, Files};

@@ -12,8 +12,8 @@ use Rattle.flight_core.specs.Ending.{ending_of}
 use Rattle.flight_core.specs.Feeding.{Feeding, HandlesOne, HasBegun, IsReady, feeding_of, fed_with}
 use Rattle.flight_core.specs.Records.{taken_of}
 use Rattle.flight_core.specs.Run.{IsOfProfile}
-use Rattle.flight_stock.specs.Members.{meaning_of}
-use Rattle.flight_stock.specs.Stock.{names_of, own_names}
+use Rattle.flight_profile.specs.Members.{meaning_of}
+use Rattle.flight_profile.specs.Stock.{names_of, own_names}
 use Rattle.needlemauve_calls.specs.declared.handle.Fed.{Fed}
 use Rattle.needlemauve_calls.specs.declared.feeding.Handled.{Handled}
 use Rattle.needlemauve_calls.specs.declared.refusal.Refusal.{Refusal}

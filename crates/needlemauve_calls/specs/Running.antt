@@ -11,7 +11,7 @@ use Rattle.flight_core.specs.declared.error.Report.{Report}
 use Rattle.flight_core.specs.declared.error.RunError.{RunError}
 use Rattle.flight_core.specs.Ending.{ending_of}
 use Rattle.flight_core.specs.Promises.{Promises}
-use Rattle.flight_stock.specs.Stock.{own_names, most_reads}
+use Rattle.flight_profile.specs.Stock.{own_names, most_reads}
 use Rattle.needlemauve_calls.specs.declared.refusal.Refusal.{Refusal}
 use Rattle.needlemauve_calls.specs.Refusing.{no_memory, numbers_of}
 

@@ -3,7 +3,7 @@
 ghost use Rattle.std.specs.Prelude.{◌≡◌, ◌≢◌, ◌<◌, ◌≤◌, ◌⊎◌, length, None, IfErr, IfOk, IsSomeAnd};
 ghost use Rattle.flight_core.specs.Compiled.{IsNotCompiled, sources_of};
 ghost use Rattle.flight_core.specs.Feeding.{IsReady, feeding_of};
-ghost use Rattle.flight_stock.specs.Members.{meaning_of};
+ghost use Rattle.flight_profile.specs.Members.{meaning_of};
 ghost use Rattle.needlemauve_calls.specs.Feeding.{AreFed, Feeds, HandlesInto, IsFed, IsMade, IsStocked, IsUnmade, code_of, too_small};
 ghost use Rattle.needlemauve_calls.specs.Running.{IsNotRun, IsUnscheduled};
 ghost use Rattle.needlemauve_calls.specs.Texts.{texts_in};
@@ -15,7 +15,7 @@ use crate::room::{Room, Size};
 use crate::sentence::Sentence;
 use crate::texts::{are_lengths, texts_in};
 use flight_core::{FedHost, Halt, RunError};
-use flight_stock::{Member, own_stock};
+use flight_profile::{Member, own_stock};
 use std::alloc::Global;
 use std::marker::Brand;
 use tick_scheduler::{Schedule, parse_schedule};
@@ -164,7 +164,7 @@ pub fn make_host(
 /// The host handles the record in front; what that leads to goes through the room to the front of the output: what came of it,
 /// and how many bytes were written.
 fn handle_into<S: Size>(
-    host: &mut FedHost<Member>,
+    host: &mut FedHost<Box<Member>>,
     room: &mut [u8],
     output: &mut [u8],
 ) -> (Result<Option<u64>, Halt>, usize)

@@ -8,7 +8,7 @@ ghost use Rattle.needlemauve_calls.specs.Held.{held, fed_row};
 
 use crate::loose::Loose;
 use flight_core::FedHost;
-use flight_stock::Member;
+use flight_profile::Member;
 use std::alloc::Global;
 use std::marker::Model;
 use std::mem::replace;
@@ -17,7 +17,7 @@ use std::ptr::null_mut;
 /// What a handle holds: a host, and room for what one record leads to.
 #[derive(Drop)]
 pub struct Fed {
-    pub(crate) host: FedHost<Member>,
+    pub(crate) host: FedHost<Box<Member>>,
     pub(crate) room: Vec<u8>,
 }
 

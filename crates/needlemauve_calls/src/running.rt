@@ -12,7 +12,7 @@ use crate::sentence::Sentence;
 use crate::stream::Stream;
 use crate::texts::{are_lengths, texts_in};
 use flight_core::{Report, RunError};
-use flight_stock::launch;
+use flight_profile::launch;
 use std::alloc::Global;
 use std::marker::Brand;
 use tick_scheduler::{Schedule, parse_schedule};

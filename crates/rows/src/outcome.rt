@@ -3,7 +3,7 @@
 use crate::effort::effort;
 use crate::row::Row;
 use flight_core::{Report, RunError};
-use flight_stock::launch;
+use flight_profile::launch;
 use lc_model::{Reading, Writing};
 use packet_listing::list_packets;
 use sha2::{Digest, Sha256};

@@ -4,7 +4,7 @@ ghost use Rattle.std.specs.Prelude.{◌≡◌};
 ghost use Rattle.run_commands.specs.Cause.{IsAnswered, fault_of_text};
 
 use flight_core::{Report, RunError};
-use flight_stock::launch;
+use flight_profile::launch;
 use lc_model::{Reading, Writing};
 use program_files::Noting;
 use rpn_compiler::CompileError;

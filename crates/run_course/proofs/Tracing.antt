@@ -30,7 +30,7 @@ use Rattle.flight_core.specs.Going.{IsHandled, MeetsNone, NoneIsHeld}
 use Rattle.flight_core.specs.Records.{Held}
 use Rattle.flight_core.specs.Run.{members_of}
 use Rattle.flight_core.proofs.Known.{all_not_other, known_first, party_known, still_known}
-use Rattle.flight_stock.specs.Stock.{names_of}
+use Rattle.flight_profile.specs.Stock.{names_of}
 use Rattle.run_course.specs.declared.ending.Ending.{Ending}
 use Rattle.run_course.specs.declared.ending.Ending.TheVariants as ended
 use Rattle.run_course.specs.declared.error.CourseError.{CourseError}

@@ -11,8 +11,8 @@ use Rattle.flight_core.specs.Compiled.{IsFirstRefused}
 use Rattle.flight_core.specs.Feeding.{Feeding, HandlesOne, HasBegun, IsReady, feeding_of, fed_with}
 use Rattle.flight_core.specs.Run.{IsOfProfile}
 use Rattle.lc_model.specs.Host.Schedule.{Schedule}
-use Rattle.flight_stock.specs.Stock.{names_of, own_names}
-use Rattle.flight_stock.specs.Members.{meaning_of}
+use Rattle.flight_profile.specs.Stock.{names_of, own_names}
+use Rattle.flight_profile.specs.Members.{meaning_of}
 use Rattle.run_course.specs.declared.error.CourseError.{CourseError}
 use Rattle.run_course.specs.declared.error.CourseError.TheVariants.{Memory, Rules}
 use Rattle.run_course.specs.declared.handled.Handled.{Handled}

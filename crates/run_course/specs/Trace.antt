@@ -20,7 +20,7 @@ use Rattle.rpn_compiler.specs.declared.files.TablePair.{TablePair}
 use Rattle.app_host.specs.Shared.{on_board}
 use Rattle.flight_core.specs.Brought.{meanings_of}
 use Rattle.flight_core.specs.Compiled.{AreAllCompiled}
-use Rattle.flight_stock.specs.Stock.{own_names}
+use Rattle.flight_profile.specs.Stock.{own_names}
 use Rattle.run_course.specs.Stepping.{engine_by}
 use Rattle.run_course.specs.declared.behind.RuleStanding.{RuleStanding}
 use Rattle.run_course.specs.declared.behind.RuleStanding.TheVariants as standing

@@ -9,7 +9,7 @@ ghost use Rattle.run_course.specs.Stepping.{HasStepped, IsAtRest, BeginsWith, Is
 use crate::error::CourseError;
 use crate::handled::Handled;
 use flight_core::{FedHost, Halt, RunError};
-use flight_stock::{Member, own_stock};
+use flight_profile::{Member, own_stock};
 use lc_model::{ByteSink, DeviceFault, Seat};
 use limit_engine::Engine;
 use std::alloc::Global;
@@ -41,7 +41,7 @@ impl ByteSink for Written {
 /// A run of this profile's stock, record by record.
 #[derive(Drop)]
 pub struct Stepping {
-    fed: FedHost<Member>,
+    fed: FedHost<Box<Member>>,
     written: Written,
 }
 
@@ -122,8 +122,11 @@ impl Stepping {
             engine_of (object_at number (host_in self.now).host.seats) }
     {
         match self.fed.host().application(Seat::new(number)) {
-            Some(Member::Checker(checker)) => Some(checker.engine()),
-            _ => None,
+            Some(app) => match &**app {
+                Member::Checker(checker) => Some(checker.engine()),
+                _ => None,
+            },
+            None => None,
         }
     }
 

@@ -16,7 +16,7 @@ const NOW: Moment = Moment {
 };
 
 /// The host, with this stock. Out of memory is the only error.
-pub fn begin<B: App>(alloc: Global, stock: Vec<Box<B>>) -> Result<Host<B>, AllocError>
+pub fn begin<B: App>(alloc: Global, stock: Vec<B>) -> Result<Host<B>, AllocError>
     requires { AreSpares (objects_in B.meaning stock.items) }
     ensures { IfOk result
         (λ host. IsBetween (shown B.meaning host)) }

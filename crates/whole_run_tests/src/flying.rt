@@ -4,7 +4,7 @@ ghost use Rattle.std.specs.Prelude.{◌≡◌, false};
 
 use command_counter::Counter;
 use flight_core::{Report, RunError, run, run_within};
-use flight_stock::{Member, add};
+use flight_profile::{Member, add};
 use lc_model::{Limited, Pieces};
 use limit_checker::LimitChecker;
 use std::alloc::{AllocError, Global};

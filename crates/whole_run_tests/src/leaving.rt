@@ -5,7 +5,7 @@ ghost use Rattle.std.specs.Prelude.{◌≡◌, false, None};
 use app_host::{App, Services};
 use command_counter::Counter;
 use flight_core::{Report, RunError, run_within};
-use flight_stock::add;
+use flight_profile::add;
 use lc_model::{Limited, Pieces, Seat};
 use std::alloc::{AllocError, Global};
 use std::cell::Cell;

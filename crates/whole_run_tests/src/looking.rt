@@ -5,7 +5,7 @@ ghost use Rattle.std.specs.Prelude.{◌≡◌, None, false};
 use crate::low_volts::LOW_VOLTS;
 use crate::two_failures::{NO_ENTRIES, STREAM};
 use flight_core::{Report, RunError, run_gathered};
-use flight_stock::add;
+use flight_profile::add;
 use lc_model::{ByteSink, ByteSource, DeviceFault};
 use limit_checker::LimitChecker;
 use std::alloc::{AllocError, Global};

@@ -3,7 +3,7 @@
 use crate::by_hand::{begin, handle};
 use crate::low_volts::LOW_VOLTS;
 use app_host::Services;
-use flight_stock::{Member, add};
+use flight_profile::{Member, add};
 use lc_model::{Body, Limited};
 use limit_checker::LimitChecker;
 use rpn_compiler::{TablePair, compile};

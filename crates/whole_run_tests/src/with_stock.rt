@@ -6,9 +6,10 @@ ghost use Rattle.flight_core.specs.Compiled.{sources_of};
 ghost use Rattle.flight_core.specs.Ending.{ending_of};
 ghost use Rattle.whole_run_tests.specs.WithStock.{KeepsItsPromises};
 
+use app_host::App;
 use command_counter::Counter;
 use flight_core::{Report, RunError, run};
-use flight_stock::{Member, add};
+use flight_profile::add;
 use lc_model::{ByteSink, ByteSource};
 use limit_checker::LimitChecker;
 use std::alloc::{AllocError, Global};
@@ -30,14 +31,14 @@ pub fn run_with_stock<R: ByteSource, W: ByteSink>(
         (devices (R.source reader.old) (R.source reader.new) (W.sink writer.old)
         (W.sink writer.new)) (ending_of answer)) }
 {
-    let mut stock: Vec<Box<Member>> = Vec::new(alloc);
-    let checker = Box::new(alloc, Member::Checker(LimitChecker::new(alloc)?))?;
+    let mut stock: Vec<Box<dyn App>> = Vec::new(alloc);
+    let checker = Box::new(alloc, LimitChecker::new(alloc)?)?;
     add(&mut stock, schedule, b"LC", checker)?;
-    let spare = Box::new(alloc, Member::Checker(LimitChecker::new(alloc)?))?;
+    let spare = Box::new(alloc, LimitChecker::new(alloc)?)?;
     add(&mut stock, schedule, b"LC", spare)?;
-    let scheduler = Box::new(alloc, Member::Scheduler(Scheduler::new(alloc, schedule)?))?;
+    let scheduler = Box::new(alloc, Scheduler::new(alloc, schedule)?)?;
     add(&mut stock, schedule, b"SCH", scheduler)?;
-    let counter = Box::new(alloc, Member::Counter(Counter::new()))?;
+    let counter = Box::new(alloc, Counter::new())?;
     add(&mut stock, schedule, b"COUNTER", counter)?;
     Ok(run(alloc, texts, schedule, stock, reader, writer))
 }

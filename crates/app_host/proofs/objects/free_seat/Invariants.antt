@@ -7,5 +7,5 @@ use Rattle.app_host.proofs.objects.free_seat.Given as goal
 -- the search through the rest finds what the search through all does
 abbrev pub invariant-loop-k : goal.invariant-loop-k
 invariant-loop-k g l =
-    position_from (λ o. is_none (option_map member_of o)) l.k (drop l.k (map (option_map (λ b. g.B.App.meaning b.value)) l.seats))
-    ≡ position_from (λ o. is_none (option_map member_of o)) 0 (map (option_map (λ b. g.B.App.meaning b.value)) l.seats)
+    position_from (λ o. is_none (option_map member_of o)) l.k (drop l.k (map (option_map g.B.App.meaning) l.seats))
+    ≡ position_from (λ o. is_none (option_map member_of o)) 0 (map (option_map g.B.App.meaning) l.seats)

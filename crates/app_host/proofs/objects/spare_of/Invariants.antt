@@ -7,5 +7,5 @@ use Rattle.app_host.proofs.objects.spare_of.Given as goal
 -- the search through the rest finds what the search through all does
 abbrev pub invariant-loop-i : goal.invariant-loop-i
 invariant-loop-i g l =
-    position_from (λ o. is_called l.name (member_of o)) l.i (drop l.i (map (λ b. g.B.App.meaning b.value) l.stock))
-    ≡ position_from (λ o. is_called l.name (member_of o)) 0 (map (λ b. g.B.App.meaning b.value) l.stock)
+    position_from (λ o. is_called l.name (member_of o)) l.i (drop l.i (map g.B.App.meaning l.stock))
+    ≡ position_from (λ o. is_called l.name (member_of o)) 0 (map g.B.App.meaning l.stock)

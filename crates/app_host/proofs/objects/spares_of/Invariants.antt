@@ -7,4 +7,4 @@ use Rattle.app_host.proofs.objects.spares_of.Given as goal
 abbrev pub invariant-loop-app : goal.invariant-loop-app
 invariant-loop-app g l =
     l.count
-    ≡ count_by (λ o. is_called l.name (member_of o)) (take l.app-index (map (λ b. g.B.App.meaning b.value) l.stock))
+    ≡ count_by (λ o. is_called l.name (member_of o)) (take l.app-index (map g.B.App.meaning l.stock))

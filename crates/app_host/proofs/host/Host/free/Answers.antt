@@ -11,13 +11,13 @@ seat_numbered-requires g c = below_eight _ _ _ c.requires.seated.eight c.free_se
 pub returns-clause-kept : goal.returns-clause-kept
 returns-clause-kept g c =
     free_is
-    (map (option_map (λ b. g.B.App.meaning b.value)) c.args.self.now.seats)
+    (map (option_map g.B.App.meaning) c.args.self.now.seats)
     _ _ c.free_seat.ensures c.seat_numbered.ensures
 
 pub returns-clause-own : goal.returns-clause-own
 returns-clause-own g c =
     (
     free_is
-    (map (option_map (λ b. g.B.App.meaning b.value)) c.args.self.now.seats)
+    (map (option_map g.B.App.meaning) c.args.self.now.seats)
     _ _ c.free_seat.ensures c.seat_numbered.ensures
-    ) ∙ free_by_name (map (option_map (λ b. g.B.App.meaning b.value)) c.args.self.now.seats)
+    ) ∙ free_by_name (map (option_map g.B.App.meaning) c.args.self.now.seats)

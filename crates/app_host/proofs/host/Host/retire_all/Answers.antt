@@ -1,5 +1,5 @@
 use Rattle.std.proofs.Common.{rules}
-use Rattle.app_host.proofs.Closed.{one_vacated}
+use Rattle.app_host.proofs.Closed.{one_vacated, all_empty}
 use Rattle.app_host.proofs.host.Host.retire_all.Goals as goal
 
 pub loop-index-preserved : goal.loop-index-preserved
@@ -8,3 +8,6 @@ loop-index-preserved g c = record {
       c.let_go.ensures.stock c.let_go.ensures.seats c.let_go.ensures.seated;
   idle = c.let_go.ensures.idle;
 }
+
+pub returns : goal.returns
+returns g c = record { closed = all_empty c.loop-index.index _ _ c.loop-index.invariant.below (search rules) }

@@ -1,7 +1,7 @@
-use Rattle.std.proofs.Common.{sym, ◌∙◌}
-use Rattle.app_host.proofs.Stepping.{for_events, for_tables, for_orders}
+use Rattle.std.proofs.Common.{sym, ◌∙◌, rules}
+use Rattle.app_host.proofs.Stepping.{for_events, for_tables, for_orders, for_others}
 use Rattle.app_host.specs.Hosted.{shown}
-use Rattle.app_host.proofs.Responses.{routed_events, routed_tables, routed_orders}
+use Rattle.app_host.proofs.Responses.{routed_events, routed_tables, routed_orders, routed_others}
 use Rattle.app_host.proofs.Boxes as boxes
 use Rattle.app_host.proofs.host.Host.route.Goals as goal
 
@@ -35,3 +35,12 @@ returns-in-6148-clause-gone g c = boxes.routed_tables _ c.args.packet.now (shown
 
 pub returns-in-6150-clause-gone : goal.returns-in-6150-clause-gone
 returns-in-6150-clause-gone g c = boxes.routed_orders _ c.args.packet.now (shown g.B.App.meaning c.args.self.now) (sym c.message_id.ensures ∙ c.in-6150.is) c.obey_orders.ensures.gone
+
+pub returns-in_default-clause-handled : goal.returns-in_default-clause-handled
+returns-in_default-clause-handled g c = for_others _ _ _ _ c.pass_on.result c.args.packet.now c.requires.good (search rules) (search rules) (search rules) c.pass_on.ensures.handled
+
+pub returns-in_default-clause-own : goal.returns-in_default-clause-own
+returns-in_default-clause-own g c = routed_others _ _ _ _ _ c.pass_on.result c.args.packet.now (search rules) (search rules) (search rules) c.pass_on.ensures.own
+
+pub returns-in_default-clause-gone : goal.returns-in_default-clause-gone
+returns-in_default-clause-gone g c = boxes.routed_others _ c.args.packet.now (shown g.B.App.meaning c.args.self.now) (search rules) (search rules) (search rules)

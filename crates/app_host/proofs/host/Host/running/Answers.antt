@@ -6,5 +6,5 @@ use Rattle.app_host.proofs.host.Host.running.Goals as goal
 pub returns : goal.returns
 returns g c =
     runs_there c.args.name.now
-    (map (option_map (λ b. g.B.App.meaning b.value)) c.args.self.now.seats)
+    (map (option_map g.B.App.meaning) c.args.self.now.seats)
     c.seat_of.result c.is_some.result c.seat_of.ensures c.is_some.ensures

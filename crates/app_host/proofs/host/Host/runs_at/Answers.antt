@@ -11,13 +11,13 @@ seat_numbered-requires g c = below_eight _ _ _ c.requires.seated.eight c.seat_of
 pub returns-clause-kept : goal.returns-clause-kept
 returns-clause-kept g c =
     seat_is c.args.name.now
-    (map (option_map (λ b. g.B.App.meaning b.value)) c.args.self.now.seats)
+    (map (option_map g.B.App.meaning) c.args.self.now.seats)
     _ _ c.seat_of.ensures c.seat_numbered.ensures
 
 pub returns-clause-own : goal.returns-clause-own
 returns-clause-own g c =
     (
     seat_is c.args.name.now
-    (map (option_map (λ b. g.B.App.meaning b.value)) c.args.self.now.seats)
+    (map (option_map g.B.App.meaning) c.args.self.now.seats)
     _ _ c.seat_of.ensures c.seat_numbered.ensures
-    ) ∙ seat_by_name c.args.name.now (map (option_map (λ b. g.B.App.meaning b.value)) c.args.self.now.seats)
+    ) ∙ seat_by_name c.args.name.now (map (option_map g.B.App.meaning) c.args.self.now.seats)

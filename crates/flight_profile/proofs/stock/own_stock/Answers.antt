@@ -1,5 +1,5 @@
-use Rattle.flight_stock.proofs.Named.{eight}
-use Rattle.flight_stock.proofs.stock.own_stock.Goals as goal
+use Rattle.flight_profile.proofs.Named.{eight}
+use Rattle.flight_profile.proofs.stock.own_stock.Goals as goal
 
 pub returns-clause-names : goal.returns-clause-names
 returns-clause-names c =

@@ -3,7 +3,7 @@
 ghost use Rattle.std.specs.Prelude.{◌≡◌, false, ⊤, IfOk, IfSome, IsSome, IsSomeAnd, OnErr};
 ghost use Rattle.lc_model.specs.Host.Outcome.{devices};
 ghost use Rattle.flight_core.specs.Promises.{Promises};
-ghost use Rattle.flight_stock.specs.Stock.{own_mission};
+ghost use Rattle.flight_profile.specs.Stock.{own_mission};
 
 use crate::stock::own_stock;
 use flight_core::laws::runs_keep_their_promises;

@@ -1,6 +1,6 @@
 use Rattle.std.proofs.Common.{rules, ◌≡◌, Some}
-use Rattle.flight_stock.proofs.Named.{keeps, of_the_device}
-use Rattle.flight_stock.proofs.launching.run_with_stock.Goals as goal
+use Rattle.flight_profile.proofs.Named.{keeps, of_the_device}
+use Rattle.flight_profile.proofs.launching.run_with_stock.Goals as goal
 
 pub returns-clause-promises : goal.returns-clause-promises
 returns-clause-promises g c =

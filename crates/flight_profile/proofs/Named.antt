@@ -14,7 +14,7 @@ use Rattle.flight_core.specs.declared.error.RunError.{RunError}
 use Rattle.flight_core.specs.Compiled.{sources_of}
 use Rattle.flight_core.specs.Promises.{Promises}
 use Rattle.flight_core.specs.Run.{members_of}
-use Rattle.flight_stock.specs.Stock.{names_of, own_names, own_mission, most_reads}
+use Rattle.flight_profile.specs.Stock.{names_of, own_names, own_mission, most_reads}
 
 called_so : (stock : List Object) → map (λ (member : Member). member.called) (members_of stock) ≡ names_of stock
 called_so [] = refl

@@ -8,8 +8,8 @@ ghost use Rattle.host_laws.specs.Keeping.{IsSpare};
 ghost use Rattle.app_host.specs.Hosted.{member_of, objects_in};
 ghost use Rattle.app_host.specs.Whole.{AreSpares};
 ghost use Rattle.flight_core.specs.Run.{IsOfProfile};
-ghost use Rattle.flight_stock.specs.Members.{meaning_of};
-ghost use Rattle.flight_stock.specs.Stock.{names_of, own_names};
+ghost use Rattle.flight_profile.specs.Members.{meaning_of};
+ghost use Rattle.flight_profile.specs.Stock.{names_of, own_names};
 
 use crate::members::Member;
 use app_host::App;
@@ -21,16 +21,16 @@ use tick_scheduler::{Schedule, Scheduler};
 /// One spare more, under this name. Conditions: that is its name, it holds no seat, and it is of this profile with this
 /// schedule; and so are those that are there. Out of memory is the only error.
 pub fn add<B: App>(
-    stock: &mut Vec<Box<B>>,
+    stock: &mut Vec<B>,
     schedule: &Schedule,
     name: &[u8],
-    app: Box<B>,
+    app: B,
 ) -> Result<(), AllocError>
     requires spares { AreSpares (objects_in B.meaning stock.old.items) }
     requires profile { IsOfProfile schedule.now (objects_in B.meaning stock.old.items) }
-    requires free { (B.meaning app.value).seat ≡ None }
-    requires named { (B.meaning app.value).called ≡ name.now }
-    requires kind { IsSpare (as_bytes layouts) schedule.now (member_of (B.meaning app.value)) }
+    requires free { (B.meaning app).seat ≡ None }
+    requires named { (B.meaning app).called ≡ name.now }
+    requires kind { IsSpare (as_bytes layouts) schedule.now (member_of (B.meaning app)) }
     ensures spares { OnOk result (AreSpares (objects_in B.meaning stock.new.items)) }
     ensures profile { OnOk result
         (IsOfProfile schedule.now (objects_in B.meaning stock.new.items)) }

@@ -15,9 +15,9 @@ pub enum Member {
 }
 
 impl App for Member {
-    ghost use Rattle.flight_stock.specs.Members.{meaning_of};
+    ghost use Rattle.flight_profile.specs.Members.{member_meaning};
 
-    ghost meaning = { meaning_of };
+    ghost meaning = { member_meaning };
 
     fn name(&self) -> &[u8] {
         match self {

@@ -1,0 +1,17 @@
+//! The library from which a caller takes a run and this profile's applications: `run` and what goes with it, the applications
+//! `LC`, `SCH` and `COUNTER` with their schedule, the program's words, and the stock of the program `flight_run` with `launch`.
+//! What is re-exported is defined in the crate that each `use` names; the trait `App` and the host are `app_host`'s.
+#![tactic(auto)]
+
+mod launching;
+mod members;
+mod stock;
+
+pub use command_counter::Counter;
+pub use flight_core::{FedHost, Found, Halt, Records, Report, RunError, run, run_within};
+pub use launching::launch;
+pub use limit_checker::LimitChecker;
+pub use members::Member;
+pub use program_words::{Plan, WordsError, read_words};
+pub use stock::{add, own_stock};
+pub use tick_scheduler::{Schedule, ScheduleError, Scheduler, parse_schedule};
