@@ -28,7 +28,10 @@ fn shared_of(alloc: Global, rules: &RuleSet) -> Result<Shared, ShareError> {
 /// Distinct comparisons, and mentions of the first rule.
 fn counts_of(shared: &Shared) -> (usize, usize) {
     let mentions = shared.mentions.as_slice().first();
-    (shared.terms.len(), mentions.map_or(0, |numbers| numbers.len()))
+    (
+        shared.terms.len(),
+        mentions.map_or(0, |numbers| numbers.len()),
+    )
 }
 
 #[test]
@@ -64,7 +67,12 @@ fn low_volts_in_one_call(rt: HostRuntime) {
     let made: Result<TablePair, CompileError> = compile(rt.alloc(), LOW_VOLTS);
     let pair = made.expect(&rt, "a pair");
     same(&rt, "counts", (pair.watchpoints, pair.rules), (1, 1));
-    same(&rt, "sizes", (pair.wdt.len(), pair.adt.len()), (4_380, 19_516));
+    same(
+        &rt,
+        "sizes",
+        (pair.wdt.len(), pair.adt.len()),
+        (4_380, 19_516),
+    );
     same(&rt, "wdt", is_sound(Kind::Wdt, &pair.wdt), true);
     same(&rt, "adt", is_sound(Kind::Adt, &pair.adt), true);
 }

@@ -3,9 +3,9 @@
 #![tactic(auto)]
 
 #[cfg(test)]
-mod boarding;
-#[cfg(test)]
 mod compiling;
+#[cfg(test)]
+mod effort;
 #[cfg(test)]
 mod numbers;
 #[cfg(test)]
@@ -18,5 +18,7 @@ mod seats;
 mod serving;
 #[cfg(test)]
 mod shared;
+#[cfg(test)]
+mod tables;
 #[cfg(test)]
 mod values;

@@ -31,7 +31,13 @@ fn of_lexing(rt: HostRuntime) {
 }
 
 const PARSE: [(ParseError, Option<u8>); 3] = [
-    (ParseError::Expected { at: 6, what: What::Name }, Some(11)),
+    (
+        ParseError::Expected {
+            at: 6,
+            what: What::Name,
+        },
+        Some(11),
+    ),
     (ParseError::TooNested { at: 0 }, Some(12)),
     (ParseError::Memory, None),
 ];
@@ -51,7 +57,7 @@ const CHECK: [(CheckError, Option<u8>); 10] = [
     (CheckError::FieldOutside { at: 0 }, Some(25)),
     (CheckError::MaskRange { at: 0 }, Some(26)),
     (CheckError::ConstRange { at: 0 }, Some(27)),
-    (CheckError::NumberRange { at: 0 }, Some(28)),
+    (CheckError::LengthRange { at: 1 }, Some(29)),
     (CheckError::LengthRange { at: 0 }, Some(29)),
     (CheckError::Memory, None),
 ];
@@ -102,7 +108,12 @@ fn of_files(rt: HostRuntime) {
 }
 
 const BUS: [(BusError, Option<u8>); 6] = [
-    (BusError::BadPacket { reason: HeaderFault::TooShort }, Some(91)),
+    (
+        BusError::BadPacket {
+            reason: HeaderFault::TooShort,
+        },
+        Some(91),
+    ),
     (BusError::PipeFull, Some(92)),
     (BusError::NoPipe, Some(93)),
     (BusError::TooManyPipes, Some(94)),
@@ -174,7 +185,13 @@ fn of_applications(rt: HostRuntime) {
 }
 
 const RUN: [(RunError, Option<u8>); 7] = [
-    (RunError::Compile { text: 0, error: CompileError::TooManyRules }, Some(41)),
+    (
+        RunError::Compile {
+            text: 0,
+            error: CompileError::TooManyRules,
+        },
+        None,
+    ),
     (RunError::BadRecord { n: 1 }, Some(141)),
     (RunError::Truncated { n: 5 }, Some(142)),
     (RunError::Read, Some(143)),

@@ -50,10 +50,20 @@ fn receive_each<R: Abort>(rt: &R, bus: &mut Bus, seats: u8) {
 fn a_slot_is_free_with_its_last_reader(rt: HostRuntime) {
     let mut bus = Bus::new(rt.alloc()).expect(&rt, "a bus");
     same(&rt, "eight pipes", add_pipes(&mut bus, 0x0883), Ok(()));
-    same(&rt, "one packet to all", bus.publish(&telemetry(0x0883)), Ok(()));
+    same(
+        &rt,
+        "one packet to all",
+        bus.publish(&telemetry(0x0883)),
+        Ok(()),
+    );
     receive_each(&rt, &mut bus, 7);
     same(&rt, "one waits", bus.free(), 575);
-    same(&rt, "the eighth pipe goes", bus.remove_pipe(Seat::new(7)), Ok(()));
+    same(
+        &rt,
+        "the eighth pipe goes",
+        bus.remove_pipe(Seat::new(7)),
+        Ok(()),
+    );
     same(&rt, "none waits", bus.free(), 576);
 }
 
@@ -93,15 +103,40 @@ fn subscribe_to(bus: &mut Bus, seat: Seat, count: u16) -> Result<(), BusError> {
 fn pipes_and_subscriptions(rt: HostRuntime) {
     let mut bus = Bus::new(rt.alloc()).expect(&rt, "a bus");
     let (seat, mut room) = (Seat::new(0), [0; 2048]);
-    same(&rt, "none", bus.receive(seat, &mut room), Err(BusError::NoPipe));
+    same(
+        &rt,
+        "none",
+        bus.receive(seat, &mut room),
+        Err(BusError::NoPipe),
+    );
     same(&rt, "a pipe", bus.add_pipe(seat), Ok(()));
-    same(&rt, "again", bus.add_pipe(seat), Err(BusError::TooManyPipes));
+    same(
+        &rt,
+        "again",
+        bus.add_pipe(seat),
+        Err(BusError::TooManyPipes),
+    );
     same(&rt, "256 ids", subscribe_to(&mut bus, seat, 256), Ok(()));
     let further = bus.subscribe(seat, 0x0883);
-    same(&rt, "the 257th", further, Err(BusError::TooManySubscriptions));
-    same(&rt, "one of them again", bus.subscribe(seat, 0xFF80), Ok(()));
+    same(
+        &rt,
+        "the 257th",
+        further,
+        Err(BusError::TooManySubscriptions),
+    );
+    same(
+        &rt,
+        "one of them again",
+        bus.subscribe(seat, 0xFF80),
+        Ok(()),
+    );
     same(&rt, "one less", bus.unsubscribe(seat, 0xFF80), Ok(()));
-    same(&rt, "a header", parse_header(&telemetry(0x0883)).is_ok(), true);
+    same(
+        &rt,
+        "a header",
+        parse_header(&telemetry(0x0883)).is_ok(),
+        true,
+    );
 }
 
 /// Filters of so many ids of `LC`.
@@ -119,8 +154,18 @@ fn senders_and_filters(rt: HostRuntime) {
     same(&rt, "a seat", events.register(seat, b"LC"), Ok(()));
     let taken = Err(EventError::AppsFull);
     same(&rt, "the seat again", events.register(seat, b"SCH"), taken);
-    same(&rt, "the name again", events.register(Seat::new(4), b"LC"), taken);
-    same(&rt, "the host's name", events.register(Seat::new(4), b"HOST"), taken);
+    same(
+        &rt,
+        "the name again",
+        events.register(Seat::new(4), b"LC"),
+        taken,
+    );
+    same(
+        &rt,
+        "the host's name",
+        events.register(Seat::new(4), b"HOST"),
+        taken,
+    );
     same(&rt, "16 ids", set_filters(&mut events, 16), Ok(()));
     let further = events.set_filter(b"LC", 16, 0xFFFF);
     same(&rt, "the 17th", further, Err(EventError::FilterFull));
@@ -132,7 +177,7 @@ fn senders_and_filters(rt: HostRuntime) {
 
 /// The bytes that a packet has, or none.
 fn size_of_packet(packet: &Option<EventPacket>) -> Option<usize> {
-    packet.as_ref().map(|packet| packet.len())
+    packet.as_ref().map(|packet| packet.as_bytes().len())
 }
 
 #[test]
@@ -146,8 +191,7 @@ fn an_event_is_returned(rt: HostRuntime) {
 }
 
 /// Registers a table of 4 bytes.
-fn register(tables: &mut Tables, seat: u8, name: &[u8]) -> Result<(), TableError>
-{
+fn register(tables: &mut Tables, seat: u8, name: &[u8]) -> Result<(), TableError> {
     let slot: Slot = tables.register(Seat::new(seat % 8), name, 4, None)?;
     let _slot = slot;
     Ok(())

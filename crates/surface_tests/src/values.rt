@@ -1,8 +1,10 @@
 //! The value types.
 
 use crate::shared::same;
-use lc_model::{ApMode, ApResult, Body, CmpOp, Cond, FieldType, LcMode, Moment, Record, Rule, RuleSet};
-use lc_model::{Seat, Term, Truth};
+use lc_model::{
+    ApMode, ApResult, Body, CmpOp, Cond, FieldType, LcMode, Moment, Record, Rule, RuleSet, Seat,
+    Term, Truth,
+};
 use std::process::Abort;
 
 /// Each type's width in bytes.
@@ -28,9 +30,22 @@ const COMPARISONS: [CmpOp; 6] = [
     CmpOp::GreaterOrEqual,
     CmpOp::Greater,
 ];
+
 const MODES: [LcMode; 3] = [LcMode::Active, LcMode::Passive, LcMode::Disabled];
-const STATES: [ApMode; 4] = [ApMode::Active, ApMode::Passive, ApMode::Disabled, ApMode::PermOff];
-const RESULTS: [ApResult; 4] = [ApResult::Pass, ApResult::Fail, ApResult::Stale, ApResult::Error];
+
+const STATES: [ApMode; 4] = [
+    ApMode::Active,
+    ApMode::Passive,
+    ApMode::Disabled,
+    ApMode::PermOff,
+];
+
+const RESULTS: [ApResult; 4] = [
+    ApResult::Pass,
+    ApResult::Fail,
+    ApResult::Stale,
+    ApResult::Error,
+];
 
 #[test]
 fn truths(rt: HostRuntime) {
@@ -72,7 +87,8 @@ fn comparisons(cond: &Cond) -> usize {
 
 /// A rule's sequence and failures, where its parts are these.
 fn request_of(rule: &Rule) -> Option<(u16, u16)> {
-    let is_its = rule.name.as_slice() == b"LOW" && rule.text.as_slice() == b"low volts";
+    let is_its = rule.name.as_slice() == b"LOW".as_slice()
+        && rule.text.as_slice() == b"low volts".as_slice();
     let has = rule.mode == ApMode::Active && rule.event_id == 1001 && rule.report.passive == 0;
     if is_its && has && comparisons(&rule.cond) == 1 {
         Some((rule.sequence, rule.fails))
@@ -111,7 +127,20 @@ fn records(rt: HostRuntime) {
         name: b"/cf/a",
         bytes: b"abc",
     };
-    same(&rt, "file", arrival(&Record { moment, body: file }), (100, 3));
-    same(&rt, "tick", arrival(&Record { moment, body: Body::Tick }), (100, 0));
+    same(
+        &rt,
+        "file",
+        arrival(&Record { moment, body: file }),
+        (100, 3),
+    );
+    same(
+        &rt,
+        "tick",
+        arrival(&Record {
+            moment,
+            body: Body::Tick,
+        }),
+        (100, 0),
+    );
     same(&rt, "seat", Seat::new(7).index(), 7);
 }
