@@ -1,0 +1,24 @@
+//! The public interface as it was asked for: each call, variant, field and number by its name, in the crate that has it. What
+//! stands here compiles against names alone; that the calls do what they should is said by their contracts.
+#![tactic(auto)]
+
+#[cfg(test)]
+mod compiling;
+#[cfg(test)]
+mod effort;
+#[cfg(test)]
+mod numbers;
+#[cfg(test)]
+mod reading;
+#[cfg(test)]
+mod running;
+#[cfg(test)]
+mod seats;
+#[cfg(test)]
+mod serving;
+#[cfg(test)]
+mod shared;
+#[cfg(test)]
+mod tables;
+#[cfg(test)]
+mod values;
