@@ -57,7 +57,7 @@ const CHECK: [(CheckError, Option<u8>); 10] = [
     (CheckError::FieldOutside { at: 0 }, Some(25)),
     (CheckError::MaskRange { at: 0 }, Some(26)),
     (CheckError::ConstRange { at: 0 }, Some(27)),
-    (CheckError::LengthRange { at: 1 }, Some(29)),
+    (CheckError::NumberRange { at: 0 }, Some(28)),
     (CheckError::LengthRange { at: 0 }, Some(29)),
     (CheckError::Memory, None),
 ];

@@ -10,8 +10,8 @@ ghost use Rattle.table_file.specs.Image.{FitsEntry, FitsWatchpoint, layout_of_ve
 use lc_model::{FieldType, Kind};
 use std::alloc::Global;
 use table_file::{
-    ActionpointEntry, AdtImage, FileError, TableFile, WatchpointEntry, WdtImage, encode_adt,
-    encode_wdt,
+    ActionpointEntry, AdtImage, AdtVersion, FileError, TableFile, WatchpointEntry, WdtImage,
+    encode_adt, encode_wdt,
 };
 use table_validator::{TableFault, ValidImage, validate};
 use tbl_service::{Slot, Stage, Tables};
@@ -46,7 +46,7 @@ pub fn header_numbers(file: &TableFile<'_>) -> [u32; 11] {
         file.subseconds(),
         file.reserved(),
         file.offset(),
-        file.bytes(),
+        file.number_of_bytes(),
     ]
 }
 
@@ -82,6 +82,11 @@ pub fn actionpoint_numbers(entry: &ActionpointEntry<'_>) -> [u16; 5] {
         entry.event_code(),
         entry.event_id(),
     ]
+}
+
+/// The version of actionpoint tables with this number, and its number again.
+pub fn version_numbered(number: u16) -> Option<u16> {
+    AdtVersion::numbered(number).map(|version| version.number())
 }
 
 /// The number of an image's fault and its entry, or nothing.
