@@ -171,7 +171,8 @@ fn of_the_numbers_of_rules(rt: HostRuntime) {
 /// The items say which number it is, at its place alone.
 #[test]
 fn of_the_number_at_a_place(rt: HostRuntime) {
-    let text = b"rule LOW active fails 0 sequence 7 event error 999 \"\" report 256 0 65536 when V < 1;";
+    let text =
+        b"rule LOW active fails 0 sequence 7 event error 999 \"\" report 256 0 65536 when V < 1;";
     let tokens = lex(rt.alloc(), text).expect(&rt, "tokens");
     let file = parse(rt.alloc(), text, tokens.as_slice()).expect(&rt, "items");
     let rows = &[
