@@ -168,7 +168,28 @@ fn of_the_numbers_of_rules(rt: HostRuntime) {
     all_read(&rt, rows);
 }
 
-/// A number outside its range is reported by its place.
+/// The items say which number it is, at its place alone.
+#[test]
+fn of_the_number_at_a_place(rt: HostRuntime) {
+    let text =
+        b"rule LOW active fails 0 sequence 7 event error 999 \"\" report 256 0 65536 when V < 1;";
+    let tokens = lex(rt.alloc(), text).expect(&rt, "tokens");
+    let file = parse(rt.alloc(), text, tokens.as_slice()).expect(&rt, "items");
+    let rows = &[
+        (22, Some(RuleNumber::Fails)),
+        (33, None),
+        (47, Some(RuleNumber::EventId)),
+        (61, Some(RuleNumber::ReportPassive)),
+        (65, None),
+        (67, Some(RuleNumber::ReportFailToPass)),
+        (23, None),
+    ];
+    for &(at, expected) in rows {
+        same(&rt, at, number_at(&file, at), expected);
+    }
+}
+
+/// The ranges of message ids, lengths, masks and compared numbers.
 #[test]
 fn of_ranges(rt: HostRuntime) {
     let rows = &[

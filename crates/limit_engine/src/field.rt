@@ -7,6 +7,7 @@ ghost use Rattle.lc_model.specs.Field.{is_in_type, width, raw};
 ghost use Rattle.limit_engine.specs.Bytes.{is_little, is_by_four, two_bytes, four_bytes};
 ghost use Rattle.limit_engine.specs.Ranges.{sign_of, ordered, range_of, holds_in};
 
+use byteorder::{BigEndian, ByteOrder, LittleEndian};
 use lc_model::{CmpOp, FieldType};
 
 /// The message id: the packet's first two bytes, the high one first. Bytes that are not there count as zero.
@@ -14,8 +15,8 @@ pub(crate) fn message_id(packet: &[u8]) -> u16
     ensures { result ≡ id_of packet.now }
 {
     match packet {
-        [high, low, ..] => u16::from_be_bytes([*high, *low]),
-        [high] => u16::from_be_bytes([*high, 0]),
+        [_, _, ..] => BigEndian::read_u16(packet),
+        [high] => BigEndian::read_u16(&[*high, 0]),
         [] => 0,
     }
 }
@@ -40,11 +41,10 @@ fn two_bytes(bytes: &[u8], little: bool) -> u32
     requires { length bytes.now ≡ 2 }
     ensures { result ≡ two_bytes little bytes.now }
 {
-    let pair = [bytes[0], bytes[1]];
     if little {
-        u16::from_le_bytes(pair) as u32
+        LittleEndian::read_u16(bytes) as u32
     } else {
-        u16::from_be_bytes(pair) as u32
+        BigEndian::read_u16(bytes) as u32
     }
 }
 
@@ -53,11 +53,10 @@ pub(crate) fn four_bytes(bytes: &[u8], little: bool) -> u32
     requires { length bytes.now ≡ 4 }
     ensures { result ≡ four_bytes little bytes.now }
 {
-    let four = [bytes[0], bytes[1], bytes[2], bytes[3]];
     if little {
-        u32::from_le_bytes(four)
+        LittleEndian::read_u32(bytes)
     } else {
-        u32::from_be_bytes(four)
+        BigEndian::read_u32(bytes)
     }
 }
 
