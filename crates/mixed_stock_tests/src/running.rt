@@ -80,10 +80,7 @@ mod tests {
             bytes: 177,
         };
         assert_eq!(rt; answer, Ok(wanted), "records and bytes");
-        assert_eq!(rt;
-            &writer.bytes()[168..],
-            b"AAAAAAAAA".as_slice(),
-            "the letters"
-        );
+        let has_letters = writer.bytes().ends_with(b"AAAAAAAAA");
+        assert!(rt; has_letters, "nine letters at the end");
     }
 }
