@@ -115,6 +115,8 @@ module _ (pairs : List TablePair) (held after : Held) (f : Found) (given : Given
         roster = responds.roster;
         turned = responds.turned;
       };
+      between = between;
+      exact = λ those. (steps.exact those).host;
       all = refl;
     };
     gains = responds.gains;

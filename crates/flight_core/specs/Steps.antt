@@ -9,7 +9,7 @@ use Rattle.lc_model.specs.Host.Stream.{StreamEntry, records_of}
 use Rattle.lc_model.specs.Host.Outcome.{Devices, Ending, Uncompiled, FailedToWrite, NoMemory, IsOutcome}
 use Rattle.lc_model.specs.Host.Promise.{Mission}
 use Rattle.lc_model.specs.Kept.Executive.{Member}
-use Rattle.lc_model.specs.Kept.Stations.{first_host, host_after}
+use Rattle.lc_model.specs.Kept.Stations.{first_host, host_after, host_step}
 use Rattle.rpn_compiler.specs.declared.files.TablePair.{TablePair}
 use Rattle.app_host.specs.Hosted.{Hosted, in_numbers}
 use Rattle.app_host.specs.Shared.{on_board}
@@ -31,12 +31,14 @@ pub record IsOneStep (meanings : FileMeanings (List ℕ)) (entry : StreamEntry) 
   pub between : IsBetween new
   pub exact : AreKnownIn (party_of (input_by given.body)) old → in_numbers new ≡ host_after on_board given.moment (in_numbers old) (input_by given.body)
 
--- the same where a write failed: of these bytes so many were written, the first ones
+-- the same if a write failed: the first so many of these bytes were written, and the host stopped at that write
 pub record IsCutStep (meanings : FileMeanings (List ℕ)) (entry : StreamEntry) (sent : ℕ) (old new : Hosted) (part : List ℕ) : Type 0 where
   pub given : Given
   pub moment : given.moment ≡ entry.moment
   pub brings : input_by given.body ≡ input_of meanings entry.contents
   pub responds : RespondsPart given.moment (response_to given.body old) sent old new (Some []) (Some (take sent part))
+  pub between : IsBetween new
+  pub exact : AreKnownIn (party_of (input_by given.body)) old → host_step on_board given.moment sent (in_numbers old) (input_by given.body) ≡ (in_numbers new, Some sent)
   pub all : part ≡ responds.called.theirs ++ (asked_by_host given.moment (response_to given.body old).request responds.called.behind).1
 
 -- ---- one record after the other

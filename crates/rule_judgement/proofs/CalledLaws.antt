@@ -216,7 +216,6 @@ unfiltered sequence (packet ∷ packets) all = by_test (unfiltered sequence pack
 
 pub never_written : IsNeverWritten
 never_written m d ending writes texts stream before sequence compiled hashes carried source sink undisturbed never = record {
-  packets = sent_from (as_halves m.edition.layouts) m.schedule (first_world m.stock) (text_meanings m.edition.layouts texts) (records_of (length texts) stream).0;
   gains = (writes texts stream before compiled hashes carried source sink undisturbed).gains;
   none = unfiltered sequence (sent_from (as_halves m.edition.layouts) m.schedule (first_world m.stock) (text_meanings m.edition.layouts texts) (records_of (length texts) stream).0)
       (never_called_for m texts stream sequence compiled never);

@@ -10,9 +10,9 @@ use Rattle.lc_model.specs.Text.Reading.{Parses}
 use Rattle.lc_model.specs.Text.Syntax.{Item}
 use Rattle.lc_model.specs.Text.Token.{Token, Splits}
 use Rattle.judgement_listing.specs.Requests.{requests_of}
-use Rattle.rule_judgement.specs.Findings.{AreJudged, AreSettled, IsPair}
+use Rattle.rule_judgement.specs.Findings.{AreInOrder, AreJudged, AreSettled, IsPair}
 use Rattle.rule_judgement.specs.Reach.{is_sampled}
-use Rattle.rule_judgement.specs.Spare.{AreToldOrNeeded, IsSpare}
+use Rattle.rule_judgement.specs.Spare.{AreOnce, AreToldOrNeeded, IsSpare}
 use Rattle.rule_messages.specs.Telling.{first_place}
 use Rattle.rule_messages.specs.declared.message.Message.{Message}
 use Rattle.rule_warnings.specs.declared.judging.Judged.{Judged}
@@ -41,6 +41,8 @@ pub record IsJudged (rules : List NamedRule) (plan : Option (Bor Schedule)) (all
   pub settled : AreSettled rules all.pairs.items
   pub needless : AllByRecursion (IsSpare rules) all.spare.items
   pub told : AreToldOrNeeded rules all.spare.items
+  pub pairs_once : AreInOrder all.pairs.items
+  pub spare_once : AreOnce all.spare.items
   pub never : all.unsampled.items ≡ unsampled plan (length rules)
 
 -- all warnings, those that are kept quiet among them
