@@ -1,11 +1,10 @@
 -- Which number stands at a place, out of its range.
 use Rattle.std.proofs.Common.{◌≡◌, refl, sym, ◌∙◌, ap, ℕ, zero, suc, ◌+◌, ◌<◌, Bool, true, false, true≢false, ◌==◌, ◌&&◌, ◌||◌, List, [], ◌∷◌, ◌++◌, Option, Some, None, length, take, get_or, arith}
-use Rattle.std.specs.List.{Contains, list_any}
+use Rattle.std.specs.List.{list_any}
 use Rattle.std.specs.Option.{option_map_or, is_some}
 use Rattle.std.proofs.lemmas.List.{take_more, map-append}
 use Rattle.std.proofs.lemmas.List.Folds.{list_any-append}
 use Rattle.lc_model.specs.Text.Syntax.{Item, Number}
-use Rattle.lc_model.proofs.Facts.{equal_itself}
 use Rattle.rule_parser.specs.declared.syntax.Item as program
 use Rattle.rule_parser.specs.Syntax.{item_of, items_of}
 use Rattle.field_checker.specs.declared.number.RuleNumber.{RuleNumber}

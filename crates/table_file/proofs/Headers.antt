@@ -1,7 +1,7 @@
 -- The headers that are written, and the file that they make with an image.
-use Rattle.std.proofs.Common.{◌≡◌, refl, ℕ, ◌-◌, ◌≤◌, List, [], ◌++◌, length, replicate, arith, append_assoc}
+use Rattle.std.proofs.Common.{◌≡◌, ℕ, ◌-◌, List, [], ◌++◌, length, replicate, append_assoc}
 use Rattle.lc_model.specs.declared.kind.Kind.{Kind}
-use Rattle.lc_model.specs.Bytes.{u32, zero_filled}
+use Rattle.lc_model.specs.Bytes.{u32}
 use Rattle.lc_model.specs.Tables.File.{content_type, subtype, file_header_length, file_bytes, table_name, wrapped}
 use Rattle.table_file.specs.Parts.{file_header, table_header}
 

@@ -1,4 +1,4 @@
-use Rattle.std.proofs.Common.{◌≡◌, ◌∙◌, sym, ap, subst, false, take}
+use Rattle.std.proofs.Common.{◌≡◌, ◌∙◌, sym, subst, false}
 use Rattle.std.specs.List.{list_any}
 use Rattle.std.proofs.lemmas.List.{take_all}
 use Rattle.rule_parser.specs.Syntax.{items_of}

@@ -1,4 +1,4 @@
-use Rattle.std.proofs.Common.{◌≡◌, ◌∙◌, sym, ap, length, arith}
+use Rattle.std.proofs.Common.{◌∙◌, sym, ap, length, arith}
 use Rattle.lc_model.specs.Tables.File.{TableFile}
 use Rattle.table_file.proofs.HeaderFields.{number_is}
 use Rattle.table_file.proofs.file.TableFile.number_of_bytes.Goals as goal

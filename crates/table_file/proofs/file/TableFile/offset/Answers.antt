@@ -1,4 +1,4 @@
-use Rattle.std.proofs.Common.{◌≡◌, ◌∙◌, sym, ap, length}
+use Rattle.std.proofs.Common.{◌∙◌, sym, ap, length}
 use Rattle.lc_model.specs.Tables.File.{TableFile}
 use Rattle.table_file.proofs.HeaderFields.{offset_is}
 use Rattle.table_file.proofs.file.TableFile.offset.Goals as goal
