@@ -1,7 +1,7 @@
 //! A host plays a script.
 
 ghost use Rattle.std.specs.Prelude.{◌≡◌, map, OnOk, None};
-ghost use Rattle.app_host.specs.Hosted.{shown, objects_in};
+ghost use Rattle.app_host.specs.Hosted.{shown};
 ghost use Rattle.app_host.specs.Whole.{AreSpares};
 ghost use Rattle.app_host.specs.Step.{IsBetween};
 
@@ -112,13 +112,13 @@ fn add(stock: &mut Vec<Box<dyn App>>, app: Box<dyn App>) -> Result<(), AllocErro
 /// A host with this stock plays the script, and is closed. The number of the first line that does not hold; 0, where want of
 /// memory took one of the stock; the number of lines, where an object was not dropped once, one that started was not retired as
 /// often, or the close dropped one before another had retired; else none. Out of memory is the only error.
-fn perform<B: App>(
+fn perform(
     alloc: Global,
-    stock: Vec<B>,
+    stock: Vec<Box<dyn App>>,
     tally: &Tally,
     script: &[Line<'_>],
 ) -> Result<Option<usize>, AllocError>
-    requires { AreSpares (objects_in B.meaning stock.items) }
+    requires { AreSpares (map meaning stock.items) }
 {
     let spares = stock.len();
     let mut host = match begin(alloc, stock) {
