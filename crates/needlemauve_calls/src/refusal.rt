@@ -92,10 +92,7 @@ pub fn in_numbers(text: u64, error: CompileError) -> Refusal
             CheckError::FieldOutside { at: place } => at(text, 25, place),
             CheckError::MaskRange { at: place } => at(text, 26, place),
             CheckError::ConstRange { at: place } => at(text, 27, place),
-            CheckError::NumberRange {
-                at: place,
-                number: _,
-            } => at(text, 28, place),
+            CheckError::NumberRange { at: place } => at(text, 28, place),
             CheckError::LengthRange { at: place } => at(text, 29, place),
             CheckError::Memory => whole(text, NO_MEMORY),
         },
