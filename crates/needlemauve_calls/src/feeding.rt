@@ -1,6 +1,6 @@
 //! A host that a program in C feeds, record by record.
 
-ghost use Rattle.std.specs.Prelude.{◌≡◌, ◌≢◌, ◌<◌, ◌≤◌, ◌⊎◌, ⊥, length, None, IfErr, IfOk, IsSomeAnd, MatchResult};
+ghost use Rattle.std.specs.Prelude.{◌≡◌, ◌≢◌, ◌<◌, ◌≤◌, ◌⊎◌, length, None, IfErr, IfOk, IsSomeAnd, MatchResult};
 ghost use Rattle.flight_core.specs.Compiled.{IsNotCompiled, sources_of};
 ghost use Rattle.flight_core.specs.Feeding.{IsReady, feeding_of};
 ghost use Rattle.flight_profile.specs.Members.{meaning_of};
