@@ -2,7 +2,8 @@
 
 ghost use Rattle.std.specs.Prelude.{◌≡◌, ◌≢◌, ◌<◌, ◌⊎◌, length, None, IsSomeAnd};
 ghost use Rattle.needlemauve_calls.specs.Feeding.{AreFed, IsFed, IsMade, IsUnmade, too_small};
-ghost use Rattle.needlemauve_calls.specs.Running.{IsNotRun};
+ghost use Rattle.std.specs.List.{sum};
+ghost use Rattle.needlemauve_calls.specs.Running.{IsNotRun, IsUnfit};
 ghost use Rattle.needlemauve_calls.specs.Texts.{texts_in};
 
 use needlemauve_calls::{Handle, Handled, Made, close_host, feed_host, make_host};
@@ -28,6 +29,7 @@ pub extern "C" fn needlemauve_host_new(
     ensures unmade { result ≢ 0 → host.new.value ≡ None }
     ensures why { result ≢ 0 → IsNotRun texts.now lengths.now schedule.now told.new.refusal ⊎
         IsUnmade (texts_in texts.now lengths.now) told.new.refusal }
+    ensures unfit { sum lengths.now ≢ length texts.now → IsUnfit told.new.refusal }
     ensures silent { result ≡ 0 → told.new.sentence.length ≡ 0 }
 {
     make_host(alloc, texts, lengths, schedule, room, host, told)
@@ -51,6 +53,7 @@ pub extern "C" fn needlemauve_host_feed(
         (host.new.value ≡ host.old.value) × (output.new ≡ output.old) }
     ensures smaller { result ≡ too_small → IsSomeAnd host.old.value
         (λ fed. length output.old < length fed.room.items) }
+    ensures untaken { result ≡ too_small → (told.new.taken ≡ 0) × (told.new.written ≡ 0) }
 {
     feed_host(alloc, host, bytes, output, told)
 }

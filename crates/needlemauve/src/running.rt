@@ -1,7 +1,8 @@
 //! A run from memory to memory.
 
 ghost use Rattle.std.specs.Prelude.{◌≡◌, ◌≢◌, ◌≤◌, length};
-ghost use Rattle.needlemauve_calls.specs.Running.{IsKeptBehind, IsNotRun, RunsOf};
+ghost use Rattle.std.specs.List.{sum};
+ghost use Rattle.needlemauve_calls.specs.Running.{IsKeptBehind, IsNotRun, IsUnfit, RunsOf};
 ghost use Rattle.needlemauve_calls.specs.Texts.{texts_in};
 
 use needlemauve_calls::{Run, run_texts};
@@ -24,6 +25,7 @@ pub extern "C" fn needlemauve_run(
         stream.now output.new told.new.written told.new.ending }
     ensures unrun { told.new.ending.of ≡ 4 →
         IsNotRun texts.now lengths.now schedule.now told.new.ending }
+    ensures unfit { sum lengths.now ≢ length texts.now → IsUnfit told.new.ending }
     ensures behind { IsKeptBehind told.new.written output.old output.new }
     ensures unwritten { told.new.ending.of ≡ 4 → told.new.written ≡ 0 }
     ensures silent { told.new.ending.code ≡ 0 → told.new.sentence.length ≡ 0 }

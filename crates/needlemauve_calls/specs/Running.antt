@@ -87,6 +87,11 @@ pub record RunsOf (sources : List (List ℕ)) (schedule stream output : List ℕ
 abbrev pub unfit : ℕ
 unfit = 252
 
+-- so it is told: nothing was run
+pub record IsUnfit (told : Refusal) : Type 0 where
+  pub code : told.code ≡ unfit
+  pub of : told.of ≡ not_run
+
 -- what is told of a schedule's fault; one that is none is want of memory
 abbrev pub TellsFault : Option ScheduleFault → Refusal → Type 0
 TellsFault None told = told.code ≡ no_memory

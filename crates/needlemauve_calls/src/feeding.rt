@@ -1,11 +1,12 @@
 //! A host that a program in C feeds, record by record.
 
-ghost use Rattle.std.specs.Prelude.{◌≡◌, ◌≢◌, ◌<◌, ◌≤◌, ◌⊎◌, length, None, IfErr, IfOk, IsSomeAnd};
+ghost use Rattle.std.specs.Prelude.{◌≡◌, ◌≢◌, ◌<◌, ◌≤◌, ◌⊎◌, length, None, IfErr, IfOk, IsSomeAnd, MatchResult};
 ghost use Rattle.flight_core.specs.Compiled.{IsNotCompiled, sources_of};
 ghost use Rattle.flight_core.specs.Feeding.{IsReady, feeding_of};
 ghost use Rattle.flight_profile.specs.Members.{meaning_of};
 ghost use Rattle.needlemauve_calls.specs.Feeding.{AreFed, Feeds, HandlesInto, IsFed, IsMade, IsStocked, IsUnmade, code_of, too_small};
-ghost use Rattle.needlemauve_calls.specs.Running.{IsNotRun, IsUnscheduled};
+ghost use Rattle.needlemauve_calls.specs.Running.{IsNotRun, IsUnfit, IsUnscheduled};
+ghost use Rattle.std.specs.List.{sum};
 ghost use Rattle.needlemauve_calls.specs.Texts.{texts_in};
 
 use crate::ending::{UNFIT, ending_in_numbers, no_schedule, not_run};
@@ -114,6 +115,8 @@ fn fed_by_texts(
     ensures refused { IfErr result (λ told.
         IsNotRun texts.now lengths.now schedule.now told.refusal ⊎
         IsUnmade (texts_in texts.now lengths.now) told.refusal) }
+    ensures unfit { sum lengths.now ≢ length texts.now →
+        MatchResult result (λ _. ⊥) (λ told. IsUnfit told.refusal) }
 {
     if !are_lengths(lengths, texts.len()) {
         let why = Sentence::of("the lengths are not those of the texts");
@@ -144,6 +147,7 @@ pub fn make_host(
     ensures unmade { result ≢ 0 → handle.new.value ≡ None }
     ensures why { result ≢ 0 → IsNotRun texts.now lengths.now schedule.now told.new.refusal ⊎
         IsUnmade (texts_in texts.now lengths.now) told.new.refusal }
+    ensures unfit { sum lengths.now ≢ length texts.now → IsUnfit told.new.refusal }
     ensures silent { result ≡ 0 → told.new.sentence.length ≡ 0 }
 {
     match fed_by_texts(alloc, texts, lengths, schedule, size) {
@@ -230,6 +234,7 @@ pub fn feed_host(
         (handle.new.value ≡ handle.old.value) × (output.new ≡ output.old) }
     ensures smaller { result ≡ too_small → IsSomeAnd handle.old.value
         (λ fed. length output.old < length fed.room.items) }
+    ensures untaken { result ≡ too_small → (told.new.taken ≡ 0) × (told.new.written ≡ 0) }
 {
     let mut fed = taken(handle, alloc);
     if output.len() < fed.room.len() {

@@ -2,7 +2,8 @@
 
 ghost use Rattle.std.specs.Prelude.{◌≡◌, ◌≢◌, ◌≤◌, length, None, IfSome};
 ghost use Rattle.flight_core.specs.Compiled.{sources_of};
-ghost use Rattle.needlemauve_calls.specs.Running.{IsKeptBehind, IsNotRun, IsUnscheduled, RunsInMemory, RunsOf};
+ghost use Rattle.std.specs.List.{sum};
+ghost use Rattle.needlemauve_calls.specs.Running.{IsKeptBehind, IsNotRun, IsUnfit, IsUnscheduled, RunsInMemory, RunsOf};
 ghost use Rattle.needlemauve_calls.specs.Texts.{texts_in};
 
 use crate::ending::{UNFIT, ending_in_numbers, no_schedule, not_run, said};
@@ -132,6 +133,7 @@ pub fn run_texts(
         stream.now output.new result.written result.ending }
     ensures unrun { result.ending.of ≡ 4 →
         IsNotRun texts.now lengths.now schedule.now result.ending }
+    ensures unfit { sum lengths.now ≢ length texts.now → IsUnfit result.ending }
     ensures behind { IsKeptBehind result.written output.old output.new }
     ensures unwritten { result.ending.of ≡ 4 → result.written ≡ 0 }
     ensures silent { result.ending.code ≡ 0 → result.sentence.length ≡ 0 }
