@@ -11,7 +11,7 @@ ghost use Rattle.app_host.specs.Sending.{NothingIsTold, TellingGoesOn, TellingKe
 
 use crate::services::Services;
 use lc_model::packet::sequence_request;
-use lc_model::{LcMode, Moment, TABLE_ENTRIES, mids};
+use lc_model::{LcMode, Moment, TABLE_ENTRIES, mids, u16_bytes, u32_bytes};
 
 /// In housekeeping, in the place of a rule that there isn't.
 const NO_RULE: u8 = 0xFF;
@@ -53,10 +53,10 @@ fn housekeeping_header(count: u16, moment: Moment) -> [u8; 12]
         primary_header lc_housekeeping_mid count housekeeping_size ++ u32 moment.seconds ++
         u16 moment.subseconds }
 {
-    let [a, b] = mids::LC_HOUSEKEEPING.to_be_bytes();
-    let [c, d] = (0xC000 + count).to_be_bytes();
-    let [s, t, u, v] = moment.seconds.to_be_bytes();
-    let [x, y] = moment.subseconds.to_be_bytes();
+    let [a, b] = u16_bytes(mids::LC_HOUSEKEEPING);
+    let [c, d] = u16_bytes(0xC000 + count);
+    let [s, t, u, v] = u32_bytes(moment.seconds);
+    let [x, y] = u16_bytes(moment.subseconds);
     [a, b, c, d, 0, 185, s, t, u, v, x, y]
 }
 
@@ -76,7 +76,7 @@ fn count_bytes(standings: &[u8]) -> [u8; 2]
     requires { length standings.now ≤ table_entries }
     ensures { result ≡ u16 (length standings.now) }
 {
-    (standings.len() as u16).to_be_bytes()
+    u16_bytes(standings.len() as u16)
 }
 
 /// One request sent after the other, and nothing else, is what the definitions say.
