@@ -92,6 +92,7 @@ fn tell_failure(
 }
 
 /// All that a sampled rule leads to is sent, the turn first.
+#[inline(never)]
 fn tell_reactions(
     rule: u16,
     reactions: Reactions,
