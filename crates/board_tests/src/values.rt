@@ -4,6 +4,7 @@ ghost use Rattle.std.specs.Prelude.{◌≡◌, length, IfOk};
 ghost use Rattle.lc_model.specs.Tables.Image.{Watchpoints, Actionpoints, WideActionpoints, image_length, FitsWatchpoint, FitsEntry};
 ghost use Rattle.table_file.specs.Layout.{layout_of_version};
 
+use arrayvec::ArrayVec;
 use lc_model::{ApMode, Bytes, CmpOp, EventKind, FieldType, Kind, ReportMaxima, Term};
 use std::alloc::{AllocError, Global};
 use table_file::{
@@ -45,7 +46,7 @@ fn actionpoint(alloc: Global) -> Result<TableEntry, AllocError>
         event_kind: EventKind::Error,
         event_id: 1001,
         text: Bytes::from_vec(Vec::from_slice(alloc, b"low volts")?),
-        words: Vec::from_slice(alloc, &[0])?,
+        words: ArrayVec::try_from([0].as_slice()).unwrap(),
     })
 }
 

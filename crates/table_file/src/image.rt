@@ -4,7 +4,8 @@ ghost use Rattle.std.specs.Prelude.{◌≡◌, IfSome};
 ghost use Rattle.table_file.specs.Layout.{layout_of, layout_of_version, number_of, version_numbered};
 
 use crate::layout::Layout;
-use lc_model::{ApMode, Bytes, EventKind, ReportMaxima, Term};
+use arrayvec::ArrayVec;
+use lc_model::{ApMode, Bytes, EQUATION_WORDS, EventKind, ReportMaxima, Term};
 use std::marker::Model;
 
 /// A table of watchpoints.
@@ -86,7 +87,7 @@ pub struct TableEntry {
     /// The event's text: at most 31 bytes, none of them zero.
     pub text: Bytes,
     /// The equation's words before the EQUAL at its end: at most 19 in a table of version 1, and 31 in one of version 2.
-    pub words: Vec<u16>,
+    pub words: ArrayVec<u16, EQUATION_WORDS>,
 }
 
 impl Model for TableEntry {

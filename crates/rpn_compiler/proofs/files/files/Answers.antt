@@ -1,4 +1,4 @@
-use Rattle.std.proofs.Common.{◌≡◌, sym, ◌∙◌, ap, subst, ℕ, List, length, map}
+use Rattle.std.proofs.Common.{◌≡◌, sym, ◌∙◌, ap, subst, ℕ, ◌≤◌, List, length, map}
 use Rattle.std.specs.List.{AllByRecursion}
 use Rattle.std.proofs.lemmas.List.{length-map}
 use Rattle.lc_model.specs.declared.field.Term.{Term}
@@ -10,15 +10,23 @@ use Rattle.lc_model.specs.Tables.InForce.{compiled_actionpoints}
 use Rattle.lc_model.specs.Tables.Half.{entry_over}
 use Rattle.lc_model.specs.Tables.InForce.{arranged}
 use Rattle.lc_model.specs.Tables.Lowering.{words_in}
-use Rattle.rpn_compiler.proofs.EntryWords.{as_many}
+use Rattle.rpn_compiler.proofs.EntryWords.{as_many, short_words}
 use Rattle.rpn_compiler.proofs.Compiled.{fit_terms, fit_entries, tables}
 use Rattle.lc_model.proofs.Tables.CompiledTables.{compiled_tables_are_halves}
 use Rattle.rpn_compiler.proofs.files.files.Goals as goal
 
-pub entries-requires : goal.entries-requires
-entries-requires c =
+pub entries-requires-clause-as_many : goal.entries-requires-clause-as_many
+entries-requires-clause-as_many c =
     let terms : List Term = c.args.lowered.terms.items in
     as_many terms c.as_slice.result.now c.args.lowered.words.items (c.requires.lowered.words ∙ ap (map (words_in arranged terms)) (sym c.as_slice.ensures))
+
+pub entries-requires-clause-short : goal.entries-requires-clause-short
+entries-requires-clause-short c =
+    let rules : List NamedRule = c.args.lowered.rules.rules in
+    let terms : List Term = c.args.lowered.terms.items in
+    subst (AllByRecursion (λ (ws : List ℕ). length ws ≤ 32)) (sym c.requires.lowered.words)
+    (short_words terms rules
+    (fit_entries c.args.text.now rules terms c.requires.lowered.watchpoints (compiled_tables_are_halves c.args.text.now rules c.requires.compiles)))
 
 pub wdt_file-requires-clause-fit : goal.wdt_file-requires-clause-fit
 wdt_file-requires-clause-fit c =
