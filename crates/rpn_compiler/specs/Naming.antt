@@ -6,7 +6,7 @@ use Rattle.lc_model.specs.Text.Reading.{Parses}
 use Rattle.field_checker.specs.declared.error.CheckError.{CheckError}
 use Rattle.field_checker.specs.Number.{NamesItsNumber}
 use Rattle.rpn_compiler.specs.declared.error.CompileError.{CompileError}
-use Rattle.rpn_compiler.specs.declared.error.CompileError.TheVariants.{Lex, Parse, Check, TooManyWatchpoints, TooManyRules, EquationTooLong, Memory}
+use Rattle.rpn_compiler.specs.declared.error.CompileError.TheVariants.{Lex, Parse, Check}
 
 -- where the error says that a number is out of its range, one of the text's items has one there; a text has one list of items
 pub record NamesItsNumberIn (text : List ℕ) (error : CheckError) : Type 0 where
