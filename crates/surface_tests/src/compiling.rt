@@ -13,10 +13,6 @@ use table_file::{FileError, TableFile, open, wrap};
 use table_validator::{TableFault, ValidImage, validate};
 use watch_sharing::{ShareError, Shared, share};
 
-fn tokens_of(alloc: Global, text: &[u8]) -> Result<Vec<Token<'_>>, LexError> {
-    lex(alloc, text)
-}
-
 fn rules_of(alloc: Global, file: &RuleFile) -> Result<RuleSet, CheckError> {
     check(alloc, file)
 }
@@ -36,7 +32,8 @@ fn counts_of(shared: &Shared) -> (usize, usize) {
 
 #[test]
 fn low_volts_in_steps(rt: HostRuntime) {
-    let tokens = tokens_of(rt.alloc(), LOW_VOLTS).expect(&rt, "tokens");
+    let lexed: Result<Vec<Token<'_>>, LexError> = lex(rt.alloc(), LOW_VOLTS);
+    let tokens = lexed.expect(&rt, "tokens");
     let parsed: Result<RuleFile, ParseError> = parse(rt.alloc(), LOW_VOLTS, tokens.as_slice());
     let file = parsed.expect(&rt, "items");
     same(&rt, "items", file.items.len(), 3);

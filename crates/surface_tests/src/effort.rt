@@ -1,9 +1,7 @@
 //! What the Limit Checker says of its own work, and a host whose writer has failed.
 
-ghost use Rattle.std.specs.Prelude.{◌≡◌, IfOk, OnOk, None};
-ghost use Rattle.app_host.specs.Hosted.{objects_in, shown};
-ghost use Rattle.app_host.specs.Step.{IsBetween, IsNamed};
-ghost use Rattle.app_host.specs.Whole.{AreSpares};
+ghost use Rattle.app_host.specs.Hosted.{shown};
+ghost use Rattle.app_host.specs.Step.{IsBetween};
 
 use crate::shared::same;
 use app_host::{App, Host};
@@ -81,15 +79,22 @@ fn spread_text(alloc: Global) -> Result<Vec<u8>, AllocError> {
     Ok(text)
 }
 
-/// The host handles a record: how many bytes were written where a write failed. Condition: a file's name has at most 40 bytes.
+/// The host handles a record: how many bytes were written where a write failed. Of a file's name the first 40 bytes count.
 fn give<B: App>(host: &mut Host<B>, body: Body<'_>, out: &mut Limited<'_>) -> Option<u64>
-    requires between { IsBetween (shown B.meaning host.old) }
-    requires named { IsNamed body }
+    requires { IsBetween (shown B.meaning host.old) }
     ensures { IsBetween (shown B.meaning host.new) }
 {
     let moment = Moment {
         seconds: 100,
         subseconds: 0,
+    };
+    let body = match body {
+        Body::Packet(bytes) => Body::Packet(bytes),
+        Body::Tick => Body::Tick,
+        Body::File { name, bytes } => Body::File {
+            name: &name[..name.len().min(40)],
+            bytes,
+        },
     };
     let done = host.step(&Record { moment, body }, out);
     done.err().map(|fault| fault.sent)
@@ -97,7 +102,7 @@ fn give<B: App>(host: &mut Host<B>, body: Body<'_>, out: &mut Limited<'_>) -> Op
 
 /// The default files, the start, a packet, and a sample.
 fn fly<B: App>(host: &mut Host<B>, pair: &TablePair, packet: &[u8])
-    requires between { IsBetween (shown B.meaning host.old) }
+    requires { IsBetween (shown B.meaning host.old) }
     ensures { IsBetween (shown B.meaning host.new) }
 {
     let mut room = [0; ROOM];
@@ -136,7 +141,6 @@ fn measured(alloc: Global, text: &[u8], packet: &[u8]) -> Result<Option<(u32, u3
         Ok(mut host) => {
             fly(&mut host, &pair, packet);
             let effort = effort_of(&host);
-            host.close();
             Ok(effort)
         }
     }
@@ -164,7 +168,7 @@ fn probes_of_full_tables(rt: HostRuntime) {
 
 /// What a host of two Limit Checkers says after a write that failed, and after the step behind it.
 fn after_a_fault<B: App>(host: &mut Host<B>) -> [(Option<u64>, bool, usize); 2]
-    requires between { IsBetween (shown B.meaning host.old) }
+    requires { IsBetween (shown B.meaning host.old) }
     ensures { IsBetween (shown B.meaning host.new) }
 {
     let mut room = [0; 3];
@@ -183,7 +187,6 @@ fn faulty(alloc: Global) -> Result<[(Option<u64>, bool, usize); 2], AllocError> 
         Err(_) => Err(AllocError),
         Ok(mut host) => {
             let answers = after_a_fault(&mut host);
-            host.close();
             Ok(answers)
         }
     }

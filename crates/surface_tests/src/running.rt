@@ -1,5 +1,8 @@
 //! Runs, schedules and the program's words, from their one home.
 
+ghost use Rattle.std.specs.Prelude.{◌≡◌, map, None, OnOk};
+ghost use Rattle.app_host.specs.Whole.{AreSpares};
+
 use crate::shared::{LOW_VOLTS, same};
 use app_host::App;
 use flight_profile::{
@@ -13,6 +16,16 @@ use std::process::Abort;
 /// Two slots: a sample with aging, and a housekeeping request.
 const SCHEDULE: &[u8] = b"slots 2\n0 sample 0 175 age\n1 housekeeping";
 
+/// Adds a spare. Condition: it holds no seat. Out of memory is the only error.
+fn add(stock: &mut Vec<Box<dyn App>>, app: Box<dyn App>) -> Result<(), AllocError>
+    requires spares { AreSpares (map meaning stock.old.items) }
+    requires spare { (meaning app).seat ≡ None }
+    ensures { OnOk result (AreSpares (map meaning stock.new.items)) }
+{
+    stock.push(app)?;
+    Ok(())
+}
+
 /// An empty stream with a stock of boxes of all three applications; `within` bounds the reads.
 fn over_nothing(
     alloc: Global,
@@ -20,9 +33,12 @@ fn over_nothing(
     within: Option<u64>,
 ) -> Result<Result<Report, RunError>, AllocError> {
     let mut stock: Vec<Box<dyn App>> = Vec::new(alloc);
-    stock.push(Box::new(alloc, LimitChecker::new(alloc)?)?)?;
-    stock.push(Box::new(alloc, Scheduler::new(alloc, schedule)?)?)?;
-    stock.push(Box::new(alloc, Counter::new())?)?;
+    add(&mut stock, Box::new(alloc, LimitChecker::new(alloc)?)?)?;
+    add(
+        &mut stock,
+        Box::new(alloc, Scheduler::new(alloc, schedule)?)?,
+    )?;
+    add(&mut stock, Box::new(alloc, Counter::new())?)?;
     let (mut reader, mut room) = (Pieces::new(&[], 7), [0; 1]);
     let mut writer = Limited::new(&mut room, 1);
     let texts: &[&[u8]] = &[LOW_VOLTS];

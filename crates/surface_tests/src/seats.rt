@@ -1,39 +1,17 @@
 //! A host of boxed applications, and an application of a caller's own.
 
-ghost use Rattle.std.specs.Prelude.{map};
 ghost use Rattle.app_host.specs.Hosted.{shown};
 ghost use Rattle.app_host.specs.Step.{IsBetween, IsNamed};
-ghost use Rattle.app_host.specs.Whole.{AreSpares};
 
-use app_host::{App, Host, HostError, Services, WriteFault};
+use app_host::{App, Host, Services, WriteFault};
 use lc_model::{ByteSink, Record};
-use std::alloc::Global;
-
-/// A ship has a host.
-pub struct Ship {
-    pub host: Host,
-}
-
-/// A host of this stock, or the error with the stock. Condition: nothing in it holds a seat.
-pub fn launched(
-    alloc: Global,
-    stock: Vec<Box<dyn App>>,
-) -> Result<Host, (HostError, Vec<Box<dyn App>>)>
-    requires { AreSpares (map meaning stock.items) }
-{
-    Host::new(alloc, stock)
-}
 
 /// One record, and how many bytes were written where a write failed.
-pub fn step<B: App, W: ByteSink>(
-    host: &mut Host<B>,
-    record: &Record<'_>,
-    out: &mut W,
-) -> Option<u64>
+pub fn step<B: App, W: ByteSink>(host: &mut Host<B>, entry: &Record<'_>, out: &mut W) -> Option<u64>
     requires between { IsBetween (shown B.meaning host.old) }
-    requires named { IsNamed record.now.body }
+    requires named { IsNamed entry.now.body }
 {
-    let done: Result<(), WriteFault> = host.step(record, out);
+    let done: Result<(), WriteFault> = host.step(entry, out);
     done.err().map(|fault| fault.sent)
 }
 

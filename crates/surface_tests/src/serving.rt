@@ -190,8 +190,9 @@ fn an_event_is_returned(rt: HostRuntime) {
     same(&rt, "of nobody", size_of_packet(&unsent), None);
 }
 
-/// Registers a table of 4 bytes.
+/// Registers a table of 4 bytes, under a name of at most 40 bytes.
 fn register(tables: &mut Tables, seat: u8, name: &[u8]) -> Result<(), TableError> {
+    let name = &name[..name.len().min(40)];
     let slot: Slot = tables.register(Seat::new(seat % 8), name, 4, None)?;
     let _slot = slot;
     Ok(())

@@ -5,7 +5,8 @@ ghost use Rattle.std.specs.List.{AllByRecursion};
 ghost use Rattle.lc_model.specs.Codes.{table_entries};
 ghost use Rattle.lc_model.specs.Services.Tables.{fits_at, slot_at, stored_image, table_at};
 ghost use Rattle.lc_model.specs.Tables.Slot.{Activated, Asked, waiting_at};
-ghost use Rattle.table_file.specs.Image.{FitsEntry, FitsWatchpoint, layout_of_version};
+ghost use Rattle.lc_model.specs.Tables.Image.{FitsEntry, FitsWatchpoint};
+ghost use Rattle.table_file.specs.Layout.{layout_of_version};
 
 use lc_model::{FieldType, Kind};
 use std::alloc::Global;
