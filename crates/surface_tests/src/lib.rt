@@ -1,5 +1,5 @@
-//! The public interface as it was asked for: each call, variant, field and number by its name, in the crate that has it. What
-//! stands here compiles against names alone; that the calls do what they should is said by their contracts.
+//! The public interface as it was asked for: each call, variant, field and number by its name, in the crate that has it. That the
+//! calls do what they should is said by their contracts; here they are called, at the limits of the services too.
 #![tactic(auto)]
 
 #[cfg(test)]
