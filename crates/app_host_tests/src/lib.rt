@@ -18,6 +18,8 @@ mod playing;
 #[cfg(test)]
 mod script;
 #[cfg(test)]
+mod seats;
+#[cfg(test)]
 mod shared;
 #[cfg(test)]
 mod speaking;
