@@ -1,14 +1,15 @@
 -- Seat by seat all objects retire.
-use Rattle.std.proofs.Common.{◌≡◌, ◌≢◌, refl, ap, sym, ◌∙◌, subst, inl, inr, ℕ, ◌+◌, ◌<◌, ◌≤◌, Bool, true, false, nat_le, length, arith, Option, Some, None}
-use Rattle.std.specs.Prelude.{◌⊎◌, IfSome, slice_set}
-use Rattle.std.proofs.lemmas.List.{get_or-set_other, get_or_past}
+use Rattle.std.proofs.Common.{◌≡◌, ◌≢◌, refl, ap, sym, ◌∙◌, subst, inl, inr, ℕ, zero, suc, ◌+◌, ◌<◌, ◌≤◌, Bool, true, false, nat_le, List, [], length, arith, Option, Some, None}
+use Rattle.std.specs.Prelude.{◌⊎◌, slice_set}
+use Rattle.std.proofs.lemmas.List.{get_or-set_other, get_or_past, length-set}
 use Rattle.std.proofs.lemmas.Bool.{leb-true, leb-false}
 use Rattle.std.proofs.lemmas.Grind.{get_or-set_at}
 use Rattle.app_host.specs.declared.services.Services.{Services}
 use Rattle.app_host.specs.Hosted.{Object, Hosted, object_at}
 use Rattle.app_host.specs.Objects.{IfBoth, HasRetired}
-use Rattle.app_host.specs.Left.{HasClosed, HasVacated, WasRetired}
-use Rattle.app_host.specs.Whole.{AreSeated}
+use Rattle.app_host.specs.Left.{LeftBy, GoesFrom, GivesBack, GiveBack, HasClosed, HasVacated}
+use Rattle.app_host.specs.Writing.{written_off}
+use Rattle.app_host.specs.Whole.{AreSeated, IsWhole}
 
 below_or_from : (n m : ℕ) → (n < m) ⊎ (m ≤ n)
 below_or_from n m = by_test (nat_le m n) refl
@@ -17,31 +18,66 @@ below_or_from n m = by_test (nat_le m n) refl
     by_test true e = inr (leb-true m n e)
     by_test false e = inl (leb-false m n e)
 
--- who was retired by this call
-pub was_retired : (seat : ℕ) (before after : Services) (there back : Option Object) → IfBoth there back (HasRetired seat before after) → IfSome there (WasRetired seat)
-was_retired seat before after None back retired = tt
-was_retired seat before after (Some o) None retired = absurd retired
-was_retired seat before after (Some o) (Some gone) retired = record { before = before; after = after; gone = gone; retired = retired }
+-- who goes from a seat
+pub goes_from : (seat : ℕ) (before after : Services) (there gone : Option Object) → LeftBy seat before after there → IfBoth there gone (HasRetired seat before after) → GoesFrom seat before after there gone
+goes_from seat before after None None same nothing = same
+goes_from seat before after None (Some gone) same nothing = nothing
+goes_from seat before after (Some o) None left nothing = nothing
+goes_from seat before after (Some o) (Some gone) left retired = retired
 
--- the seats below this number are empty, and who stood there was retired; the others are as they were
-pub record EmptyBelow (index : ℕ) (old now : Hosted) : Type 0 where
+-- ---- one seat after the other
+
+-- what is handed on later changes nothing of what was handed on before
+same_below : (index : ℕ) (there gone gone' : List (Option Object)) (first now : Services) → ((seat : ℕ) → seat < index → object_at seat gone ≡ object_at seat gone') → GiveBack index there gone first now →
+    GiveBack index there gone' first now
+unfolding GiveBack
+same_below zero there gone gone' first now same back = back
+same_below (suc index) there gone gone' first now same (before, earlier, this) = (
+  before,
+  same_below index there gone gone' first before (λ seat less. same seat (omega (arith, less))) earlier,
+  subst (λ (x : Option Object). GivesBack index (object_at index there) x before now) (same index (omega arith)) this,
+)
+
+-- one seat more
+one_more_back : (index : ℕ) (there gone : List (Option Object)) (it : Option Object) (first before now : Services) → index < length gone → GiveBack index there gone first before →
+    GivesBack index (object_at index there) it before now → GiveBack (index + 1) there (slice_set gone index it) first now
+unfolding GiveBack
+one_more_back index there gone it first before now inside earlier this =
+    let next : index + 1 ≡ suc index = omega arith in
+    subst (λ n. GiveBack n there (slice_set gone index it) first now) (sym next) (before, so_far, subst (λ (x : Option Object). GivesBack index (object_at index there) x before now) (sym here) this)
+  where
+    here : object_at index (slice_set gone index it) ≡ it
+    here = get_or-set_at gone index index it None (λ i. index) inside
+
+    so_far : GiveBack index there (slice_set gone index it) first before
+    so_far = same_below index there gone (slice_set gone index it) first before
+        (λ seat less. let another : seat ≢ index = (λ same. let nothing : ⊥ = omega (arith, less, same) in nothing) in sym (get_or-set_other gone index seat it None another))
+        earlier
+
+-- the seats below this number are empty, and who stood there has retired and is handed on; the others are as they were
+pub record EmptyBelow (index : ℕ) (old now : Hosted) (handed : List (Option Object)) : Type 0 where
   pub stock : now.stock ≡ old.stock
   pub seated : AreSeated now.seats now.services
   pub gone : (seat : ℕ) → seat < index → object_at seat now.seats ≡ None
   pub rest : (seat : ℕ) → index ≤ seat → object_at seat now.seats ≡ object_at seat old.seats
-  pub retired : (seat : ℕ) → seat < index → IfSome (object_at seat old.seats) (WasRetired seat)
+  pub idle : now.services.outgoing ≡ []
+  pub eight : length handed ≡ 8
+  pub retired : GiveBack index old.seats handed old.services now.services
 
 -- one seat more
-one_seat_more : (index : ℕ) (old now new : Hosted) → EmptyBelow index old now → index < 8 → new.stock ≡ now.stock → AreSeated new.seats new.services →
-    new.seats ≡ slice_set now.seats index None → IfSome (object_at index now.seats) (WasRetired index) → EmptyBelow (index + 1) old new
-one_seat_more index old now new below inside stock seated emptied left = record {
+one_seat_more : (index : ℕ) (old now new : Hosted) (handed : List (Option Object)) (it : Option Object) → EmptyBelow index old now handed → index < 8 → new.stock ≡ now.stock → AreSeated new.seats new.services →
+    new.seats ≡ slice_set now.seats index None → new.services.outgoing ≡ [] → GivesBack index (object_at index now.seats) it now.services new.services → EmptyBelow (index + 1) old new (slice_set handed index it)
+one_seat_more index old now new handed it below inside stock seated emptied idle back = record {
   stock = stock ∙ below.stock;
   seated = seated;
   gone = gone;
   rest = λ seat above. let another : seat ≢ index = (λ same. let nothing : ⊥ = omega (arith, above, same) in nothing) in
       let from : index ≤ seat = omega (arith, above) in
       ap (object_at seat) emptied ∙ get_or-set_other now.seats index seat None None another ∙ below.rest seat from;
-  retired = retired;
+  idle = idle;
+  eight = length-set handed index it ∙ below.eight;
+  retired = one_more_back index old.seats handed it old.services now.services new.services (let long : length handed ≡ 8 = below.eight in omega (arith, inside, long)) below.retired
+      (subst (λ (x : Option Object). GivesBack index x it now.services new.services) (below.rest index (omega arith)) back);
 }
   where
     eight : index < length now.seats
@@ -58,23 +94,13 @@ one_seat_more index old now new below inside stock seated emptied left = record 
             ap (object_at seat) emptied ∙ get_or-set_other now.seats index seat None None another ∙ below.gone seat before
         by_place (inr from) = let same : index ≡ seat = omega (arith, from, less) in subst (λ n. object_at n new.seats ≡ None) same here
 
-    retired : (seat : ℕ) → seat < index + 1 → IfSome (object_at seat old.seats) (WasRetired seat)
-    retired seat less = by_place (below_or_from seat index)
-      where
-        by_place : (seat < index) ⊎ (index ≤ seat) → IfSome (object_at seat old.seats) (WasRetired seat)
-        by_place (inl before) = below.retired seat before
-        by_place (inr from) =
-            let same : index ≡ seat = omega (arith, from, less) in
-            let itself : index ≤ index = omega arith in
-            subst (λ n. IfSome (object_at n old.seats) (WasRetired n)) same (subst (λ place. IfSome place (WasRetired index)) (below.rest index itself) left)
-
 -- all seats are empty
-pub all_empty : (index : ℕ) (old now : Hosted) → EmptyBelow index old now → 8 ≤ index → HasClosed old now
-all_empty index old now below past = record {
+pub all_empty : (index : ℕ) (old now : Hosted) (handed : List (Option Object)) → EmptyBelow index old now handed → index ≤ 8 → 8 ≤ index → HasClosed old now handed
+all_empty index old now handed below most past = record {
   stock = below.stock;
   gone = gone;
   free = λ seat. below.seated.free seat (gone seat);
-  retired = retired;
+  retired = let eight : index ≡ 8 = omega (arith, most, past) in subst (λ n. GiveBack n old.seats handed old.services now.services) eight below.retired;
 }
   where
     gone : (seat : ℕ) → object_at seat now.seats ≡ None
@@ -84,17 +110,23 @@ all_empty index old now below past = record {
         by_place (inl before) = below.gone seat before
         by_place (inr from) = get_or_past now.seats seat None (let long : length now.seats ≡ 8 = below.seated.eight in omega (arith, from, past, long))
 
-    retired : (seat : ℕ) → IfSome (object_at seat old.seats) (WasRetired seat)
-    retired seat = by_place (below_or_from seat index)
-      where
-        by_place : (seat < index) ⊎ (index ≤ seat) → IfSome (object_at seat old.seats) (WasRetired seat)
-        by_place (inl before) = below.retired seat before
-        by_place (inr from) = subst (λ place. IfSome place (WasRetired seat)) (below.rest seat from)
-            (subst (λ place. IfSome place (WasRetired seat)) (sym (get_or_past now.seats seat None (let long : length now.seats ≡ 8 = below.seated.eight in omega (arith, from, past, long)))) tt)
+-- nobody has retired yet
+pub none_empty : (old : Hosted) (handed : List (Option Object)) → IsWhole old → length handed ≡ 8 → EmptyBelow 0 old old handed
+unfolding GiveBack
+none_empty old handed whole eight = record {
+  stock = refl;
+  seated = whole.seated;
+  gone = λ seat less. absurd (omega (arith, less));
+  rest = λ seat above. refl;
+  idle = whole.idle;
+  eight = eight;
+  retired = refl;
+}
 
 -- by a seat that was vacated, and what waited behind that let go
-pub one_vacated : (index seat : ℕ) (old now mid new : Hosted) → EmptyBelow index old now → index < 8 → seat ≡ index → HasVacated seat now mid →
-    IfSome (object_at seat now.seats) (WasRetired seat) → new.stock ≡ mid.stock → new.seats ≡ mid.seats → AreSeated new.seats new.services → EmptyBelow (index + 1) old new
-one_vacated index seat old now mid new below inside same vacated left stock seats seated =
-    one_seat_more index old now new below inside (stock ∙ vacated.stock) seated (seats ∙ vacated.seats ∙ ap (λ n. slice_set now.seats n None) same)
-    (subst (λ n. IfSome (object_at n now.seats) (WasRetired n)) same left)
+pub one_vacated : (index seat : ℕ) (old now mid new : Hosted) (handed : List (Option Object)) (it : Option Object) → EmptyBelow index old now handed → index < 8 → seat ≡ index → HasVacated seat now mid →
+    GoesFrom seat now.services mid.services (object_at seat now.seats) it → new.stock ≡ mid.stock → new.seats ≡ mid.seats → new.services ≡ written_off mid.services → AreSeated new.seats new.services →
+    EmptyBelow (index + 1) old new (slice_set handed index it)
+one_vacated index seat old now mid new handed it below inside same vacated goes stock seats services seated =
+    one_seat_more index old now new handed it below inside (stock ∙ vacated.stock) seated (seats ∙ vacated.seats ∙ ap (λ n. slice_set now.seats n None) same) (ap (λ (s : Services). s.outgoing) services)
+    (subst (λ n. GivesBack n (object_at n now.seats) it now.services new.services) same (record { behind = mid.services; goes = goes; let_go = services }))

@@ -1,8 +1,8 @@
 -- What there is when an object gave its seat back.
-use Rattle.std.specs.Prelude.{◌≡◌, ◌≢◌, ℕ, ◌≤◌, List, [], length, Option, Some, None, IfSome, IsSomeAnd, slice_set}
+use Rattle.std.specs.Prelude.{◌≡◌, ◌≢◌, ℕ, zero, suc, ◌≤◌, List, [], length, Option, Some, None, IfSome, IsSomeAnd, slice_set}
 use Rattle.lc_model.specs.Kept.Summary.{Other}
 use Rattle.lc_model.specs.Kept.Call.{next_retire}
-use Rattle.lc_model.specs.Kept.Executive.{left_from}
+use Rattle.lc_model.specs.Kept.Executive.{left_from, seat_count}
 use Rattle.lc_model.specs.Services.Interface.{IsFreeSeat, IsRetired, outgoing_room}
 use Rattle.app_host.specs.declared.services.Services.{Services}
 use Rattle.app_host.specs.Shared.{held_by, shared}
@@ -10,6 +10,7 @@ use Rattle.app_host.specs.Calls.{LeavesEmpty}
 use Rattle.app_host.specs.Hosted.{Object, Hosted, object_at}
 use Rattle.app_host.specs.Objects.{HasRetired}
 use Rattle.app_host.specs.Whole.{AreSeated}
+use Rattle.app_host.specs.Writing.{written_off}
 use Rattle.app_host.specs.Delivered.{executive_in}
 
 -- what was at the seat is gone
@@ -38,20 +39,32 @@ pub record HasVacated (seat : ℕ) (old new : Hosted) : Type 0 where
   pub fits : length new.services.outgoing ≤ outgoing_room
   pub exact : IfSome (object_at seat old.seats) (λ (o : Object). o.state ≢ Other → LeavesExactly seat old new)
 
--- the object of a seat was retired there, from some services to others, and holds none from then on
-pub record WasRetired (seat : ℕ) (o : Object) : Type 0 where
-  pub before : Services
-  pub after : Services
-  pub gone : Object
-  pub retired : HasRetired seat before after o gone
+-- who was on a seat, if anybody was, has retired there, and is handed on; if nobody was, nothing changed
+abbrev pub GoesFrom : ℕ → Services → Services → Option Object → Option Object → Type 0
+GoesFrom seat before after None None = after ≡ before
+GoesFrom seat before after None (Some gone) = ⊥
+GoesFrom seat before after (Some there) None = ⊥
+GoesFrom seat before after (Some there) (Some gone) = HasRetired seat before after there gone
 
--- nothing runs: each object that ran was retired, and is gone; each seat is free, without a pipe, subscriptions, a sender with its
--- filters, and tables
-pub record HasClosed (old new : Hosted) : Type 0 where
+-- a seat is given back, and what was asked for then is let go
+pub record GivesBack (seat : ℕ) (there gone : Option Object) (before after : Services) : Type 0 where
+  pub behind : Services
+  pub goes : GoesFrom seat before behind there gone
+  pub let_go : after ≡ written_off behind
+
+-- the seats below this number are given back, one after the other, each over the services that the one before it left; these
+-- objects stood there, and these are handed on
+unfoldable pub GiveBack : ℕ → List (Option Object) → List (Option Object) → Services → Services → Type 0
+GiveBack zero there gone first now = now ≡ first
+GiveBack (suc seat) there gone first now = (before : Services) × GiveBack seat there gone first before × GivesBack seat (object_at seat there) (object_at seat gone) before now
+
+-- nothing runs: all that ran retired over the host's own services, seat by seat, and are handed on; each seat is free, without a
+-- pipe, subscriptions, a sender with its filters, and tables
+pub record HasClosed (old new : Hosted) (handed : List (Option Object)) : Type 0 where
   pub stock : new.stock ≡ old.stock
   pub gone : (seat : ℕ) → object_at seat new.seats ≡ None
   pub free : (seat : ℕ) → IsFreeSeat seat (held_by new.services)
-  pub retired : (seat : ℕ) → IfSome (object_at seat old.seats) (WasRetired seat)
+  pub retired : GiveBack seat_count old.seats handed old.services new.services
 
 -- the object of a seat was retired, and holds none from then on
 pub record HasGone (seat : ℕ) (seats : List (Option Object)) (before : Services) : Type 0 where

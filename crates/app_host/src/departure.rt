@@ -1,9 +1,10 @@
 //! Objects give their seats back.
 
-ghost use Rattle.std.specs.Prelude.{◌≡◌, [], IfSome};
-ghost use Rattle.app_host.specs.Hosted.{object_at, shown};
+ghost use Rattle.std.specs.Prelude.{◌≡◌, [], map};
+ghost use Rattle.app_host.specs.Hosted.{object_at, object_in, shown};
 ghost use Rattle.app_host.specs.Whole.{AreSeated, IsWhole};
-ghost use Rattle.app_host.specs.Left.{HasClosed, HasVacated, WasRetired};
+ghost use Rattle.app_host.specs.Left.{GoesFrom, HasClosed, HasVacated};
+ghost use Rattle.app_host.specs.Writing.{written_off};
 
 use crate::app::App;
 use crate::host::Host;
@@ -12,13 +13,13 @@ use lc_model::Seat;
 
 impl<B: App> Host<B> {
     /// The object of a seat retires, if there is one, and is handed on.
-    pub(crate) fn vacate(&mut self, seat: Seat) -> Option<B>
+    fn vacate(&mut self, seat: Seat) -> Option<B>
         requires seated { AreSeated (shown B.meaning self.old).seats
             (shown B.meaning self.old).services }
         requires idle { self.old.services.outgoing ≡ [] }
         ensures vacated { HasVacated seat (shown B.meaning self.old) (shown B.meaning self.new) }
-        ensures retired { IfSome (object_at seat (shown B.meaning self.old).seats)
-            (WasRetired seat) }
+        ensures goes { GoesFrom seat self.old.services self.new.services
+            (object_at seat (shown B.meaning self.old).seats) (object_in B.meaning result) }
     {
         // For the proof: tables and files are within their bounds, each under a name of its own.
         self.services.tables.is_service();
@@ -28,11 +29,13 @@ impl<B: App> Host<B> {
         retired
     }
 
-    /// All that run give their seats back by `retire`, seat by seat, and are handed on; what they ask for then is let go. Nothing
-    /// runs any more, and nothing is registered: no pipe, subscription, sender of events and table. What is in stock stays.
-    fn retire_all(&mut self) -> [Option<B>; Seat::COUNT]
+    /// All applications that run retire, seat by seat, and are returned by seat. What they ask to be written then is dropped.
+    /// Nothing runs afterwards, and no pipe, subscription, sender of events or table is left. The stock stays.
+    pub fn retire_all(&mut self) -> [Option<B>; Seat::COUNT]
         requires whole { IsWhole (shown B.meaning self.old) }
-        ensures closed { HasClosed (shown B.meaning self.old) (shown B.meaning self.new) }
+        ensures whole { IsWhole (shown B.meaning self.new) }
+        ensures closed { HasClosed (shown B.meaning self.old) (shown B.meaning self.new)
+            (map (object_in B.meaning) result) }
     {
         let mut retired: [Option<B>; Seat::COUNT] = [
             None, None, None, None, None, None, None, None,
@@ -45,7 +48,7 @@ impl<B: App> Host<B> {
         retired
     }
 
-    /// All that run retire, seat by seat, and then all objects are dropped.
+    /// All applications that run retire as in `retire_all`, and then all are dropped.
     pub fn close(mut self)
         requires whole { IsWhole (shown B.meaning self) }
     {
@@ -58,7 +61,7 @@ impl<B: App> Host<B> {
             (shown B.meaning self.old).services }
         ensures seated { AreSeated (shown B.meaning self.new).seats
             (shown B.meaning self.new).services }
-        ensures idle { self.new.services.outgoing ≡ [] }
+        ensures services { self.new.services ≡ written_off self.old.services }
         ensures stock { (shown B.meaning self.new).stock ≡ (shown B.meaning self.old).stock }
         ensures seats { (shown B.meaning self.new).seats ≡ (shown B.meaning self.old).seats }
     {

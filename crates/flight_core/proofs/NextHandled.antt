@@ -1,15 +1,23 @@
 -- The next record of those that are held, as it was found, brought to the host and handled.
-use Rattle.std.proofs.Common.{◌≡◌, refl, sym, ◌∙◌, ap, subst, ℕ, ◌<◌, List, ◌++◌, length, Option, Some, None}
+use Rattle.std.proofs.Common.{◌≡◌, refl, sym, ◌∙◌, ap, subst, ℕ, ◌<◌, List, ◌++◌, length, Option, Some, None, Result, Ok, Err}
+use Rattle.std.specs.Prelude.{IfSome}
+use Rattle.lc_model.specs.declared.record.Body.{Body}
+use Rattle.lc_model.specs.declared.record.Body.TheVariants as body
 use Rattle.lc_model.specs.declared.record.Moment.{Moment}
 use Rattle.lc_model.specs.declared.record.Record.{Record as Given}
 use Rattle.lc_model.specs.Device.{Sink}
 use Rattle.lc_model.specs.Host.React.{Input}
 use Rattle.lc_model.specs.Host.Run.{input_of}
-use Rattle.lc_model.specs.Host.Stream.{StreamEntry, Front, EndOfStream, Record, NoRecord, CutRecord}
+use Rattle.lc_model.specs.Host.Stream as stream
+use Rattle.lc_model.specs.Host.Stream.{Contents, StreamEntry, Front, EndOfStream, Record, NoRecord, CutRecord}
 use Rattle.rpn_compiler.specs.declared.files.TablePair.{TablePair}
-use Rattle.app_host.specs.Hosted.{Hosted}
+use Rattle.app_host.specs.Hosted.{Object, Hosted}
 use Rattle.app_host.specs.Party.{AreKnownIn}
-use Rattle.app_host.specs.Response.{response_to, asked_by_host, RespondsPart, RespondsWithCount}
+use Rattle.lc_model.specs.Refusal.{Refusal}
+use Rattle.lc_model.specs.Services.Tables.{TableService, file_put}
+use Rattle.app_host.specs.Boxes.{BoxHasGone}
+use Rattle.app_host.specs.Shared.{at_moment}
+use Rattle.app_host.specs.Response.{response_to, response_to_packet, filing, asked_by_host, RespondsPart, RespondsWithCount}
 use Rattle.app_host.specs.Step.{input_by, party_of, IsBetween, called_for, StepsWhole, StepsPart}
 use Rattle.flight_core.specs.declared.found.Found.{Found}
 use Rattle.flight_core.specs.declared.found.Found.TheVariants as found
@@ -18,6 +26,7 @@ use Rattle.flight_core.specs.Found.{answer_of}
 use Rattle.flight_core.specs.Records.{Held, front_of, next_number, answer_by, after_by, next_answer, after_next, IsRecord}
 use Rattle.flight_core.specs.Brought.{meanings_of, IsTaken, IsBrought}
 use Rattle.flight_core.specs.Going.{IsNext, IsHandled, IsCutShort}
+use Rattle.flight_core.specs.Leaving.{seat_left_for, LeavesForFront}
 
 -- ---- what was brought is a record
 
@@ -28,6 +37,26 @@ given_by pairs (found.Bad number) given is = absurd is
 
 pub taken_by : (pairs : List TablePair) (f : Found) (given : Given) (result : Option Given) → result ≡ Some given → IsBrought pairs f result → IsTaken pairs (answer_of f) given
 taken_by pairs f given result is brought = given_by pairs f given (subst (IsBrought pairs f) is brought)
+
+-- ---- the seat that is left for it
+
+stored : (h : Hosted) (answer : Result TableService Refusal) → (filing h answer).leaves ≡ None
+stored h (Ok tables) = refl
+stored h (Err refusal) = refl
+
+seat_left : (pairs : List TablePair) (h : Hosted) (body : Body) (contents : Contents) → input_by body ≡ input_of (meanings_of pairs) contents → (response_to body h).leaves ≡ seat_left_for contents h
+seat_left pairs h (body.Packet bytes) (stream.Packet bytes') is = let same : bytes.now ≡ bytes' = cc is in ap (λ packet. (response_to_packet packet h).leaves) same
+seat_left pairs h (body.Packet bytes) stream.Tick is = cc is
+seat_left pairs h (body.Packet bytes) (stream.File name' bytes') is = cc is
+seat_left pairs h (body.Packet bytes) (stream.Half name' kind text) is = cc is
+seat_left pairs h body.Tick (stream.Packet bytes') is = cc is
+seat_left pairs h body.Tick stream.Tick is = refl
+seat_left pairs h body.Tick (stream.File name' bytes') is = cc is
+seat_left pairs h body.Tick (stream.Half name' kind text) is = cc is
+seat_left pairs h (body.File name bytes) (stream.Packet bytes') is = cc is
+seat_left pairs h (body.File name bytes) stream.Tick is = cc is
+seat_left pairs h (body.File name bytes) (stream.File name' bytes') is = stored h (file_put name.now bytes.now h.services.tables)
+seat_left pairs h (body.File name bytes) (stream.Half name' kind text) is = stored h (file_put name.now bytes.now h.services.tables)
 
 -- ---- and the one that is in front
 
@@ -55,7 +84,7 @@ next_by held after entry answer goes shorter = by_front (front_of held) refl
 
 module _ (pairs : List TablePair) (held after : Held) (f : Found) (given : Given) (result : Option Given) (brought : IsBrought pairs f result) (is : result ≡ Some given)
     (answer : Some (answer_of f) ≡ next_answer held) (goes : after ≡ after_next held) (shorter : IsRecord (next_answer held) → length (after_next held).bytes < length held.bytes)
-    (old new : Hosted) (before now : Sink) (between : IsBetween new) where
+    (old : Hosted) where
   taken : IsTaken pairs (answer_of f) given
   taken = taken_by pairs f given result is brought
 
@@ -68,59 +97,66 @@ module _ (pairs : List TablePair) (held after : Held) (f : Found) (given : Given
   input_is : input_by given.body ≡ input_of (meanings_of pairs) next.0.entry.contents
   input_is = taken.input ∙ ap (λ (e : StreamEntry). input_of (meanings_of pairs) e.contents) (sym next.1)
 
-  pub handled : (total : ℕ) → StepsWhole given.moment (input_by given.body) old new before now → RespondsWithCount given.moment (response_to given.body old) total old new before.gained now.gained →
-      (AreKnownIn (party_of (input_by given.body)) old → total ≡ length (called_for given.moment (input_by given.body) old)) →
-      IsHandled (meanings_of pairs) held after old new before now total
-  handled total steps counted count = record {
-    next = next.0;
-    between = between;
-    steps = subst (λ (x : Moment × Input (List ℕ)). StepsWhole x.0 x.1 old new before now) (λ i. (moment_is i, input_is i)) steps;
-    count = λ those. count (subst (λ (x : Input (List ℕ)). AreKnownIn (party_of x) old) (sym input_is) those) ∙ (λ i. length (called_for (moment_is i) (input_is i) old));
-    part = counted.responds.called.theirs ++ (asked_by_host given.moment (response_to given.body old).request counted.responds.called.behind).1;
-    step = record {
-      given = given;
-      moment = moment_is;
-      brings = input_is;
-      responds = record {
-        called = counted.responds.called;
-        gains = refl;
-        events = counted.responds.events;
-        files = counted.responds.files;
-        roster = counted.responds.roster;
-        turned = counted.responds.turned;
-      };
-      between = between;
-      exact = λ those. (steps.exact those).host;
-    };
-    gains = counted.responds.gains;
-    counted = counted.count;
-  }
+  -- who leaves a seat for it
+  pub leaves : {B : Type 0} (meaning : B → Object) (boxes : List (Option B)) → IfSome (response_to given.body old).leaves (BoxHasGone meaning boxes (at_moment given.moment old.services)) →
+      LeavesForFront meaning boxes old (front_of held)
+  leaves meaning boxes gone = subst (LeavesForFront meaning boxes old) (sym next.0.front)
+      (subst (λ (x : Option ℕ × Moment). IfSome x.0 (BoxHasGone meaning boxes (at_moment x.1 old.services))) (λ i. (seat_left pairs old given.body next.0.entry.contents input_is i, moment_is i)) gone)
 
-  pub cut_short : (sent : ℕ) → StepsPart given.moment (input_by given.body) sent old new before now → RespondsPart given.moment (response_to given.body old) sent old new before.gained now.gained → IsCutShort (meanings_of pairs) held after old new before now sent
-  cut_short sent steps responds = record {
-    next = next.0;
-    between = between;
-    steps = subst (λ (x : Moment × Input (List ℕ)). StepsPart x.0 x.1 sent old new before now) (λ i. (moment_is i, input_is i)) steps;
-    part = responds.called.theirs ++ (asked_by_host given.moment (response_to given.body old).request responds.called.behind).1;
-    step = record {
-      given = given;
-      moment = moment_is;
-      brings = input_is;
-      responds = record {
-        called = responds.called;
-        fewer = responds.fewer;
-        gains = refl;
-        events = responds.events;
-        files = responds.files;
-        roster = responds.roster;
-        turned = responds.turned;
-      };
+  module _ (new : Hosted) (before now : Sink) (between : IsBetween new) where
+    pub handled : (total : ℕ) → StepsWhole given.moment (input_by given.body) old new before now → RespondsWithCount given.moment (response_to given.body old) total old new before.gained now.gained →
+        (AreKnownIn (party_of (input_by given.body)) old → total ≡ length (called_for given.moment (input_by given.body) old)) →
+        IsHandled (meanings_of pairs) held after old new before now total
+    handled total steps counted count = record {
+      next = next.0;
       between = between;
-      exact = λ those. (steps.exact those).host;
-      all = refl;
-    };
-    gains = responds.gains;
-  }
+      steps = subst (λ (x : Moment × Input (List ℕ)). StepsWhole x.0 x.1 old new before now) (λ i. (moment_is i, input_is i)) steps;
+      count = λ those. count (subst (λ (x : Input (List ℕ)). AreKnownIn (party_of x) old) (sym input_is) those) ∙ (λ i. length (called_for (moment_is i) (input_is i) old));
+      part = counted.responds.called.theirs ++ (asked_by_host given.moment (response_to given.body old).request counted.responds.called.behind).1;
+      step = record {
+        given = given;
+        moment = moment_is;
+        brings = input_is;
+        responds = record {
+          called = counted.responds.called;
+          gains = refl;
+          events = counted.responds.events;
+          files = counted.responds.files;
+          roster = counted.responds.roster;
+          turned = counted.responds.turned;
+        };
+        between = between;
+        exact = λ those. (steps.exact those).host;
+      };
+      gains = counted.responds.gains;
+      counted = counted.count;
+    }
+
+    pub cut_short : (sent : ℕ) → StepsPart given.moment (input_by given.body) sent old new before now → RespondsPart given.moment (response_to given.body old) sent old new before.gained now.gained → IsCutShort (meanings_of pairs) held after old new before now sent
+    cut_short sent steps responds = record {
+      next = next.0;
+      between = between;
+      steps = subst (λ (x : Moment × Input (List ℕ)). StepsPart x.0 x.1 sent old new before now) (λ i. (moment_is i, input_is i)) steps;
+      part = responds.called.theirs ++ (asked_by_host given.moment (response_to given.body old).request responds.called.behind).1;
+      step = record {
+        given = given;
+        moment = moment_is;
+        brings = input_is;
+        responds = record {
+          called = responds.called;
+          fewer = responds.fewer;
+          gains = refl;
+          events = responds.events;
+          files = responds.files;
+          roster = responds.roster;
+          turned = responds.turned;
+        };
+        between = between;
+        exact = λ those. (steps.exact those).host;
+        all = refl;
+      };
+      gains = responds.gains;
+    }
 
 -- whatever comes, as many texts stay as there were
 texts_by : (held : Held) (there : Front) → (after_by held there).texts ≡ held.texts

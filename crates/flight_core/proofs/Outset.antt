@@ -1,5 +1,5 @@
 -- How a run begins: the first host, and the texts that were compiled.
-use Rattle.std.proofs.Common.{◌≡◌, ◌≢◌, refl, sym, ◌∙◌, ap, subst, ℕ, ◌+◌, ◌-◌, ◌==◌, ◌<◌, ◌≤◌, Bool, true, false, not, cond, nat_lt, List, ◌∷◌, length, Result, Ok, Err, arith, length-drop, Bor}
+use Rattle.std.proofs.Common.{◌≡◌, ◌≢◌, refl, sym, ◌∙◌, ap, subst, ℕ, ◌+◌, ◌-◌, ◌==◌, ◌<◌, ◌≤◌, Bool, true, false, not, cond, nat_lt, List, length, Result, Ok, Err, arith, length-drop, Bor}
 use Rattle.std.specs.List.{AllByRecursion, concat}
 use Rattle.lc_model.specs.Tables.HalvesAndBytes.{meaning_by}
 use Rattle.lc_model.specs.Tables.InForce.{layouts, edition}

@@ -1,5 +1,5 @@
 -- Each record was one step, and each answer is given for its reason, whatever is in stock.
-use Rattle.std.proofs.Common.{◌≡◌, refl, sym, ◌∙◌, ap, subst, inl, inr, ℕ, ◌<◌, List, [], ◌∷◌, ◌++◌, length, map, Result, Ok, Err, false, arith, append_assoc, append-nil, length-append}
+use Rattle.std.proofs.Common.{◌≡◌, refl, sym, ◌∙◌, ap, subst, inl, inr, ℕ, ◌<◌, List, [], ◌∷◌, ◌++◌, length, Result, Ok, Err, false, arith, append_assoc, append-nil, length-append}
 use Rattle.std.specs.List.{concat}
 use Rattle.std.specs.Io.KnownBytes.{Consumes}
 use Rattle.std.proofs.KnownBytes.{Consumes-trans}
@@ -189,20 +189,20 @@ runs_for pairs members most d h is (FailedToWrite sent) reason = record { first 
 runs_for pairs members most d h is ReachedTheBound reason = record { first = h; begins = is; reason = reason }
 runs_for pairs members most d h is NoMemory reason = tt
 
-module _ (m : Mission) (d : Devices) where
-  pub answers_for : (pairs : List TablePair) → AreAllCompiled m.sources pairs → (members : List Member) → map (λ (member : Member). member.called) members ≡ m.stock → (ending : Ending) →
-      RunsForItsReason pairs members m.most_reads d ending → AnswersForItsReason m d ending
-  answers_for pairs compiled members named (Complete entries count) run = record { pairs = pairs; compiled = compiled; members = members; named = named; run = run }
-  answers_for pairs compiled members named (Uncompiled text refusal) run = tt
-  answers_for pairs compiled members named (MetNoRecord number) run = record { pairs = pairs; compiled = compiled; members = members; named = named; run = run }
-  answers_for pairs compiled members named (MetTheEnd number) run = record { pairs = pairs; compiled = compiled; members = members; named = named; run = run }
-  answers_for pairs compiled members named FailedToRead run = record { pairs = pairs; compiled = compiled; members = members; named = named; run = run }
-  answers_for pairs compiled members named (FailedToWrite sent) run = record { pairs = pairs; compiled = compiled; members = members; named = named; run = run }
-  answers_for pairs compiled members named ReachedTheBound run = record { pairs = pairs; compiled = compiled; members = members; named = named; run = run }
-  answers_for pairs compiled members named NoMemory run = tt
+module _ (AreInStock : List Member → Type 0) (m : Mission) (d : Devices) where
+  pub answers_for : (pairs : List TablePair) → AreAllCompiled m.sources pairs → (members : List Member) → AreInStock members → (ending : Ending) →
+      RunsForItsReason pairs members m.most_reads d ending → AnswersForItsReason AreInStock m d ending
+  answers_for pairs compiled members stock (Complete entries count) run = record { pairs = pairs; compiled = compiled; members = members; stock = stock; run = run }
+  answers_for pairs compiled members stock (Uncompiled text refusal) run = tt
+  answers_for pairs compiled members stock (MetNoRecord number) run = record { pairs = pairs; compiled = compiled; members = members; stock = stock; run = run }
+  answers_for pairs compiled members stock (MetTheEnd number) run = record { pairs = pairs; compiled = compiled; members = members; stock = stock; run = run }
+  answers_for pairs compiled members stock FailedToRead run = record { pairs = pairs; compiled = compiled; members = members; stock = stock; run = run }
+  answers_for pairs compiled members stock (FailedToWrite sent) run = record { pairs = pairs; compiled = compiled; members = members; stock = stock; run = run }
+  answers_for pairs compiled members stock ReachedTheBound run = record { pairs = pairs; compiled = compiled; members = members; stock = stock; run = run }
+  answers_for pairs compiled members stock NoMemory run = tt
 
   -- where a text does not compile, or memory is lacking before the run begins
-  pub none_answered : (sources : List (List ℕ)) (e : RunError) → IsNotCompiled sources e → AnswersForItsReason m d (ending_of (Err e))
+  pub none_answered : (sources : List (List ℕ)) (e : RunError) → IsNotCompiled sources e → AnswersForItsReason AreInStock m d (ending_of (Err e))
   none_answered sources (error.Compile number fault) first = tt
   none_answered sources error.Memory not = tt
   none_answered sources (error.BadRecord n) not = absurd not

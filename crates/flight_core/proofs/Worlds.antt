@@ -5,14 +5,14 @@ use Rattle.std.specs.Io.KnownBytes.{Appends}
 use Rattle.lc_model.specs.declared.kind.Kind.{Kind}
 use Rattle.lc_model.specs.declared.record.Moment.{Moment}
 use Rattle.lc_model.specs.Device.{Sink}
-use Rattle.lc_model.specs.Tables.HalvesAndBytes.{Text, TextImage, as_bytes, as_halves, byte_meanings, text_meanings}
+use Rattle.lc_model.specs.Tables.HalvesAndBytes.{Text, TextImage, as_bytes, as_halves, text_meanings}
 use Rattle.lc_model.specs.Tables.InForce.{edition, layouts}
 use Rattle.lc_model.specs.Host.React.{Input, react}
 use Rattle.lc_model.specs.Host.Run.{input_of, handled, world_after}
 use Rattle.lc_model.specs.Host.Schedule.{Schedule}
 use Rattle.lc_model.specs.Host.Stream.{StreamEntry, Contents, Packet, Tick, File, Half}
 use Rattle.lc_model.specs.Host.World.{World, first_world}
-use Rattle.lc_model.specs.Kept.Executive.{Member, Executive, step_by}
+use Rattle.lc_model.specs.Kept.Executive.{Member, step_by}
 use Rattle.lc_model.specs.Kept.Stations as model
 use Rattle.lc_model.specs.Laws.Correspondence.{IsImageOf, WorldAlike}
 use Rattle.lc_model.proofs.Tables.SpellingLaws.{bytes_agree_with_texts, bytes_follow_texts}
@@ -25,8 +25,7 @@ use Rattle.app_host.specs.Delivered.{executive_in}
 use Rattle.app_host.specs.Hosted.{Hosted}
 use Rattle.app_host.specs.Shared.{on_board}
 use Rattle.app_host.specs.Step.{StepsWhole, StepsPart, called_for, party_of}
-use Rattle.flight_core.specs.Flight.{AreAllKnown}
-use Rattle.flight_core.specs.Worlds.{AllBringHalves, AreOnBoard, BringsHalves, FollowsTheWorld, HostsStandForTheTexts, IsFirst, StandForTheTexts, StandsFor, Takes, brought_by, none, one, sent_for}
+use Rattle.flight_core.specs.Worlds.{AllBringHalves, AreOnBoard, BringsHalves, FollowsTheWorld, IsFirst, StandForTheTexts, StandsFor, Takes, brought_by, none, one, sent_for}
 use Rattle.flight_core.proofs.Known.{all_not_other, known_first, party_known, still_known}
 
 half_below : (texts : ℕ) (contents : Contents) → IsBrought texts contents → IsHalfBelow texts contents

@@ -27,6 +27,10 @@ fed_by host held files = record { host = host; held = held; files = files }
 abbrev pub feeding_of : {B : Type 0} → (B → Object) → FedHost B → Feeding
 feeding_of meaning it = fed_by (shown meaning it.host) it.records it.pairs.items
 
+-- the boxes on its seats
+abbrev pub boxes_on : {B : Type 0} → FedHost B → List (Option B)
+boxes_on it = it.host.seats
+
 -- with what is taken of a piece
 abbrev pub fed_with : List ℕ → Feeding → Feeding
 fed_with piece it = record it { held = fed it.held piece }

@@ -18,6 +18,7 @@ pub mod Feeding
 pub mod Failures
 pub mod Fitting
 pub mod Asides
+pub mod Leaving
 pub mod Promises
 pub mod Worlds
 pub mod Room

@@ -1,6 +1,7 @@
 -- What a run promises.
-use Rattle.std.specs.Prelude.{◌≤◌, Result, IfErr}
+use Rattle.std.specs.Prelude.{◌≤◌, List, Result, IfErr}
 use Rattle.lc_model.specs.Host.Outcome.{Devices, Ending}
+use Rattle.lc_model.specs.Kept.Executive.{Member}
 use Rattle.lc_model.specs.Host.Promise.{Mission, FollowsTexts, IsRun, WritesWhatBytesCallFor, WritesWhatIsCalledFor, WritesWithFixedTables}
 use Rattle.flight_core.specs.declared.error.Report.{Report}
 use Rattle.flight_core.specs.declared.error.RunError.{RunError}
@@ -31,17 +32,17 @@ pub record PromisesOfProfile (m : Mission) (d : Devices) (ending : Ending) : Typ
   -- asides can't touch them without premises on hashes and raw files, either
   pub asides_in_bytes : IsNotTouchedByAsidesInBytes m d ending
 
--- what a run promises, whatever is in stock, and where the stock is of this profile
-pub record Promises (OfProfile : Type 0) (m : Mission) (d : Devices) (result : Result Report RunError) : Type 0 where
+-- what a run promises with these objects in stock, whatever they are, and where the stock is of this profile
+pub record Promises (OfProfile : Type 0) (AreInStock : List Member → Type 0) (m : Mission) (d : Devices) (result : Result Report RunError) : Type 0 where
   pub profile : OfProfile → PromisesOfProfile m d (ending_of result)
   -- memory aside, the first text is refused that says no rules, or too many or too long ones, for the first reason that there
   -- is, and none for how many operands of a condition wait. Then, and for want of memory, nothing was read and nothing written
   pub refuses : RefusesUnfitAlone m.sources d (ending_of result)
   -- of a number of that text that is out of its range: which one it is
   pub named : IfErr result (NamesTheNumber m.sources)
-  -- each record was one step, whatever the applications are, and each answer is given for its reason alone: a failed read or
+  -- each record was one step of a host that began with this stock, whatever the applications are, and each answer is given for its reason alone: a failed read or
   -- write, no record or a cut one, and the bound of reads only where that is so, with the numbers that are so
-  pub reasons : AnswersForItsReason m d (ending_of result)
+  pub reasons : AnswersForItsReason AreInStock m d (ending_of result)
   -- however it ends: at most so many reads were made
   pub bounded : d.source_after.reads ≤ m.most_reads
 

@@ -26,6 +26,10 @@ use Rattle.flight_core.specs.Ending.{ending_of}
 abbrev pub members_of : List Object → List Member
 members_of stock = map member_of stock
 
+-- these objects are in stock
+abbrev pub AreThese : List Object → List Member → Type 0
+AreThese stock members = members ≡ members_of stock
+
 -- what is run: the texts, the schedule, the names of the objects in stock, and the most reads
 abbrev pub mission_of : List (Bor (List ℕ)) → Schedule → List Object → ℕ → Mission
 mission_of texts schedule stock most = record {

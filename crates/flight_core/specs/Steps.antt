@@ -1,5 +1,5 @@
 -- What a run is whatever is in stock: each record is one step of the host, and each answer is given for its reason alone.
-use Rattle.std.specs.Prelude.{◌≡◌, ◌⊎◌, ℕ, List, [], ◌∷◌, ◌++◌, length, map, take, Some, ⊤}
+use Rattle.std.specs.Prelude.{◌≡◌, ◌⊎◌, ℕ, List, [], ◌∷◌, ◌++◌, length, take, Some, ⊤}
 use Rattle.std.specs.List.{concat}
 use Rattle.std.specs.Io.KnownBytes.{Consumes}
 use Rattle.lc_model.specs.declared.record.Record.{Record as Given}
@@ -95,15 +95,15 @@ RunsForItsReason pairs members most d (Uncompiled text refusal) = ⊤
 RunsForItsReason pairs members most d NoMemory = ⊤
 RunsForItsReason pairs members most d ending = IsRunForItsReason pairs members most d ending
 
--- with the files of all texts, and with objects of these names in stock
-pub record IsAnsweredForItsReason (m : Mission) (d : Devices) (ending : Ending) : Type 0 where
+-- with the files of all texts, and with objects in stock of which this is so
+pub record IsAnsweredForItsReason (AreInStock : List Member → Type 0) (m : Mission) (d : Devices) (ending : Ending) : Type 0 where
   pub pairs : List TablePair
   pub compiled : AreAllCompiled m.sources pairs
   pub members : List Member
-  pub named : map (λ (member : Member). member.called) members ≡ m.stock
+  pub stock : AreInStock members
   pub run : IsRunForItsReason pairs members m.most_reads d ending
 
-abbrev pub AnswersForItsReason : Mission → Devices → Ending → Type 0
-AnswersForItsReason m d (Uncompiled text refusal) = ⊤
-AnswersForItsReason m d NoMemory = ⊤
-AnswersForItsReason m d ending = IsAnsweredForItsReason m d ending
+abbrev pub AnswersForItsReason : (List Member → Type 0) → Mission → Devices → Ending → Type 0
+AnswersForItsReason AreInStock m d (Uncompiled text refusal) = ⊤
+AnswersForItsReason AreInStock m d NoMemory = ⊤
+AnswersForItsReason AreInStock m d ending = IsAnsweredForItsReason AreInStock m d ending

@@ -4,8 +4,9 @@ ghost use Rattle.std.specs.Prelude.{◌≡◌, false, true, length, IfErr, IfOk}
 ghost use Rattle.app_host.specs.Hosted.{objects_in, shown};
 ghost use Rattle.app_host.specs.Whole.{AreSpares};
 ghost use Rattle.flight_core.specs.Compiled.{IsNotCompiled, sources_of};
-ghost use Rattle.flight_core.specs.Feeding.{HandlesOne, HasBegun, IsReady, fed_by, fed_with, feeding_of};
-ghost use Rattle.flight_core.specs.Records.{taken_of};
+ghost use Rattle.flight_core.specs.Feeding.{HandlesOne, HasBegun, IsReady, boxes_on, fed_by, fed_with, feeding_of};
+ghost use Rattle.flight_core.specs.Leaving.{LeavesForFront};
+ghost use Rattle.flight_core.specs.Records.{front_of, taken_of};
 
 use crate::compiling::compile_all;
 use crate::error::RunError;
@@ -71,6 +72,9 @@ impl<B: App> FedHost<B> {
         ensures ready { IsReady (feeding_of B.meaning self.new) }
         ensures one { HandlesOne (feeding_of B.meaning self.old) (feeding_of B.meaning self.new)
             (W.sink writer.old) (W.sink writer.new) result }
+        ensures gone { (feeding_of B.meaning self.old).host.is_closed ≡ false →
+            LeavesForFront B.meaning (boxes_on self.old) (feeding_of B.meaning self.old).host
+            (front_of (feeding_of B.meaning self.old).held) }
     {
         handle_one(
             &mut self.records,
@@ -119,6 +123,8 @@ fn handle_one<W: ByteSink, B: App>(
     ensures one { HandlesOne (fed_by (shown B.meaning host.old) records.old pairs.now)
         (fed_by (shown B.meaning host.new) records.new pairs.now) (W.sink writer.old)
         (W.sink writer.new) result }
+    ensures gone { (shown B.meaning host.old).is_closed ≡ false → LeavesForFront B.meaning
+        host.old.seats (shown B.meaning host.old) (front_of records.old) }
 {
     if host.is_closed() {
         return Err(Halt::Unsent(0));

@@ -5,7 +5,7 @@ ghost use Rattle.lc_model.specs.Host.Outcome.{devices};
 ghost use Rattle.app_host.specs.Hosted.{objects_in};
 ghost use Rattle.app_host.specs.Whole.{AreSpares};
 ghost use Rattle.flight_core.specs.Promises.{Promises};
-ghost use Rattle.flight_core.specs.Run.{IsOfProfile, mission_of};
+ghost use Rattle.flight_core.specs.Run.{AreThese, IsOfProfile, mission_of};
 
 use crate::error::{Report, RunError};
 use crate::gathered::{Gathered, Gathering, MOST_GATHERED, Outset};
@@ -39,7 +39,8 @@ fn gather<R: ByteSource, W: ByteSink, S: Outset, B: App>(
         let mission = mission_of texts.now schedule.now objects MOST_READS in
         let before_and_after = devices (R.source reader.old) (R.source reader.new) (W.sink device)
         (W.sink result.1) in
-        Promises (IsOfProfile schedule.now objects) mission before_and_after result.0 }
+        Promises (IsOfProfile schedule.now objects) (AreThese objects) mission before_and_after
+        result.0 }
 {
     // For the proof: each promise follows from how the run ends.
     runs_keep_their_promises();
@@ -75,7 +76,8 @@ pub fn run_gathered<R: ByteSource, W: ByteSink, B: App>(
         let mission = mission_of texts.now schedule.now objects MOST_READS in
         let before_and_after = devices (R.source reader.old) (R.source reader.new) (W.sink device)
         (W.sink result.1) in
-        Promises (IsOfProfile schedule.now objects) mission before_and_after result.0 }
+        Promises (IsOfProfile schedule.now objects) (AreThese objects) mission before_and_after
+        result.0 }
 {
     // For the proof: each promise follows from how the run ends.
     runs_keep_their_promises();

@@ -1,11 +1,15 @@
 //! The next record of those that are held is handled.
 
-ghost use Rattle.std.specs.Prelude.{◌≡◌, false, length};
+ghost use Rattle.std.specs.Prelude.{◌≡◌, false, length, IfSome};
+ghost use Rattle.app_host.specs.Boxes.{BoxHasGone};
 ghost use Rattle.app_host.specs.Hosted.{shown};
+ghost use Rattle.app_host.specs.Shared.{at_moment};
 ghost use Rattle.flight_core.specs.Brought.{AreWhole, meanings_of};
 ghost use Rattle.app_host.specs.Response.{response_to, RespondsCounted};
 ghost use Rattle.app_host.specs.Step.{input_by, without_count, Counts, IsBetween, IsNamed, Steps};
 ghost use Rattle.flight_core.specs.Going.{HandlesNext};
+ghost use Rattle.flight_core.specs.Leaving.{LeavesForFront};
+ghost use Rattle.flight_core.specs.Records.{front_of};
 
 use crate::bringing::brought;
 use crate::halt::Halt;
@@ -32,6 +36,9 @@ fn step_any<W: ByteSink, B: App>(
         (shown B.meaning host.new) (W.sink writer.old).gained (W.sink writer.new).gained result }
     ensures count { Counts entry.now.moment (input_by entry.now.body) (shown B.meaning host.old)
         result }
+    ensures gone { IfSome (response_to entry.now.body (shown B.meaning host.old)).leaves
+        (BoxHasGone B.meaning host.old.seats
+        (at_moment entry.now.moment host.old.services)) }
 {
     host.step_counted(entry, writer)
 }
@@ -55,6 +62,9 @@ fn step<W: ByteSink, B: App>(
         (shown B.meaning host.new) (W.sink writer.old).gained (W.sink writer.new).gained result }
     ensures count { Counts entry.now.moment (input_by entry.now.body) (shown B.meaning host.old)
         result }
+    ensures gone { IfSome (response_to entry.now.body (shown B.meaning host.old)).leaves
+        (BoxHasGone B.meaning host.old.seats
+        (at_moment entry.now.moment host.old.services)) }
 {
     let moment = entry.moment;
     match entry.body {
@@ -85,6 +95,8 @@ pub(crate) fn handle_next<W: ByteSink, B: App>(
         (shown B.meaning host.old)
         (shown B.meaning host.new) (W.sink writer.old) (W.sink writer.new) result }
     ensures between { IsBetween (shown B.meaning host.new) }
+    ensures gone { LeavesForFront B.meaning host.old.seats (shown B.meaning host.old)
+        (front_of records.old) }
     ensures texts { records.new.texts ≡ records.old.texts }
 {
     match records.next() {

@@ -13,7 +13,7 @@ ghost use Rattle.flight_core.specs.Fitting.{RefusesUnfitAlone};
 ghost use Rattle.flight_core.specs.Promises.{Promises};
 ghost use Rattle.flight_core.specs.Room.{HostFits};
 ghost use Rattle.flight_core.specs.Steps.{AnswersForItsReason, RunsForItsReason};
-ghost use Rattle.flight_core.specs.Run.{AreOfProfile, IsOfProfile, RefusesNone, RunsSo, members_of, mission_of};
+ghost use Rattle.flight_core.specs.Run.{AreOfProfile, AreThese, IsOfProfile, RefusesNone, RunsSo, members_of, mission_of};
 
 use crate::compiling::compile_all;
 use crate::error::{Report, RunError};
@@ -120,7 +120,8 @@ pub fn run_within<R: ByteSource, W: ByteSink, B: App>(
         let mission = mission_of texts.now schedule.now objects reads in
         let before_and_after = devices (R.source reader.old) (R.source reader.new)
         (W.sink writer.old) (W.sink writer.new) in
-        Promises (IsOfProfile schedule.now objects) mission before_and_after result }
+        Promises (IsOfProfile schedule.now objects) (AreThese objects) mission before_and_after
+        result }
 {
     // For the proof: each promise follows from how the run ends.
     runs_keep_their_promises();
@@ -152,7 +153,7 @@ pub(crate) fn begin<R: ByteSource, T: ByteSink, O: Outlet<T>, B: App>(
         (devices (R.source reader.old) (R.source reader.new) (O.device out.old)
         (O.device out.new)) (ending_of result) }
     ensures named { IfErr result (NamesTheNumber (sources_of texts.now)) }
-    ensures reasons { AnswersForItsReason
+    ensures reasons { AnswersForItsReason (AreThese (objects_in B.meaning stock.items))
         (mission_of texts.now schedule.now (objects_in B.meaning stock.items) reads)
         (devices (R.source reader.old) (R.source reader.new) (O.device out.old) (O.device out.new))
         (ending_of result) }
@@ -198,7 +199,8 @@ pub fn run<R: ByteSource, W: ByteSink, B: App>(
         let mission = mission_of texts.now schedule.now objects MOST_READS in
         let before_and_after = devices (R.source reader.old) (R.source reader.new)
         (W.sink writer.old) (W.sink writer.new) in
-        Promises (IsOfProfile schedule.now objects) mission before_and_after result }
+        Promises (IsOfProfile schedule.now objects) (AreThese objects) mission before_and_after
+        result }
 {
     run_within(alloc, texts, schedule, stock, reader, writer, MOST_READS)
 }

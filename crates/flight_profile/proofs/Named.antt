@@ -1,9 +1,9 @@
 -- A stock that was filled spare by spare has these names, and what is promised of it is promised of them.
-use Rattle.std.proofs.Common.{◌≡◌, refl, ◌∙◌, ap, subst, List, [], ◌∷◌, ◌++◌, map, Option, Some, None}
+use Rattle.std.proofs.Common.{◌≡◌, refl, sym, ◌∙◌, ap, subst, List, [], ◌∷◌, ◌++◌, map, Option, Some, None}
 use Rattle.std.specs.Borrow.{Bor}
 use Rattle.std.specs.Prelude.{ℕ, Result, ⊤, IfSome}
 use Rattle.lc_model.specs.Name.{Name}
-use Rattle.lc_model.specs.Host.Outcome.{Devices}
+use Rattle.lc_model.specs.Host.Outcome.{Devices, Ending, Complete, Uncompiled, MetNoRecord, MetTheEnd, FailedToRead, FailedToWrite, ReachedTheBound, NoMemory}
 use Rattle.lc_model.specs.Host.Promise.{Mission}
 use Rattle.lc_model.specs.Host.Schedule.{Schedule}
 use Rattle.lc_model.specs.Kept.Executive.{Member}
@@ -13,8 +13,10 @@ use Rattle.flight_core.specs.declared.error.Report.{Report}
 use Rattle.flight_core.specs.declared.error.RunError.{RunError}
 use Rattle.flight_core.specs.Compiled.{sources_of}
 use Rattle.flight_core.specs.Promises.{Promises}
-use Rattle.flight_core.specs.Run.{members_of}
-use Rattle.flight_profile.specs.Stock.{names_of, own_names, own_mission, most_reads}
+use Rattle.flight_core.specs.Ending.{ending_of}
+use Rattle.flight_core.specs.Run.{AreThese, IsOfProfile, members_of}
+use Rattle.flight_core.specs.Steps.{AnswersForItsReason}
+use Rattle.flight_profile.specs.Stock.{names_of, own_names, own_mission, AreOwn, most_reads}
 
 called_so : (stock : List Object) → map (λ (member : Member). member.called) (members_of stock) ≡ names_of stock
 called_so [] = refl
@@ -35,12 +37,30 @@ eight f l₀ l₁ l₂ l₃ l₄ l₅ l₆ l₇ l₈ a b c d e f' g h e₀ e₁ 
 abbrev mission_with : List (Bor (List ℕ)) → Schedule → List Name → Mission
 mission_with texts schedule stock = record { edition = edition; sources = sources_of texts; schedule = schedule; stock = stock; most_reads = most_reads }
 
+-- what is known of a stock may be said of it in other words
+in_other_words : {P Q : List Member → Type 0} → ((members : List Member) → P members → Q members) → (m : Mission) (d : Devices) (ending : Ending) → AnswersForItsReason P m d ending → AnswersForItsReason Q m d ending
+in_other_words so m d (Complete entries count) answers = record { pairs = answers.pairs; compiled = answers.compiled; members = answers.members; stock = so _ answers.stock; run = answers.run }
+in_other_words so m d (Uncompiled text refusal) answers = tt
+in_other_words so m d (MetNoRecord number) answers = record { pairs = answers.pairs; compiled = answers.compiled; members = answers.members; stock = so _ answers.stock; run = answers.run }
+in_other_words so m d (MetTheEnd number) answers = record { pairs = answers.pairs; compiled = answers.compiled; members = answers.members; stock = so _ answers.stock; run = answers.run }
+in_other_words so m d FailedToRead answers = record { pairs = answers.pairs; compiled = answers.compiled; members = answers.members; stock = so _ answers.stock; run = answers.run }
+in_other_words so m d (FailedToWrite sent) answers = record { pairs = answers.pairs; compiled = answers.compiled; members = answers.members; stock = so _ answers.stock; run = answers.run }
+in_other_words so m d ReachedTheBound answers = record { pairs = answers.pairs; compiled = answers.compiled; members = answers.members; stock = so _ answers.stock; run = answers.run }
+in_other_words so m d NoMemory answers = tt
+
 -- a run of this profile's stock with these names promises all that one of its own does
-pub keeps : {OfProfile : Type 0} → OfProfile → (texts : List (Bor (List ℕ))) (schedule : Schedule) (stock : List Object) (d : Devices) (result : Result Report RunError) →
-    names_of stock ≡ own_names → Promises OfProfile (mission_with texts schedule (map (λ (member : Member). member.called) (members_of stock))) d result → Promises ⊤ (own_mission texts schedule) d result
-keeps {OfProfile} is texts schedule stock d result same promises =
-    let own = subst (λ names. Promises OfProfile (mission_with texts schedule names) d result) (called_so stock ∙ same) promises in
-    record { profile = λ nothing. own.profile is; refuses = own.refuses; named = own.named; reasons = own.reasons; bounded = own.bounded }
+pub keeps : (texts : List (Bor (List ℕ))) (schedule : Schedule) (stock : List Object) → IsOfProfile schedule stock → (d : Devices) (result : Result Report RunError) → names_of stock ≡ own_names →
+    Promises (IsOfProfile schedule stock) (AreThese stock) (mission_with texts schedule (map (λ (member : Member). member.called) (members_of stock))) d result →
+    Promises ⊤ (AreOwn schedule) (own_mission texts schedule) d result
+keeps texts schedule stock is d result same promises =
+    let own = subst (λ names. Promises (IsOfProfile schedule stock) (AreThese stock) (mission_with texts schedule names) d result) (called_so stock ∙ same) promises in
+    record {
+      profile = λ nothing. own.profile is;
+      refuses = own.refuses;
+      named = own.named;
+      reasons = in_other_words (λ members these. subst (AreOwn schedule) (sym these) (is, called_so stock ∙ same)) _ d (ending_of result) own.reasons;
+      bounded = own.bounded;
+    }
 
 -- what is so of the device that was there
 pub of_the_device : {W : Type 0} (old : Option W) (device : W) (So : W → Type 0) → old ≡ Some device → So device → IfSome old So

@@ -3,7 +3,7 @@
 ghost use Rattle.std.specs.Prelude.{◌≡◌, false, ⊤, IfOk, IfSome, IsSome, IsSomeAnd, OnErr};
 ghost use Rattle.lc_model.specs.Host.Outcome.{devices};
 ghost use Rattle.flight_core.specs.Promises.{Promises};
-ghost use Rattle.flight_profile.specs.Stock.{own_mission};
+ghost use Rattle.flight_profile.specs.Stock.{AreOwn, own_mission};
 
 use crate::stock::own_stock;
 use flight_core::laws::runs_keep_their_promises;
@@ -29,7 +29,8 @@ fn run_with_stock<R: ByteSource, W: ByteSink + Drop>(
         IsSomeAnd place.new (λ after.
         let before_and_after = devices (R.source reader.old) (R.source reader.new)
         (W.sink before) (W.sink after) in
-        Promises ⊤ (own_mission texts.now schedule.now) before_and_after answer))) }
+        Promises ⊤ (AreOwn schedule.now) (own_mission texts.now schedule.now) before_and_after
+        answer))) }
     ensures unread { OnErr result (R.source reader.new ≡ R.source reader.old) }
     ensures untouched { OnErr result (place.new ≡ place.old) }
 {
@@ -65,7 +66,8 @@ pub fn launch<R: ByteSource, W: ByteSink + Drop>(
     // All that a run of this stock promises, of the device itself: the fields of `Promises` and of `PromisesOfProfile`.
     ensures promises { let before_and_after = devices (R.source reader.old) (R.source reader.new)
         (W.sink device) (W.sink result.1) in
-        Promises ⊤ (own_mission texts.now schedule.now) before_and_after result.0 }
+        Promises ⊤ (AreOwn schedule.now) (own_mission texts.now schedule.now) before_and_after
+        result.0 }
 {
     runs_keep_their_promises();
     let mut place = Some(device);

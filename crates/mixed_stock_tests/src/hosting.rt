@@ -1,7 +1,9 @@
 //! A host of boxes of any applications.
 
-ghost use Rattle.app_host.specs.Hosted.{shown};
+ghost use Rattle.std.specs.Prelude.{◌≡◌, ℕ, None};
+ghost use Rattle.app_host.specs.Hosted.{object_at, shown};
 ghost use Rattle.app_host.specs.Step.{IsBetween, IsNamed};
+ghost use Rattle.app_host.specs.Whole.{IsWhole};
 
 use app_host::{App, Host};
 use app_host_tests::named::Named;
@@ -42,14 +44,24 @@ fn handle<B: App, W: ByteSink>(host: &mut Host<B>, body: Body<'_>, out: &mut W) 
     answer.ok().map(|_| host.calls())
 }
 
+/// All applications that run retire, and the answer is how many came back. Nothing runs then.
+fn retire_all<B: App>(host: &mut Host<B>) -> usize
+    requires whole { IsWhole (shown B.meaning host.old) }
+    ensures whole { IsWhole (shown B.meaning host.new) }
+    ensures nobody { (seat : ℕ) → object_at seat (shown B.meaning host.new).seats ≡ None }
+{
+    let returned = host.retire_all();
+    returned.iter().filter(|place| place.is_some()).count()
+}
+
 /// Makes a host with a Limit Checker, a scheduler, a counter and an application of another kind in stock; starts all four, gives
-/// the counter its command, and ticks; then closes the host. Answers how many calls of applications each of these six records
-/// took, and whether all four ran. Out of memory is the only error.
+/// the counter its command, and ticks; then all four retire, and the host is closed. Answers how many calls of applications each of
+/// these six records took, whether all four ran, and how many retired. Out of memory is the only error.
 fn play<W: ByteSink>(
     alloc: Global,
     schedule: &Schedule,
     out: &mut W,
-) -> Result<([Option<u32>; 6], bool), AllocError> {
+) -> Result<([Option<u32>; 6], bool, usize), AllocError> {
     let mut stock: Vec<Box<dyn App>> = Vec::new(alloc);
     stock.push(Box::new(alloc, LimitChecker::new(alloc)?)?)?;
     stock.push(Box::new(alloc, Scheduler::new(alloc, schedule)?)?)?;
@@ -67,8 +79,9 @@ fn play<W: ByteSink>(
                 handle(&mut host, Body::Tick, out),
             ];
             let all = all_run(&host);
+            let retired = retire_all(&mut host);
             host.close();
-            Ok((calls, all))
+            Ok((calls, all, retired))
         }
     }
 }
@@ -91,8 +104,9 @@ mod tests {
         let schedule = parse_schedule(rt.alloc(), SCHEDULE).expect(&rt, "a schedule");
         let mut room = [0; 1_300];
         let mut out = Limited::new(&mut room, 1_300);
-        let (calls, all) = play(rt.alloc(), &schedule, &mut out).expect(&rt, "memory");
+        let (calls, all, retired) = play(rt.alloc(), &schedule, &mut out).expect(&rt, "memory");
         assert!(rt; all, "all four run");
+        assert_eq!(rt; retired, 4, "all four retire");
         // At the tick: the scheduler and the one of another kind, the Limit Checker for the sample, and that other one again for
         // each of the eight packets that it published.
         let wanted = [Some(0), Some(0), Some(0), Some(0), Some(1), Some(11)];

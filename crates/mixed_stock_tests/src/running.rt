@@ -1,11 +1,12 @@
 //! A run with boxes of any applications in stock.
 
-ghost use Rattle.std.specs.Prelude.{◌≡◌, ◌≤◌, false, map, None, IfOk, OnOk};
+ghost use Rattle.std.specs.Prelude.{◌≡◌, ◌≤◌, ◌++◌, ◌∷◌, [], false, map, None, IfOk, OnOk};
 ghost use Rattle.lc_model.specs.Host.Outcome.{devices};
 ghost use Rattle.app_host.specs.Whole.{AreSpares};
 ghost use Rattle.flight_core.specs.Compiled.{sources_of};
 ghost use Rattle.flight_core.specs.Ending.{ending_of};
 ghost use Rattle.flight_core.specs.Fitting.{RefusesUnfitAlone};
+ghost use Rattle.mixed_stock_tests.specs.Mixed.{RunsMixed};
 
 use app_host::App;
 use app_host_tests::named::Named;
@@ -17,7 +18,9 @@ use std::alloc::{AllocError, Global};
 fn add(stock: &mut Vec<Box<dyn App>>, app: Box<dyn App>) -> Result<(), AllocError>
     requires spares { AreSpares (map meaning stock.old.items) }
     requires spare { (meaning app).seat ≡ None }
-    ensures { OnOk result (AreSpares (map meaning stock.new.items)) }
+    ensures spares { OnOk result (AreSpares (map meaning stock.new.items)) }
+    ensures items { OnOk result
+        (map meaning stock.new.items ≡ map meaning stock.old.items ++ meaning app ∷ []) }
 {
     stock.push(app)?;
     Ok(())
@@ -39,6 +42,9 @@ fn run_mixed<R: ByteSource, W: ByteSink>(
         (devices (R.source reader.old) (R.source reader.new) (W.sink writer.old)
         (W.sink writer.new)) (ending_of answer)) }
     ensures bounded { IfOk result (λ _. (R.source reader.new).reads ≤ 4_294_967_296) }
+    ensures mixed { IfOk result (λ answer. RunsMixed (sources_of texts.now) schedule.now
+        (devices (R.source reader.old) (R.source reader.new) (W.sink writer.old)
+        (W.sink writer.new)) (ending_of answer)) }
 {
     let mut stock: Vec<Box<dyn App>> = Vec::new(alloc);
     add(&mut stock, Box::new(alloc, LimitChecker::new(alloc)?)?)?;

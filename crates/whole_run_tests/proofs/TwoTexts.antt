@@ -2,10 +2,15 @@
 use Rattle.std.proofs.Common.{◌≡◌, ◌≢◌, refl, ap, sym, ◌∙◌, subst, ℕ, zero, suc, ◌<◌, Bool, true, false, ◌&&◌, bytes_eq, List, [], ◌∷◌, length, slice_get, slice_index, slice_index_or, Contains, Some, Ok, true≢false, lit≤, lit<, arith}
 use Rattle.std.proofs.lemmas.Slice.Eq.{bytes_eq-Decides}
 use Rattle.std.specs.Fmt.{digits}
-use Rattle.std.specs.List.{list_all}
+use Rattle.std.specs.List.{AllByRecursion, list_all}
 use Rattle.sha2.specs.Sha256.{sha256, first_words, schedule, rounds, compress, hash_after, digest_bytes}
 use Rattle.lc_model.specs.declared.kind.Kind.{Kind}
 use Rattle.lc_model.specs.declared.kind.Kind.TheVariants.{Wdt}
+use Rattle.lc_model.specs.declared.truth.Truth.{Truth}
+use Rattle.lc_model.specs.declared.truth.Truth.TheVariants.{True, False, Stale, Error}
+use Rattle.lc_model.specs.Truth.{truth_and, truth_not}
+use Rattle.lc_model.specs.LimitChecker.Watch.{truth_of_term}
+use Rattle.lc_model.specs.Rule.{NamedRule}
 use Rattle.lc_model.specs.Name.{Name}
 use Rattle.lc_model.specs.Events.Outgoing.{sequence_request}
 use Rattle.lc_model.specs.Tables.File.{TableFile, opened, wrapped}
@@ -20,10 +25,12 @@ use Rattle.lc_model.specs.Host.Outcome.{Complete, Devices, Ending, answer}
 use Rattle.lc_model.specs.Host.Promise.{AreCompiled, CarriesHalf, CarryHalves, HaveOwnHashes, called_for, sequences_called_for}
 use Rattle.worked_examples.proofs.Reading.{low_volts_text, low_volts_rules, low_volts_reads}
 use Rattle.worked_examples.proofs.Missions.{text}
-use Rattle.worked_examples.proofs.Lower.{lower_text, lower_volts_rules, lower_volts_reads, lower_volts_text, lower_wdt, lower_wdt_is_half}
+use Rattle.rule_judgement.specs.Called.{IsNeverWritten}
+use Rattle.rule_judgement.specs.Judgement.{NeverFails}
+use Rattle.worked_examples.proofs.Lower.{never, lower_volts, lower_text, lower_volts_rules, lower_volts_reads, lower_volts_text, lower_wdt, lower_wdt_is_half}
 use Rattle.flight_core.specs.Fitting.{Fits}
 use Rattle.whole_run_tests.specs.TwoTexts.{WritesBoth, lower_wdt_file, swaps_and_reload}
-use Rattle.whole_run_tests.specs.WithStock.{KeepsItsPromises, names}
+use Rattle.whole_run_tests.specs.WithStock.{KeepsItsPromises, mission, names}
 use Rattle.whole_run_tests.proofs.LowVolts.{low_volts_fit}
 use Rattle.whole_run_tests.proofs.Undisturbed.{ends_well}
 
@@ -39,7 +46,7 @@ compile : AreCompiled limits sources texts
 compile = ((refl, (low_volts_reads, refl)), ((refl, (lower_volts_reads, refl)), tt))
 
 lower_volts_fit : Fits lower_volts_text
-lower_volts_fit = record { rules = lower_volts_rules; reads = lower_volts_reads; watchpoints = lit≤ tt; actionpoints = lit≤ tt; words = (lit≤ tt, tt) }
+lower_volts_fit = record { rules = lower_volts_rules; reads = lower_volts_reads; watchpoints = lit≤ tt; actionpoints = lit≤ tt; words = (lit≤ tt, (lit≤ tt, tt)) }
 
 all_fit : (number : ℕ) (source : List ℕ) → slice_get sources number ≡ Some source → Fits source
 all_fit zero source there = let same : low_volts_text ≡ source = cc there in subst Fits same low_volts_fit
@@ -51,12 +58,12 @@ first_of_low : slice_index (sha256 low_volts_text) 0 ≡ 0xAE
 unfolding sha256 hash_after compress rounds schedule first_words digest_bytes
 first_of_low = refl
 
-first_of_lower : slice_index (sha256 lower_volts_text) 0 ≡ 0x81
+first_of_lower : slice_index (sha256 lower_volts_text) 0 ≡ 0xEE
 unfolding sha256 hash_after compress rounds schedule first_words digest_bytes
 first_of_lower = refl
 
 differ : sha256 low_volts_text ≢ sha256 lower_volts_text
-differ same = let clash : 0xAE ≡ 0x81 = sym first_of_low ∙ ap (λ hash. slice_index hash 0) same ∙ first_of_lower in omega (arith, clash)
+differ same = let clash : 0xAE ≡ 0xEE = sym first_of_low ∙ ap (λ hash. slice_index hash 0) same ∙ first_of_lower in omega (arith, clash)
 
 own_hashes : HaveOwnHashes texts
 own_hashes a b (zero, less, is) (zero, less', is') same = ap (λ (t : Text). t.source) (sym is ∙ is')
@@ -135,14 +142,34 @@ requested : (slots : Schedule) → sequences_called_for layouts texts slots name
 unfolding digits sha256 hash_after compress rounds schedule first_words digest_bytes
 requested slots = refl
 
+-- ---- the sequence that nobody requests
+
+-- a comparison and its contrary are never both true
+not_both : (t : Truth) → truth_and t (truth_not t) ≢ True
+not_both True e = cc e
+not_both False e = cc e
+not_both Stale e = cc e
+not_both Error e = cc e
+
+never_fails : NeverFails never
+never_fails history = not_both (truth_of_term lower_volts history)
+
+none_fails : (listed : Text) → Contains texts listed → AllByRecursion (λ (rule : NamedRule). rule.action.sequence ≡ 9 → NeverFails rule.action.condition) listed.rules
+none_fails listed (zero, less, is) = subst (λ (t : Text). AllByRecursion (λ (rule : NamedRule). rule.action.sequence ≡ 9 → NeverFails rule.action.condition) t.rules) is ((λ e. absurd (cc e)), tt)
+none_fails listed (suc zero, less, is) =
+    subst (λ (t : Text). AllByRecursion (λ (rule : NamedRule). rule.action.sequence ≡ 9 → NeverFails rule.action.condition) t.rules) is ((λ e. absurd (cc e)), ((λ e. never_fails), tt))
+none_fails listed (suc (suc k), less, is) = absurd (let none : ⊥ = omega (arith, less) in none)
+
 -- ---- the run
 
-pub writes_both : (slots : Schedule) (d : Devices) (ending : Ending) → KeepsItsPromises sources slots d ending → WritesBoth slots d ending
-writes_both slots d ending kept = record {
+pub writes_both : IsNeverWritten → (slots : Schedule) (d : Devices) (ending : Ending) → KeepsItsPromises sources slots d ending → WritesBoth slots d ending
+writes_both never_written slots d ending kept = record {
   texts = record { low = low_volts_rules; lower = lower_volts_rules; reads_low = low_volts_reads; reads_lower = lower_volts_reads };
   ends = λ before known gained.
       ends_well texts sources compile own_hashes all_fit slots d swaps_and_reload before carry known gained
       (called_for layouts texts slots names swaps_and_reload) refl 23 (length (called_for layouts texts slots names swaps_and_reload))
       (answered (length (called_for layouts texts slots names swaps_and_reload))) short ending kept;
   requests = requested slots;
+  quiet = λ before known gained undisturbed.
+      never_written (mission sources slots) d ending kept.by_texts texts swaps_and_reload before 9 compile own_hashes carry known gained undisturbed none_fails;
 }

@@ -17,15 +17,16 @@ use Rattle.lc_model.specs.Tables.HalvesAndBytes.{Text}
 use Rattle.lc_model.specs.Tables.Image.{wdt_image}
 use Rattle.lc_model.specs.Tables.InForce.{layouts}
 use Rattle.lc_model.specs.Host.Outcome.{Devices, Ending}
-use Rattle.lc_model.specs.Host.Promise.{called_for, sequences_called_for}
+use Rattle.lc_model.specs.Host.Promise.{IsUndisturbed, Mission, called_for, sequences_called_for}
 use Rattle.lc_model.specs.Host.Schedule.{Schedule}
 use Rattle.whole_run_tests.specs.Endings.{EndsWell}
 use Rattle.whole_run_tests.specs.LowVolts.{half_stored, low_volts_source, record_of, sampling, voltage}
-use Rattle.whole_run_tests.specs.WithStock.{names}
+use Rattle.rule_judgement.specs.Called.{GainsNoRequest, packets_called_for}
+use Rattle.whole_run_tests.specs.WithStock.{mission, names}
 
--- the second text: one failure below 2,000 requests sequence 8
+-- the second text: one failure below 2,000 requests sequence 8; a rule that never fails would request sequence 9
 abbrev pub lower_volts_source : List ℕ
-lower_volts_source = codes "packet P = mid 0x0883 length 16; field V = P u16be at 12 stale 2; rule LOW active fails 1 sequence 8 event error 1002 \"lower volts\" when V < 2000;"
+lower_volts_source = codes "packet P = mid 0x0883 length 16; field V = P u16be at 12 stale 2; rule LOW active fails 1 sequence 8 event error 1002 \"lower volts\" when V < 2000; rule QUIET active fails 1 sequence 9 event error 1003 \"never\" when V < 2000 and not V < 2000;"
 
 -- its watchpoint, and the file that is compiled of it
 abbrev pub lower_volts : Term
@@ -77,6 +78,10 @@ abbrev pub swaps_and_reload : List ℕ
 swaps_and_reload =
     first_in_force ++ swapped ++ voltage ++ sampling ++ lower_voltage ++ sampling ++ order 4 ++ voltage ++ sampling ++ sampling
 
+-- what is run
+abbrev pub own_mission : Schedule → Mission
+own_mission schedule = mission (low_volts_source ∷ lower_volts_source ∷ []) schedule
+
 -- ---- what is written
 
 -- both texts, with the rules that they say
@@ -97,3 +102,6 @@ pub record WritesBoth (schedule : Schedule) (d : Devices) (ending : Ending) : Ty
       EndsWell 23 (length (called_for layouts (texts_of texts) schedule names swaps_and_reload))
       (called_for layouts (texts_of texts) schedule names swaps_and_reload) d before ending
   pub requests : sequences_called_for layouts (texts_of texts) schedule names swaps_and_reload ≡ sequence_request 0 8 ∷ sequence_request 1 7 ∷ []
+  -- where nothing fails, no packet requests sequence 9, though a rule of the second text names it
+  pub quiet : (before : List ℕ) → d.source.rest ≡ Some swaps_and_reload → d.sink.gained ≡ Some before → IsUndisturbed (own_mission schedule) d ending →
+      GainsNoRequest d before (packets_called_for (own_mission schedule) (texts_of texts) swaps_and_reload) 9

@@ -1,6 +1,6 @@
 use Rattle.std.proofs.Common.{rules, ◌≡◌}
 use Rattle.flight_core.specs.Records.{after_next}
-use Rattle.flight_core.proofs.NextHandled.{handled, cut_short, texts_stay}
+use Rattle.flight_core.proofs.NextHandled.{handled, cut_short, leaves, texts_stay}
 use Rattle.flight_core.proofs.handling.handle_next.Goals as goal
 
 pub returns-in-Ok-clause-next : goal.returns-in-Ok-clause-next
@@ -20,3 +20,15 @@ returns-in-Ok-clause-texts g c = texts_stay c.args.records.now _ (let goes : c.n
 
 pub returns-in-Err-clause-texts : goal.returns-in-Err-clause-texts
 returns-in-Err-clause-texts g c = texts_stay c.args.records.now _ (let goes : c.next.follows.lender-at-none ≡ after_next c.args.records.now = search rules in goes)
+
+pub returns-in-Ok-clause-gone : goal.returns-in-Ok-clause-gone
+returns-in-Ok-clause-gone g c =
+    let goes : c.next.follows.lender-at-none ≡ after_next c.args.records.now = search rules in
+    leaves c.args.pairs.now c.args.records.now c.next.follows.lender-at-none c.in-Some.found c.in-Some-brought.entry c.brought.result c.brought.ensures c.in-Some-brought.is
+    c.in-Some.ensures.found goes c.in-Some.ensures.shorter _ _ _ c.in-Ok.ensures.gone
+
+pub returns-in-Err-clause-gone : goal.returns-in-Err-clause-gone
+returns-in-Err-clause-gone g c =
+    let goes : c.next.follows.lender-at-none ≡ after_next c.args.records.now = search rules in
+    leaves c.args.pairs.now c.args.records.now c.next.follows.lender-at-none c.in-Some.found c.in-Some-brought.entry c.brought.result c.brought.ensures c.in-Some-brought.is
+    c.in-Some.ensures.found goes c.in-Some.ensures.shorter _ _ _ c.in-Err.ensures.gone

@@ -5,4 +5,4 @@ use Rattle.flight_profile.proofs.launching.run_with_stock.Goals as goal
 pub returns-clause-promises : goal.returns-clause-promises
 returns-clause-promises g c =
     of_the_device _ c.in-Some.device _ (let there : c.args.place.now ≡ Some c.in-Some.device = search rules in there)
-    (keeps c.in_ok-stock.ensures.profile c.args.texts.now c.args.schedule.now _ _ _ c.in_ok-stock.ensures.names c.run_gathered-answer.ensures.promises)
+    (keeps c.args.texts.now c.args.schedule.now _ c.in_ok-stock.ensures.profile _ _ c.in_ok-stock.ensures.names c.run_gathered-answer.ensures.promises)

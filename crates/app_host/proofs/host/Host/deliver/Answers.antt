@@ -1,4 +1,4 @@
-use Rattle.std.proofs.Common.{refl, arith, ◌<◌, rules}
+use Rattle.std.proofs.Common.{refl, arith, ◌<◌}
 use Rattle.app_host.proofs.Delivery.{has_first}
 use Rattle.app_host.proofs.Deliver.{is_received, has_size, front_is, may_give, deliver_done}
 use Rattle.lc_model.proofs.Services.TableNames.{tables_are_found}

@@ -1,4 +1,4 @@
-use Rattle.std.proofs.Common.{arith, rules}
+use Rattle.std.proofs.Common.{arith}
 use Rattle.app_host.proofs.Prepared.{is_there, reload_ready}
 use Rattle.app_host.proofs.MadeWay.{reload_made}
 use Rattle.app_host.proofs.host.Host.prepare_reload.Goals as goal

@@ -1,4 +1,4 @@
-use Rattle.std.proofs.Common.{sym, ◌∙◌, arith, rules}
+use Rattle.std.proofs.Common.{sym, ◌∙◌, arith}
 use Rattle.app_host.proofs.Prepared.{runs_there, is_there, restart_ready}
 use Rattle.app_host.proofs.MadeWay.{restarted}
 use Rattle.app_host.proofs.host.Host.prepare_restart.Goals as goal

@@ -1,4 +1,4 @@
-use Rattle.std.proofs.Common.{arith, rules}
+use Rattle.std.proofs.Common.{arith}
 use Rattle.app_host.proofs.Prepared.{is_there, stop_ready}
 use Rattle.app_host.proofs.MadeWay.{stop_made}
 use Rattle.app_host.proofs.host.Host.prepare_stop.Goals as goal

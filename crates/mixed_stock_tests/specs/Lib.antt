@@ -1,0 +1,2 @@
+-- What the callers here state.
+pub mod Mixed
