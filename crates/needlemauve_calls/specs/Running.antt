@@ -11,7 +11,7 @@ use Rattle.flight_core.specs.declared.error.Report.{Report}
 use Rattle.flight_core.specs.declared.error.RunError.{RunError}
 use Rattle.flight_core.specs.Ending.{ending_of}
 use Rattle.flight_core.specs.Promises.{Promises}
-use Rattle.flight_profile.specs.Stock.{own_names, most_reads}
+use Rattle.flight_profile.specs.Stock.{AreOwn, own_names, most_reads}
 use Rattle.needlemauve_calls.specs.declared.refusal.Refusal.{Refusal}
 use Rattle.needlemauve_calls.specs.Refusing.{no_memory, numbers_of}
 
@@ -46,7 +46,7 @@ pub record RunsInMemory (sources : List (List ℕ)) (schedule : Schedule) (strea
   pub full : Bool
   pub no_read_fails : after.failed ≡ false
   pub is_full : full ≡ true → written ≡ length output
-  pub promises : Promises ⊤ (mission sources schedule) (devices (unread stream) after unwritten (written_in output written full)) answer
+  pub promises : Promises ⊤ (AreOwn schedule) (mission sources schedule) (devices (unread stream) after unwritten (written_in output written full)) answer
 
 -- ---- in numbers
 
