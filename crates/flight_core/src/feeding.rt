@@ -58,6 +58,7 @@ impl<B: App> FedHost<B> {
         ensures taken { result ≡ length (taken_of (feeding_of B.meaning self.old).held piece.now) }
         ensures fed { feeding_of B.meaning self.new ≡
             fed_with piece.now (feeding_of B.meaning self.old) }
+        ensures boxes { boxes_on self.new ≡ boxes_on self.old }
     {
         self.records.feed(piece)
     }
