@@ -1,2 +1,3 @@
 -- Lemmas on what messages tell.
+mod Different
 mod Reasons

@@ -1,16 +1,18 @@
 -- What is told by the reason of a bad token is told of the refusal, and what begins with it.
 use Rattle.std.proofs.Common.{◌≡◌, ◌+◌, ◌==◌, ℕ, Bool, true, false, cond, List, [], ◌∷◌, ◌++◌, Option, Some, None, is_some, Result, Ok, Err, IfOk, Vec, Global, ◌∙◌, ap}
-use Rattle.lc_model.specs.Text.Reading.{TextRefusal}
+use Rattle.lc_model.specs.Tables.Compiling.{equation_too_long}
+use Rattle.lc_model.specs.Text.Reading.{TextRefusal, ForRule}
 use Rattle.lc_model.specs.Text.Token.{line_feed, magnitude, quote, is_text_byte}
 use Rattle.std.specs.Prelude.{drop, slice_get}
 use Rattle.std.specs.List.{prefix_len}
 use Rattle.rule_lexer.specs.Reason.{digits_at, reason_of, string_reason}
 use Rattle.rule_lexer.specs.declared.error.LexError.{LexError}
 use Rattle.rule_lexer.specs.declared.error.LexError.TheVariants as error
-use Rattle.rule_lexer.specs.declared.reason.LexReason.TheVariants.{NotANumber, NumberTooLarge, NameTooLong, Unclosed, StringTooLong, ForbiddenByte, TextTooLong, Memory}
+use Rattle.rule_lexer.specs.declared.reason.LexReason.TheVariants.{NotANumber, NumberTooLarge, Unclosed, StringTooLong, ForbiddenByte}
 use Rattle.rpn_compiler.specs.declared.error.CompileError.TheVariants.{Lex}
 use Rattle.rpn_compiler.specs.Fault.{refusal_of}
-use Rattle.rule_messages.specs.Telling.{IsAt, TellsOf, TellsReason, place_by_reason, place_of}
+use Rattle.rule_messages.specs.Places.{IsRule}
+use Rattle.rule_messages.specs.Telling.{IsAt, Tells, TellsOf, TellsReason, place_by_reason, place_of}
 use Rattle.rule_messages.specs.declared.message.Message.{Message}
 
 of_number : (text : List ℕ) (at : ℕ) (test : Bool) (message : Message)
@@ -40,7 +42,7 @@ tells_one text (error.NameTooLong at) message told = told
 tells_one text (error.BadString at) message told =
     let rest : List ℕ = drop (at + 1) text in
     of_string text at (prefix_len is_text_byte rest) (slice_get rest (prefix_len is_text_byte rest)) message told
-tells_one text error.TextTooLong message told = (told, tt)
+tells_one text error.TextTooLong message told = told
 tells_one text error.Memory message told = tt
 
 -- what is told of a bad token's reason is told of the refusal
@@ -62,8 +64,8 @@ pub told_first : (text : List ℕ) (refusal : Option TextRefusal) (message : Mes
     → (first : Message) × (more : List Message) × (told ≡ first ∷ more) × TellsOf text refusal first
 told_first text refusal message alone told tells one (more, items) = (message, more, items ∙ ap (λ list. list ++ more) one, tells)
 
--- a message at a place has its number
-pub numbered : {E : Type 0} (code at : ℕ) (result : Result Message E) → IfOk result (IsAt code at)
-    → IfOk result (λ message. message.code ≡ code)
-numbered code at (Ok message) is = is.0
-numbered code at (Err failed) is = is
+-- a message at the name of a rule that is too long tells of that rule
+pub of_rule : {E : Type 0} (text : List ℕ) (rule at : ℕ) (result : Result Message E) → IsRule text rule at → IfOk result (IsAt equation_too_long at)
+    → IfOk result (Tells text (ForRule equation_too_long rule))
+of_rule text rule at (Ok message) is told = (told.0, (at, told.1, is))
+of_rule text rule at (Err failed) is told = told

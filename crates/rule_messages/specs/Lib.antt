@@ -1,2 +1,3 @@
 -- What the contracts of messages cite.
+pub mod Places
 pub mod Telling

@@ -1,9 +1,11 @@
 -- What a message says of a refusal: its number, and its place in the text. This project's own.
-use Rattle.std.specs.Prelude.{◌≡◌, ℕ, ◌==◌, ◌&&◌, Bool, false, if◌then◌else◌, List, [], ◌∷◌, drop, ⊤, Option, Some, None, option_map}
+use Rattle.std.specs.Prelude.{◌≡◌, ℕ, ◌==◌, ◌&&◌, Bool, true, false, if◌then◌else◌, List, [], ◌∷◌, drop, ⊤, Option, Some, None, option_map}
 use denote.Ref.{Bor}
 use Rattle.lc_model.specs.Text.Reading as model
 use Rattle.lc_model.specs.Text.Reading.{ParseFault, TextRefusal, ForText, AtPlace, Unparsed, ForRule}
-use Rattle.lc_model.specs.Text.Token.{not_a_string}
+use Rattle.lc_model.specs.Codes.{table_entries}
+use Rattle.lc_model.specs.Tables.Compiling.{too_many_rules}
+use Rattle.lc_model.specs.Text.Token.{not_a_string, overlong_text}
 use Rattle.rule_lexer.specs.Reason.{string_reason_at}
 use Rattle.rule_lexer.specs.declared.reason.LexReason.{LexReason}
 use Rattle.rule_lexer.specs.declared.reason.LexReason.TheVariants.{NoToken, NotANumber, NumberTooLarge, NameTooLong, Unclosed, StringTooLong, ForbiddenByte, TextTooLong, Memory}
@@ -12,6 +14,7 @@ use Rattle.rule_lexer.specs.declared.error.LexError.TheVariants as lexer
 use Rattle.field_checker.specs.declared.error.CheckError.{CheckError}
 use Rattle.field_checker.specs.declared.error.CheckError.TheVariants as checker
 use Rattle.rpn_compiler.specs.Fault.{code_of}
+use Rattle.rule_messages.specs.Places.{IsComparisonBeyond, IsRule}
 use Rattle.rule_messages.specs.declared.message.Mark.{Mark}
 use Rattle.rule_messages.specs.declared.message.Message.{Message}
 
@@ -48,21 +51,33 @@ abbrev place_of_fault : ParseFault → ℕ
 place_of_fault (model.Expected at what) = at
 place_of_fault (model.TooNested at) = at
 
--- the place that a refusal is told at, where the refusal has one
-abbrev pub place_told : List ℕ → TextRefusal → Option ℕ
-place_told text (ForText code) = None
-place_told text (AtPlace fault) = Some (if fault.code == not_a_string then string_place text fault.at else fault.at)
-place_told text (Unparsed fault) = Some (place_of_fault fault)
-place_told text (ForRule code rule) = None
+-- the message has a place, of which this is true
+abbrev pub StandsWhere : (ℕ → Type 0) → Message → Type 0
+StandsWhere P message = (at : ℕ) × (first_place message ≡ Some at) × P at
 
--- the message is at this place, if there is one
-abbrev pub IsAtPlace : Option ℕ → Message → Type 0
-IsAtPlace None message = ⊤
-IsAtPlace (Some at) message = first_place message ≡ Some at
+-- the place of a refusal of a whole text: a text that is too long has none; of too many rules that of the name of the first too many, and
+-- of too many watchpoints that of the first comparison too many
+abbrev pub StandsFor : (code : ℕ) (text : List ℕ) → Message → Type 0
+StandsFor code text message =
+    either (code == overlong_text) (first_place message ≡ None)
+    (either (code == too_many_rules) (StandsWhere (IsRule text table_entries) message)
+    (StandsWhere (IsComparisonBeyond text) message))
+  where
+    either : Bool → Type 0 → Type 0 → Type 0
+    either true A B = A
+    either false A B = B
+
+-- the message stands where the refusal is: at its place, and that of a rule at the name of the rule
+abbrev pub Stands : List ℕ → TextRefusal → Message → Type 0
+Stands text (ForText code) message = StandsFor code text message
+Stands text (AtPlace fault) message =
+    first_place message ≡ Some (if fault.code == not_a_string then string_place text fault.at else fault.at)
+Stands text (Unparsed fault) message = first_place message ≡ Some (place_of_fault fault)
+Stands text (ForRule code rule) message = StandsWhere (IsRule text rule) message
 
 -- the message has the refusal's number, and its place
 abbrev pub Tells : List ℕ → TextRefusal → Message → Type 0
-Tells text refusal message = (message.code ≡ code_of refusal) × IsAtPlace (place_told text refusal) message
+Tells text refusal message = (message.code ≡ code_of refusal) × Stands text refusal message
 
 -- the same of an error that is a refusal
 abbrev pub TellsOf : List ℕ → Option TextRefusal → Message → Type 0
@@ -83,7 +98,7 @@ TellsReason text (NameTooLong at) begin message = IsAt 3 at message
 TellsReason text (Unclosed at) begin message = IsAt 4 at message
 TellsReason text (StringTooLong at) begin message = IsAt 4 at message
 TellsReason text (ForbiddenByte at) begin message = IsAt 4 (if ends_line (drop at text) then begin else at) message
-TellsReason text TextTooLong begin message = message.code ≡ 5
+TellsReason text TextTooLong begin message = (message.code ≡ 5) × (first_place message ≡ None)
 TellsReason text Memory begin message = ⊤
 
 -- where the token with an error begins, and the place that an error of items names

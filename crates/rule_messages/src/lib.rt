@@ -17,6 +17,7 @@ mod numbers;
 mod packets;
 mod page;
 mod reading;
+mod rules;
 mod source;
 mod tables;
 mod token_faults;

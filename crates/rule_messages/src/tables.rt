@@ -1,15 +1,19 @@
 //! What is said of rules that are too much for the tables.
 
 ghost use Rattle.std.specs.Prelude.{◌≡◌, IfOk};
+ghost use Rattle.rpn_compiler.specs.declared.error.CompileError.TheVariants.{EquationTooLong, TooManyRules, TooManyWatchpoints};
+ghost use Rattle.rpn_compiler.specs.Fault.{refusal_of};
+ghost use Rattle.rule_messages.specs.Telling.{TellsOf};
 
 use crate::bytes::Many;
-use crate::fields::{packet_of, type_of};
-use crate::marks::{mark, text_of, value_of};
+use crate::marks::mark;
 use crate::message::{Mark, Message};
-use crate::source::{Declared, Kind, Part, Source};
-use lc_model::{EQUATION_WORDS, FieldType, TABLE_ENTRIES, Term};
+use crate::rules::{comparisons, rule_name};
+use crate::source::{Kind, Part, Source};
+use lc_model::{EQUATION_WORDS, TABLE_ENTRIES};
 use message_words::quoted;
-use rule_lexer::{Token, TokenKind};
+use rule_lexer::TokenKind;
+use rule_parser::Name;
 use std::alloc::{AllocError, Global};
 
 /// Comparisons and operators of a condition.
@@ -52,23 +56,14 @@ pub fn rule_parts(alloc: Global, source: &Source<'_>) -> Result<Vec<Part>, Alloc
     Ok(rules)
 }
 
-/// A mark under an item's name.
-fn name_mark(source: &Source<'_>, part: Option<Part>, label: String) -> Mark {
-    let name = match part {
-        Some(part) => source.token(part.from.saturating_add(1)),
-        None => None,
-    };
-    match name {
-        Some(name) => Mark {
-            at: name.at,
-            size: name.text.len(),
-            label,
-        },
-        None => Mark {
-            at: 0,
-            size: 0,
-            label,
-        },
+/// A mark under a rule's name.
+fn name_mark(name: Name<'_>, label: String) -> Mark
+    ensures { result.at ≡ name.entry.at }
+{
+    Mark {
+        at: name.at,
+        size: name.text.len(),
+        label,
     }
 }
 
@@ -80,13 +75,13 @@ fn count_head(alloc: Global, count: usize, name: &str) -> Result<String, AllocEr
 
 /// Over 176 rules.
 pub fn rules_message(alloc: Global, source: &Source<'_>) -> Result<Message, AllocError>
-    ensures { IfOk result (λ message. message.code ≡ 41) }
+    ensures { IfOk result (TellsOf source.now.text.now (refusal_of TooManyRules)) }
 {
     let rules = rule_parts(alloc, source)?;
+    let name = rule_name(alloc, source.text, TABLE_ENTRIES)?;
     let head = count_head(alloc, rules.len(), "rule")?;
     let label = String::from_str(alloc, "this is the 177th")?;
-    let part = rules.get(TABLE_ENTRIES).copied();
-    Ok(Message::at(alloc, 41, head, name_mark(source, part, label)))
+    Ok(Message::at(alloc, 41, head, name_mark(name, label)))
 }
 
 /// The item of the rule with this number, counted from 0.
@@ -99,8 +94,8 @@ fn rule_part(alloc: Global, source: &Source<'_>, rule: usize) -> Result<Part, Al
 }
 
 /// What is wrong with a rule whose condition has so many comparisons and operators.
-fn length_head(alloc: Global, name: Option<Token<'_>>, count: usize) -> Result<String, AllocError> {
-    let name = quoted(alloc, text_of(name))?;
+fn length_head(alloc: Global, name: Name<'_>, count: usize) -> Result<String, AllocError> {
+    let name = quoted(alloc, name.text)?;
     format!(in alloc;
         "the condition of {name} has {count} comparisons and operators, at most 31 are allowed"
     )
@@ -112,16 +107,16 @@ pub fn length_message(
     source: &Source<'_>,
     rule: usize,
 ) -> Result<Message, AllocError>
-    ensures { IfOk result (λ message. message.code ≡ 42) }
+    ensures { IfOk result (TellsOf source.now.text.now (refusal_of (EquationTooLong rule))) }
 {
     let part = rule_part(alloc, source, rule)?;
     let words = words_of(source, part);
-    let name = source.token(part.from.saturating_add(1));
+    let name = rule_name(alloc, source.text, rule)?;
     let count = words.comparisons.saturating_add(words.operators);
     let head = length_head(alloc, name, count)?;
     let label = String::from_str(alloc, "split this rule in two")?;
     let other = condition_mark(alloc, source, part, words)?;
-    Message::at(alloc, 42, head, name_mark(source, Some(part), label)).with(other)
+    Message::at(alloc, 42, head, name_mark(name, label)).with(other)
 }
 
 /// What a condition has, in words.
@@ -144,121 +139,28 @@ fn condition_mark(
     }
 }
 
-/// The number behind a word of a field's or packet's item, or this one where it isn't written.
-fn number_in(source: &Source<'_>, name: Declared<'_>, kind: TokenKind, otherwise: u32) -> u32 {
-    match source.value_in(name, kind) {
-        Some(token) => u32::try_from(value_of(token)).unwrap_or(otherwise),
-        None => otherwise,
-    }
-}
-
-/// What a comparison of this field says, but for its operator and its number.
-fn field_term(source: &Source<'_>, field: Declared<'_>, kind: FieldType) -> Term {
-    let packet = match source.parts.get(field.part) {
-        Some(part) => packet_of(source, part.from),
-        None => None,
-    };
-    let mid = match packet {
-        Some(packet) => number_in(source, packet, TokenKind::Mid, 0),
-        None => 0,
-    };
-    Term {
-        kind,
-        mid: u16::try_from(mid).unwrap_or(0),
-        offset: number_in(source, field, TokenKind::At, 0),
-        mask: number_in(source, field, TokenKind::Mask, kind.full_mask()),
-        stale: number_in(source, field, TokenKind::Stale, 0),
-        op: lc_model::CmpOp::Less,
-        value: 0,
-    }
-}
-
-/// The comparison whose operator is the token with this number.
-fn term_at(source: &Source<'_>, number: usize) -> Option<Term> {
-    let name = source.token(number.checked_sub(1)?)?;
-    let TokenKind::Compare(op) = source.token(number)?.kind else {
-        return None;
-    };
-    let field = source.declared(Kind::Field, name.text)?;
-    let kind = type_of(source, field)?.kind;
-    let value = value_of(source.token(number.saturating_add(1))?);
-    let mut term = field_term(source, field, kind);
-    term.op = op;
-    term.value = value;
-    Some(term)
-}
-
-/// The different comparisons of a text.
-#[derive(Drop)]
-struct Different {
-    terms: Vec<Term>,
-    /// The number of the operator of the first that is too much.
-    too_much: Option<usize>,
-}
-
-impl Different {
-    /// Adds the comparison whose operator has this number, unless it is there.
-    fn add(&mut self, term: Term, number: usize) -> Result<(), AllocError> {
-        if self.terms.contains(&term) {
-            return Ok(());
-        }
-        if self.terms.len() == TABLE_ENTRIES {
-            self.too_much = Some(number);
-        }
-        self.terms.push(term)?;
-        Ok(())
-    }
-}
-
-/// All different comparisons.
-fn different_terms(alloc: Global, source: &Source<'_>) -> Result<Different, AllocError> {
-    let mut found = Different {
-        terms: Vec::new(alloc),
-        too_much: None,
-    };
-    for number in 0..source.tokens.len() {
-        if let Some(term) = term_at(source, number) {
-            found.add(term, number)?;
-        }
-    }
-    Ok(found)
-}
-
 /// Over 176 different comparisons.
 pub fn comparisons_message(alloc: Global, source: &Source<'_>) -> Result<Message, AllocError>
-    ensures { IfOk result (λ message. message.code ≡ 31) }
+    ensures { IfOk result (TellsOf source.now.text.now (refusal_of TooManyWatchpoints)) }
 {
-    let found = different_terms(alloc, source)?;
-    let head = count_head(alloc, found.terms.len(), "different comparison")?;
+    let found = comparisons(alloc, source.text)?;
+    let head = count_head(alloc, found.count, "different comparison")?;
     let label = String::from_str(alloc, "this is the 177th")?;
-    let place = comparison_mark(source, found.too_much, label);
-    Ok(Message::at(alloc, 31, head, place))
+    Ok(Message::at(alloc, 31, head, comparison_mark(source, found.at, label)))
 }
 
-/// A mark under the comparison whose operator is the token with this number.
-fn comparison_mark(source: &Source<'_>, number: Option<usize>, label: String) -> Mark {
-    let (field, value) = match number {
-        Some(number) => (
-            source.token(number.saturating_sub(1)),
-            source.token(number.saturating_add(1)),
-        ),
-        None => (None, None),
+/// A mark under the comparison at this place: the name of its field, its operator and its number.
+fn comparison_mark(source: &Source<'_>, at: usize, label: String) -> Mark
+    ensures { result.at ≡ at }
+{
+    let last = source.token(source.number_at(at).saturating_add(2));
+    let end = match last {
+        Some(last) => last.at.saturating_add(last.text.len()),
+        None => at,
     };
-    match (field, value) {
-        (Some(field), Some(value)) => Mark {
-            at: field.at,
-            size: end_of(value).saturating_sub(field.at),
-            label,
-        },
-        _ => Mark {
-            at: 0,
-            size: 0,
-            label,
-        },
+    Mark {
+        at,
+        size: end.saturating_sub(at),
+        label,
     }
-}
-
-/// The place behind a token.
-fn end_of(token: Token<'_>) -> usize {
-    token.at.saturating_add(token.text.len())
 }

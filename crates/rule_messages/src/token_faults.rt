@@ -1,10 +1,10 @@
 //! What is said of tokens that are none, and of a text that is too long.
 
-ghost use Rattle.std.specs.Prelude.{◌≡◌, drop, if◌then◌else◌, IfOk};
+ghost use Rattle.std.specs.Prelude.{◌≡◌, None, drop, if◌then◌else◌, IfOk};
 ghost use Rattle.rule_lexer.specs.declared.error.LexError.{LexError};
 ghost use Rattle.rpn_compiler.specs.declared.error.CompileError.TheVariants.{Lex};
 ghost use Rattle.rpn_compiler.specs.Fault.{refusal_of};
-ghost use Rattle.rule_messages.specs.Telling.{IsAt, TellsOf, TellsReason, ends_line, place_of};
+ghost use Rattle.rule_messages.specs.Telling.{IsAt, TellsOf, TellsReason, ends_line, first_place, place_of};
 
 use crate::bytes::{Many, around, behind, character, front, last_word, word_size};
 use crate::message::{Mark, Message};
@@ -345,7 +345,7 @@ fn is_line_end(text: &[u8], at: usize) -> bool
 }
 
 fn long_text(alloc: Global, text: &[u8]) -> Result<Message, AllocError>
-    ensures { IfOk result (λ message. message.code ≡ 5) }
+    ensures { IfOk result (λ message. (message.code ≡ 5) × (first_place message ≡ None)) }
 {
     let count = Many(text.len(), "byte");
     let head = format!(in alloc; "the file has {count}, at most 65,536 are allowed")?;

@@ -1,5 +1,10 @@
-use Rattle.rule_messages.proofs.Reasons.{numbered}
+use Rattle.std.proofs.Common.{sym, subst}
+use Rattle.rule_messages.specs.Places.{IsRule}
+use Rattle.rule_messages.proofs.Reasons.{of_rule}
 use Rattle.rule_messages.proofs.tables.length_message.Goals as goal
 
 pub returns : goal.returns
-returns c = numbered 42 c.name_mark.result.at c.with.result (c.with.ensures.error 42 c.name_mark.result.at c.at.ensures)
+returns c =
+    of_rule c.args.source.now.text.now c.args.rule c.name_mark.result.at c.with.result
+    (subst (IsRule c.args.source.now.text.now c.args.rule) (sym c.name_mark.ensures) c.in_ok-name.ensures)
+    (c.with.ensures.error 42 c.name_mark.result.at c.at.ensures)
