@@ -1,37 +1,26 @@
 /* What each call wants: the stack that it touches, on a stack that was filled before, and the memory that it has at once and asks
  * for in all. Prints a line a call. Wants pthreads, and stands in the place of memory.c. */
 #define _GNU_SOURCE
+#include "memory.h"
 #include "needlemauve.h"
 
 #include <pthread.h>
-#include <stdbool.h>
 #include <stdio.h>
 #include <stdlib.h>
 #include <string.h>
 
 enum { STACK = 1 << 20, FILLED = 0xA5 };
 
-struct needlemauve_block {
-  bool there;
-  void *at;
-};
-
-struct needlemauve_block rattle_alloc(size_t size, size_t alignment);
-struct needlemauve_block rattle_realloc(void *at, size_t kept, size_t size, size_t alignment);
-void rattle_dealloc(void *at);
-
 static size_t held, kept, most, asked;
 
 static struct needlemauve_block block_of(size_t *at, size_t size)
 {
-  struct needlemauve_block block = {at != NULL, at != NULL ? at + 2 : (void *)&held};
-  if (at != NULL) {
-    at[0] = size;
-    held += size;
-    asked += 1;
-    if (held > most) most = held;
-  }
-  return block;
+  if (at == NULL) return needlemauve_block_at(NULL);
+  at[0] = size;
+  held += size;
+  asked += 1;
+  if (held > most) most = held;
+  return needlemauve_block_at(at + 2);
 }
 
 struct needlemauve_block rattle_alloc(size_t size, size_t alignment)

@@ -3,48 +3,30 @@
  * it), and of a whole run. Then each call succeeds with all its requests granted. A host that was made asks for none.
  *
  * cc -std=c99 -Iinclude crates/needlemauve/refused.c libneedlemauve.a libneedlemauve_board.a */
+#include "memory.h"
 #include "needlemauve.h"
 
-#include <stdbool.h>
 #include <stdio.h>
 #include <stdlib.h>
 #include <string.h>
 
-struct needlemauve_block {
-  bool there;
-  void *at;
-};
-
-struct needlemauve_block rattle_alloc(size_t size, size_t alignment);
-struct needlemauve_block rattle_realloc(void *at, size_t kept, size_t size, size_t alignment);
-void rattle_dealloc(void *at);
-
 /* How many requests there were, which one is refused (0: none), and how many blocks are out. */
 static unsigned long requests, refused, blocks;
-
-static struct needlemauve_block block_at(void *at)
-{
-  static long double nothing;
-  struct needlemauve_block block;
-  block.there = at != NULL;
-  block.at = at != NULL ? at : (void *)&nothing;
-  return block;
-}
 
 struct needlemauve_block rattle_alloc(size_t size, size_t alignment)
 {
   requests += 1;
-  if (requests == refused) return block_at(NULL);
+  if (requests == refused) return needlemauve_block_at(NULL);
   blocks += 1;
-  return block_at(malloc(size > 0 ? size : alignment));
+  return needlemauve_block_at(malloc(size > 0 ? size : alignment));
 }
 
 struct needlemauve_block rattle_realloc(void *at, size_t kept, size_t size, size_t alignment)
 {
   (void)kept;
   requests += 1;
-  if (requests == refused) return block_at(NULL);
-  return block_at(realloc(at, size > 0 ? size : alignment));
+  if (requests == refused) return needlemauve_block_at(NULL);
+  return needlemauve_block_at(realloc(at, size > 0 ? size : alignment));
 }
 
 void rattle_dealloc(void *at)

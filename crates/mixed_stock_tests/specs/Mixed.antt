@@ -8,6 +8,8 @@ use Rattle.lc_model.specs.Kept.Summary.{Other}
 use Rattle.lc_model.specs.Tables.HalvesAndBytes.{as_bytes}
 use Rattle.lc_model.specs.Tables.InForce.{layouts}
 use Rattle.host_laws.specs.Keeping.{IsSpare}
+use Rattle.app_host.specs.Hosted.{Object}
+use Rattle.flight_core.specs.Run.{AreThese, members_of}
 use Rattle.flight_core.specs.Steps.{AnswersForItsReason}
 
 -- three are of this profile, and nothing is known of the fourth one's state
@@ -22,6 +24,8 @@ pub record AreMixed (schedule : Schedule) (members : List Member) : Type 0 where
 
 -- the run was a run of these texts, record by record, from a host that began with these four
 pub record RunsMixed (sources : List (List ℕ)) (schedule : Schedule) (d : Devices) (ending : Ending) : Type 0 where
+  pub stock : List Object
+  pub mixed : AreMixed schedule (members_of stock)
   pub mission : Mission
   pub texts : mission.sources ≡ sources
-  pub answers : AnswersForItsReason (AreMixed schedule) mission d ending
+  pub answers : AnswersForItsReason (AreThese stock) mission d ending

@@ -5,8 +5,9 @@ ghost use Rattle.lc_model.specs.Rule.{NamedRule};
 ghost use Rattle.lc_model.specs.Text.Reading.{TextRefusal};
 ghost use Rattle.lc_model.specs.Tables.Compiling.{Compiles, IsRefused};
 ghost use Rattle.lc_model.specs.Tables.InForce.{limits};
-ghost use Rattle.needlemauve_calls.specs.Compiling.{AreFiles};
+ghost use Rattle.needlemauve_calls.specs.Compiling.{AreFiles, IsUncompiled};
 ghost use Rattle.needlemauve_calls.specs.Refusing.{no_memory, numbers_of_refusal};
+ghost use Rattle.needlemauve_calls.specs.Said.{no_sentence};
 
 use needlemauve_calls::{ADT, Compiled, WDT, compile_files};
 use std::alloc::Global;
@@ -30,7 +31,8 @@ pub extern "C" fn needlemauve_compile(
         (result ≡ 0) ⊎ (result ≡ no_memory) }
     ensures refuses { (why : TextRefusal) → IsRefused limits text.now why →
         (told.new.refusal ≡ numbers_of_refusal 0 why) ⊎ (result ≡ no_memory) }
-    ensures silent { result ≡ 0 → told.new.sentence.length ≡ 0 }
+    ensures said { result ≢ 0 → IsUncompiled text.now told.new.refusal told.new.sentence }
+    ensures silent { result ≡ 0 → told.new.sentence ≡ no_sentence }
 {
     compile_files(alloc, text, wdt, adt, told)
 }

@@ -3,7 +3,9 @@
 ghost use Rattle.std.specs.Prelude.{◌≡◌, ◌≢◌, ◌<◌, ◌⊎◌, length, None, IsSomeAnd};
 ghost use Rattle.needlemauve_calls.specs.Feeding.{AreFed, IsFed, IsMade, IsUnmade, too_small};
 ghost use Rattle.std.specs.List.{sum};
+ghost use Rattle.needlemauve_calls.specs.Refusing.{unfit};
 ghost use Rattle.needlemauve_calls.specs.Running.{IsNotRun, IsUnfit};
+ghost use Rattle.needlemauve_calls.specs.Said.{no_sentence};
 ghost use Rattle.needlemauve_calls.specs.Texts.{texts_in};
 
 use needlemauve_calls::{Handle, Handled, Made, close_host, feed_host, make_host};
@@ -27,10 +29,13 @@ pub extern "C" fn needlemauve_host_new(
         (IsMade (texts_in texts.now lengths.now) schedule.now room) }
     ensures ready { result ≡ 0 → IsSomeAnd host.new.value IsFed }
     ensures unmade { result ≢ 0 → host.new.value ≡ None }
-    ensures why { result ≢ 0 → IsNotRun texts.now lengths.now schedule.now told.new.refusal ⊎
-        IsUnmade (texts_in texts.now lengths.now) told.new.refusal }
-    ensures unfit { sum lengths.now ≢ length texts.now → IsUnfit told.new.refusal }
-    ensures silent { result ≡ 0 → told.new.sentence.length ≡ 0 }
+    ensures why { result ≢ 0 →
+        IsNotRun texts.now lengths.now schedule.now told.new.refusal told.new.sentence ⊎
+        IsUnmade (texts_in texts.now lengths.now) told.new.refusal told.new.sentence }
+    ensures unfit { sum lengths.now ≢ length texts.now →
+        IsUnfit told.new.refusal told.new.sentence }
+    ensures fit { result ≡ unfit → sum lengths.now ≢ length texts.now }
+    ensures silent { result ≡ 0 → told.new.sentence ≡ no_sentence }
 {
     make_host(alloc, texts, lengths, schedule, room, host, told)
 }
@@ -38,7 +43,6 @@ pub extern "C" fn needlemauve_host_new(
 /// Takes bytes of the stream, handles the record in front, and answers what came of it. Condition: the handle holds a host.
 #[unsafe(no_mangle)]
 pub extern "C" fn needlemauve_host_feed(
-    alloc: Global,
     host: &mut Handle,
     bytes: &[u8],
     output: &mut [u8],
@@ -55,7 +59,7 @@ pub extern "C" fn needlemauve_host_feed(
         (λ fed. length output.old < length fed.room.items) }
     ensures untaken { result ≡ too_small → (told.new.taken ≡ 0) × (told.new.written ≡ 0) }
 {
-    feed_host(alloc, host, bytes, output, told)
+    feed_host(host, bytes, output, told)
 }
 
 /// Closes a host: all applications retire, and all its memory is given back. Condition: the handle holds a host.

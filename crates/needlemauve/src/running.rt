@@ -2,7 +2,9 @@
 
 ghost use Rattle.std.specs.Prelude.{◌≡◌, ◌≢◌, ◌≤◌, length};
 ghost use Rattle.std.specs.List.{sum};
+ghost use Rattle.needlemauve_calls.specs.Refusing.{unfit};
 ghost use Rattle.needlemauve_calls.specs.Running.{IsKeptBehind, IsNotRun, IsUnfit, RunsOf};
+ghost use Rattle.needlemauve_calls.specs.Said.{no_sentence};
 ghost use Rattle.needlemauve_calls.specs.Texts.{texts_in};
 
 use needlemauve_calls::{Run, run_texts};
@@ -22,13 +24,15 @@ pub extern "C" fn needlemauve_run(
     ensures answered { result ≡ told.new.ending.code }
     ensures within { told.new.written ≤ length output.new }
     ensures run { told.new.ending.of ≢ 4 → RunsOf (texts_in texts.now lengths.now) schedule.now
-        stream.now output.new told.new.written told.new.ending }
+        stream.now output.new told.new.written told.new.ending told.new.sentence }
     ensures unrun { told.new.ending.of ≡ 4 →
-        IsNotRun texts.now lengths.now schedule.now told.new.ending }
-    ensures unfit { sum lengths.now ≢ length texts.now → IsUnfit told.new.ending }
+        IsNotRun texts.now lengths.now schedule.now told.new.ending told.new.sentence }
+    ensures unfit { sum lengths.now ≢ length texts.now →
+        IsUnfit told.new.ending told.new.sentence }
+    ensures fit { result ≡ unfit → sum lengths.now ≢ length texts.now }
     ensures behind { IsKeptBehind told.new.written output.old output.new }
     ensures unwritten { told.new.ending.of ≡ 4 → told.new.written ≡ 0 }
-    ensures silent { told.new.ending.code ≡ 0 → told.new.sentence.length ≡ 0 }
+    ensures silent { told.new.ending.code ≡ 0 → told.new.sentence ≡ no_sentence }
 {
     *told = run_texts(alloc, texts, lengths, schedule, stream, output);
     told.ending.code

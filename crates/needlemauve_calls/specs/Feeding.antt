@@ -1,6 +1,5 @@
 -- A host that is fed from C. This project's own.
-use Rattle.std.specs.Prelude.{◌≡◌, ℕ, Bool, true, List, [], take, length, Option, Some, None, Result, Ok, Err}
-use Rattle.lc_model.specs.Device.{Sink}
+use Rattle.std.specs.Prelude.{◌≡◌, ℕ, Bool, true, List, length, Option, Some, None, Result, Ok, Err}
 use Rattle.lc_model.specs.Host.Schedule.{Schedule}
 use Rattle.lc_model.specs.Host.ScheduleText.{schedule_in}
 use Rattle.app_host.specs.Hosted.{Object}
@@ -17,6 +16,9 @@ use Rattle.flight_profile.specs.Stock.{names_of, own_names}
 use Rattle.needlemauve_calls.specs.declared.handle.Fed.{Fed}
 use Rattle.needlemauve_calls.specs.declared.feeding.Handled.{Handled}
 use Rattle.needlemauve_calls.specs.declared.refusal.Refusal.{Refusal}
+use Rattle.needlemauve_calls.specs.declared.sentence.Sentence.{Sentence}
+use Rattle.needlemauve_calls.specs.Said.{Says}
+use Rattle.needlemauve_calls.specs.Words.{run_words}
 use Rattle.needlemauve_calls.specs.Running.{unwritten, written_in, numbers_of_ending}
 
 -- the host in a handle
@@ -41,11 +43,12 @@ pub record IsMade (sources : List (List ℕ)) (schedule : List ℕ) (room : ℕ)
   pub said : schedule_in schedule ≡ Ok slots
   pub stocked : IsStocked sources slots room fed
 
--- a text doesn't compile, or there is no memory, told so
-pub record IsUnmade (sources : List (List ℕ)) (told : Refusal) : Type 0 where
+-- a text doesn't compile, or there is no memory: the error's numbers are told, and its words are said
+pub record IsUnmade (sources : List (List ℕ)) (told : Refusal) (sentence : Sentence) : Type 0 where
   pub error : RunError
   pub refused : IsNotCompiled sources error
   pub is_told : told ≡ numbers_of_ending (ending_of (Err error))
+  pub said : Says (run_words error) sentence
 
 -- ---- a record
 

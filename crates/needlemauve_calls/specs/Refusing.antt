@@ -7,6 +7,10 @@ use Rattle.needlemauve_calls.specs.declared.refusal.Refusal.{Refusal}
 abbrev pub no_memory : ℕ
 no_memory = 255
 
+-- the lengths of texts do not add up to their bytes
+abbrev pub unfit : ℕ
+unfit = 252
+
 -- what a refusal's place counts: nothing, bytes of the text before the fault, rules before it
 abbrev pub nothing : ℕ
 nothing = 0

@@ -1,9 +1,11 @@
 -- A run from memory to memory. This project's own.
-use Rattle.std.specs.Prelude.{◌≡◌, ◌≢◌, ◌⊎◌, ⊤, ℕ, Bool, true, false, List, [], take, drop, length, Option, Some, None, Result, Ok, Err}
+use Rattle.std.specs.Prelude.{◌≡◌, ◌≢◌, ◌⊎◌, ⊤, IfErr, ℕ, Bool, true, false, List, [], take, drop, length, Option, Some, None, Result, Ok}
 use Rattle.std.specs.List.{sum}
 use Rattle.lc_model.specs.Device.{Source, Sink}
 use Rattle.lc_model.specs.Host.Schedule.{Schedule}
 use Rattle.lc_model.specs.Host.ScheduleText.{ScheduleFault, schedule_in}
+use Rattle.tick_scheduler.specs.Error.{IsRefused, fault_of}
+use Rattle.tick_scheduler.specs.declared.error.ScheduleError.{ScheduleError}
 use Rattle.lc_model.specs.Host.Outcome.{devices, Ending, Complete, Uncompiled, MetNoRecord, MetTheEnd, FailedToRead, FailedToWrite, ReachedTheBound, NoMemory}
 use Rattle.lc_model.specs.Host.Promise.{Mission}
 use Rattle.lc_model.specs.Tables.InForce.{edition}
@@ -13,7 +15,10 @@ use Rattle.flight_core.specs.Ending.{ending_of}
 use Rattle.flight_core.specs.Promises.{Promises}
 use Rattle.flight_profile.specs.Stock.{AreOwn, own_names, most_reads}
 use Rattle.needlemauve_calls.specs.declared.refusal.Refusal.{Refusal}
-use Rattle.needlemauve_calls.specs.Refusing.{no_memory, numbers_of}
+use Rattle.needlemauve_calls.specs.declared.sentence.Sentence.{Sentence}
+use Rattle.needlemauve_calls.specs.Refusing.{no_memory, numbers_of, unfit}
+use Rattle.needlemauve_calls.specs.Said.{Says}
+use Rattle.needlemauve_calls.specs.Words.{run_words, schedule_words, unfit_words}
 
 -- these texts with this schedule
 abbrev pub mission : List (List ℕ) → Schedule → Mission
@@ -71,37 +76,41 @@ numbers_of_ending (FailedToWrite sent) = of_record 144 0
 numbers_of_ending ReachedTheBound = of_record 145 0
 numbers_of_ending NoMemory = numbers_of 0 None
 
--- a run of these texts by what the schedule's text says, told so
-pub record RunsOf (sources : List (List ℕ)) (schedule stream output : List ℕ) (written : ℕ) (told : Refusal) : Type 0 where
+-- a run of these texts by what the schedule's text says, told so, with the words of the error that ended it
+pub record RunsOf (sources : List (List ℕ)) (schedule stream output : List ℕ) (written : ℕ) (told : Refusal) (sentence : Sentence) : Type 0 where
   pub slots : Schedule
   pub said : schedule_in schedule ≡ Ok slots
   pub answer : Result Report RunError
   pub run : RunsInMemory sources slots stream output written answer
   pub is_told : told ≡ numbers_of_ending (ending_of answer)
+  pub words : IfErr answer (λ error. Says (run_words error) sentence)
   -- that a write failed is told only where the output is full
   pub full : told.of ≡ records → told.code ≡ 144 → written ≡ length output
 
 -- ---- where nothing was run
 
--- the lengths are not those of parts of the texts
-abbrev pub unfit : ℕ
-unfit = 252
+-- so it is told
+abbrev pub unrun : (code at : ℕ) → Refusal
+unrun code at = record { code = code; of = not_run; at = at; text = 0 }
 
--- so it is told: nothing was run
-pub record IsUnfit (told : Refusal) : Type 0 where
-  pub code : told.code ≡ unfit
-  pub of : told.of ≡ not_run
+-- the lengths do not add up to the texts: so it is told and said
+pub record IsUnfit (told : Refusal) (sentence : Sentence) : Type 0 where
+  pub is_told : told ≡ unrun unfit 0
+  pub said : Says unfit_words sentence
 
 -- what is told of a schedule's fault; one that is none is want of memory
-abbrev pub TellsFault : Option ScheduleFault → Refusal → Type 0
-TellsFault None told = told.code ≡ no_memory
-TellsFault (Some fault) told = (told.code ≡ fault.code) × (told.at ≡ fault.line)
+abbrev pub numbers_of_fault : Option ScheduleFault → Refusal
+numbers_of_fault None = unrun no_memory 0
+numbers_of_fault (Some fault) = unrun fault.code fault.line
 
--- there was no memory, or the text says no schedule, and this is why
-abbrev pub IsUnscheduled : List ℕ → Refusal → Type 0
-IsUnscheduled schedule told =
-    (told.code ≡ no_memory) ⊎ ((fault : ScheduleFault) × (schedule_in schedule ≡ Err fault) × (told.code ≡ fault.code) × (told.at ≡ fault.line))
+-- the text says no schedule for this reason, or there was no memory: its numbers are told, and its words are said
+pub record IsUnscheduled (schedule : List ℕ) (told : Refusal) (sentence : Sentence) : Type 0 where
+  pub error : ScheduleError
+  pub refused : IsRefused (schedule_in schedule) error
+  pub is_told : told ≡ numbers_of_fault (fault_of error)
+  pub said : Says (schedule_words error) sentence
 
 -- the lengths do not fit the texts, or there is no schedule
-abbrev pub IsNotRun : (texts lengths schedule : List ℕ) → Refusal → Type 0
-IsNotRun texts lengths schedule told = ((told.code ≡ unfit) × (sum lengths ≢ length texts)) ⊎ IsUnscheduled schedule told
+abbrev pub IsNotRun : (texts lengths schedule : List ℕ) → Refusal → Sentence → Type 0
+IsNotRun texts lengths schedule told sentence =
+    (IsUnfit told sentence × (sum lengths ≢ length texts)) ⊎ IsUnscheduled schedule told sentence

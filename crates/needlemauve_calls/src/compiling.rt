@@ -5,11 +5,13 @@ ghost use Rattle.lc_model.specs.Rule.{NamedRule};
 ghost use Rattle.lc_model.specs.Text.Reading.{TextRefusal};
 ghost use Rattle.lc_model.specs.Tables.Compiling.{Compiles, IsRefused};
 ghost use Rattle.lc_model.specs.Tables.InForce.{limits};
-ghost use Rattle.needlemauve_calls.specs.Compiling.{AreFiles};
+ghost use Rattle.needlemauve_calls.specs.Compiling.{AreFiles, IsUncompiled};
 ghost use Rattle.needlemauve_calls.specs.Refusing.{no_memory, numbers_of_refusal};
+ghost use Rattle.needlemauve_calls.specs.Said.{no_sentence};
 
 use crate::refusal::{Refusal, in_numbers, none};
 use crate::sentence::Sentence;
+use crate::words::of_text;
 use rpn_compiler::compile;
 use std::alloc::Global;
 
@@ -47,7 +49,8 @@ pub fn compile_files(
         (result ≡ 0) ⊎ (result ≡ no_memory) }
     ensures refuses { (why : TextRefusal) → IsRefused limits text.now why →
         (told.new.refusal ≡ numbers_of_refusal 0 why) ⊎ (result ≡ no_memory) }
-    ensures silent { result ≡ 0 → told.new.sentence.length ≡ 0 }
+    ensures said { result ≢ 0 → IsUncompiled text.now told.new.refusal told.new.sentence }
+    ensures silent { result ≡ 0 → told.new.sentence ≡ no_sentence }
 {
     match compile(alloc, text) {
         Ok(pair) => {
@@ -65,7 +68,7 @@ pub fn compile_files(
                 refusal: in_numbers(0, error),
                 watchpoints: 0,
                 rules: 0,
-                sentence: Sentence::of(error),
+                sentence: of_text(error),
             };
         }
     }

@@ -1,12 +1,16 @@
 //! How a run ended, in numbers and for people.
 
-ghost use Rattle.std.specs.Prelude.{◌≡◌, ◌<◌, IfErr, IfOk};
+ghost use Rattle.std.specs.Prelude.{◌≡◌, ◌≢◌, ◌<◌, IfErr, IfOk};
 ghost use Rattle.flight_core.specs.Ending.{ending_of};
 ghost use Rattle.tick_scheduler.specs.Error.{fault_of};
-ghost use Rattle.needlemauve_calls.specs.Running.{TellsFault, numbers_of_ending};
+ghost use Rattle.needlemauve_calls.specs.Refusing.{unfit};
+ghost use Rattle.needlemauve_calls.specs.Running.{numbers_of_ending, numbers_of_fault, unrun};
+ghost use Rattle.needlemauve_calls.specs.Said.{Says, no_sentence};
+ghost use Rattle.needlemauve_calls.specs.Words.{run_words};
 
 use crate::refusal::{NO_MEMORY, NOTHING, Refusal, in_numbers};
 use crate::sentence::Sentence;
+use crate::words::of_run;
 use flight_core::{Report, RunError};
 use tick_scheduler::ScheduleError;
 
@@ -23,6 +27,7 @@ pub(crate) fn ending_in_numbers(answer: Result<Report, RunError>) -> Refusal
     ensures numbers { result ≡ numbers_of_ending (ending_of answer) }
     ensures of { result.of < 4 }
     ensures some { IfErr answer (λ _. 0 < result.code) }
+    ensures fit { result.code ≢ unfit }
 {
     match answer {
         Ok(report) => of_record(0, report.records),
@@ -56,7 +61,7 @@ fn of_record(code: u32, number: u64) -> Refusal
 
 /// What is told where nothing was run.
 pub(crate) fn not_run(code: u32, at: u64) -> Refusal
-    ensures { result ≡ record { code = code; of = 4; at = at; text = 0 } }
+    ensures { result ≡ unrun code at }
 {
     Refusal {
         code,
@@ -69,8 +74,9 @@ pub(crate) fn not_run(code: u32, at: u64) -> Refusal
 /// Why there is no schedule, and the line.
 pub(crate) fn no_schedule(error: ScheduleError) -> Refusal
     ensures of { result.of ≡ 4 }
-    ensures tells { TellsFault (fault_of error) result }
+    ensures tells { result ≡ numbers_of_fault (fault_of error) }
     ensures some { 0 < result.code }
+    ensures fit { result.code ≢ unfit }
 {
     match error {
         ScheduleError::BadLine { n } => not_run(131, n as u64),
@@ -82,10 +88,11 @@ pub(crate) fn no_schedule(error: ScheduleError) -> Refusal
 
 /// What a run's end says to people.
 pub(crate) fn said(answer: Result<Report, RunError>) -> Sentence
-    ensures { IfOk answer (λ _. result.length ≡ 0) }
+    ensures silent { IfOk answer (λ _. result ≡ no_sentence) }
+    ensures said { IfErr answer (λ error. Says (run_words error) result) }
 {
     match answer {
         Ok(_) => Sentence::none(),
-        Err(error) => Sentence::of(error),
+        Err(error) => of_run(error),
     }
 }

@@ -5,7 +5,9 @@ ghost use Rattle.flight_core.specs.Compiled.{IsNotCompiled, sources_of};
 ghost use Rattle.flight_core.specs.Feeding.{IsReady, feeding_of};
 ghost use Rattle.flight_profile.specs.Members.{meaning_of};
 ghost use Rattle.needlemauve_calls.specs.Feeding.{AreFed, Feeds, HandlesInto, IsFed, IsMade, IsStocked, IsUnmade, code_of, too_small};
+ghost use Rattle.needlemauve_calls.specs.Refusing.{unfit};
 ghost use Rattle.needlemauve_calls.specs.Running.{IsNotRun, IsUnfit, IsUnscheduled};
+ghost use Rattle.needlemauve_calls.specs.Said.{no_sentence};
 ghost use Rattle.std.specs.List.{sum};
 ghost use Rattle.needlemauve_calls.specs.Texts.{texts_in};
 
@@ -15,6 +17,7 @@ use crate::refusal::{NO_MEMORY, Refusal, none};
 use crate::room::{Room, Size};
 use crate::sentence::Sentence;
 use crate::texts::{are_lengths, texts_in};
+use crate::words::{of_lengths, of_no_memory, of_run, of_schedule};
 use flight_core::{FedHost, Halt, RunError};
 use flight_profile::{Member, own_stock};
 use std::alloc::Global;
@@ -88,15 +91,16 @@ fn fed_by_text(
         IsMade (sources_of texts.now) schedule.now size fed.value) }
     ensures ready { IfOk result (λ fed. IsFed fed.value) }
     ensures some { IfErr result (λ told. told.refusal.code ≢ 0) }
-    ensures refused { IfErr result (λ told.
-        IsUnscheduled schedule.now told.refusal ⊎ IsUnmade (sources_of texts.now) told.refusal) }
+    ensures fit { IfErr result (λ told. told.refusal.code ≢ unfit) }
+    ensures refused { IfErr result (λ told. IsUnscheduled schedule.now told.refusal told.sentence ⊎
+        IsUnmade (sources_of texts.now) told.refusal told.sentence) }
 {
     match parse_schedule(alloc, schedule) {
         Ok(slots) => match fed_of(alloc, texts, &slots, size) {
             Ok(fed) => Ok(fed),
-            Err(error) => Err(unmade(ending_in_numbers(Err(error)), Sentence::of(error))),
+            Err(error) => Err(unmade(ending_in_numbers(Err(error)), of_run(error))),
         },
-        Err(error) => Err(unmade(no_schedule(error), Sentence::of(error))),
+        Err(error) => Err(unmade(no_schedule(error), of_schedule(error))),
     }
 }
 
@@ -113,18 +117,19 @@ fn fed_by_texts(
     ensures ready { IfOk result (λ fed. IsFed fed.value) }
     ensures some { IfErr result (λ told. told.refusal.code ≢ 0) }
     ensures refused { IfErr result (λ told.
-        IsNotRun texts.now lengths.now schedule.now told.refusal ⊎
-        IsUnmade (texts_in texts.now lengths.now) told.refusal) }
+        IsNotRun texts.now lengths.now schedule.now told.refusal told.sentence ⊎
+        IsUnmade (texts_in texts.now lengths.now) told.refusal told.sentence) }
     ensures unfit { sum lengths.now ≢ length texts.now →
-        MatchResult result (λ _. ⊥) (λ told. IsUnfit told.refusal) }
+        MatchResult result (λ _. ⊥) (λ told. IsUnfit told.refusal told.sentence) }
+    ensures fit { IfErr result (λ told. told.refusal.code ≡ unfit →
+        sum lengths.now ≢ length texts.now) }
 {
     if !are_lengths(lengths, texts.len()) {
-        let why = Sentence::of("the lengths are not those of the texts");
-        return Err(unmade(not_run(UNFIT, 0), why));
+        return Err(unmade(not_run(UNFIT, 0), of_lengths()));
     }
     match texts_in(alloc, texts, lengths) {
         Ok(texts) => fed_by_text(alloc, texts.as_slice(), schedule, size),
-        Err(_) => Err(unmade(not_run(NO_MEMORY, 0), Sentence::of("out of memory"))),
+        Err(_) => Err(unmade(not_run(NO_MEMORY, 0), of_no_memory())),
     }
 }
 
@@ -145,10 +150,13 @@ pub fn make_host(
         (IsMade (texts_in texts.now lengths.now) schedule.now size) }
     ensures ready { result ≡ 0 → IsSomeAnd handle.new.value IsFed }
     ensures unmade { result ≢ 0 → handle.new.value ≡ None }
-    ensures why { result ≢ 0 → IsNotRun texts.now lengths.now schedule.now told.new.refusal ⊎
-        IsUnmade (texts_in texts.now lengths.now) told.new.refusal }
-    ensures unfit { sum lengths.now ≢ length texts.now → IsUnfit told.new.refusal }
-    ensures silent { result ≡ 0 → told.new.sentence.length ≡ 0 }
+    ensures why { result ≢ 0 →
+        IsNotRun texts.now lengths.now schedule.now told.new.refusal told.new.sentence ⊎
+        IsUnmade (texts_in texts.now lengths.now) told.new.refusal told.new.sentence }
+    ensures unfit { sum lengths.now ≢ length texts.now →
+        IsUnfit told.new.refusal told.new.sentence }
+    ensures fit { result ≡ unfit → sum lengths.now ≢ length texts.now }
+    ensures silent { result ≡ 0 → told.new.sentence ≡ no_sentence }
 {
     match fed_by_texts(alloc, texts, lengths, schedule, size) {
         Ok(fed) => {
@@ -218,13 +226,7 @@ fn feed_fed(fed: &mut Fed, bytes: &[u8], output: &mut [u8]) -> Handled
 /// Takes bytes of the stream, as many as there is room for behind those that are held, and handles the record in front, where it
 /// is whole; and answers what came of it. Condition: the handle holds a host. An output that is smaller than the host's room is
 /// refused, and nothing is done.
-pub fn feed_host(
-    alloc: Global,
-    handle: &mut Handle,
-    bytes: &[u8],
-    output: &mut [u8],
-    told: &mut Handled,
-) -> u32
+pub fn feed_host(handle: &mut Handle, bytes: &[u8], output: &mut [u8], told: &mut Handled) -> u32
     requires there { IsSomeAnd handle.old.value IsFed }
     ensures answered { result ≡ told.new.code }
     ensures ready { IsSomeAnd handle.new.value IsFed }
@@ -236,9 +238,8 @@ pub fn feed_host(
         (λ fed. length output.old < length fed.room.items) }
     ensures untaken { result ≡ too_small → (told.new.taken ≡ 0) × (told.new.written ≡ 0) }
 {
-    let mut fed = taken(handle, alloc);
+    let fed = handle.lend();
     if output.len() < fed.room.len() {
-        *handle = handle_of(fed);
         *told = Handled {
             code: TOO_SMALL,
             taken: 0,
@@ -246,8 +247,7 @@ pub fn feed_host(
         };
         return TOO_SMALL;
     }
-    *told = feed_fed(&mut fed, bytes, output);
-    *handle = handle_of(fed);
+    *told = feed_fed(fed, bytes, output);
     told.code
 }
 

@@ -1,6 +1,7 @@
 //! A handle: one pointer, by which a program in C has a host that it can't look into.
 
 ghost use Rattle.std.specs.Prelude.{◌≡◌, Option, Some, None, IsSome};
+ghost use Rattle.std.specs.Borrow.{sem};
 ghost use Rattle.std.specs.Coded.{coded_option};
 ghost use Rattle.std.specs.declared.alloc.Global.{Global as Heap};
 ghost use Rattle.needlemauve_calls.specs.declared.handle.Fed.{Fed as FedValue};
@@ -73,4 +74,17 @@ pub(crate) fn taken(handle: &mut Handle, alloc: Global) -> Box<Fed>
 {
     let whole = replace(handle, nothing());
     opened(whole, alloc).into_box()
+}
+
+impl Handle {
+    ghost use Rattle.needlemauve_calls.specs.Lent.{LendsFed};
+
+    /// Lends what the handle holds. Condition: it holds something.
+    pub(crate) fn lend(&mut self) -> &mut Fed
+        requires { IsSome self.old.value }
+        ensures* writes_back { sem 𝓛 (LendsFed self.entry result) }
+        ensures value { self.old.value ≡ Some result.now }
+    {
+        unsafe { &mut *(self.at as *mut Fed) }
+    }
 }

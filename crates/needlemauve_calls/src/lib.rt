@@ -13,6 +13,7 @@ mod running;
 mod sentence;
 mod stream;
 mod texts;
+mod words;
 
 pub use compiling::{ADT, Compiled, WDT, compile_files};
 pub use feeding::{Handled, Made, close_host, feed_host, make_host};

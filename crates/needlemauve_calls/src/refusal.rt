@@ -1,8 +1,8 @@
 //! A refusal, in numbers.
 
-ghost use Rattle.std.specs.Prelude.{◌≡◌, ◌<◌};
+ghost use Rattle.std.specs.Prelude.{◌≡◌, ◌≢◌, ◌<◌};
 ghost use Rattle.rpn_compiler.specs.Fault.{refusal_of};
-ghost use Rattle.needlemauve_calls.specs.Refusing.{numbers_of};
+ghost use Rattle.needlemauve_calls.specs.Refusing.{numbers_of, unfit};
 
 use field_checker::CheckError;
 use rpn_compiler::CompileError;
@@ -68,6 +68,7 @@ fn at(text: u64, code: u32, at: usize) -> Refusal
 pub fn in_numbers(text: u64, error: CompileError) -> Refusal
     ensures numbers { result ≡ numbers_of text (refusal_of error) }
     ensures some { 0 < result.code }
+    ensures fit { result.code ≢ unfit }
     ensures of { result.of < 3 }
 {
     match error {

@@ -3,7 +3,9 @@
 ghost use Rattle.std.specs.Prelude.{◌≡◌, ◌≢◌, ◌≤◌, length, None, IfSome};
 ghost use Rattle.flight_core.specs.Compiled.{sources_of};
 ghost use Rattle.std.specs.List.{sum};
+ghost use Rattle.needlemauve_calls.specs.Refusing.{unfit};
 ghost use Rattle.needlemauve_calls.specs.Running.{IsKeptBehind, IsNotRun, IsUnfit, IsUnscheduled, RunsInMemory, RunsOf};
+ghost use Rattle.needlemauve_calls.specs.Said.{no_sentence};
 ghost use Rattle.needlemauve_calls.specs.Texts.{texts_in};
 
 use crate::ending::{UNFIT, ending_in_numbers, no_schedule, not_run, said};
@@ -12,6 +14,7 @@ use crate::room::{Room, Size};
 use crate::sentence::Sentence;
 use crate::stream::Stream;
 use crate::texts::{are_lengths, texts_in};
+use crate::words::{of_lengths, of_no_memory, of_schedule};
 use flight_core::{Report, RunError};
 use flight_profile::launch;
 use std::alloc::Global;
@@ -89,7 +92,7 @@ fn unrun(ending: Refusal, sentence: Sentence) -> Run
 }
 
 /// Runs a schedule's text over a stream, with these rule texts.
-#[tactic(auto, using(crate::proofs::Memory::full_where_told, crate::proofs::NotRun::not_run, crate::proofs::Silent::silent_where_done))]
+#[tactic(auto, using(crate::proofs::Memory::full_where_told, crate::proofs::NotRun::not_run, crate::proofs::NotRun::without_memory, crate::proofs::Silent::silent_where_done))]
 fn run_scheduled(
     alloc: Global,
     texts: &[&[u8]],
@@ -99,11 +102,13 @@ fn run_scheduled(
 ) -> Run
     ensures within { result.written ≤ length output.new }
     ensures run { result.ending.of ≢ 4 → RunsOf (sources_of texts.now) schedule.now stream.now
-        output.new result.written result.ending }
-    ensures unrun { result.ending.of ≡ 4 → IsUnscheduled schedule.now result.ending }
+        output.new result.written result.ending result.sentence }
+    ensures unrun { result.ending.of ≡ 4 →
+        IsUnscheduled schedule.now result.ending result.sentence }
+    ensures fit { result.ending.code ≢ unfit }
     ensures behind { IsKeptBehind result.written output.old output.new }
     ensures unwritten { result.ending.of ≡ 4 → result.written ≡ 0 }
-    ensures silent { result.ending.code ≡ 0 → result.sentence.length ≡ 0 }
+    ensures silent { result.ending.code ≡ 0 → result.sentence ≡ no_sentence }
 {
     match parse_schedule(alloc, schedule) {
         Ok(slots) => match run_in_memory(alloc, texts, &slots, stream, output) {
@@ -112,14 +117,14 @@ fn run_scheduled(
                 written: written as u64,
                 sentence: said(answer),
             },
-            None => unrun(not_run(NO_MEMORY, 0), Sentence::of("out of memory")),
+            None => unrun(not_run(NO_MEMORY, 0), of_no_memory()),
         },
-        Err(error) => unrun(no_schedule(error), Sentence::of(error)),
+        Err(error) => unrun(no_schedule(error), of_schedule(error)),
     }
 }
 
 /// Runs rule texts, which lie one behind the other and have these lengths, over a stream.
-#[tactic(auto, using(crate::proofs::NotRun::of_these, crate::proofs::NotRun::out_of_memory, crate::proofs::NotRun::unfit_lengths, crate::proofs::NotRun::unscheduled))]
+#[tactic(auto, using(crate::proofs::NotRun::of_these, crate::proofs::NotRun::out_of_memory_for_texts, crate::proofs::NotRun::unfit_lengths, crate::proofs::NotRun::unscheduled))]
 pub fn run_texts(
     alloc: Global,
     texts: &[u8],
@@ -130,20 +135,20 @@ pub fn run_texts(
 ) -> Run
     ensures within { result.written ≤ length output.new }
     ensures run { result.ending.of ≢ 4 → RunsOf (texts_in texts.now lengths.now) schedule.now
-        stream.now output.new result.written result.ending }
+        stream.now output.new result.written result.ending result.sentence }
     ensures unrun { result.ending.of ≡ 4 →
-        IsNotRun texts.now lengths.now schedule.now result.ending }
-    ensures unfit { sum lengths.now ≢ length texts.now → IsUnfit result.ending }
+        IsNotRun texts.now lengths.now schedule.now result.ending result.sentence }
+    ensures unfit { sum lengths.now ≢ length texts.now → IsUnfit result.ending result.sentence }
+    ensures fit { result.ending.code ≡ unfit → sum lengths.now ≢ length texts.now }
     ensures behind { IsKeptBehind result.written output.old output.new }
     ensures unwritten { result.ending.of ≡ 4 → result.written ≡ 0 }
-    ensures silent { result.ending.code ≡ 0 → result.sentence.length ≡ 0 }
+    ensures silent { result.ending.code ≡ 0 → result.sentence ≡ no_sentence }
 {
     if !are_lengths(lengths, texts.len()) {
-        let why = Sentence::of("the lengths are not those of the texts");
-        return unrun(not_run(UNFIT, 0), why);
+        return unrun(not_run(UNFIT, 0), of_lengths());
     }
     match texts_in(alloc, texts, lengths) {
         Ok(texts) => run_scheduled(alloc, texts.as_slice(), schedule, stream, output),
-        Err(_) => unrun(not_run(NO_MEMORY, 0), Sentence::of("out of memory")),
+        Err(_) => unrun(not_run(NO_MEMORY, 0), of_no_memory()),
     }
 }

@@ -2,6 +2,7 @@
 
 ghost use Rattle.std.specs.Prelude.{◌≡◌, ◌-◌, ◌<◌, length, take, drop, replicate, IfSome};
 ghost use Rattle.std.specs.Fmt.Cut.{IsTextOrCut};
+ghost use Rattle.needlemauve_calls.specs.Said.{no_sentence};
 
 use std::fmt::{Display, InlineText};
 
@@ -21,7 +22,7 @@ pub struct Sentence {
 impl Sentence {
     /// No sentence.
     pub fn none() -> Sentence
-        ensures { result.length ≡ 0 }
+        ensures { result ≡ no_sentence }
     {
         Sentence {
             length: 0,

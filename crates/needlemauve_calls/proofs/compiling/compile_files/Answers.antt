@@ -1,6 +1,6 @@
 use Rattle.std.proofs.Common.{rules, ap}
 use Rattle.needlemauve_calls.specs.declared.compiling.Compiled.{Compiled}
-use Rattle.needlemauve_calls.proofs.Files.{are_files}
+use Rattle.needlemauve_calls.proofs.Files.{are_files, uncompiled}
 use Rattle.needlemauve_calls.proofs.compiling.compile_files.Goals.{in-Ok, in-Err}
 use Rattle.needlemauve_calls.proofs.compiling.compile_files.Goals as goal
 
@@ -11,4 +11,11 @@ returns-clause-compiled c is = elim c.match-compile.branch [
       (search rules) (search rules)
       (ap (λ (t : Compiled). t.watchpoints) w.told-is) (ap (λ (t : Compiled). t.rules) w.told-is)
   | in-Err w ↦ search rules
+]
+
+pub returns-clause-said : goal.returns-clause-said
+returns-clause-said c refused = elim c.match-compile.branch [
+  | in-Ok w ↦ search rules
+  | in-Err w ↦ uncompiled c.args.text.now c.match-compile.told.refusal c.match-compile.told.sentence c.compile.result w.in-Err.error w.in-Err.is
+      c.compile.ensures.refused (search rules) (search rules)
 ]

@@ -1,31 +1,22 @@
 -- A handle that holds nothing owns nothing.
-use Rattle.std.proofs.Common.{◌≡◌, List, [], ◌∷◌, ◌++◌, refl, sym, ap, ◌∙◌, subst}
+use Rattle.std.proofs.Common.{◌≡◌, [], ◌∷◌, refl}
 use Rattle.std.specs.Prelude.{Option, None}
 use Rattle.needlemauve_calls.specs.declared.handle.Fed.{Fed as FedValue}
-use mir.Val.{Val, vstruct, vcons, vnil, has_ty}
+use mir.Val.{vstruct, vcons, vnil, has_ty}
 use mir.Syntax.{ty_ptr}
 use denote.Triple.Entry.{on_entry}
-use base.Logic.{SProp, ent, emp, id⊢}
-use base.Fml.{ftrue}
-use prog.Wp.{WpFn}
-use types.Kit.{‵, raw, ◌⊛◌, ◌$◌, ◌∵◌, !, qed, by, move, keep, split, fsplit, fjoin, suffices, use0}
-use types.Run.{lit, of_opd, no_more, and_then, returns, enter}
-use types.ByLocal.{alloc_all, pass_all, free_all, look_at, get, get_in, sets}
-use types.Part.{agg, sub, whole}
+use base.Logic.{emp}
+use types.Kit.{raw, ◌$◌, ◌∵◌, !, qed, by, keep, use0}
+use types.Run.{lit, no_more, and_then, returns, enter}
+use types.ByLocal.{alloc_all, pass_all, free_all, look_at, sets}
+use types.Part.{agg}
 use contract.Monad.{fact, fact_i}
 use contract.Running.{tables}
-use denote.Exit.{yes}
-use denote.RattleType.{RattleType, owns}
-use denote.Signature.{types_at, plain}
 use denote.RawPtr.{null_ptr, ptr_val, rawptr_Lawful}
 use denote.Steps.{nothing}
-use denote.Triple.Walked.{Stays, stay_dropped, walk_of, Goes-dropped}
+use denote.Triple.Walked.{walk_of}
 use Rattle.std_alloc.proofs.ResultValues.{and_tt}
 use Rattle.std.proofs.raw_atomic.Walks.{proved, leaves}
-use Rattle.std.proofs.alloc.Global.TheLaws as global
-use Rattle.std.specs.contracts.alloc.Global as Global
-use Rattle.std.specs.contracts.impls.GlobalAllocator.TheImpl.{ghosts}
-use Rattle.needlemauve_calls.specs.contracts.handle.Fed as fed
 use Rattle.needlemauve_calls.proofs.Values.{heap, handle_in}
 use Rattle.needlemauve_calls.specs.contracts.handle.nothing.{ended, clauses}
 use Rattle.needlemauve_calls.specs.contracts.handle.nothing.Key.{name as #self}

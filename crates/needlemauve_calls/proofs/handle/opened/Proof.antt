@@ -1,5 +1,5 @@
 -- `opened` joins the pointer and an allocator.
-use Rattle.std.proofs.Common.{◌≡◌, List, [], ◌∷◌, ◌++◌, refl, sym, ap, ◌∙◌, subst}
+use Rattle.std.proofs.Common.{◌≡◌, List, [], ◌∷◌, ◌++◌, refl, sym, subst}
 use Rattle.std.specs.Prelude.{Some, IsSome}
 use mir.Val.{Val, vptr}
 use base.Logic.{SProp, ent, emp, id⊢}
