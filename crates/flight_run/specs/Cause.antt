@@ -9,7 +9,7 @@ use Rattle.program_words.specs.declared.words.WordsError.{WordsError}
 use Rattle.program_words.specs.declared.words.WordsError.TheVariants as words
 use Rattle.flight_run.specs.declared.fault.Fault.{Fault}
 use Rattle.flight_run.specs.declared.fault.Fault.TheVariants.{Text, Schedule, Words, File, Run, Memory}
-use Rattle.std.specs.Prelude.{List, ℕ}
+use Rattle.std.specs.Prelude.{◌≡◌, List, ℕ, ⊤}
 use Rattle.std.specs.Borrow.{Bor}
 use Rattle.program_files.specs.declared.why.FileFault.{FileFault}
 use Rattle.program_files.specs.declared.why.FileFault.TheVariants as file
@@ -36,3 +36,9 @@ fault_of_run error = Run error
 abbrev pub fault_of_file : Bor (List ℕ) → FileFault → Fault
 fault_of_file name file.Memory = Memory
 fault_of_file name (file.Unusable why) = File name
+
+-- a fault of the file of this name, or want of memory
+abbrev pub IsOfFile : List ℕ → Fault → Type 0
+IsOfFile name Memory = ⊤
+IsOfFile name (File other) = other.now ≡ name
+IsOfFile name fault = ⊥

@@ -1,7 +1,10 @@
 pub mod Answer
 pub mod Cause
+pub mod Commands
 pub mod Dispatch
+pub mod FileCall
 pub mod Finished
 pub mod Flown
 pub mod Lines
 pub mod Status
+pub mod Stops

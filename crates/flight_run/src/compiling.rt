@@ -1,29 +1,36 @@
 //! `compile RULES WDT ADT`.
 
-ghost use Rattle.std.specs.Prelude.{IfOk};
-ghost use Rattle.flight_run.specs.Dispatch.{IsCompiled};
+ghost use Rattle.std.specs.Prelude.{IfErr, IfOk};
+ghost use Rattle.flight_run.specs.Commands.{IsCompileDone, compile_order};
+ghost use Rattle.flight_run.specs.Stops.{StopsIn};
 
+use crate::disk::Disk;
 use crate::done::Done;
 use crate::fault::Fault;
 use crate::files::{is_apart, read, write};
 use rpn_compiler::compile;
-use std::fs::Files;
+use std::alloc::Global;
 
 /// Compiles the rule text of a file into two table files, that of watchpoints first. None of the three is another.
-pub fn compile_files<'a, R: Files + AllocGlobal>(
-    rt: &R,
+pub fn compile_files<'a, D: Disk>(
+    alloc: Global,
+    disk: &mut D,
     rules: &'a str,
     wdt: &'a str,
     adt: &'a str,
 ) -> Result<Done, Fault<'a>>
-    ensures { IfOk result IsCompiled }
+    ensures done { IfOk result (IsCompileDone rules.entry.now wdt.entry.now adt.entry.now
+        (D.calls disk.old) (D.calls disk.new)) }
+    ensures stops { IfErr result (StopsIn
+        (compile_order rules.entry.now wdt.entry.now adt.entry.now)
+        (D.calls disk.old) (D.calls disk.new)) }
 {
-    let text = read(rt, rules)?;
-    let pair = compile(rt.alloc(), text.as_slice())?;
-    is_apart(rt, wdt, &[rules])?;
-    is_apart(rt, adt, &[rules, wdt])?;
-    write(rt, wdt, pair.wdt.as_slice())?;
-    write(rt, adt, pair.adt.as_slice())?;
+    let text = read(disk, rules)?;
+    let pair = compile(alloc, text.as_slice())?;
+    is_apart(disk, wdt, &[rules])?;
+    is_apart(disk, adt, &[rules, wdt])?;
+    write(disk, wdt, pair.wdt.as_slice())?;
+    write(disk, adt, pair.adt.as_slice())?;
     Ok(Done::Compiled {
         watchpoints: pair.watchpoints,
         rules: pair.rules,

@@ -1,43 +1,78 @@
 //! `run --schedule S --stream IN --out OUT RULES..`
 
-ghost use Rattle.std.specs.Prelude.{◌≡◌, false, IfOk};
+ghost use Rattle.std.specs.Prelude.{◌≡◌, [], ◌∷◌, List, ℕ, Ok, Some, None, false, length, map, IfErr, IfOk};
 ghost use Rattle.lc_model.specs.Host.Outcome.{devices};
+ghost use Rattle.lc_model.specs.Host.ScheduleText.{schedule_in};
 ghost use Rattle.flight_profile.specs.Stock.{own_mission};
-ghost use Rattle.flight_run.specs.Dispatch.{IsFlown};
+ghost use Rattle.flight_run.specs.Commands.{IsRunDone, all_read};
+ghost use Rattle.flight_run.specs.Dispatch.{IsFlown, IsRunStopped};
+ghost use Rattle.flight_run.specs.FileCall.{Reads, followed_by};
 ghost use Rattle.flight_run.specs.Flown.{Flies};
+ghost use Rattle.flight_run.specs.Stops.{StopsIn};
 
+use crate::disk::Disk;
 use crate::done::Done;
 use crate::fault::Fault;
 use crate::files::{is_apart, read};
 use flight_profile::launch;
-use lc_model::{ByteSink, ByteSource, Reading, Writing};
-use std::alloc::Global;
-use std::fs::{File, Files};
+use lc_model::{ByteSink, ByteSource};
+use std::alloc::{AllocError, Global};
 use tick_scheduler::{Schedule, parse_schedule};
 
 /// The longest text of a schedule, in bytes.
 const LONGEST_SCHEDULE: usize = 65_536;
 
 /// The schedule in a file.
-fn schedule_in<'a, R: Files + AllocGlobal>(rt: &R, name: &'a str) -> Result<Schedule, Fault<'a>> {
-    let text = read(rt, name)?;
+fn schedule_in<'a, D: Disk>(
+    alloc: Global,
+    disk: &mut D,
+    name: &'a str,
+) -> Result<Schedule, Fault<'a>>
+    ensures said { IfOk result (λ schedule. (text : List ℕ) ×
+        (schedule_in text ≡ Ok schedule) ×
+        (D.calls disk.new ≡ followed_by (D.calls disk.old)
+        (Reads name.entry.now (Some text) ∷ []))) }
+    ensures stops { IfErr result
+        (StopsIn (Reads name.entry.now None ∷ []) (D.calls disk.old) (D.calls disk.new)) }
+{
+    let text = read(disk, name)?;
     if text.len() > LONGEST_SCHEDULE {
         return Err(Fault::File(name));
     }
-    let schedule = parse_schedule(rt.alloc(), text.as_slice())?;
+    let schedule = parse_schedule(alloc, text.as_slice())?;
     Ok(schedule)
 }
 
 /// The rule texts in files.
-fn texts_in<'a, R: Files + AllocGlobal>(
-    rt: &R,
+fn texts_in<'a, D: Disk>(
+    alloc: Global,
+    disk: &mut D,
     names: &[&'a str],
-) -> Result<Vec<Vec<u8>>, Fault<'a>> {
-    let mut texts = Vec::new(rt.alloc());
+) -> Result<Vec<Vec<u8>>, Fault<'a>>
+    ensures each { IfOk result (λ texts. length texts.items ≡ length names.now) }
+    ensures read { IfOk result (λ texts. D.calls disk.new ≡ followed_by (D.calls disk.old)
+        (all_read (map (λ name. name.now) names.now) (map (λ text. text.items) texts.items))) }
+    ensures stops { IfErr result (StopsIn
+        (map (λ name. Reads name None) (map (λ name. name.now) names.now))
+        (D.calls disk.old) (D.calls disk.new)) }
+{
+    let mut texts = Vec::new(alloc);
     for name in names {
-        texts.push(read(rt, name)?)?;
+        texts.push(read(disk, name)?)?;
     }
     Ok(texts)
+}
+
+/// The same texts, lent.
+fn slices_of<'a>(alloc: Global, texts: &'a [Vec<u8>]) -> Result<Vec<&'a [u8]>, AllocError>
+    ensures { IfOk result
+        (λ slices. map (λ slice. slice.now) slices.items ≡ map (λ text. text.items) texts.now) }
+{
+    let mut slices = Vec::new(alloc);
+    for text in texts {
+        slices.push(text.as_slice())?;
+    }
+    Ok(slices)
 }
 
 /// All that the program does between its files and its answer, over any reader and any device, which comes back: the host runs
@@ -68,36 +103,32 @@ pub fn fly<'a, R: ByteSource, W: ByteSink + Drop>(
 /// The files of rule texts, a schedule and a stream are opened in this order: the schedule, the texts, the stream, and what is
 /// written, which is none of them. Then the host runs, from the stream's file to the output's, each of whose bytes is given to
 /// the device once.
-pub fn fly_files<'a, R: Files + AllocGlobal>(
-    rt: &R,
+pub fn fly_files<'a, D: Disk>(
+    alloc: Global,
+    disk: &mut D,
     schedule: &'a str,
     stream: &'a str,
     out: &'a str,
     rules: &[&'a str],
 ) -> Result<Done, Fault<'a>>
-    ensures { IfOk result IsFlown }
+    ensures done { IfOk result (λ done. IsRunDone schedule.entry.now stream.entry.now
+        out.entry.now (map (λ name. name.now) rules.now)
+        (D.calls disk.old) (D.calls disk.new) (Ok done)) }
+    ensures stops { IfErr result (IsRunStopped schedule.entry.now stream.entry.now out.entry.now
+        (map (λ name. name.now) rules.now) (D.calls disk.old) (D.calls disk.new)) }
 {
-    let plan = schedule_in(rt, schedule)?;
-    let texts = texts_in(rt, rules)?;
-    let mut slices = Vec::new(rt.alloc());
-    for text in &texts {
-        slices.push(text.as_slice())?;
-    }
-    let Ok(input) = File::open(rt, stream) else {
+    let plan = schedule_in(alloc, disk, schedule)?;
+    let texts = texts_in(alloc, disk, rules)?;
+    let slices = slices_of(alloc, texts.as_slice())?;
+    let Ok(mut reader) = disk.open(stream) else {
         return Err(Fault::File(stream));
     };
-    is_apart(rt, out, &[schedule, stream])?;
-    is_apart(rt, out, rules)?;
-    let Ok(output) = File::create(rt, out) else {
+    is_apart(disk, out, &[schedule, stream])?;
+    is_apart(disk, out, rules)?;
+    let Ok(device) = disk.create(out) else {
         return Err(Fault::File(out));
     };
-    let mut reader = Reading::new(input);
-    let (outcome, _device) = fly(
-        rt.alloc(),
-        slices.as_slice(),
-        &plan,
-        &mut reader,
-        Writing::new(output),
-    );
+    let (outcome, device) = fly(alloc, slices.as_slice(), &plan, &mut reader, device);
+    disk.close(device);
     outcome
 }

@@ -2,26 +2,31 @@
 //! low-volts rule in memory.
 #![tactic(auto)]
 
-ghost use Rattle.std.specs.Prelude.{◌≡◌, ◌<◌, length, map, IfOk, IsOk};
+ghost use Rattle.std.specs.Prelude.{◌≡◌, ◌<◌, length, map, IfErr, IfOk, IsOk};
 ghost use Rattle.program_words.specs.Words.{GiveAPlan};
 ghost use Rattle.flight_run.specs.Answer.{status_by};
-ghost use Rattle.flight_run.specs.Dispatch.{IsAskedFor};
+ghost use Rattle.flight_run.specs.Dispatch.{IsAskedFor, IsStoppedFor};
 
 mod answering;
 mod compiling;
+mod disk;
 mod done;
 mod fault;
 mod files;
 mod flying;
 mod lines;
 mod place;
+mod shell;
 mod stored;
 
 use crate::answering::{fault_without_words, said, status_by};
+use crate::disk::Disk;
 use crate::done::Done;
 use crate::fault::Fault;
+use crate::shell::Shell;
 use program_files::lent;
 use program_words::{Plan, read_words};
+use std::alloc::Global;
 use std::env::{self, Env};
 use std::fs::Files;
 use std::io::{Eprint, Print};
@@ -30,28 +35,31 @@ use std::process::ExitCode;
 /// Does what the words say, the program's name first, and answers the exit status. What was done is said on standard output;
 /// what ends the program with another status than 0, in a line on standard error.
 pub fn main_on<R: Files + Print + Eprint + AllocGlobal>(rt: &R, words: &[&str]) -> u8 {
-    match obey(rt, words) {
+    let mut shell = Shell::new(rt);
+    match obey(rt.alloc(), &mut shell, words) {
         Ok(done) => tell(rt, &said(print!(rt; "{done}"))),
         Err(fault) => tell(rt, &Err(fault)),
     }
 }
 
 /// Does what the words say.
-fn obey<'a, R: Files + AllocGlobal>(rt: &R, words: &'a [&'a str]) -> Result<Done, Fault<'a>>
-    ensures done { IfOk result
-        (λ done. IsAskedFor (map (λ word. word.now) words.entry.now) done) }
+fn obey<'a, D: Disk>(alloc: Global, disk: &mut D, words: &'a [&'a str]) -> Result<Done, Fault<'a>>
+    ensures done { IfOk result (IsAskedFor (map (λ word. word.now) words.entry.now)
+        (D.calls disk.old) (D.calls disk.new)) }
+    ensures stops { IfErr result (IsStoppedFor (map (λ word. word.now) words.entry.now)
+        (D.calls disk.old) (D.calls disk.new)) }
     ensures given { 1 < length words.entry.now → IsOk result →
         GiveAPlan (map (λ word. word.now) words.entry.now) }
 {
-    match read_words(rt.alloc(), words)? {
-        Plan::Stored => stored::run_stored(rt.alloc()),
-        Plan::Compile { rules, wdt, adt } => compiling::compile_files(rt, rules, wdt, adt),
+    match read_words(alloc, words)? {
+        Plan::Stored => stored::run_stored(alloc),
+        Plan::Compile { rules, wdt, adt } => compiling::compile_files(alloc, disk, rules, wdt, adt),
         Plan::Run {
             schedule,
             stream,
             out,
             rules,
-        } => flying::fly_files(rt, schedule, stream, out, rules.as_slice()),
+        } => flying::fly_files(alloc, disk, schedule, stream, out, rules.as_slice()),
     }
 }
 

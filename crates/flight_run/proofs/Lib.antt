@@ -1,0 +1,4 @@
+mod Calls
+mod CompileCalls
+mod RunCalls
+mod Stopping
