@@ -1,26 +1,29 @@
 //! A run with boxes of any applications in stock.
 
-ghost use Rattle.std.specs.Prelude.{◌≡◌, ◌≤◌, ◌++◌, ◌∷◌, [], false, map, None, IfOk, OnOk};
+ghost use Rattle.std.specs.Prelude.{◌≡◌, ◌≤◌, false, None, IfOk, OnOk};
 ghost use Rattle.lc_model.specs.Host.Outcome.{devices};
+ghost use Rattle.lc_model.specs.Kept.Summary.{Other};
+ghost use Rattle.app_host.specs.Hosted.{objects_in};
 ghost use Rattle.app_host.specs.Whole.{AreSpares};
 ghost use Rattle.flight_core.specs.Compiled.{sources_of};
 ghost use Rattle.flight_core.specs.Ending.{ending_of};
 ghost use Rattle.flight_core.specs.Fitting.{RefusesUnfitAlone};
-ghost use Rattle.mixed_stock_tests.specs.Mixed.{RunsMixed};
+ghost use Rattle.mixed_stock_tests.specs.Mixed.{HasStranger, RunsMixed};
 
 use app_host::App;
 use app_host_tests::named::Named;
-use flight_profile::{Counter, LimitChecker, Report, RunError, Schedule, Scheduler, run};
+use flight_profile::{Counter, LimitChecker, Report, RunError, Schedule, Scheduler, add, run};
 use lc_model::{ByteSink, ByteSource};
 use std::alloc::{AllocError, Global};
 
-/// Adds a spare. Condition: it holds no seat. Out of memory is the only error.
-fn add(stock: &mut Vec<Box<dyn App>>, app: Box<dyn App>) -> Result<(), AllocError>
-    requires spares { AreSpares (map meaning stock.old.items) }
-    requires spare { (meaning app).seat ≡ None }
-    ensures spares { OnOk result (AreSpares (map meaning stock.new.items)) }
-    ensures items { OnOk result
-        (map meaning stock.new.items ≡ map meaning stock.old.items ++ meaning app ∷ []) }
+/// Adds an application of another kind than this profile's. Condition: it holds no seat. Out of memory is the only error.
+fn add_stranger<B: App>(stock: &mut Vec<B>, app: B) -> Result<(), AllocError>
+    requires spares { AreSpares (objects_in B.meaning stock.old.items) }
+    requires spare { (B.meaning app).seat ≡ None }
+    requires other { (B.meaning app).state ≡ Other }
+    ensures spares { OnOk result (AreSpares (objects_in B.meaning stock.new.items)) }
+    ensures stranger { OnOk result (HasStranger (objects_in B.meaning stock.old.items)
+        (objects_in B.meaning stock.new.items)) }
 {
     stock.push(app)?;
     Ok(())
@@ -47,13 +50,13 @@ fn run_mixed<R: ByteSource, W: ByteSink>(
         (W.sink writer.new)) (ending_of answer)) }
 {
     let mut stock: Vec<Box<dyn App>> = Vec::new(alloc);
-    add(&mut stock, Box::new(alloc, LimitChecker::new(alloc)?)?)?;
-    add(
-        &mut stock,
-        Box::new(alloc, Scheduler::new(alloc, schedule)?)?,
-    )?;
-    add(&mut stock, Box::new(alloc, Counter::new())?)?;
-    add(&mut stock, Box::new(alloc, Named::new(0))?)?;
+    let checker = Box::new(alloc, LimitChecker::new(alloc)?)?;
+    add(&mut stock, schedule, b"LC", checker)?;
+    let scheduler = Box::new(alloc, Scheduler::new(alloc, schedule)?)?;
+    add(&mut stock, schedule, b"SCH", scheduler)?;
+    let counter = Box::new(alloc, Counter::new())?;
+    add(&mut stock, schedule, b"COUNTER", counter)?;
+    add_stranger(&mut stock, Box::new(alloc, Named::new(0))?)?;
     Ok(run(alloc, texts, schedule, stock, reader, writer))
 }
 

@@ -1,5 +1,5 @@
 -- A host that is fed from C. This project's own.
-use Rattle.std.specs.Prelude.{◌≡◌, ℕ, Bool, true, List, length, Option, Some, None, Result, Ok, Err}
+use Rattle.std.specs.Prelude.{◌≡◌, ℕ, Bool, true, false, List, length, Option, Some, None, Result, Ok, Err}
 use Rattle.lc_model.specs.Host.Schedule.{Schedule}
 use Rattle.lc_model.specs.Host.ScheduleText.{schedule_in}
 use Rattle.app_host.specs.Hosted.{Object}
@@ -8,8 +8,9 @@ use Rattle.flight_core.specs.declared.halt.Halt.{Halt}
 use Rattle.flight_core.specs.declared.halt.Halt.TheVariants as halt
 use Rattle.flight_core.specs.Compiled.{IsNotCompiled}
 use Rattle.flight_core.specs.Ending.{ending_of}
-use Rattle.flight_core.specs.Feeding.{Feeding, HandlesOne, HasBegun, IsReady, feeding_of, fed_with}
-use Rattle.flight_core.specs.Records.{taken_of}
+use Rattle.flight_core.specs.Feeding.{Feeding, HandlesOne, HasBegun, IsReady, boxes_on, feeding_of, fed_with}
+use Rattle.flight_core.specs.Leaving.{LeavesForFront}
+use Rattle.flight_core.specs.Records.{front_of, taken_of}
 use Rattle.flight_core.specs.Run.{IsOfProfile}
 use Rattle.flight_profile.specs.Members.{meaning_of}
 use Rattle.flight_profile.specs.Stock.{names_of, own_names}
@@ -75,7 +76,8 @@ pub record HandlesInto (old new : Feeding) (output : List ℕ) (size written : �
   pub one : HandlesOne old new unwritten (written_in output written full) answer
   pub is_full : full ≡ true → written ≡ size
 
--- what is taken of the bytes is held behind what was held, and then the record in front is handled
+-- what is taken of the bytes is held behind what was held, and then the record in front is handled; an application that leaves its
+-- seat for it has retired
 pub record Feeds (bytes output : List ℕ) (old new : Fed) (told : Handled) : Type 0 where
   pub taken : told.taken ≡ length (taken_of (host_in old).held bytes)
   pub answer : Result (Option ℕ) Halt
@@ -83,6 +85,7 @@ pub record Feeds (bytes output : List ℕ) (old new : Fed) (told : Handled) : Ty
   pub code : told.code ≡ code_of answer
   pub ready : IsFed new
   pub room : length new.room.items ≡ length old.room.items
+  pub gone : (host_in old).host.is_closed ≡ false → LeavesForFront meaning_of (boxes_on old.host) (host_in old).host (front_of (fed_with bytes (host_in old)).held)
 
 -- what two handles hold, one behind the other
 abbrev pub AreFed : List ℕ → List ℕ → Handled → Option Fed → Option Fed → Type 0

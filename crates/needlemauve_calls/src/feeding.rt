@@ -1,8 +1,10 @@
 //! A host that a program in C feeds, record by record.
 
-ghost use Rattle.std.specs.Prelude.{◌≡◌, ◌≢◌, ◌<◌, ◌≤◌, ◌⊎◌, length, None, IfErr, IfOk, IsSomeAnd, MatchResult};
+ghost use Rattle.std.specs.Prelude.{◌≡◌, ◌≢◌, ◌<◌, ◌≤◌, ◌⊎◌, false, length, None, IfErr, IfOk, IsSomeAnd, MatchResult};
 ghost use Rattle.flight_core.specs.Compiled.{IsNotCompiled, sources_of};
-ghost use Rattle.flight_core.specs.Feeding.{IsReady, feeding_of};
+ghost use Rattle.flight_core.specs.Feeding.{IsReady, boxes_on, feeding_of};
+ghost use Rattle.flight_core.specs.Leaving.{LeavesForFront};
+ghost use Rattle.flight_core.specs.Records.{front_of};
 ghost use Rattle.flight_profile.specs.Members.{meaning_of};
 ghost use Rattle.needlemauve_calls.specs.Feeding.{AreFed, Feeds, HandlesInto, IsFed, IsMade, IsStocked, IsUnmade, code_of, too_small};
 ghost use Rattle.needlemauve_calls.specs.Refusing.{unfit};
@@ -186,6 +188,9 @@ fn handle_into<S: Size>(
     ensures ready { IsReady (feeding_of meaning_of host.new) }
     ensures one { HandlesInto (feeding_of meaning_of host.old) (feeding_of meaning_of host.new)
         output.new S.size result.1 result.0 }
+    ensures gone { (feeding_of meaning_of host.old).host.is_closed ≡ false →
+        LeavesForFront meaning_of (boxes_on host.old) (feeding_of meaning_of host.old).host
+        (front_of (feeding_of meaning_of host.old).held) }
 {
     let mut writer = Room::<S>::new(room);
     let answer = host.handle(&mut writer);
