@@ -1,5 +1,5 @@
 -- Where `run` stops, and what it has done.
-use Rattle.std.proofs.Common.{◌≡◌, ◌∙◌, refl, sym, ap, subst, inl, inr, ◌⊎◌, ℕ, true, false, List, [], ◌∷◌, ◌++◌, map, length, Option, Some, None, Bor, Result, Ok, Err, IfErr, IfOk, append_assoc, append-nil}
+use Rattle.std.proofs.Common.{◌≡◌, ◌∙◌, refl, sym, ap, subst, inl, ◌⊎◌, ℕ, false, List, [], ◌∷◌, ◌++◌, map, length, Option, Some, None, Bor, Result, Ok, Err, IfErr, IfOk, append_assoc, append-nil}
 use Rattle.std.proofs.lemmas.List.{map-append}
 use Rattle.lc_model.specs.Device.{Source, Sink}
 use Rattle.lc_model.specs.Host.Schedule.{Schedule}
@@ -7,10 +7,10 @@ use Rattle.flight_run.specs.declared.done.Done.{Done}
 use Rattle.flight_run.specs.declared.fault.Fault.{Fault}
 use Rattle.flight_run.specs.declared.fault.Fault.TheVariants.{File, Memory}
 use Rattle.lc_model.specs.Host.ScheduleText.{schedule_in}
-use Rattle.lc_model.specs.Host.Outcome.{Devices, devices}
+use Rattle.lc_model.specs.Host.Outcome.{devices}
 use Rattle.flight_profile.specs.Stock.{own_mission}
 use Rattle.flight_run.specs.Flown.{Flies}
-use Rattle.flight_run.specs.Commands.{IsRunDone, all_apart, all_read, mission_of, run_calls, run_order}
+use Rattle.flight_run.specs.Commands.{IsRunDone, all_apart, all_read, mission_of, run_order}
 use Rattle.flight_run.specs.FileCall.{FileCall, Closes, Compares, Makes, Opens, Reads, asked, followed_by}
 use Rattle.flight_run.specs.Stops.{StopsIn}
 use Rattle.flight_run.proofs.Calls.{asked_apart, asked_read, none_yet, then_more}

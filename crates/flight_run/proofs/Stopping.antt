@@ -9,9 +9,9 @@ use Rattle.tick_scheduler.specs.declared.error.ScheduleError.{ScheduleError}
 use Rattle.tick_scheduler.specs.declared.error.ScheduleError.TheVariants as schedule
 use Rattle.flight_run.specs.Cause.{IsOfFile, fault_of_schedule, fault_of_text}
 use Rattle.flight_run.specs.FileCall.{FileCall, Reads, Compares, Writes, asked, followed_by}
-use Rattle.flight_run.specs.Stops.{EndsWith, HasFailedAt, IsFaultOf, IsScheduleRefused, IsTextRefused, StopsIn, longest_schedule}
+use Rattle.flight_run.specs.Stops.{EndsWith, IsFaultOf, IsScheduleRefused, IsTextRefused, StopsIn, longest_schedule}
 use Rattle.flight_run.specs.Commands.{all_apart, all_read}
-use Rattle.flight_run.proofs.Calls.{as_many, asked_apart, asked_read, calls_around, calls_split, read_next, then_more}
+use Rattle.flight_run.proofs.Calls.{as_many, asked_apart, asked_read, calls_around, calls_split, then_more}
 
 -- the exit of a `?`
 pub passes : {T : Type 0} (P : Fault → Type 0) (r : Result T Fault) (fault : Fault) → IsErrAnd r (λ y. y ≡ fault) → P fault → IfErr r P

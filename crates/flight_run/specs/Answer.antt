@@ -1,5 +1,5 @@
 -- What the process answers. This project's own.
-use Rattle.std.specs.Prelude.{◌≡◌, ℕ, codes, List, Result, Ok, Err}
+use Rattle.std.specs.Prelude.{◌≡◌, ℕ, codes, Result, Ok, Err}
 use Rattle.std_io.specs.declared.io.kind.ErrorKind.{ErrorKind}
 use Rattle.std_io.specs.declared.io.kind.ErrorKind.TheVariants as kind
 use Rattle.program_words.specs.declared.words.WordsError.TheVariants as words

@@ -1,16 +1,16 @@
 -- The commands of the program, by the calls on files that they make, in their order. This project's own.
-use Rattle.std.specs.Prelude.{◌≡◌, ℕ, true, false, List, [], ◌∷◌, ◌++◌, length, map, Option, Some, None, Result, Ok, ⊤}
+use Rattle.std.specs.Prelude.{◌≡◌, ℕ, true, false, List, [], ◌∷◌, ◌++◌, length, map, Option, Some, None, Result, Ok}
+use Rattle.lc_model.specs.Host.Outcome.{Devices}
+use Rattle.lc_model.specs.Host.Promise.{Mission}
 use Rattle.lc_model.specs.Host.Schedule.{Schedule}
 use Rattle.lc_model.specs.Host.ScheduleText.{schedule_in}
 use Rattle.rpn_compiler.specs.declared.files.TablePair.{TablePair}
 use Rattle.flight_core.specs.Compiled.{IsCompiled}
+use Rattle.flight_profile.specs.Stock.{own_mission}
 use Rattle.flight_run.specs.declared.done.Done.{Done}
 use Rattle.flight_run.specs.declared.done.Done.TheVariants.{Compiled}
 use Rattle.flight_run.specs.declared.fault.Fault.{Fault}
 use Rattle.flight_run.specs.FileCall.{FileCall, Reads, Opens, Compares, Makes, Closes, Writes, followed_by}
-use Rattle.lc_model.specs.Host.Outcome.{Devices}
-use Rattle.lc_model.specs.Host.Promise.{Mission}
-use Rattle.flight_profile.specs.Stock.{own_mission}
 use Rattle.flight_run.specs.Flown.{Flies}
 
 -- a name was compared with each of these, and is of none of their files

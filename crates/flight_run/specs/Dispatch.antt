@@ -1,5 +1,5 @@
 -- What is done for the words of a command line. This project's own.
-use Rattle.std.specs.Prelude.{◌≡◌, ◌⊎◌, ℕ, List, map, Option, Result, Ok, Err, ⊤}
+use Rattle.std.specs.Prelude.{◌≡◌, ◌⊎◌, ℕ, List, map, Option, Ok, Err, ⊤}
 use Rattle.program_words.specs.declared.words.Plan.{Plan}
 use Rattle.program_words.specs.declared.words.Plan.TheVariants as plan
 use Rattle.program_words.specs.Words.{HoldsWords}

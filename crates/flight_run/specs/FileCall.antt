@@ -1,5 +1,5 @@
 -- Calls on files, each with the file's name and with what came of it. This project's own.
-use Rattle.std.specs.Prelude.{ℕ, Bool, true, false, List, [], ◌∷◌, ◌++◌, Option, Some, None, option_map, Result, Ok, Err}
+use Rattle.std.specs.Prelude.{ℕ, Bool, false, List, [], ◌++◌, Option, Some, None, option_map, Result, Ok, Err}
 use Rattle.lc_model.specs.Device.{Source, Sink}
 
 -- nothing came of a call that failed

@@ -8,7 +8,7 @@ use Rattle.rpn_compiler.specs.Fault.{Refuses}
 use Rattle.tick_scheduler.specs.declared.error.ScheduleError.{ScheduleError}
 use Rattle.tick_scheduler.specs.Error as schedule
 use Rattle.flight_run.specs.declared.fault.Fault.{Fault}
-use Rattle.flight_run.specs.declared.fault.Fault.TheVariants.{Text, Schedule, Words, File, Run, Memory}
+use Rattle.flight_run.specs.declared.fault.Fault.TheVariants.{Text, Schedule, File, Memory}
 use Rattle.flight_run.specs.FileCall.{FileCall, Reads, Opens, Compares, Makes, Closes, Writes, asked, followed_by}
 
 -- the longest text of a schedule, in bytes

@@ -1,4 +1,4 @@
-use Rattle.std.proofs.Common.{◌≡◌, ◌∙◌, ap, length, List, ℕ, map, inr, Bor, Vec, Global}
+use Rattle.std.proofs.Common.{◌∙◌, ap, List, ℕ, map, inr, Bor, Vec, Global}
 use Rattle.flight_run.proofs.Calls.{each_text}
 use Rattle.flight_run.proofs.RunCalls.{all_texts, all_there, at_create, at_out, at_rules, at_schedule, at_slices, at_stream, at_texts, is_opened, is_run, run_ends, run_stops}
 use Rattle.flight_run.proofs.Stopping.{passes}

@@ -1,6 +1,5 @@
-use Rattle.std.proofs.Common.{rules, ◌≡◌, ◌∙◌, ap, sym, [], ◌∷◌, List, ℕ, Some, length, map, vec_len, ◌+◌, ◌++◌, Bor, arith, refl}
-use Rattle.flight_run.specs.Commands.{IsRunDone, all_read}
-use Rattle.flight_run.specs.FileCall.{Reads, followed_by}
+use Rattle.std.proofs.Common.{rules, ◌∙◌, ap, sym, [], ◌∷◌, ◌+◌, ◌++◌, arith, refl}
+use Rattle.flight_run.specs.FileCall.{followed_by}
 use Rattle.flight_run.proofs.Calls.{none_read, none_yet, one_more, read_next}
 use Rattle.flight_run.proofs.Stopping.{no_room_stops, passes, text_of_these_stops}
 use Rattle.flight_run.proofs.flying.texts_in.Goals as goal
