@@ -1,6 +1,6 @@
 //! The bytes that wait to be written.
 
-ghost use Rattle.std.specs.Prelude.{◌≡◌, ◌+◌, ◌≤◌, ◌++◌, true, [], length, IfOk};
+ghost use Rattle.std.specs.Prelude.{◌≡◌, ◌+◌, ◌<◌, ◌≤◌, ◌++◌, false, true, [], length, IfOk};
 ghost use Rattle.lc_model.specs.Events.Outgoing.{event_packet_size, longest_event_text};
 ghost use Rattle.lc_model.specs.Services.Events.{event_asked};
 ghost use Rattle.lc_model.specs.Services.Interface.{outgoing_room};
@@ -49,7 +49,8 @@ impl Outgoing {
 
     /// Whether nothing waits.
     pub fn is_empty(&self) -> bool
-        ensures { result ≡ true → self.now ≡ [] }
+        ensures none { result ≡ true → self.now ≡ [] }
+        ensures some { result ≡ false → 0 < length self.now }
     {
         self.bytes.is_empty()
     }
