@@ -57,19 +57,18 @@ static int is_read(const char *name, struct file *to)
 }
 
 /* A host is fed the whole stream in pieces of this length, and closed: how many records it handled, or -1 where a call asked for
- * memory or gave some back, or where something is left. */
+ * memory, or where something is left. (A reload gives back what the application had that leaves.) */
 static long fed_in_pieces(size_t piece, size_t *written)
 {
   struct needlemauve_host host = NEEDLEMAUVE_NOTHING_YET;
   struct needlemauve_made made;
   struct needlemauve_handled told;
-  unsigned long before, out;
+  unsigned long before;
   size_t at = 0;
   long records = 0;
   if (needlemauve_host_new(texts.bytes, texts.length, lengths, count, schedule.bytes, schedule.length, MOST, &host, &made) != 0)
     return -1;
   before = requests;
-  out = blocks;
   *written = 0;
   do {
     size_t left = stream.length - at;
@@ -78,7 +77,7 @@ static long fed_in_pieces(size_t piece, size_t *written)
     at += (size_t)told.taken;
     *written += (size_t)told.written;
   } while (told.code == 0 || (told.code == NEEDLEMAUVE_MORE && at < stream.length));
-  if (requests != before || blocks != out || told.code != NEEDLEMAUVE_MORE) return -1;
+  if (requests != before || told.code != NEEDLEMAUVE_MORE) return -1;
   needlemauve_host_close(&host);
   return blocks == 0 ? records : -1;
 }
