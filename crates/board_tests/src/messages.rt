@@ -7,11 +7,11 @@ use limit_engine::StateRefusal;
 use packet_bus::{BusError, HeaderFault};
 use program_words::WordsError;
 use rpn_compiler::CompileError;
+use schedules::ScheduleError;
 use std::fmt::Display;
 use std::process::Abort;
 use table_file::FileError;
 use tbl_service::TableError;
-use tick_scheduler::ScheduleError;
 
 /// Each error is written so.
 fn all_read<R: Abort + AllocGlobal, E: Copy + Display>(rt: &R, rows: &[(E, &str)]) {

@@ -4,8 +4,9 @@ use crate::shared::same;
 use event_service::{Events, PACKET_SIZE};
 use lc_model::{EventKind, Moment, Seat};
 use packet_bus::{build_command, build_telemetry};
+use schedules::parse_schedule;
 use std::process::Abort;
-use tick_scheduler::{Scheduler, parse_schedule};
+use tick_scheduler::{Scheduler, write_packet};
 
 /// The sequence request for sequence 7, the first of its kind.
 #[test]
@@ -81,7 +82,7 @@ fn publishes<R: Abort>(rt: &R, scheduler: &mut Scheduler, packets: &[&[u8]]) {
     same(rt, "entries", scheduler.entries().len(), packets.len());
     for (entry, packet) in scheduler.entries().iter().zip(packets) {
         let mut buffer = [7; tick_scheduler::PACKET_SIZE];
-        let size = entry.write_packet(&mut buffer);
+        let size = write_packet(*entry, &mut buffer);
         same(rt, "bytes", buffer.get(..size), Some(*packet));
     }
     scheduler.move_on();

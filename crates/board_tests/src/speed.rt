@@ -8,9 +8,9 @@ use event_service::{Events, PACKET_SIZE};
 use flight_core::{Found, Records};
 use lc_model::{EventKind, Moment, Seat};
 use packet_bus::{Bus, build_telemetry};
+use schedules::parse_schedule;
 use std::alloc::{AllocError, Global};
 use std::process::Abort;
-use tick_scheduler::parse_schedule;
 
 /// Publishes a packet.
 #[inline(never)]

@@ -6,10 +6,10 @@ use line_messages::{Refusal, read_schedule};
 use rpn_compiler::{CompileError, compile};
 use rule_messages::messages;
 use rule_warnings::warnings;
+use schedules::Schedule;
 use std::alloc::Global;
 use std::fs::Files;
 use std::io::Write;
-use tick_scheduler::Schedule;
 use tool_faults::{
     Fault, LONGEST_TEXT, MOST_WARNINGS, alone, listed, read, read_text, write_messages,
     write_warnings,

@@ -14,9 +14,9 @@ use crate::pieces::MOST_READS;
 use crate::running::begin;
 use app_host::App;
 use lc_model::{ByteSink, ByteSource};
+use schedules::Schedule;
 use std::alloc::Global;
 use std::marker::Brand;
-use tick_scheduler::Schedule;
 
 /// Runs with this buffer, which is empty and has room for a piece.
 fn gather<R: ByteSource, W: ByteSink, S: Outset, B: App>(

@@ -26,9 +26,9 @@ use app_host::{App, Host};
 use host_laws::writes_a_mission;
 use lc_model::{ByteSink, ByteSource};
 use rpn_compiler::TablePair;
+use schedules::Schedule;
 use std::alloc::Global;
 use std::mem::size_of_val;
-use tick_scheduler::Schedule;
 
 /// Whether the type fits in memory, as any does of which there is a value.
 fn fits_in_memory<T>(none: &Option<T>) -> bool

@@ -9,8 +9,8 @@ use crate::stock::own_stock;
 use flight_core::laws::runs_keep_their_promises;
 use flight_core::{Report, RunError, run_gathered};
 use lc_model::{ByteSink, ByteSource};
+use schedules::Schedule;
 use std::alloc::{AllocError, Global};
-use tick_scheduler::Schedule;
 
 /// Runs with this profile's stock and the device, which is put back. Out of memory for the stock is the outer error, before
 /// anything is read.

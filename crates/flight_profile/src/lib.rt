@@ -13,5 +13,6 @@ pub use launching::launch;
 pub use limit_checker::LimitChecker;
 pub use members::Member;
 pub use program_words::{Plan, WordsError, read_words};
+pub use schedules::{Schedule, ScheduleError, parse_schedule};
 pub use stock::{add, own_stock};
-pub use tick_scheduler::{Schedule, ScheduleError, Scheduler, parse_schedule};
+pub use tick_scheduler::Scheduler;

@@ -15,8 +15,9 @@ use crate::members::Member;
 use app_host::App;
 use command_counter::Counter;
 use limit_checker::LimitChecker;
+use schedules::Schedule;
 use std::alloc::{AllocError, Global};
-use tick_scheduler::{Schedule, Scheduler};
+use tick_scheduler::Scheduler;
 
 /// One spare more, under this name. Conditions: that is its name, it holds no seat, and it is of this profile with this
 /// schedule; and so are those that are there. Out of memory is the only error.

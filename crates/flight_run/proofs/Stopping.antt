@@ -5,8 +5,8 @@ use Rattle.flight_run.specs.declared.fault.Fault.{Fault}
 use Rattle.flight_run.specs.declared.fault.Fault.TheVariants.{Text, Schedule, Words, File, Run, Memory}
 use Rattle.rpn_compiler.specs.declared.error.CompileError.{CompileError}
 use Rattle.rpn_compiler.specs.declared.error.CompileError.TheVariants as compile
-use Rattle.tick_scheduler.specs.declared.error.ScheduleError.{ScheduleError}
-use Rattle.tick_scheduler.specs.declared.error.ScheduleError.TheVariants as schedule
+use Rattle.schedules.specs.declared.error.ScheduleError.{ScheduleError}
+use Rattle.schedules.specs.declared.error.ScheduleError.TheVariants as schedule
 use Rattle.flight_run.specs.Cause.{IsOfFile, fault_of_schedule, fault_of_text}
 use Rattle.flight_run.specs.FileCall.{FileCall, Reads, Compares, Writes, asked, followed_by}
 use Rattle.flight_run.specs.Stops.{EndsWith, IsFaultOf, IsScheduleRefused, IsTextRefused, StopsIn, longest_schedule}

@@ -1,8 +1,8 @@
 -- Which fault each refusal is. This project's own.
 use Rattle.rpn_compiler.specs.declared.error.CompileError.{CompileError}
 use Rattle.rpn_compiler.specs.declared.error.CompileError.TheVariants as compile
-use Rattle.tick_scheduler.specs.declared.error.ScheduleError.{ScheduleError}
-use Rattle.tick_scheduler.specs.declared.error.ScheduleError.TheVariants as schedule
+use Rattle.schedules.specs.declared.error.ScheduleError.{ScheduleError}
+use Rattle.schedules.specs.declared.error.ScheduleError.TheVariants as schedule
 use Rattle.flight_core.specs.declared.error.RunError.{RunError}
 use Rattle.flight_core.specs.declared.error.RunError.TheVariants as run
 use Rattle.program_words.specs.declared.words.WordsError.{WordsError}

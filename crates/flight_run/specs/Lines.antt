@@ -3,8 +3,8 @@ use Rattle.std.specs.Prelude.{ℕ, codes, List, ◌++◌, Option, Some, None}
 use Rattle.std.specs.Fmt.{decimal}
 use Rattle.lc_model.specs.Text.Reading.{ParseFault, Expected, TooNested, TextRefusal, ForText, AtPlace, Unparsed, ForRule}
 use Rattle.rpn_compiler.specs.Fault.{code_of, refusal_of}
-use Rattle.tick_scheduler.specs.declared.error.ScheduleError.{ScheduleError}
-use Rattle.tick_scheduler.specs.declared.error.ScheduleError.TheVariants as schedule
+use Rattle.schedules.specs.declared.error.ScheduleError.{ScheduleError}
+use Rattle.schedules.specs.declared.error.ScheduleError.TheVariants as schedule
 use Rattle.flight_core.specs.declared.error.RunError.{RunError}
 use Rattle.flight_core.specs.declared.error.RunError.TheVariants as run
 use Rattle.program_words.specs.declared.words.WordsError.{WordsError}

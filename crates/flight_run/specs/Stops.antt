@@ -5,8 +5,8 @@ use Rattle.lc_model.specs.Tables.Compiling.{IsRefused}
 use Rattle.lc_model.specs.Tables.InForce.{limits}
 use Rattle.rpn_compiler.specs.declared.error.CompileError.{CompileError}
 use Rattle.rpn_compiler.specs.Fault.{Refuses}
-use Rattle.tick_scheduler.specs.declared.error.ScheduleError.{ScheduleError}
-use Rattle.tick_scheduler.specs.Error as schedule
+use Rattle.schedules.specs.declared.error.ScheduleError.{ScheduleError}
+use Rattle.schedules.specs.Error as schedule
 use Rattle.flight_run.specs.declared.fault.Fault.{Fault}
 use Rattle.flight_run.specs.declared.fault.Fault.TheVariants.{Text, Schedule, File, Memory}
 use Rattle.flight_run.specs.FileCall.{FileCall, Reads, Opens, Compares, Makes, Closes, Writes, asked, followed_by}

@@ -8,8 +8,8 @@ ghost use Rattle.flight_run.specs.declared.fault.Fault.TheVariants.{Memory};
 use flight_core::RunError;
 use program_words::WordsError;
 use rpn_compiler::CompileError;
+use schedules::ScheduleError;
 use std::alloc::{AllocError, AllocFailed};
-use tick_scheduler::ScheduleError;
 
 /// Why the program ended.
 #[derive(Clone, Copy)]

@@ -16,8 +16,8 @@ use crate::fault::Fault;
 use crate::files::{is_apart, read};
 use flight_profile::launch;
 use lc_model::{ByteSink, ByteSource};
+use schedules::{Schedule, parse_schedule};
 use std::alloc::{AllocError, Global};
-use tick_scheduler::{Schedule, parse_schedule};
 
 /// The longest text of a schedule, in bytes.
 const LONGEST_SCHEDULE: usize = 65_536;

@@ -9,8 +9,8 @@ use crate::place::{Place, place_of};
 use flight_core::RunError;
 use program_words::WordsError;
 use rpn_compiler::CompileError;
+use schedules::ScheduleError;
 use std::fmt::{self, Display, Formatter, Write};
-use tick_scheduler::ScheduleError;
 
 /// A rule text that is refused: the number of the refusal, and its place or its rule.
 #[derive(Clone, Copy)]

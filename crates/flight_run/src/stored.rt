@@ -9,8 +9,8 @@ use crate::fault::Fault;
 use flight_core::run;
 use lc_model::{Limited, Pieces};
 use limit_checker::LimitChecker;
+use schedules::parse_schedule;
 use std::alloc::Global;
-use tick_scheduler::parse_schedule;
 
 /// One rule: two samples in a row with a voltage below 2,400 request command sequence 7.
 const TEXT: &[u8] = b"packet P = mid 0x0883 length 16; \

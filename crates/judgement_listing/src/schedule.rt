@@ -3,7 +3,7 @@
 ghost use Rattle.std.specs.Prelude.{◌≡◌, ◌++◌, IfOk, OnOk, filter, flat_map, not};
 ghost use Rattle.lc_model.specs.Tables.Image.{numbers_below};
 ghost use Rattle.rule_judgement.specs.Reach.{is_sampled};
-ghost use Rattle.tick_scheduler.specs.Entry.{entries_of};
+ghost use Rattle.schedules.specs.Entry.{entries_of};
 ghost use Rattle.judgement_listing.specs.Requests.{request_in, requests_of};
 
 use crate::error::ListingError;
@@ -11,9 +11,9 @@ use crate::lines::Shown;
 use crate::text::RuleText;
 use lc_model::SampleRequest;
 use rule_judgement::never_sampled;
+use schedules::{Entry, Schedule};
 use std::alloc::{AllocError, Global};
 use std::io::Write;
-use tick_scheduler::{Entry, Schedule};
 
 /// The sample requests of a slot join those before.
 fn push_requests(entries: &[Entry], requests: &mut Vec<SampleRequest>) -> Result<(), AllocError>

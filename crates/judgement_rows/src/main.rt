@@ -12,8 +12,8 @@ use crate::comparing::Counts;
 use crate::measuring::measure;
 use judgement_listing::{Which, list_actionpoints, list_judgement, list_unsampled};
 use rpn_compiler::compile;
+use schedules::parse_schedule;
 use std::{env, fs};
-use tick_scheduler::parse_schedule;
 
 /// The texts, in the order in which they are judged.
 const TEXTS: [&str; 6] = [

@@ -2,7 +2,7 @@
 
 ghost use Rattle.std.specs.Prelude.{◌≡◌, ◌≤◌, IfOk, IfErr, Ok, Err};
 ghost use Rattle.lc_model.specs.Host.ScheduleText.{schedule_in, bad_line, too_many_slots, too_many_entries};
-ghost use Rattle.tick_scheduler.specs.Error.{IsRefused};
+ghost use Rattle.schedules.specs.Error.{IsRefused};
 ghost use Rattle.line_messages.specs.Line.{line_count};
 ghost use Rattle.line_messages.specs.Telling.{IsOn, IsScheduleRefusal};
 
@@ -13,8 +13,8 @@ use crate::refusal::Refusal;
 use crate::said::{Said, message_at_end, message_on};
 use crate::word::nth_word;
 use rule_messages::Message;
+use schedules::{Schedule, ScheduleError, parse_schedule};
 use std::alloc::{AllocError, Global};
-use tick_scheduler::{Schedule, ScheduleError, parse_schedule};
 
 /// The number of a line that may not stand there.
 const BAD_LINE: u8 = 131;
@@ -110,7 +110,7 @@ fn refusal(alloc: Global, text: &[u8], error: ScheduleError) -> Refusal
     }
 }
 
-/// The schedule that a text says, as `tick_scheduler::parse_schedule` reads it.
+/// The schedule that a text says, as `schedules::parse_schedule` reads it.
 ///
 /// Errors: `Told` with what the text's author is told of its first fault, by the fault's number (131 to 133) and on its line, which word
 /// is wrong or what is missing, and what would be right; where no line says anything that is told at the text's end. `Memory` where the

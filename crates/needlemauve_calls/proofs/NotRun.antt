@@ -2,9 +2,9 @@
 use Rattle.std.proofs.Common.{◌≡◌, ◌≢◌, inl, inr, subst, List, ℕ, length}
 use Rattle.std.specs.List.{sum}
 use Rattle.lc_model.specs.Host.ScheduleText.{schedule_in}
-use Rattle.tick_scheduler.specs.Error.{IsRefused, fault_of}
-use Rattle.tick_scheduler.specs.declared.error.ScheduleError.{ScheduleError}
-use Rattle.tick_scheduler.specs.declared.error.ScheduleError.TheVariants.{Memory}
+use Rattle.schedules.specs.Error.{IsRefused, fault_of}
+use Rattle.schedules.specs.declared.error.ScheduleError.{ScheduleError}
+use Rattle.schedules.specs.declared.error.ScheduleError.TheVariants.{Memory}
 use Rattle.needlemauve_calls.specs.declared.refusal.Refusal.{Refusal}
 use Rattle.needlemauve_calls.specs.declared.sentence.Sentence.{Sentence}
 use Rattle.needlemauve_calls.specs.Refusing.{no_memory}

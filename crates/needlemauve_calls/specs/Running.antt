@@ -4,8 +4,8 @@ use Rattle.std.specs.List.{sum}
 use Rattle.lc_model.specs.Device.{Source, Sink}
 use Rattle.lc_model.specs.Host.Schedule.{Schedule}
 use Rattle.lc_model.specs.Host.ScheduleText.{ScheduleFault, schedule_in}
-use Rattle.tick_scheduler.specs.Error.{IsRefused, fault_of}
-use Rattle.tick_scheduler.specs.declared.error.ScheduleError.{ScheduleError}
+use Rattle.schedules.specs.Error.{IsRefused, fault_of}
+use Rattle.schedules.specs.declared.error.ScheduleError.{ScheduleError}
 use Rattle.lc_model.specs.Host.Outcome.{devices, Ending, Complete, Uncompiled, MetNoRecord, MetTheEnd, FailedToRead, FailedToWrite, ReachedTheBound, NoMemory}
 use Rattle.lc_model.specs.Host.Promise.{Mission}
 use Rattle.lc_model.specs.Tables.InForce.{edition}

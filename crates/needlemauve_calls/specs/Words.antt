@@ -10,8 +10,8 @@ use Rattle.field_checker.specs.declared.error.CheckError.{CheckError}
 use Rattle.field_checker.specs.declared.error.CheckError.TheVariants as checker
 use Rattle.rpn_compiler.specs.declared.error.CompileError.{CompileError}
 use Rattle.rpn_compiler.specs.declared.error.CompileError.TheVariants as compiler
-use Rattle.tick_scheduler.specs.declared.error.ScheduleError.{ScheduleError}
-use Rattle.tick_scheduler.specs.declared.error.ScheduleError.TheVariants as schedule
+use Rattle.schedules.specs.declared.error.ScheduleError.{ScheduleError}
+use Rattle.schedules.specs.declared.error.ScheduleError.TheVariants as schedule
 use Rattle.flight_core.specs.declared.error.RunError.{RunError}
 use Rattle.flight_core.specs.declared.error.RunError.TheVariants as run
 

@@ -2,7 +2,7 @@
 
 ghost use Rattle.std.specs.Prelude.{◌≡◌, ◌≢◌, ◌<◌, IfErr, IfOk};
 ghost use Rattle.flight_core.specs.Ending.{ending_of};
-ghost use Rattle.tick_scheduler.specs.Error.{fault_of};
+ghost use Rattle.schedules.specs.Error.{fault_of};
 ghost use Rattle.needlemauve_calls.specs.Refusing.{unfit};
 ghost use Rattle.needlemauve_calls.specs.Running.{numbers_of_ending, numbers_of_fault, unrun};
 ghost use Rattle.needlemauve_calls.specs.Said.{Says, no_sentence};
@@ -12,7 +12,7 @@ use crate::refusal::{NO_MEMORY, NOTHING, Refusal, in_numbers};
 use crate::sentence::Sentence;
 use crate::words::of_run;
 use flight_core::{Report, RunError};
-use tick_scheduler::ScheduleError;
+use schedules::ScheduleError;
 
 /// The lengths are not those of parts of the texts.
 pub const UNFIT: u32 = 252;

@@ -22,9 +22,9 @@ use crate::texts::{are_lengths, texts_in};
 use crate::words::{of_lengths, of_no_memory, of_run, of_schedule};
 use flight_core::{FedHost, Halt, RunError};
 use flight_profile::{Member, own_stock};
+use schedules::{Schedule, parse_schedule};
 use std::alloc::Global;
 use std::marker::Brand;
-use tick_scheduler::{Schedule, parse_schedule};
 
 /// No whole record is held.
 pub const NONE_HELD: u32 = 250;

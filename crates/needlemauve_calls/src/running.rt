@@ -17,9 +17,9 @@ use crate::texts::{are_lengths, texts_in};
 use crate::words::{of_lengths, of_no_memory, of_schedule};
 use flight_core::{Report, RunError};
 use flight_profile::launch;
+use schedules::{Schedule, parse_schedule};
 use std::alloc::Global;
 use std::marker::Brand;
-use tick_scheduler::{Schedule, parse_schedule};
 
 /// What is told of a run: how it ended, how many bytes of the output were written, and a sentence for people.
 #[repr(C)]

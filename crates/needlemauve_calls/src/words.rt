@@ -11,8 +11,8 @@ use flight_core::RunError;
 use rpn_compiler::CompileError;
 use rule_lexer::LexError;
 use rule_parser::ParseError;
+use schedules::ScheduleError;
 use std::fmt::{self, Display, Formatter, Write};
-use tick_scheduler::ScheduleError;
 
 /// An error, as it is said.
 #[derive(Clone, Copy)]

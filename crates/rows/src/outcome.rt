@@ -6,10 +6,10 @@ use flight_core::{Report, RunError};
 use flight_profile::launch;
 use lc_model::{Reading, Writing};
 use packet_listing::list_packets;
+use schedules::parse_schedule;
 use sha2::{Digest, Sha256};
 use std::alloc::Global;
 use std::io::{self, Write};
-use tick_scheduler::parse_schedule;
 
 /// Writes how a run ended: its records and bytes, or what stopped it and the bytes by then.
 fn write_ending<W: Write>(

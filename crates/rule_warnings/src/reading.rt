@@ -12,8 +12,8 @@ use lc_model::{RuleSet, Rules};
 use rule_judgement::{judge, judge_pairs, spare_comparisons};
 use rule_lexer::{Token, lex};
 use rule_parser::{RuleFile, parse};
+use schedules::Schedule;
 use std::alloc::{AllocError, Global};
-use tick_scheduler::Schedule;
 
 /// A text with its tokens, its items and its rules.
 #[derive(Drop)]

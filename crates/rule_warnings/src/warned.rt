@@ -17,8 +17,8 @@ use crate::warning::Warning;
 use rpn_compiler::{CompileError, compile};
 use rule_messages::Message;
 use rule_parser::Item;
+use schedules::Schedule;
 use std::alloc::{AllocError, Global};
-use tick_scheduler::Schedule;
 
 /// All warnings, those that are kept quiet among them.
 fn found(

@@ -8,11 +8,11 @@ use lc_model::Reading;
 use program_files::{Noting, Why, begin, discard, fault_of, keep, reason_for};
 use run_course::Ending;
 use run_report::{Progress, ReportError, Run, Source, write_page};
+use schedules::Schedule;
 use std::alloc::{AllocError, Global};
 use std::cell::Cell;
 use std::fs::{File, Files, OpenFile};
 use std::io::{BufWriter, Eprint, ErrorKind, Read, Write};
-use tick_scheduler::Schedule;
 use tool_faults::{Fault, LONGEST_TEXT, epoch_of, fault_at, is_apart, read, schedule_of, texts_in};
 
 /// In how many parts a stream is told of.

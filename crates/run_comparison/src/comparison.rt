@@ -8,9 +8,9 @@ use crate::error::{ComparisonError, Which};
 use crate::lines::{Line, lines_of};
 use packet_listing::Time;
 use run_course::{Ending, Trace, trace_of};
+use schedules::Schedule;
 use std::alloc::{AllocError, Global};
 use std::io::{self, Write};
-use tick_scheduler::Schedule;
 
 /// A rule text, and the name that it is told by.
 #[derive(Clone, Copy)]

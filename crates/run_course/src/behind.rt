@@ -10,8 +10,8 @@ use crate::stepping::Stepping;
 use crate::trace::trace_all;
 use lc_model::{ApMode, ApResult};
 use limit_engine::Engine;
+use schedules::Schedule;
 use std::alloc::Global;
-use tick_scheduler::Schedule;
 
 /// How a rule stands.
 #[derive(Clone, Copy, Debug, PartialEq, Eq)]

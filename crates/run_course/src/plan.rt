@@ -1,6 +1,6 @@
 //! What is run.
 
-use tick_scheduler::Schedule;
+use schedules::Schedule;
 
 /// The rule texts and the schedule of a run.
 #[derive(Clone, Copy)]

@@ -12,8 +12,8 @@ use flight_core::{FedHost, Halt, RunError};
 use flight_profile::{Member, own_stock};
 use lc_model::{ByteSink, DeviceFault, Seat};
 use limit_engine::Engine;
+use schedules::Schedule;
 use std::alloc::Global;
-use tick_scheduler::Schedule;
 
 /// What one record leads to, in memory. A write fails only for want of memory.
 #[derive(Drop)]

@@ -14,9 +14,9 @@ use crate::handled::Handled;
 use crate::stepping::Stepping;
 use lc_model::Moment;
 use lc_model::packet::first_packet;
+use schedules::Schedule;
 use std::alloc::{AllocError, Global};
 use std::marker::Model;
-use tick_scheduler::Schedule;
 
 /// A record's moment, and what it led to: packets, one behind the other.
 #[derive(Drop)]

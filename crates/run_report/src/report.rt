@@ -8,9 +8,9 @@ use crate::{page_front, page_script_0, page_script_1, page_script_2};
 use lc_model::ByteSource;
 use page_data::{Data, Ended, Run, Source};
 use run_course::Ending;
+use schedules::Schedule;
 use std::alloc::{AllocError, Global};
 use std::io::{self, Write};
-use tick_scheduler::Schedule;
 
 /// The bytes of the texts.
 fn bytes_of<'t>(alloc: Global, sources: &[Source<'_, 't>]) -> Result<Vec<&'t [u8]>, AllocError> {

@@ -27,8 +27,8 @@ use lc_model::ByteSource;
 use run_account::laws::{fields_that_come, rules_that_stand_as_before};
 use run_account::{Account, Place, Seen};
 use run_course::{Ending, Handled, Stepping};
+use schedules::Schedule;
 use std::alloc::{AllocError, Global};
-use tick_scheduler::Schedule;
 
 /// All that a page tells of a run, of the records so far.
 #[derive(Drop)]

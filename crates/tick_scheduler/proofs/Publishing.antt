@@ -20,8 +20,8 @@ use Rattle.app_host.specs.Seating.{IsOpened, IsClosed}
 use Rattle.app_host.specs.Calls.{IsAtHome, Leaves, LeavesEmpty}
 use Rattle.app_host.specs.Publishing.{AreShort, Publishes, PublishingGoesOn, TicksHaveRoom, PublishingAnswers, PublishingLeaves, PublishingSettles}
 use Rattle.app_host.specs.Statements.{OpeningLeaves, OpeningSettles, SilenceLeaves, ClosingRetires, ClosingLeaves, NoTablesGo}
-use Rattle.tick_scheduler.specs.declared.entry.Entry.{Entry}
-use Rattle.tick_scheduler.specs.Entry.{entry_of, entries_of}
+use Rattle.schedules.specs.declared.entry.Entry.{Entry}
+use Rattle.schedules.specs.Entry.{entry_of, entries_of}
 
 -- ---- the packets of entries
 

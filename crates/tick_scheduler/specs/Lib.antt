@@ -1,6 +1,2 @@
--- What the contracts of schedules cite.
-pub mod Error
-pub mod Entry
-pub mod Word
-pub mod Line
+-- What the contracts of the scheduler cite.
 pub mod Turn

@@ -1,18 +1,10 @@
-//! The scheduler application of the core Flight System: schedules, their texts, and what each tick publishes (after the cFS
-//! scheduler's table of slots; texts and packets are this project's own).
+//! The scheduler application of the core Flight System: what each tick publishes (after the cFS scheduler's table of slots;
+//! packets are this project's own). Exports the names of schedules, too.
 #![tactic(auto)]
 
-mod entry;
-mod error;
-mod line;
-mod number;
-mod parsing;
-mod schedule;
+mod packet;
 mod scheduler;
-mod word;
 
-pub use entry::{Entry, PACKET_SIZE};
-pub use error::ScheduleError;
-pub use parsing::parse_schedule;
-pub use schedule::Schedule;
+pub use packet::{PACKET_SIZE, write_packet};
 pub use scheduler::Scheduler;
+pub use schedules::{Entry, Schedule, ScheduleError, parse_schedule};

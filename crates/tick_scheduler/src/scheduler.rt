@@ -3,16 +3,16 @@
 ghost use Rattle.std.specs.Prelude.{◌≡◌, ◌<◌, ◌≤◌, length, map, None, IfOk};
 ghost use Rattle.lc_model.specs.Host.Schedule.{entry_packet, IsSchedule, most_entries};
 ghost use Rattle.lc_model.specs.Kept.Next.{next_tick};
-ghost use Rattle.tick_scheduler.specs.Entry.{entries_of};
+ghost use Rattle.schedules.specs.Entry.{entries_of};
 ghost use Rattle.app_host.specs.Publishing.{AreShort, Publishes, roomy_depth};
 
-use crate::entry::{Entry, PACKET_SIZE};
-use crate::schedule::Schedule;
+use crate::packet::{PACKET_SIZE, write_packet};
 use app_host::laws::seats_are_kept_by_the_rules;
 use app_host::publishing::publishing_is_by_the_rules;
 use app_host::{App, Services};
 use lc_model::packet::message_id;
 use lc_model::{Seat, mids};
+use schedules::{Entry, Schedule};
 use std::alloc::{AllocError, Global};
 use std::marker::Model;
 
@@ -68,7 +68,7 @@ impl Scheduler {
         let slots = self.schedule.len();
     }
 
-    /// What the next tick publishes, entry by entry: `Entry::write_packet` gives the packet of each.
+    /// What the next tick publishes, entry by entry: `write_packet` gives the packet of each.
     pub fn entries(&self) -> &[Entry]
         ensures packets { map entry_packet (entries_of result.now) ≡
             (next_tick self.now.schedule self.now.slot).1 }
@@ -139,7 +139,7 @@ fn publish_all(entries: &[Entry], services: &mut Services)
     publishing_is_by_the_rules();
     let mut buffer = [0; PACKET_SIZE];
     for entry in entries {
-        let size = entry.write_packet(&mut buffer);
+        let size = write_packet(*entry, &mut buffer);
         services.publish(&buffer[..size]);
     }
 }

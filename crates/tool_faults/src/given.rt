@@ -4,8 +4,8 @@ use crate::fault::Fault;
 use crate::files::{LONGEST_TEXT, read, read_text};
 use crate::telling::refusal_fault;
 use line_messages::read_schedule;
+use schedules::Schedule;
 use std::fs::Files;
-use tick_scheduler::Schedule;
 
 /// The schedule that a file's text is.
 pub fn schedule_of<'a, R: AllocGlobal>(

@@ -4,12 +4,12 @@ use crate::claims::same;
 use crate::tables::{WDT, watchpoints};
 use lc_model::Reading;
 use run_report::{Run, Silent, Source, write_page};
+use schedules::parse_schedule;
 use std::alloc::{AllocError, Global};
 use std::env::{self, Env};
 use std::fs::{self, Files};
 use std::io::{self, Eprint};
 use std::process::Abort;
-use tick_scheduler::parse_schedule;
 use tool_commands::obey;
 
 /// A tick at second 100.

@@ -4,11 +4,11 @@ use crate::claims::same;
 use lc_model::{ByteSource, Pieces};
 use run_course::Ending;
 use run_report::{Progress, ReportError, Run, Silent, Source, write_page};
+use schedules::parse_schedule;
 use std::alloc::{AllocError, Global};
 use std::io::Write;
 use std::process::Abort;
 use stream_script::read_script;
-use tick_scheduler::parse_schedule;
 
 /// Both default files of the first text, and the start of the Limit Checker, from second 100 on.
 pub const BEGIN: &[u8] =

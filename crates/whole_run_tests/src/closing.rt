@@ -4,8 +4,8 @@ use crate::leaving::retirements_of;
 use crate::two_failures::NO_ENTRIES;
 use flight_core::{Report, RunError};
 use lc_model::{Limited, Pieces};
+use schedules::parse_schedule;
 use std::process::Abort;
-use tick_scheduler::parse_schedule;
 
 /// An order to start the counter, and HOST's event is 168 bytes.
 const START: &[u8] =

@@ -6,8 +6,8 @@ use crate::low_volts::LOW_VOLTS;
 use crate::two_failures::{NO_ENTRIES, OUTPUT, STREAM};
 use flight_core::{Report, RunError};
 use lc_model::{Limited, Pieces};
+use schedules::parse_schedule;
 use std::process::Abort;
-use tick_scheduler::parse_schedule;
 
 /// A run over the stream from and to these devices answers so, and writes the first bytes of its output, so many of them.
 fn ends<R: Abort + AllocGlobal>(rt: &R, devices: Devices, answer: Answer, size: usize) {

@@ -7,8 +7,9 @@ use flight_core::{Report, RunError, run, run_within};
 use flight_profile::{Member, add};
 use lc_model::{Limited, Pieces};
 use limit_checker::LimitChecker;
+use schedules::Schedule;
 use std::alloc::{AllocError, Global};
-use tick_scheduler::{Schedule, Scheduler};
+use tick_scheduler::Scheduler;
 
 /// The devices of a run: the bytes of a piece, how many bytes of the stream there are, the read that fails (0: none), how many
 /// bytes the writer takes, the write that fails (0: none), and the most reads, where they aren't those of `run`.

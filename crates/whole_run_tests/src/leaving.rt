@@ -7,10 +7,10 @@ use command_counter::Counter;
 use flight_core::{Report, RunError, run_within};
 use flight_profile::add;
 use lc_model::{Limited, Pieces, Seat};
+use schedules::Schedule;
 use std::alloc::{AllocError, Global};
 use std::cell::Cell;
 use std::rc::Rc;
-use tick_scheduler::Schedule;
 
 /// The counter, with its retirements counted.
 #[derive(Drop)]

@@ -8,9 +8,9 @@ use flight_core::{Report, RunError, run_gathered};
 use flight_profile::add;
 use lc_model::{ByteSink, ByteSource, DeviceFault};
 use limit_checker::LimitChecker;
+use schedules::{Schedule, parse_schedule};
 use std::alloc::{AllocError, Global};
 use std::cell::Cell;
-use tick_scheduler::{Schedule, parse_schedule};
 
 /// How many bytes the records lead to that end within so many bytes of the stream.
 fn led_to(bytes: usize) -> usize {

@@ -8,8 +8,8 @@ ghost use Rattle.whole_run_tests.specs.LowVolts.{WritesByItsText, WritesTwoFailu
 use crate::with_stock::run_with_stock;
 use flight_core::{Report, RunError};
 use lc_model::{ByteSink, ByteSource};
+use schedules::Schedule;
 use std::alloc::{AllocError, Global};
-use tick_scheduler::Schedule;
 
 /// One rule, which fails twice below 2,400 before it requests sequence 7.
 pub const LOW_VOLTS: &[u8] =

@@ -8,8 +8,8 @@ use crate::low_volts::run_low_volts;
 use crate::two_failures::{NO_ENTRIES, STREAM};
 use flight_core::{Report, RunError};
 use lc_model::{ByteSource, Limited, Pieces};
+use schedules::parse_schedule;
 use std::process::Abort;
-use tick_scheduler::parse_schedule;
 
 /// Nothing was read, and nothing written.
 fn is_untouched<R: Abort>(rt: &R, reader: &Pieces<'_>, writer: &Limited<'_>) {

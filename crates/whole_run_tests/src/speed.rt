@@ -6,7 +6,7 @@ use crate::low_volts::LOW_VOLTS;
 use crate::two_failures::{NO_ENTRIES, STREAM};
 use flight_core::Report;
 use lc_model::{Limited, Pieces};
-use tick_scheduler::parse_schedule;
+use schedules::parse_schedule;
 
 /// A packet of 2,400 volts, at which no rule is sampled.
 const FINE: &[u8] = b"\x01\0\0\0d\0\0\0\0\0\x10\x08\x83\xC0\0\0\x09\0\0\0\0\0\0\x09\x60\0\0";

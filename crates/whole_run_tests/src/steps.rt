@@ -7,8 +7,9 @@ use flight_profile::{Member, add};
 use lc_model::{Body, Limited};
 use limit_checker::LimitChecker;
 use rpn_compiler::{TablePair, compile};
+use schedules::{Schedule, parse_schedule};
 use std::alloc::{AllocError, Global};
-use tick_scheduler::{Schedule, Scheduler, parse_schedule};
+use tick_scheduler::Scheduler;
 
 /// The files from which the Limit Checker's tables are started.
 const DEFAULT_WDT: &[u8] = b"/cf/lc_def_wdt.tbl";

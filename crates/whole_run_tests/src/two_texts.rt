@@ -11,8 +11,8 @@ use crate::with_stock::run_with_stock;
 use flight_core::{Report, RunError};
 use lc_model::{ByteSink, ByteSource};
 use rule_judgement::laws::quiet_sequences_are_not_written;
+use schedules::Schedule;
 use std::alloc::{AllocError, Global};
-use tick_scheduler::Schedule;
 
 /// Two rules over the same field: one fails once below 2,000 and requests sequence 8; the other never fails, and would request
 /// sequence 9.

@@ -12,8 +12,9 @@ use flight_core::{Report, RunError, run};
 use flight_profile::add;
 use lc_model::{ByteSink, ByteSource};
 use limit_checker::LimitChecker;
+use schedules::Schedule;
 use std::alloc::{AllocError, Global};
-use tick_scheduler::{Schedule, Scheduler};
+use tick_scheduler::Scheduler;
 
 /// Runs these texts, with two Limit Checkers, a scheduler and a counter in stock. Out of memory for these is the outer error.
 /// Conditions: nothing was read or failed yet.

@@ -1,5 +1,5 @@
 use Rattle.std.proofs.Common.{◌≡◌, ◌++◌, take, flat_map}
-use Rattle.tick_scheduler.specs.Entry.{entries_of}
+use Rattle.schedules.specs.Entry.{entries_of}
 use Rattle.judgement_listing.specs.Requests.{request_in}
 use Rattle.judgement_listing.proofs.schedule.push_requests.Given as goal
 

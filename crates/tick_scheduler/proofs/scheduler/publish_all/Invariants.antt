@@ -1,7 +1,7 @@
 use Rattle.std.proofs.Common.{◌+◌, take, map}
 use Rattle.lc_model.specs.Host.Schedule.{entry_packet}
 use Rattle.app_host.specs.Publishing.{AreShort, Publishes}
-use Rattle.tick_scheduler.specs.Entry.{entries_of}
+use Rattle.schedules.specs.Entry.{entries_of}
 use Rattle.tick_scheduler.proofs.scheduler.publish_all.Given as goal
 
 abbrev pub invariant-loop-entry : goal.invariant-loop-entry

@@ -1,0 +1,29 @@
+-- What the errors of schedule texts say. This project's own.
+use Rattle.std.specs.Prelude.{◌≡◌, ℕ, Option, Some, None, Result, Err, ⊤}
+use Rattle.lc_model.specs.Host.Schedule.{Schedule}
+use Rattle.lc_model.specs.Host.ScheduleText.{ScheduleFault, bad_line, too_many_slots, too_many_entries}
+use Rattle.schedules.specs.declared.error.ScheduleError.{ScheduleError}
+use Rattle.schedules.specs.declared.error.ScheduleError.TheVariants.{BadLine, TooManySlots, TooManyEntries, Memory}
+
+-- the fault of the text; want of memory is none
+abbrev pub fault_of : ScheduleError → Option ScheduleFault
+fault_of (BadLine line) = Some (record { code = bad_line; line = line })
+fault_of (TooManySlots line) = Some (record { code = too_many_slots; line = line })
+fault_of (TooManyEntries line) = Some (record { code = too_many_entries; line = line })
+fault_of Memory = None
+
+-- the number of the refusal
+abbrev pub error_code : ScheduleError → Option ℕ
+error_code (BadLine line) = Some bad_line
+error_code (TooManySlots line) = Some too_many_slots
+error_code (TooManyEntries line) = Some too_many_entries
+error_code Memory = None
+
+-- what was answered is this, but for want of memory
+abbrev pub IsFaultOr : Option ScheduleFault → Result Schedule ScheduleFault → Type 0
+IsFaultOr (Some fault) said = said ≡ Err fault
+IsFaultOr None said = ⊤
+
+-- what was refused is at fault so, want of memory aside
+abbrev pub IsRefused : Result Schedule ScheduleFault → ScheduleError → Type 0
+IsRefused said error = IsFaultOr (fault_of error) said

@@ -1,0 +1,16 @@
+//! Schedules, which say what is published at which tick, and their texts (after the cFS scheduler's table of slots; texts are
+//! this project's own).
+#![tactic(auto)]
+
+mod entry;
+mod error;
+mod line;
+mod number;
+mod parsing;
+mod schedule;
+mod word;
+
+pub use crate::entry::Entry;
+pub use crate::error::ScheduleError;
+pub use crate::parsing::parse_schedule;
+pub use crate::schedule::Schedule;
