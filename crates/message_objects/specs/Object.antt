@@ -4,11 +4,11 @@ use denote.Ref.{Bor}
 use Rattle.serde_json.specs.Data.{Data, Items, object, member, no_members, string, array, no_items, number, unsigned, null}
 use Rattle.serde_json.specs.View.{items_of}
 use Rattle.serde_json.specs.Written.{compact_text}
-use Rattle.text_places.specs.Line.{line_number}
-use Rattle.text_places.specs.Character.{characters, column}
-use Rattle.text_places.specs.Window as window
-use Rattle.rule_messages.specs.declared.message.Mark.{Mark}
-use Rattle.rule_messages.specs.declared.message.Message.{Message}
+use Rattle.diagnostics.specs.Line.{line_number}
+use Rattle.diagnostics.specs.Character.{characters, column}
+use Rattle.diagnostics.specs.Window as window
+use Rattle.diagnostics.specs.declared.message.Mark.{Mark}
+use Rattle.diagnostics.specs.declared.message.Message.{Message}
 use Rattle.message_objects.specs.declared.object.Told.{Told}
 use Rattle.message_objects.specs.declared.spot.Spot.{Spot}
 

@@ -6,7 +6,7 @@ ghost use Rattle.serde_json.specs.Written.{compact_text, has_float};
 ghost use Rattle.message_objects.specs.Object.{code_of, kind_of, level_of, message_object, message_text, note_text};
 
 use crate::object::{Told, mark_objects, name_object, place_object, told_object};
-use rule_messages::Message;
+use diagnostics::Message;
 use serde_json::Value;
 use std::alloc::{AllocError, Global};
 

@@ -5,7 +5,7 @@ ghost use Rattle.serde_json.specs.View.{view, items_view};
 ghost use Rattle.message_objects.specs.Object.{mark_object, name_object, place_object, told_object};
 
 use crate::spot::spot_of;
-use rule_messages::Mark;
+use diagnostics::Mark;
 use serde_json::{Value, json};
 use std::alloc::{AllocError, Global};
 

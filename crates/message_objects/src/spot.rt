@@ -3,8 +3,7 @@
 ghost use Rattle.std.specs.Prelude.{◌≡◌, ◌≤◌, length};
 ghost use Rattle.message_objects.specs.Object.{IsSpot, end_column, token_in_line};
 
-use rule_messages::Mark;
-use text_places::{character_count, line_start, place_of, written_line};
+use diagnostics::{Mark, character_count, line_start, place_of, written_line};
 
 /// A place of a text, and what is said of it.
 #[derive(Clone, Copy)]

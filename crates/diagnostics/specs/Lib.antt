@@ -1,0 +1,6 @@
+-- What the contracts of places and messages cite.
+pub mod Line
+pub mod Character
+pub mod Window
+pub mod Excerpt
+pub mod Message
