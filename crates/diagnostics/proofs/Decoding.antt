@@ -1,6 +1,6 @@
 -- What is decoded of some bytes is among them.
-use Rattle.std.proofs.Common.{◌≡◌, ◌<◌, ◌≤◌, ◌==◌, ℕ, Bool, true, false, cond, nat_lt, ◌&&◌, List, length, slice_index, refl, arith}
-use Rattle.std.specs.Prelude.{Option, Some, None}
+use Rattle.std.proofs.Common.{◌≡◌, ◌<◌, ◌≤◌, ◌==◌, ℕ, Bool, true, false, cond, nat_lt, List, length, slice_index, refl, arith}
+use Rattle.std.specs.Prelude.{Some}
 use Rattle.bstr.specs.Utf8.{Decoded, decoded, decoded_by, second, continues, good, bad, code_of_2, code_of_3, code_of_4}
 
 -- what is decoded as a character has some bytes, and at most so many

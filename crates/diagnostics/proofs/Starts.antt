@@ -1,5 +1,5 @@
 -- Where a line begins, one byte further back.
-use Rattle.std.proofs.Common.{◌≡◌, ◌≢◌, ◌-◌, ◌<◌, ◌==◌, ℕ, Bool, true, false, zero, suc, List, slice_index, cond, refl, ap, sym, ◌∙◌, arith}
+use Rattle.std.proofs.Common.{◌≡◌, ◌≢◌, ◌-◌, ◌<◌, ◌==◌, ℕ, zero, suc, List, slice_index, cond, refl, ap, sym, ◌∙◌, arith}
 use Rattle.diagnostics.specs.Line.{line_feed, line_start}
 
 pub at_first : (text : List ℕ) → line_start text 0 ≡ 0

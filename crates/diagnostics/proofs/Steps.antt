@@ -1,5 +1,5 @@
 -- Characters one after the other.
-use Rattle.std.proofs.Common.{◌≡◌, ◌+◌, ◌-◌, ◌<◌, ◌≤◌, ◌++◌, ℕ, zero, suc, List, [], ◌∷◌, length, drop, refl, ap, sym, ◌∙◌, arith, append_assoc, flat_map, subst, append-nil}
+use Rattle.std.proofs.Common.{◌≡◌, ◌+◌, ◌-◌, ◌<◌, ◌++◌, ℕ, zero, suc, List, [], ◌∷◌, length, drop, refl, ap, sym, ◌∙◌, arith, append_assoc, flat_map, subst, append-nil}
 use Rattle.diagnostics.specs.Character.{char_in_front, characters, characters_behind, shown, shown_of, size_in_front}
 
 skips : (left : ℕ) (bytes : List ℕ) → characters_behind left bytes ≡ characters_behind 0 (drop left bytes)

@@ -1,8 +1,8 @@
 -- Characters of a line, and the columns that show them. A character is a UTF-8 sequence (the Unicode Standard, Table 3-7); a byte
 -- that is in none is one by itself. This project's own.
-use Rattle.std.specs.Prelude.{ℕ, zero, suc, ◌+◌, ◌-◌, ◌==◌, ◌&&◌, ◌||◌, Bool, if◌then◌else◌, nat_lt, nat_le, List, [], ◌∷◌, length, drop, take, flat_map, Option, Some, None}
-use Rattle.bstr.specs.Utf8.{Decoded, decoded}
-use Rattle.diagnostics.specs.Line.{line_of, line_start}
+use Rattle.std.specs.Prelude.{ℕ, zero, suc, ◌+◌, ◌-◌, ◌==◌, ◌&&◌, ◌||◌, Bool, if◌then◌else◌, nat_le, List, [], ◌∷◌, length, drop, take, flat_map, Option, Some, None}
+use Rattle.bstr.specs.Utf8.{decoded}
+use Rattle.diagnostics.specs.Line.{line_start}
 
 -- U+FFFD
 abbrev pub replacement : ℕ

@@ -1,6 +1,6 @@
 -- What is shown of a line and a part of it. This project's own.
-use Rattle.std.specs.Prelude.{ℕ, ◌+◌, ◌-◌, ◌==◌, if◌then◌else◌, nat_lt, nat_le, min, max, List, [], ◌∷◌, ◌++◌, length, take, drop}
-use Rattle.diagnostics.specs.Line.{line_number, line_start, written_line}
+use Rattle.std.specs.Prelude.{ℕ, ◌-◌, ◌==◌, if◌then◌else◌, nat_le, min, max, List, [], ◌∷◌, ◌++◌, length, take, drop}
+use Rattle.diagnostics.specs.Line.{line_start, written_line}
 use Rattle.diagnostics.specs.Character.{shown}
 
 -- the most columns, and how many of them stand before the mark

@@ -1,4 +1,4 @@
-use Rattle.std.proofs.Common.{◌≡◌, ◌+◌, ◌≤◌, ◌<◌, ℕ, length, drop, arith, sym, ◌∙◌, ap, subst}
+use Rattle.std.proofs.Common.{◌≡◌, ◌+◌, ◌<◌, length, arith, sym, subst}
 use Rattle.diagnostics.specs.Character.{characters}
 use Rattle.diagnostics.proofs.Steps.{counted, counted_all}
 use Rattle.diagnostics.proofs.character.character_count.Goals as goal

@@ -1,5 +1,4 @@
-use Rattle.std.proofs.Common.{◌≡◌, arith, sym, ◌∙◌, ap, subst, ◌<◌, ◌≤◌, length, ℕ}
-use Rattle.bstr.specs.Utf8.{decoded}
+use Rattle.std.proofs.Common.{sym, ◌∙◌, subst, ◌<◌, ◌≤◌, length}
 use Rattle.diagnostics.proofs.Decoding.{within_decoded}
 use Rattle.diagnostics.proofs.character.front_character.Goals as goal
 

@@ -1,4 +1,4 @@
-use Rattle.std.proofs.Common.{◌≡◌, ◌++◌, ◌<◌, ℕ, length, drop, arith, sym, ◌∙◌, ap, subst}
+use Rattle.std.proofs.Common.{◌≡◌, ◌++◌, ◌<◌, length, arith, ◌∙◌, ap}
 use Rattle.diagnostics.specs.Character.{shown, shown_of}
 use Rattle.diagnostics.proofs.Steps.{shown_all, shown_next}
 use Rattle.diagnostics.proofs.columns.shown.Goals as goal
