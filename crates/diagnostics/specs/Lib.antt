@@ -4,3 +4,4 @@ pub mod Character
 pub mod Window
 pub mod Excerpt
 pub mod Message
+pub mod Object

@@ -1,9 +1,12 @@
 //! Where a mark stands.
 
 ghost use Rattle.std.specs.Prelude.{◌≡◌, ◌≤◌, length};
-ghost use Rattle.message_objects.specs.Object.{IsSpot, end_column, token_in_line};
+ghost use Rattle.diagnostics.specs.Object.{IsSpot, end_column, token_in_line};
 
-use diagnostics::{Mark, character_count, line_start, place_of, written_line};
+use crate::character::character_count;
+use crate::line::{line_start, written_line};
+use crate::message::Mark;
+use crate::place::place_of;
 
 /// A place of a text, and what is said of it.
 #[derive(Clone, Copy)]

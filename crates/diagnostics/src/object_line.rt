@@ -3,10 +3,10 @@
 ghost use Rattle.std.specs.Prelude.{◌≡◌, ◌++◌, [], ◌∷◌, false, codes, if◌then◌else◌, string_bytes, IfOk};
 ghost use Rattle.serde_json.specs.View.{view};
 ghost use Rattle.serde_json.specs.Written.{compact_text, has_float};
-ghost use Rattle.message_objects.specs.Object.{code_of, kind_of, level_of, message_object, message_text, note_text};
+ghost use Rattle.diagnostics.specs.Object.{code_of, kind_of, level_of, message_object, message_text, note_text};
 
+use crate::message::Message;
 use crate::object::{Told, mark_objects, name_object, place_object, told_object};
-use diagnostics::Message;
 use serde_json::Value;
 use std::alloc::{AllocError, Global};
 

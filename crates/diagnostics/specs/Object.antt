@@ -9,8 +9,8 @@ use Rattle.diagnostics.specs.Character.{characters, column}
 use Rattle.diagnostics.specs.Window as window
 use Rattle.diagnostics.specs.declared.message.Mark.{Mark}
 use Rattle.diagnostics.specs.declared.message.Message.{Message}
-use Rattle.message_objects.specs.declared.object.Told.{Told}
-use Rattle.message_objects.specs.declared.spot.Spot.{Spot}
+use Rattle.diagnostics.specs.declared.object.Told.{Told}
+use Rattle.diagnostics.specs.declared.spot.Spot.{Spot}
 
 -- ---- places
 

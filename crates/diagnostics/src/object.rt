@@ -2,10 +2,10 @@
 
 ghost use Rattle.std.specs.Prelude.{◌≡◌, map, IfOk};
 ghost use Rattle.serde_json.specs.View.{view, items_view};
-ghost use Rattle.message_objects.specs.Object.{mark_object, name_object, place_object, told_object};
+ghost use Rattle.diagnostics.specs.Object.{mark_object, name_object, place_object, told_object};
 
+use crate::message::Mark;
 use crate::spot::spot_of;
-use diagnostics::Mark;
 use serde_json::{Value, json};
 use std::alloc::{AllocError, Global};
 

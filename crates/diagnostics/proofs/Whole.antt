@@ -3,7 +3,7 @@ use Rattle.std.proofs.Common.{◌≡◌, false, ℕ, List, [], ◌∷◌, Bor, r
 use Rattle.serde_json.specs.Written.{has_float, items_have_float}
 use Rattle.diagnostics.specs.declared.message.Mark.{Mark}
 use Rattle.diagnostics.specs.declared.message.Message.{Message}
-use Rattle.message_objects.specs.Object.{code_of, mark_objects, message_object, name_object, number_or_null, place_object}
+use Rattle.diagnostics.specs.Object.{code_of, mark_objects, message_object, name_object, number_or_null, place_object}
 
 marks_have_none : (text : List ℕ) (marks : List Mark) → items_have_float (mark_objects text marks) ≡ false
 marks_have_none text [] = refl
