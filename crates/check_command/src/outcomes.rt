@@ -1,8 +1,7 @@
 //! For which values of their fields the rules of a text fail and pass.
 
+use diagnostics::{note_line, written};
 use judgement_listing::list_outcomes;
-use message_objects::note_line;
-use message_words::written;
 use std::alloc::Global;
 use std::io::Write;
 use tool_faults::{Fault, judgement_fault, listed};

@@ -5,7 +5,7 @@ use Rattle.std.proofs.lemmas.List.Splits.{length-slice_split}
 use Rattle.std.proofs.lemmas.List.Sums.{sum_by-cons}
 use Rattle.lc_model.specs.Host.Schedule.{Schedule, ScheduleEntry, most_slots, most_entries}
 use Rattle.lc_model.specs.Host.ScheduleText.{ScheduleFault, entry_added, entry_in, empty_slots, is_silent, line_read, lines_of, lines_read, onto_first, parted, schedule_in, slots_in, words_of}
-use Rattle.text_places.specs.Line.{is_line_feed}
+use Rattle.diagnostics.specs.Line.{is_line_feed}
 use Rattle.stream_script.specs.Error.{ScriptFault}
 use Rattle.stream_script.specs.Part as script
 use Rattle.stream_script.specs.Script.{Said, line_said, lines_said, nothing_said, script_in, stream_of}

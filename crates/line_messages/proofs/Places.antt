@@ -2,9 +2,9 @@
 use Rattle.std.proofs.Common.{◌≡◌, ◌≢◌, ◌+◌, ◌-◌, ◌<◌, ◌≤◌, ◌==◌, ℕ, Bool, true, false, not, zero, suc, cond, List, [], ◌∷◌, length, take, drop, slice_index, count_by, refl, sym, ◌∙◌, ap, subst, arith, take_all, take-add, length-take, length-drop, le_refl, le_of_eq, IfOk, IsSomeAnd, Result, Ok, Err, eq-eqb, ne_eqb}
 use Rattle.std.specs.List.{prefix_len}
 use Rattle.std.proofs.lemmas.List.Sums.{count_by_more_yes, count_by_more_no, sum_by-append, sum_by-cons}
-use Rattle.text_places.specs.Line.{is_line_byte, is_line_feed, line_feed, line_number, line_of, line_start}
-use Rattle.rule_messages.specs.Telling.{IsAt}
-use Rattle.rule_messages.specs.declared.message.Message.{Message}
+use Rattle.diagnostics.specs.Line.{is_line_byte, is_line_feed, line_feed, line_number, line_of, line_start}
+use Rattle.diagnostics.specs.Message.{IsAt}
+use Rattle.diagnostics.specs.declared.message.Message.{Message}
 use Rattle.line_messages.specs.Line.{IsLine, IsLineBegin, line_count}
 use Rattle.line_messages.specs.Telling.{IsOn, IsOnLine}
 use Rattle.line_messages.specs.declared.line.Line.{Line}

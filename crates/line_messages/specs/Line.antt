@@ -1,6 +1,6 @@
 -- Lines of a text by their numbers. This project's own.
 use Rattle.std.specs.Prelude.{◌≡◌, ℕ, ◌+◌, ◌≤◌, List, length, count_by}
-use Rattle.text_places.specs.Line.{is_line_feed, line_number, line_start}
+use Rattle.diagnostics.specs.Line.{is_line_feed, line_number, line_start}
 use Rattle.line_messages.specs.declared.line.Line.{Line}
 
 -- a line feed ends a line, and the text's end the last one

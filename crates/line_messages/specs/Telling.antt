@@ -2,12 +2,12 @@
 use Rattle.std.specs.Prelude.{◌≡◌, ℕ, ◌≤◌, List, length, ⊤, IsSomeAnd, Result, Ok, Err}
 use Rattle.lc_model.specs.Host.Schedule.{Schedule}
 use Rattle.lc_model.specs.Host.ScheduleText.{ScheduleFault}
-use Rattle.text_places.specs.Line.{line_number}
+use Rattle.diagnostics.specs.Line.{line_number}
 use Rattle.stream_script.specs.Error.{ScriptFault}
 use Rattle.stream_script.specs.declared.error.Reason.{Reason}
 use Rattle.stream_script.specs.declared.error.Reason.TheVariants.{UnknownStatement, BadNumber, BadBytes, UnknownKind, UnknownType, OutsidePacket, BadBody, LongName}
-use Rattle.rule_messages.specs.Telling.{first_place}
-use Rattle.rule_messages.specs.declared.message.Message.{Message}
+use Rattle.diagnostics.specs.Message.{first_place}
+use Rattle.diagnostics.specs.declared.message.Message.{Message}
 use Rattle.line_messages.specs.declared.refusal.Refusal.{Refusal}
 use Rattle.line_messages.specs.declared.refusal.Refusal.TheVariants.{Told, Memory}
 

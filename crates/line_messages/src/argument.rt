@@ -3,9 +3,8 @@
 use crate::said::{Said, advised, expected, expected_word, said_of};
 use crate::statement::{Shape, Wanted};
 use crate::word::{Word, are_digits, number_in};
-use message_words::quoted;
+use diagnostics::{front_character, quoted};
 use std::alloc::{AllocError, Global};
-use text_places::front_character;
 
 /// The most digits of a number in a script.
 pub const MOST_DIGITS: usize = 10;

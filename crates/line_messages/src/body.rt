@@ -2,7 +2,7 @@
 
 use crate::said::{Said, advised, said_of};
 use crate::word::{Word, nth_word};
-use message_words::Grouped;
+use diagnostics::Grouped;
 use std::alloc::{AllocError, Global};
 
 /// How many bytes a word writes.

@@ -3,7 +3,7 @@
 ghost use Rattle.std.specs.Prelude.{◌≡◌, ◌≤◌};
 ghost use Rattle.line_messages.specs.Line.{IsLine, IsLineBegin, line_count};
 
-use text_places::line_of;
+use diagnostics::line_of;
 
 /// A line of a text.
 #[derive(Clone, Copy)]

@@ -3,7 +3,7 @@
 ghost use Rattle.std.specs.Prelude.{◌≡◌};
 ghost use Rattle.line_messages.specs.declared.refusal.Refusal.TheVariants.{Memory};
 
-use rule_messages::Message;
+use diagnostics::Message;
 use std::alloc::AllocError;
 
 /// Why a text says no schedule or no stream.

@@ -6,8 +6,7 @@ ghost use Rattle.line_messages.specs.Telling.{IsOn};
 
 use crate::line::Line;
 use crate::word::Word;
-use message_words::{nearest, quoted};
-use rule_messages::{Mark, Message};
+use diagnostics::{Mark, Message, nearest, quoted};
 use std::alloc::{AllocError, Global};
 
 /// What is said of a line, before it is known where the line begins.

@@ -12,7 +12,7 @@ use crate::line::{Line, line_numbered};
 use crate::refusal::Refusal;
 use crate::said::{Said, message_at_end, message_on};
 use crate::word::nth_word;
-use rule_messages::Message;
+use diagnostics::Message;
 use schedules::{Schedule, ScheduleError, parse_schedule};
 use std::alloc::{AllocError, Global};
 

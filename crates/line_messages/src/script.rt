@@ -14,7 +14,7 @@ use crate::refusal::Refusal;
 use crate::said::{Said, expected_word, message_on, too_many};
 use crate::statement::{Statement, VERBS, statement_of};
 use crate::word::nth_word;
-use rule_messages::Message;
+use diagnostics::Message;
 use std::alloc::{AllocError, Global};
 use stream_script::{Reason, ScriptError, read_script};
 

@@ -1,8 +1,7 @@
 //! What a script may say and hardly means.
 
 use crate::word::nth_word;
-use message_words::quoted;
-use rule_messages::{Mark, Message};
+use diagnostics::{Mark, Message, quoted};
 use std::alloc::{AllocError, Global};
 use std::str;
 

@@ -2,7 +2,7 @@
 
 ghost use Rattle.std.specs.Prelude.{◌≤◌, ◌+◌, length, IfSome};
 
-use message_words::quoted;
+use diagnostics::quoted;
 use std::alloc::{AllocError, Global};
 
 /// The most bytes of a word that a sentence shows.

@@ -12,8 +12,9 @@ use Rattle.rule_lexer.specs.declared.reason.LexReason.TheVariants.{NotANumber, N
 use Rattle.rpn_compiler.specs.declared.error.CompileError.TheVariants.{Lex}
 use Rattle.rpn_compiler.specs.Fault.{refusal_of}
 use Rattle.rule_messages.specs.Places.{IsRule}
-use Rattle.rule_messages.specs.Telling.{IsAt, Tells, TellsOf, TellsReason, place_by_reason, place_of}
-use Rattle.rule_messages.specs.declared.message.Message.{Message}
+use Rattle.diagnostics.specs.Message.{IsAt}
+use Rattle.rule_messages.specs.Telling.{Tells, TellsOf, TellsReason, place_by_reason, place_of}
+use Rattle.diagnostics.specs.declared.message.Message.{Message}
 
 of_number : (text : List ℕ) (at : ℕ) (test : Bool) (message : Message)
     → TellsReason text (cond test (NumberTooLarge at) (NotANumber at)) at message → IsAt 2 at message

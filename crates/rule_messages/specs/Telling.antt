@@ -1,6 +1,5 @@
 -- What a message says of a refusal: its number, and its place in the text. This project's own.
-use Rattle.std.specs.Prelude.{◌≡◌, ℕ, ◌==◌, ◌&&◌, Bool, true, false, if◌then◌else◌, List, [], ◌∷◌, drop, ⊤, Option, Some, None, option_map}
-use denote.Ref.{Bor}
+use Rattle.std.specs.Prelude.{◌≡◌, ℕ, ◌==◌, ◌&&◌, Bool, true, false, if◌then◌else◌, List, [], ◌∷◌, drop, ⊤, Option, Some, None}
 use Rattle.lc_model.specs.Text.Reading as model
 use Rattle.lc_model.specs.Text.Reading.{ParseFault, TextRefusal, ForText, AtPlace, Unparsed, ForRule}
 use Rattle.lc_model.specs.Codes.{table_entries}
@@ -14,22 +13,9 @@ use Rattle.rule_lexer.specs.declared.error.LexError.TheVariants as lexer
 use Rattle.field_checker.specs.declared.error.CheckError.{CheckError}
 use Rattle.field_checker.specs.declared.error.CheckError.TheVariants as checker
 use Rattle.rpn_compiler.specs.Fault.{code_of}
+use Rattle.diagnostics.specs.Message.{IsAt, first_place}
+use Rattle.diagnostics.specs.declared.message.Message.{Message}
 use Rattle.rule_messages.specs.Places.{IsComparisonBeyond, IsRule}
-use Rattle.rule_messages.specs.declared.message.Mark.{Mark}
-use Rattle.rule_messages.specs.declared.message.Message.{Message}
-
--- the place of the first mark
-abbrev pub first_place : Message → Option ℕ
-first_place message = option_map (λ (mark : Mark). mark.at) message.first
-
--- the message has this number and this place
-abbrev pub IsAt : (code at : ℕ) → Message → Type 0
-IsAt code at message = (message.code ≡ code) × (first_place message ≡ Some at)
-
--- the message is the warning of this name, at this place
-abbrev pub IsWarning : (name : List ℕ) (at : ℕ) → Message → Type 0
-IsWarning name at message =
-    (option_map (λ (text : Bor (List ℕ)). text.now) message.warning ≡ Some name) × (first_place message ≡ Some at)
 
 -- a carriage return in front, right before a line feed or the text's end
 abbrev pub ends_line : List ℕ → Bool

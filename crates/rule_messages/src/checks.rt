@@ -6,11 +6,11 @@ ghost use Rattle.rpn_compiler.specs.Fault.{refusal_of};
 ghost use Rattle.rule_messages.specs.Telling.{TellsOf, place_of_check};
 
 use crate::fields::{bad_mask, outside};
-use crate::message::Message;
 use crate::naming::{duplicate, unknown};
 use crate::numbers::{bad_compared, bad_number};
 use crate::packets::{bad_length, no_telemetry, reserved};
 use crate::source::Source;
+use diagnostics::Message;
 use field_checker::CheckError;
 use rule_lexer::{Token, TokenKind};
 use std::alloc::{AllocError, Global};

@@ -7,10 +7,10 @@ ghost use Rattle.rule_messages.specs.Telling.{TellsOf};
 
 use crate::checks::check_message;
 use crate::grammar::{expected_message, nested_message};
-use crate::message::Message;
 use crate::source::Source;
 use crate::tables::{comparisons_message, length_message, rules_message};
 use crate::token_faults::token_message;
+use diagnostics::Message;
 use rpn_compiler::CompileError;
 use rule_parser::ParseError;
 use std::alloc::{AllocError, Global};

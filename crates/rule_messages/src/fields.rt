@@ -1,15 +1,13 @@
 //! What is said of where fields lie, and of their masks.
 
 ghost use Rattle.std.specs.Prelude.{◌≡◌, IfOk};
-ghost use Rattle.rule_messages.specs.Telling.{IsAt};
+ghost use Rattle.diagnostics.specs.Message.{IsAt};
 
-use crate::bytes::{Signed, around};
 use crate::marks::{mark, value_of};
-use crate::message::{Mark, Message};
 use crate::naming::declared_in;
 use crate::source::{Declared, Kind, Source};
+use diagnostics::{Mark, Message, Signed, around, quoted};
 use lc_model::FieldType;
-use message_words::quoted;
 use rule_lexer::{Token, TokenKind};
 use std::alloc::{AllocError, Global};
 

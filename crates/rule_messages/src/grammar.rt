@@ -1,15 +1,13 @@
 //! What is said of a token that continues no item.
 
 ghost use Rattle.std.specs.Prelude.{◌≡◌, IfOk};
-ghost use Rattle.rule_messages.specs.Telling.{IsAt};
+ghost use Rattle.diagnostics.specs.Message.{IsAt};
 
-use crate::bytes::around;
 use crate::marks::{declared_mark, text_of, token_mark};
-use crate::message::{Mark, Message};
 use crate::source::{Declared, Kind, Source, begins_item};
 use crate::wanted::{TYPES, found, is_reserved, wanted, words_for};
+use diagnostics::{Mark, Message, around, nearest, written};
 use lc_model::CmpOp;
-use message_words::{nearest, written};
 use rule_lexer::{Token, TokenKind};
 use rule_parser::{Sign, What};
 use std::alloc::{AllocError, Global};

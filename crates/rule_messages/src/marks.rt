@@ -2,8 +2,8 @@
 
 ghost use Rattle.std.specs.Prelude.{◌≡◌};
 
-use crate::message::Mark;
 use crate::source::Declared;
+use diagnostics::Mark;
 use rule_lexer::{Token, TokenKind};
 use std::alloc::{AllocError, Global};
 

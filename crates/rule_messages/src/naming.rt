@@ -1,14 +1,12 @@
 //! What is said of names that are declared twice, or not at all.
 
 ghost use Rattle.std.specs.Prelude.{◌≡◌, IfOk};
-ghost use Rattle.rule_messages.specs.Telling.{IsAt};
+ghost use Rattle.diagnostics.specs.Message.{IsAt};
 
-use crate::bytes::{Many, around};
 use crate::marks::{declared_mark, mark};
-use crate::message::Message;
 use crate::nearest::nearest_name;
 use crate::source::{Declared, Kind, Source};
-use message_words::written;
+use diagnostics::{Many, Message, around, written};
 use rule_lexer::{Token, TokenKind};
 use std::alloc::{AllocError, Global};
 

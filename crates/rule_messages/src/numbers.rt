@@ -1,16 +1,14 @@
 //! What is said of numbers that are compared, and of those of rules.
 
 ghost use Rattle.std.specs.Prelude.{◌≡◌, IfOk};
-ghost use Rattle.rule_messages.specs.Telling.{IsAt};
+ghost use Rattle.diagnostics.specs.Message.{IsAt};
 
-use crate::bytes::{Signed, around};
 use crate::fields::{Typed, type_of};
 use crate::marks::{mark, text_of};
-use crate::message::{Mark, Message};
 use crate::source::{Kind, Source};
+use diagnostics::{Grouped, Mark, Message, Signed, around, push_quoted};
 use field_checker::RuleNumber;
 use lc_model::FieldType;
-use message_words::{Grouped, push_quoted};
 use rule_lexer::{Token, TokenKind};
 use std::alloc::{AllocError, Global};
 

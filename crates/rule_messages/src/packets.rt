@@ -1,11 +1,10 @@
 //! What is said of the numbers of packets.
 
 ghost use Rattle.std.specs.Prelude.{◌≡◌, IfOk};
-ghost use Rattle.rule_messages.specs.Telling.{IsAt};
+ghost use Rattle.diagnostics.specs.Message.{IsAt};
 
-use crate::bytes::around;
 use crate::marks::{mark, value_of};
-use crate::message::Message;
+use diagnostics::{Message, around};
 use lc_model::mids;
 use rule_lexer::Token;
 use std::alloc::{AllocError, Global};

@@ -4,7 +4,7 @@ use crate::bytes::part;
 use crate::source::{Part, Source, begins_item};
 use crate::token_faults::place;
 use crate::wanted::ITEM_WORDS;
-use message_words::nearest;
+use diagnostics::nearest;
 use rule_lexer::{LexError, TokenKind, lex};
 use rule_parser::{ParseError, parse};
 use std::alloc::{AllocError, Global};

@@ -5,13 +5,11 @@ ghost use Rattle.rpn_compiler.specs.declared.error.CompileError.TheVariants.{Equ
 ghost use Rattle.rpn_compiler.specs.Fault.{refusal_of};
 ghost use Rattle.rule_messages.specs.Telling.{TellsOf};
 
-use crate::bytes::Many;
 use crate::marks::mark;
-use crate::message::{Mark, Message};
 use crate::rules::{comparisons, rule_name};
 use crate::source::{Kind, Part, Source};
+use diagnostics::{Many, Mark, Message, quoted};
 use lc_model::{EQUATION_WORDS, TABLE_ENTRIES};
-use message_words::quoted;
 use rule_lexer::TokenKind;
 use rule_parser::Name;
 use std::alloc::{AllocError, Global};

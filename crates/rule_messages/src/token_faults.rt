@@ -4,11 +4,11 @@ ghost use Rattle.std.specs.Prelude.{◌≡◌, None, drop, if◌then◌else◌, 
 ghost use Rattle.rule_lexer.specs.declared.error.LexError.{LexError};
 ghost use Rattle.rpn_compiler.specs.declared.error.CompileError.TheVariants.{Lex};
 ghost use Rattle.rpn_compiler.specs.Fault.{refusal_of};
-ghost use Rattle.rule_messages.specs.Telling.{IsAt, TellsOf, TellsReason, ends_line, first_place, place_of};
+ghost use Rattle.diagnostics.specs.Message.{IsAt, first_place};
+ghost use Rattle.rule_messages.specs.Telling.{TellsOf, TellsReason, ends_line, place_of};
 
-use crate::bytes::{Many, around, behind, character, front, last_word, word_size};
-use crate::message::{Mark, Message};
-use message_words::Grouped;
+use crate::bytes::{character, last_word, word_size};
+use diagnostics::{Grouped, Many, Mark, Message, around, behind, front};
 use rule_lexer::{LexError, LexReason, TokenKind, lex};
 use std::alloc::{AllocError, Global};
 

@@ -1,7 +1,8 @@
 //! All tokens of a text that has bad ones.
 
-use crate::bytes::{behind, part};
+use crate::bytes::part;
 use crate::token_faults::{bad_size, place};
+use diagnostics::behind;
 use rule_lexer::{LexError, lex};
 use std::alloc::{AllocError, Global};
 

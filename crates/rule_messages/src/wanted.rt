@@ -1,8 +1,7 @@
 //! What the grammar wants at a place, and what stands there, in an author's words.
 
-use crate::bytes::around;
 use crate::source::{Kind, Part, Source};
-use message_words::written;
+use diagnostics::{around, written};
 use rule_lexer::{Token, TokenKind};
 use rule_parser::{Sign, What, Word};
 use std::alloc::{AllocError, Global};

@@ -4,7 +4,7 @@ use denote.Ref.{Bor}
 use Rattle.lc_model.specs.Rule.{NamedRule}
 use Rattle.lc_model.specs.Host.Schedule.{Schedule}
 use Rattle.lc_model.specs.Text.Syntax.{Item}
-use Rattle.rule_messages.specs.declared.message.Message.{Message}
+use Rattle.diagnostics.specs.declared.message.Message.{Message}
 use Rattle.rule_warnings.specs.declared.judging.Judged.{Judged}
 use Rattle.rule_warnings.specs.declared.warning.Warning.{Warning}
 use Rattle.rule_warnings.specs.Warned.{AreWarned, IsJudged, IsRead, named, seen, told}

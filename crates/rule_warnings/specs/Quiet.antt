@@ -3,7 +3,7 @@
 use Rattle.std.specs.Prelude.{ℕ, zero, suc, ◌+◌, Bool, true, not, ◌&&◌, ◌||◌, ◌==◌, if◌then◌else◌, List, [], ◌++◌, filter, length, map, min, take, drop, codes, bytes_eq, slice_index, slice_get, Option, Some, None}
 use Rattle.std.specs.List.{list_any, prefix_len}
 use Rattle.lc_model.specs.Host.ScheduleText.{parted}
-use Rattle.text_places.specs.Line.{line_feed, line_of, line_start}
+use Rattle.diagnostics.specs.Line.{line_feed, line_of, line_start}
 use Rattle.rule_warnings.specs.declared.lint.Lint.TheVariants as lint
 use Rattle.rule_warnings.specs.declared.warning.Warning.{Warning}
 use Rattle.rule_warnings.specs.declared.comments.Placed.{Placed}

@@ -13,8 +13,8 @@ use Rattle.judgement_listing.specs.Requests.{requests_of}
 use Rattle.rule_judgement.specs.Findings.{AreInOrder, AreJudged, AreSettled, IsPair}
 use Rattle.rule_judgement.specs.Reach.{is_sampled}
 use Rattle.rule_judgement.specs.Spare.{AreOnce, AreToldOrNeeded, IsSpare}
-use Rattle.rule_messages.specs.Telling.{first_place}
-use Rattle.rule_messages.specs.declared.message.Message.{Message}
+use Rattle.diagnostics.specs.Message.{first_place}
+use Rattle.diagnostics.specs.declared.message.Message.{Message}
 use Rattle.rule_warnings.specs.declared.judging.Judged.{Judged}
 use Rattle.rule_warnings.specs.declared.warning.Warning.{Warning}
 use Rattle.rule_warnings.specs.Names.{name_of}

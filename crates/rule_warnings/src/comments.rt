@@ -10,8 +10,8 @@ use crate::declarations::warn_if;
 use crate::lint::Lint;
 use crate::parts::{behind, front};
 use crate::warning::Warning;
+use diagnostics::{line_of, line_start};
 use std::alloc::{AllocError, Global};
-use text_places::{line_of, line_start};
 
 /// The most names that are taken of one comment.
 const MOST_NAMES: usize = 16;

@@ -1,7 +1,7 @@
 //! Warnings in words.
 
 ghost use Rattle.std.specs.Prelude.{IfOk};
-ghost use Rattle.rule_messages.specs.Telling.{IsWarning};
+ghost use Rattle.diagnostics.specs.Message.{IsWarning};
 ghost use Rattle.rule_warnings.specs.Names.{name_of};
 
 use crate::comments::quiet_names;
@@ -9,14 +9,13 @@ use crate::judging::{Judged, places_of, rule_at};
 use crate::lint::Lint;
 use crate::reading::Read;
 use crate::warning::Warning;
+use diagnostics::{Mark, Message, around, written_line};
 use judgement_listing::{FieldNames, Names, Said, ShownTerm, Values, said_of, terms_in, why};
 use lc_model::Term;
 use rule_judgement::{ComparisonJudgement, Constancy, RuleJudgement, SpareComparison};
 use rule_lexer::{Token, TokenKind};
-use rule_messages::{Mark, Message, around};
 use rule_parser::{Item, RuleItem};
 use std::alloc::{AllocError, Global};
-use text_places::written_line;
 
 /// A text with what is judged of it, and the names of its fields.
 #[derive(Drop)]

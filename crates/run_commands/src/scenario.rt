@@ -2,10 +2,10 @@
 
 ghost use Rattle.run_commands.specs.Cause.{IsOfReading, IsOfScenario};
 
+use diagnostics::warnings_page_of;
 use line_messages::script_warnings;
 use program_files::{begin, discard, fault_of, keep};
 use rpn_compiler::{CompileError, compile};
-use rule_messages::warnings_page_of;
 use run_expectations::{ReadError, read_expectations, script_error_at, silenced};
 use scenario_words::{ScenarioError, declared_in, plain_script};
 use std::alloc::Global;

@@ -5,10 +5,9 @@ ghost use Rattle.tool_faults.specs.Cause.{IsOfRefusal, IsOfScript, IsToldFault, 
 
 use crate::fault::Fault;
 use crate::output::listed;
+use diagnostics::{Mark, Message, message_line, page_of, warnings_page_of};
 use judgement_listing::ListingError;
 use line_messages::{Refusal, script_message};
-use message_objects::message_line;
-use rule_messages::{Mark, Message, page_of, warnings_page_of};
 use std::alloc::{AllocError, Global};
 use std::fmt::Display;
 use std::io::Write;

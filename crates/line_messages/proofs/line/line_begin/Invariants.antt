@@ -1,5 +1,5 @@
 use Rattle.std.proofs.Common.{◌≡◌, ◌≤◌, ◌-◌, length}
-use Rattle.text_places.specs.Line.{line_number, line_start}
+use Rattle.diagnostics.specs.Line.{line_number, line_start}
 use Rattle.line_messages.proofs.line.line_begin.Given as goal
 
 abbrev pub invariant-loop-line : goal.invariant-loop-line

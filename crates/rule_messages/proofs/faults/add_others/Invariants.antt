@@ -1,5 +1,5 @@
 use Rattle.std.proofs.Common.{◌≡◌, ◌++◌, List}
-use Rattle.rule_messages.specs.declared.message.Message.{Message}
+use Rattle.diagnostics.specs.declared.message.Message.{Message}
 use Rattle.rule_messages.proofs.faults.add_others.Given as goal
 
 abbrev pub invariant-loop-error : goal.invariant-loop-error

@@ -1,2 +1,0 @@
--- Lemmas on objects.
-mod Whole

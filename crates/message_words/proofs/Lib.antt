@@ -1,2 +1,0 @@
--- Lemmas on characters that are written one after the other.
-mod Pushed

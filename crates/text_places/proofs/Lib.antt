@@ -1,4 +1,0 @@
--- Lemmas on places.
-mod Decoding
-mod Steps
-mod Starts

@@ -1,9 +1,0 @@
-use Rattle.std.proofs.Common.{◌≡◌, ◌≤◌}
-use Rattle.text_places.specs.Line.{line_start}
-use Rattle.text_places.proofs.line.line_start.Given as goal
-
-abbrev pub invariant-loop-start : goal.invariant-loop-start
-invariant-loop-start l = (l.start ≤ l.at) × (line_start l.text l.start ≡ line_start l.text l.at)
-
-abbrev pub decreases-loop-start : goal.decreases-loop-start
-decreases-loop-start l = l.start
