@@ -1,6 +1,6 @@
 //! What one record leads to.
 
-ghost use Rattle.std.specs.Prelude.{◌≡◌, ◌≤◌, false, true, length, None, IfSome};
+ghost use Rattle.std.specs.Prelude.{◌≡◌, ◌≤◌, false, true, length, None, IfSome, IsSome};
 ghost use Rattle.lc_model.specs.Packet.{stream_fault, command_header_size};
 ghost use Rattle.lc_model.specs.Host.React.{Packet};
 ghost use Rattle.app_host.specs.Boxes.{BoxHasGone};
@@ -134,8 +134,30 @@ impl<B: App> Host<B> {
             (BoxHasGone B.meaning self.old.seats self.old.services) }
     {
         match stream_fault(packet) {
-            Some(reason) => self.refuse_packet(reason, out),
+            Some(_) => self.refuse_faulty(packet, out),
             None => self.route(packet, out),
+        }
+    }
+
+    /// A packet with a fault is refused. Few have one, so which it is, is found here, where no other packet passes.
+    #[cold]
+    #[inline(never)]
+    fn refuse_faulty<W: ByteSink>(&mut self, packet: &[u8], out: &mut W) -> Result<u64, WriteFault>
+        requires whole { IsWhole (shown B.meaning self.old) }
+        requires quiet { IsQuiet (shown B.meaning self.old) }
+        requires none_yet { self.old.calls ≡ 0 }
+        requires faulty { IsSome (stream_fault packet.now) }
+        ensures handled { HandlesInput (Packet packet.now) (shown B.meaning self.old)
+            (shown B.meaning self.new) (W.sink out.old) (W.sink out.new) result }
+        ensures own { RespondsCounted self.old.services.moment
+            (response_to_packet packet.now (shown B.meaning self.old)) (shown B.meaning self.old)
+            (shown B.meaning self.new) (W.sink out.old).gained (W.sink out.new).gained result }
+        ensures gone { IfSome (response_to_packet packet.now (shown B.meaning self.old)).leaves
+            (BoxHasGone B.meaning self.old.seats self.old.services) }
+    {
+        match stream_fault(packet) {
+            Some(reason) => self.refuse_packet(reason, out),
+            None => unreachable!(),
         }
     }
 
