@@ -1,10 +1,10 @@
-"""The page of a run, put together from the files of crates/run_report/page."""
+"""The page of a run, put together from the files of crates/run_page/page."""
 
 import os
 import re
 
 TOP = os.path.dirname(os.path.dirname(os.path.dirname(os.path.abspath(__file__))))
-FOLDER = f"{TOP}/crates/run_report/page"
+FOLDER = f"{TOP}/crates/run_page/page"
 # In the order in which they are run.
 SCRIPTS = "data words elements view pointers axis marks lanes limits plots readings why find csv main".split()
 

@@ -9,7 +9,7 @@ use Rattle.lc_model.specs.Kept.Summary.{AppState, LcState, SchState, CounterStat
 use Rattle.lc_model.specs.Kept.Call.{ServicesNow, Called, next_start, next_on_packet}
 use Rattle.lc_model.specs.Kept.GoesWith.{GoesWith, MayStart}
 use Rattle.lc_model.specs.Services.Interface.{IsStarted, IsGiven}
-use Rattle.host_laws.specs.Calls.{StartsGoWith, PacketsKeep}
+use Rattle.host_refinement.specs.Calls.{StartsGoWith, PacketsKeep}
 use Rattle.lc_model.specs.Services.Settled.{Settled}
 use Rattle.app_host.specs.declared.services.Services.{Services}
 use Rattle.app_host.specs.Shared.{on_board, held_by, shared}

@@ -6,7 +6,7 @@ use Rattle.lc_model.specs.Kept.Summary.{AppState, LcState, SchState, CounterStat
 use Rattle.lc_model.specs.Services.Settled.{Form, form_of, wdt_form, adt_form, Settled}
 use Rattle.lc_model.specs.Services.Tables.{Table, tables_at}
 use Rattle.lc_model.specs.Services.Interface.{IsFreeSeat}
-use Rattle.host_laws.specs.Commands.{HasKnownForm}
+use Rattle.host_refinement.specs.Commands.{HasKnownForm}
 use Rattle.app_host.specs.declared.services.Services.{Services}
 use Rattle.app_host.specs.Shared.{held_by}
 use Rattle.app_host.specs.Hosted.{Object, Hosted, object_at}

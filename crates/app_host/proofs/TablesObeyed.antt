@@ -16,7 +16,7 @@ use Rattle.lc_model.specs.Services.Bus.{seen}
 use Rattle.lc_model.specs.Services.Tables.{Table, TableService, IsTableService, table_commanded}
 use Rattle.lc_model.specs.Services.Settled.{form_of}
 use Rattle.lc_model.specs.Services.Seen.{slot_among}
-use Rattle.host_laws.specs.Commands.{HasKnownForm, MovesByName, LoadsByName, CommandsKeepForms}
+use Rattle.host_refinement.specs.Commands.{HasKnownForm, MovesByName, LoadsByName, CommandsKeepForms}
 use Rattle.app_host.specs.declared.services.Services.{Services}
 use Rattle.app_host.specs.declared.error.WriteFault.{WriteFault}
 use Rattle.app_host.specs.Shared.{on_board, shared}

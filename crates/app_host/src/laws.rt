@@ -2,7 +2,7 @@
 
 ghost use Rattle.app_host.specs.Statements.{OpeningStarts, OpeningLeaves, OpeningSettles, TellingIsByName, TellingAnswers, TellingLeaves, TellingSettles, SilenceAnswers, SilenceLeaves, ClosingRetires, ClosingLeaves, NoTablesGo, StartedIsHome, GivenIsHome};
 
-use host_laws::calls_go_with_services;
+use host_refinement::calls_go_with_services;
 
 /// Taking a seat, telling of events, doing nothing, and giving the seat back keep the rules of the interface, and are what the
 /// definitions say.

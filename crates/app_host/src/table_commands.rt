@@ -17,7 +17,7 @@ use crate::error::WriteFault;
 use crate::host::Host;
 use crate::numbers::{Numbers, of_tables};
 use crate::texts::{self, Service};
-use host_laws::table_commands_go_by_names;
+use host_refinement::table_commands_go_by_names;
 use lc_model::packet::function_code;
 use lc_model::{ByteSink, EventKind, name_in};
 use tbl_service::Tables;

@@ -3,20 +3,20 @@
 
 use crate::playing::plays;
 use crate::script::Given::{Order, Packet};
-use crate::script::Line::{Drops, Step};
-use crate::script::Said::Event;
-use crate::script::{Line, Spare};
+use crate::script::Output::Event;
+use crate::script::ScriptLine::{Drops, Step};
+use crate::script::{ScriptLine, Spare};
 use crate::shared::all_holds;
 
 /// The command that the counter counts: it counts from 1 on, as one that has just started.
-const COUNTS: Line<'static> = Step(
+const COUNTS: ScriptLine<'static> = Step(
     Packet(&[0x18, 0xC1, 0xC0, 0, 0, 1, 1, 0x26]),
     &[Event(b"COUNTER", 1, b"count 1")],
 );
 
 #[test]
 fn a_reload_and_a_stop_drop_and_a_restart_does_not(rt: HostRuntime) {
-    const SCRIPT: &[Line<'static>] = &[
+    const SCRIPT: &[ScriptLine<'static>] = &[
         Step(
             Order(1, b"COUNTER"),
             &[Event(b"HOST", 8, b"app command 1 done")],
@@ -46,7 +46,7 @@ fn a_reload_and_a_stop_drop_and_a_restart_does_not(rt: HostRuntime) {
 /// Three run on three seats, and a spare is left.
 #[test]
 fn a_close_retires_all_before_it_drops_one(rt: HostRuntime) {
-    const SCRIPT: &[Line<'static>] = &[
+    const SCRIPT: &[ScriptLine<'static>] = &[
         Step(
             Order(1, b"A"),
             &[

@@ -24,19 +24,19 @@ const PUBLISHED: &[u8] = &[0x18, 0xD0, 0xC0, 0, 0, 1, 0, 0];
 /// An application whose name is one letter. Of each tick and of each packet of 0x18D0 it writes its letter, and at a tick it
 /// publishes eight packets of 0x18D0 first.
 #[derive(Drop)]
-pub struct Named {
+pub struct LetterApp {
     name: [u8; 1],
     seat: Option<Seat>,
     ghost one: { length name ≡ 1 },
     ghost letter: { 65 ≤ slice_index_or name 0 0 },
 }
 
-impl Named {
+impl LetterApp {
     /// The application whose name is the letter of this number, from `A` on. It holds no seat.
-    pub fn new(number: u8) -> Named
+    pub fn new(number: u8) -> LetterApp
         ensures { result.seat ≡ None }
     {
-        Named {
+        LetterApp {
             name: [b'A' + number % 26],
             seat: None,
         }
@@ -59,7 +59,7 @@ impl Named {
     }
 }
 
-impl App for Named {
+impl App for LetterApp {
     ghost use Rattle.lc_model.specs.Kept.Summary.{Other};
 
     ghost meaning = { λ n. record { called = n.name; state = Other; seat = n.seat } };

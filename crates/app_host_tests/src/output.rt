@@ -1,6 +1,6 @@
 //! What a host wrote, read by the layout of event packets.
 
-use crate::script::Said;
+use crate::script::Output;
 use lc_model::{mids, u16_at};
 
 /// The bytes of an event packet.
@@ -28,12 +28,12 @@ fn is_event(bytes: &[u8], sender: &[u8], id: u16, text: &[u8]) -> bool {
 }
 
 /// Whether these bytes are all that was expected, one behind the other.
-pub fn says(bytes: &[u8], expected: &[Said<'_>]) -> bool {
+pub fn says(bytes: &[u8], expected: &[Output<'_>]) -> bool {
     let mut rest = bytes;
     for said in expected {
         let (there, size) = match *said {
-            Said::Event(sender, id, text) => (is_event(rest, sender, id, text), EVENT_SIZE),
-            Said::Letters(letters) => (rest.starts_with(letters), letters.len()),
+            Output::Event(sender, id, text) => (is_event(rest, sender, id, text), EVENT_SIZE),
+            Output::Letters(letters) => (rest.starts_with(letters), letters.len()),
         };
         if !there || size > rest.len() {
             return false;

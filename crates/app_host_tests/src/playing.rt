@@ -6,9 +6,9 @@ ghost use Rattle.app_host.specs.Whole.{AreSpares};
 ghost use Rattle.app_host.specs.Step.{IsBetween};
 
 use crate::hosting::{begin, end, step};
-use crate::named::Named;
+use crate::named::LetterApp;
 use crate::output::says;
-use crate::script::{Given, Line, Said, Spare};
+use crate::script::{Given, Output, ScriptLine, Spare};
 use crate::speaking::Speaking;
 use crate::tally::Tally;
 use crate::tracked::Tracked;
@@ -50,7 +50,7 @@ fn give<B: App, W: ByteSink>(
 }
 
 /// Whether a record leads to exactly this.
-fn writes<B: App>(host: &mut Host<B>, given: Given<'_>, expected: &[Said<'_>]) -> bool
+fn writes<B: App>(host: &mut Host<B>, given: Given<'_>, expected: &[Output<'_>]) -> bool
     requires { IsBetween (shown B.meaning host.old) }
     ensures { IsBetween (shown B.meaning host.new) }
 {
@@ -73,21 +73,21 @@ fn is_cut<B: App>(host: &mut Host<B>, given: Given<'_>, limit: usize) -> bool
 }
 
 /// Whether a line holds: what a record leads to, or what is asked.
-fn holds<B: App>(host: &mut Host<B>, tally: &Tally, line: Line<'_>) -> bool
+fn holds<B: App>(host: &mut Host<B>, tally: &Tally, line: ScriptLine<'_>) -> bool
     requires { IsBetween (shown B.meaning host.old) }
     ensures { IsBetween (shown B.meaning host.new) }
 {
     match line {
-        Line::Step(given, expected) => writes(host, given, expected),
-        Line::Cut(given, limit) => is_cut(host, given, limit),
-        Line::Runs(name, runs) => host.running(name) == runs,
-        Line::Calls(count) => host.calls() == count,
-        Line::Drops(count) => tally.drops() == count,
+        ScriptLine::Step(given, expected) => writes(host, given, expected),
+        ScriptLine::Cut(given, limit) => is_cut(host, given, limit),
+        ScriptLine::Runs(name, runs) => host.running(name) == runs,
+        ScriptLine::Calls(count) => host.calls() == count,
+        ScriptLine::Drops(count) => tally.drops() == count,
     }
 }
 
 /// The lines one after the other: the number of the first that does not hold, or none.
-fn follow<B: App>(host: &mut Host<B>, tally: &Tally, script: &[Line<'_>]) -> Option<usize>
+fn follow<B: App>(host: &mut Host<B>, tally: &Tally, script: &[ScriptLine<'_>]) -> Option<usize>
     requires { IsBetween (shown B.meaning host.old) }
     ensures { IsBetween (shown B.meaning host.new) }
 {
@@ -116,7 +116,7 @@ fn perform(
     alloc: Global,
     stock: Vec<Box<dyn App>>,
     tally: &Tally,
-    script: &[Line<'_>],
+    script: &[ScriptLine<'_>],
 ) -> Result<Option<usize>, AllocError>
     requires { AreSpares (map meaning stock.items) }
 {
@@ -139,7 +139,7 @@ fn perform(
 pub fn plays(
     alloc: Global,
     spares: &[Spare],
-    script: &[Line<'_>],
+    script: &[ScriptLine<'_>],
 ) -> Result<Option<usize>, AllocError> {
     let tally = Tally::new(alloc)?;
     let mut stock: Vec<Box<dyn App>> = Vec::new(alloc);
@@ -150,7 +150,7 @@ pub fn plays(
                 add(&mut stock, Box::new(alloc, counting)?)?;
             }
             Spare::Publishing(number) => {
-                let publishing = Tracked::new(Named::new(number), tally.share()?);
+                let publishing = Tracked::new(LetterApp::new(number), tally.share()?);
                 add(&mut stock, Box::new(alloc, publishing)?)?;
             }
             Spare::Speaking(number) => {

@@ -23,7 +23,7 @@ pub enum Given<'a> {
 
 /// What the host writes.
 #[derive(Clone, Copy)]
-pub enum Said<'a> {
+pub enum Output<'a> {
     /// An event of this application, or of `HOST`: its id and its text.
     Event(&'a [u8], u16, &'a [u8]),
     /// What applications with letters write.
@@ -32,9 +32,9 @@ pub enum Said<'a> {
 
 /// One line.
 #[derive(Clone, Copy)]
-pub enum Line<'a> {
+pub enum ScriptLine<'a> {
     /// A record, and all that the host writes.
-    Step(Given<'a>, &'a [Said<'a>]),
+    Step(Given<'a>, &'a [Output<'a>]),
     /// A record at which the writer fails behind so many bytes of its output.
     Cut(Given<'a>, usize),
     /// Whether an application of the name runs.

@@ -1,12 +1,12 @@
 //! The seats of a host: eight applications run, and a ninth finds no seat until one has left.
 
 use crate::script::Given::Order;
-use crate::script::Line::Step;
-use crate::script::Said::Event;
-use crate::script::{Line, Said, Spare};
+use crate::script::Output::Event;
+use crate::script::ScriptLine::Step;
+use crate::script::{Output, ScriptLine, Spare};
 use crate::shared::all_holds;
 
-const STARTED: &[Said<'static>] = &[Event(b"HOST", 8, b"app command 1 done")];
+const STARTED: &[Output<'static>] = &[Event(b"HOST", 8, b"app command 1 done")];
 
 const SPARES: &[Spare] = &[
     Spare::Publishing(0),
@@ -22,7 +22,7 @@ const SPARES: &[Spare] = &[
 
 #[test]
 fn a_ninth_application_finds_no_seat(rt: HostRuntime) {
-    const SCRIPT: &[Line<'static>] = &[
+    const SCRIPT: &[ScriptLine<'static>] = &[
         Step(Order(1, b"A"), STARTED),
         Step(Order(1, b"B"), STARTED),
         Step(Order(1, b"C"), STARTED),

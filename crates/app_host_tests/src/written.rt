@@ -1,9 +1,9 @@
 //! What applications of another kind send is written, all of it and in its order, and up to where a write fails.
 
 use crate::script::Given::{Order, Packet, Tick};
-use crate::script::Line::{Calls, Cut, Runs, Step};
-use crate::script::Said::{Event, Letters};
-use crate::script::{Line, Said, Spare};
+use crate::script::Output::{Event, Letters};
+use crate::script::ScriptLine::{Calls, Cut, Runs, Step};
+use crate::script::{Output, ScriptLine, Spare};
 use crate::shared::all_holds;
 
 /// Two applications of one name, `S`.
@@ -12,13 +12,13 @@ const BOTH: &[Spare] = &[Spare::Speaking(18), Spare::Speaking(18)];
 /// A packet that applications with letters hear.
 const HEARD: &[u8] = &[0x18, 0xD0, 0xC0, 0, 0, 1, 0, 0];
 
-const COMES: Said<'static> = Event(b"S", 1, b"here");
+const COMES: Output<'static> = Event(b"S", 1, b"here");
 
 /// The application starts, hears, and is replaced by itself and by the other; `HOST` tells behind what they say. With `HOST`'s
 /// events of type information off, they speak as before.
 #[test]
 fn host_tells_behind_what_applications_say(rt: HostRuntime) {
-    const SCRIPT: &[Line<'static>] = &[
+    const SCRIPT: &[ScriptLine<'static>] = &[
         Step(
             Order(1, b"S"),
             &[COMES, Event(b"HOST", 8, b"app command 1 done")],
@@ -73,7 +73,7 @@ fn a_cut_leaves_who_was_there_by_then(rt: HostRuntime) {
 
 /// What eight publishers write for a tick. Each one's turn begins as its tick is the oldest packet of the least ready seat: its
 /// letter, then eight letters of each seat before it, and its own for the packets of these and of its own.
-const EIGHT_TURNS: &[Said<'static>] = &[
+const EIGHT_TURNS: &[Output<'static>] = &[
     Letters(b"A"),
     Letters(b"AAAAAAAA"),
     Letters(b"B"),
@@ -120,7 +120,7 @@ const EIGHT_TURNS: &[Said<'static>] = &[
     Letters(b"HHHHHHHHHHHHHHHHHHHHHHHHHHHHHHHHHHHHHHHHHHHHHHHHHHHHHHHHHHHHHHHH"),
 ];
 
-const STARTED: &[Said<'static>] = &[Event(b"HOST", 8, b"app command 1 done")];
+const STARTED: &[Output<'static>] = &[Event(b"HOST", 8, b"app command 1 done")];
 
 /// No pipe is ever full, and 520 calls are the most that a record leads to.
 #[test]
@@ -135,7 +135,7 @@ fn eight_packets_from_each_of_eight_seats(rt: HostRuntime) {
         Spare::Publishing(6),
         Spare::Publishing(7),
     ];
-    const SCRIPT: &[Line<'static>] = &[
+    const SCRIPT: &[ScriptLine<'static>] = &[
         Step(Order(1, b"A"), STARTED),
         Step(Order(1, b"B"), STARTED),
         Step(Order(1, b"C"), STARTED),

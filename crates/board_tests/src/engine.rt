@@ -35,7 +35,7 @@ fn adopt<R: Abort>(rt: &R, engine: &mut Engine, wdt: &[u8], adt: &[u8]) {
 }
 
 /// What the first rule that asks for something in a sample of all asks for.
-fn sampled<R: Abort + AllocGlobal>(rt: &R, engine: &mut Engine) -> Option<Asked> {
+fn first_reaction<R: Abort + AllocGlobal>(rt: &R, engine: &mut Engine) -> Option<Asked> {
     let mut asked = Vec::with_capacity(rt.alloc(), TABLE_ENTRIES).expect(rt, "out of memory");
     if asked.capacity() >= TABLE_ENTRIES {
         let request = SampleRequest {
@@ -56,7 +56,12 @@ fn two_failing_samples_request_the_sequence(rt: HostRuntime) {
     adopt(&rt, &mut engine, &wdt, &adt);
     same(&rt, "the watchpoint", engine.watchpoints(), &[low()]);
     engine.telemetry(LOW);
-    same(&rt, "one", sampled(&rt, &mut engine).is_some(), false);
-    let asked = sampled(&rt, &mut engine).map(|asked| asked.reactions.failure);
+    same(
+        &rt,
+        "one",
+        first_reaction(&rt, &mut engine).is_some(),
+        false,
+    );
+    let asked = first_reaction(&rt, &mut engine).map(|asked| asked.reactions.failure);
     same(&rt, "two", asked, Some(Some(Failure::Requested(2))));
 }

@@ -6,6 +6,8 @@
 #![tactic(auto)]
 
 #[cfg(test)]
+mod command_lines;
+#[cfg(test)]
 mod devices;
 #[cfg(test)]
 mod engine;
@@ -27,5 +29,3 @@ mod shared;
 mod speed;
 #[cfg(test)]
 mod values;
-#[cfg(test)]
-mod words;

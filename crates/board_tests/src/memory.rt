@@ -4,9 +4,9 @@
 use crate::shared::same;
 use crate::values::{adt_file, wdt_file};
 use event_service::{EventError, Events};
+use flight_run_args::{WordsError, read_words};
 use lc_model::Seat;
 use packet_bus::{Bus, BusError};
-use program_words::{WordsError, read_words};
 use std::fmt::Debug;
 use std::process::Abort;
 use table_file::{AdtVersion, FileError};

@@ -3,9 +3,9 @@
 use app_host::{HostError, WriteFault};
 use event_service::EventError;
 use flight_core::RunError;
+use flight_run_args::WordsError;
 use limit_engine::StateRefusal;
 use packet_bus::{BusError, HeaderFault};
-use program_words::WordsError;
 use rpn_compiler::CompileError;
 use schedules::ScheduleError;
 use std::fmt::Display;

@@ -23,7 +23,7 @@ fn at(seconds: u32, subseconds: u16) -> Moment {
 }
 
 /// What the stream brings, record by record.
-fn brought(number: usize) -> Option<Found<'static>> {
+fn found_at(number: usize) -> Option<Found<'static>> {
     let record = |moment, body| Some(Found::Record(Record { moment, body }));
     match number {
         0 => record(at(100, 7), Body::Packet(&[21, 22, 23])),
@@ -59,7 +59,7 @@ fn hand_out<R: Abort>(rt: &R, records: &mut Records, before: usize) -> usize {
         if found.is_none() {
             break;
         }
-        same(rt, count, found, brought(count));
+        same(rt, count, found, found_at(count));
         count = count.wrapping_add(1);
     }
     count

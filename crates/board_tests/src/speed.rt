@@ -93,7 +93,7 @@ fn sends<R: Abort + AllocGlobal>(rt: &R, filters: &[u16], expected: u32) {
 }
 
 #[test]
-fn unfiltered(rt: HostRuntime) {
+fn without_filters(rt: HostRuntime) {
     sends(&rt, &[], 1000);
 }
 

@@ -1,17 +1,17 @@
 //! What is said of each text.
 
 use crate::outcomes::write_outcomes;
-use crate::totals::{Asked, Found, Totals};
-use line_messages::{Refusal, read_schedule};
+use crate::totals::{CheckOptions, CheckResult, Totals};
 use rpn_compiler::{CompileError, compile};
-use rule_messages::messages;
-use rule_warnings::warnings;
+use rule_errors::messages;
+use rule_lints::warnings;
 use schedules::Schedule;
+use script_errors::{Refusal, read_schedule};
 use std::alloc::Global;
 use std::fs::Files;
 use std::io::Write;
 use tool_faults::{
-    Fault, LONGEST_TEXT, MOST_WARNINGS, alone, listed, read, read_text, write_messages,
+    Fault, LONGEST_TEXT, MOST_WARNINGS, alone, listing_result, read, read_text, write_messages,
     write_warnings,
 };
 
@@ -27,7 +27,7 @@ fn write_counts<'a, W: Write>(
     } else {
         ""
     };
-    listed(writeln!(out, "{name}: {rules} rules, {warnings} warnings{shown}"))
+    listing_result(writeln!(out, "{name}: {rules} rules, {warnings} warnings{shown}"))
 }
 
 /// Writes what can be said of a rule text that compiles, with so many rules, and answers how many warnings these are.
@@ -37,7 +37,7 @@ fn judge<'a, W: Write>(
     text: &[u8],
     rules: u16,
     plan: &Option<Schedule>,
-    asked: Asked,
+    asked: CheckOptions,
     out: &mut W,
 ) -> Result<usize, Fault<'a>> {
     let told = warnings(alloc, text, plan.as_ref())?;
@@ -48,7 +48,7 @@ fn judge<'a, W: Write>(
     if !asked.is_json {
         write_counts(name, rules, told.len(), out)?;
     }
-    listed(out.flush())?;
+    listing_result(out.flush())?;
     Ok(told.len())
 }
 
@@ -57,21 +57,21 @@ fn check_text<'a, R: Files + AllocGlobal, W: Write>(
     rt: &R,
     name: &'a str,
     plan: &Option<Schedule>,
-    asked: Asked,
+    asked: CheckOptions,
     out: &mut W,
-) -> Result<Found, Fault<'a>> {
+) -> Result<CheckResult, Fault<'a>> {
     let text = read_text(rt, name)?;
     let text = text.as_slice();
     match compile(rt.alloc(), text) {
         Ok(tables) => {
             let warnings = judge(rt.alloc(), name, text, tables.rules, plan, asked, out)?;
-            Ok(Found::Warnings(warnings))
+            Ok(CheckResult::Warnings(warnings))
         }
         Err(CompileError::Memory) => Err(Fault::Memory),
         Err(_) => {
             let told = messages(rt.alloc(), text)?;
             write_messages(rt.alloc(), name, text, told.as_slice(), asked.is_json, out)?;
-            Ok(Found::Refused)
+            Ok(CheckResult::Refused)
         }
     }
 }
@@ -80,7 +80,7 @@ fn check_text<'a, R: Files + AllocGlobal, W: Write>(
 fn plan_in<'a, R: Files + AllocGlobal, W: Write>(
     rt: &R,
     name: &'a str,
-    asked: Asked,
+    asked: CheckOptions,
     out: &mut W,
 ) -> Result<Option<Schedule>, Fault<'a>> {
     let text = read(rt, name, LONGEST_TEXT)?;
@@ -103,7 +103,7 @@ pub fn check<'a, R: Files + AllocGlobal, W: Write>(
     rt: &R,
     schedule: Option<&'a str>,
     rules: &[&'a str],
-    asked: Asked,
+    asked: CheckOptions,
     out: &mut W,
 ) -> Result<(), Fault<'a>> {
     let plan = match schedule {

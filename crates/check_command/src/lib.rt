@@ -6,4 +6,4 @@ mod outcomes;
 mod totals;
 
 pub use crate::checking::check;
-pub use crate::totals::Asked;
+pub use crate::totals::CheckOptions;

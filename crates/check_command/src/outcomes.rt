@@ -1,10 +1,10 @@
 //! For which values of their fields the rules of a text fail and pass.
 
-use diagnostics::{note_line, written};
-use judgement_listing::list_outcomes;
+use analysis_listing::list_outcomes;
+use diagnostics::{note_line, printable};
 use std::alloc::Global;
 use std::io::Write;
-use tool_faults::{Fault, judgement_fault, listed};
+use tool_faults::{Fault, judgement_fault, listing_result};
 
 /// Writes a line as an object.
 fn write_note<'a, W: Write>(
@@ -13,16 +13,16 @@ fn write_note<'a, W: Write>(
     line: &[u8],
     out: &mut W,
 ) -> Result<(), Fault<'a>> {
-    let note = written(alloc, line)?;
+    let note = printable(alloc, line)?;
     let object = note_line(alloc, name, false, note.as_str())?;
-    listed(out.write_all(object.as_bytes()))
+    listing_result(out.write_all(object.as_bytes()))
 }
 
 /// Writes a line behind the name of its file.
 fn write_named<'a, W: Write>(name: &'a str, line: &[u8], out: &mut W) -> Result<(), Fault<'a>> {
-    listed(write!(out, "{name}: "))?;
-    listed(out.write_all(line))?;
-    listed(out.write_all(b"\n"))
+    listing_result(write!(out, "{name}: "))?;
+    listing_result(out.write_all(line))?;
+    listing_result(out.write_all(b"\n"))
 }
 
 /// Writes lines, each behind the name of its file or as an object.

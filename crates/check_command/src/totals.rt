@@ -7,7 +7,7 @@ use tool_faults::Fault;
 
 /// What `check` is asked for.
 #[derive(Clone, Copy)]
-pub struct Asked {
+pub struct CheckOptions {
     /// A line for each rule that both fails and passes, and not warnings alone.
     pub is_all: bool,
     /// A warning is a fault.
@@ -18,7 +18,7 @@ pub struct Asked {
 
 /// What is found of a rule text.
 #[derive(Clone, Copy)]
-pub enum Found {
+pub enum CheckResult {
     /// It doesn't compile.
     Refused,
     /// It compiles, with so many warnings.
@@ -34,15 +34,15 @@ pub struct Totals {
 
 impl Totals {
     /// With one text more.
-    pub fn with(self, found: Found) -> Totals
+    pub fn with(self, found: CheckResult) -> Totals
         ensures { result ≡ counted self found }
     {
         match found {
-            Found::Refused => Totals {
+            CheckResult::Refused => Totals {
                 is_refused: true,
                 is_warned: self.is_warned,
             },
-            Found::Warnings(count) => Totals {
+            CheckResult::Warnings(count) => Totals {
                 is_refused: self.is_refused,
                 is_warned: self.is_warned || count > 0,
             },

@@ -65,10 +65,10 @@ impl App for Counter {
         if message_id(packet) != mids::COUNTER {
             return;
         }
-        match accepted(packet) {
+        match check_command(packet) {
             Ok(()) => {
                 self.count = self.count.saturating_add(1);
-                let text = texts::counted(self.count);
+                let text = texts::command_count(self.count);
                 services.tell(self.seat, 1, EventKind::Information, text.as_bytes());
             }
             Err(refusal) => {
@@ -88,7 +88,7 @@ impl App for Counter {
 }
 
 /// Whether a counter command is the one that is counted. Errors: `UnknownFunction`, `WrongLength`.
-fn accepted(command: &[u8]) -> Result<(), CommandRefusal>
+fn check_command(command: &[u8]) -> Result<(), CommandRefusal>
     requires { command_header_size ≤ length command.now }
     ensures { answer_of result ≡ bare_request 1 (function_code command.now) (payload command.now) }
 {

@@ -9,7 +9,7 @@ ghost use Rattle.lc_model.specs.Events.Request.{Event};
 use event_service::EventText;
 
 /// Event 1, of type information: the number of commands since the start, up to 4,294,967,295.
-pub(crate) fn counted(accepted: u32) -> EventText
+pub(crate) fn command_count(accepted: u32) -> EventText
     ensures { Event counter_name 1 Information result ≡ request.counted accepted }
 {
     let mut text = EventText::of(b"count");

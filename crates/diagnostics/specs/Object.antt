@@ -9,7 +9,7 @@ use Rattle.diagnostics.specs.Character.{characters, column}
 use Rattle.diagnostics.specs.Window as window
 use Rattle.diagnostics.specs.declared.message.Mark.{Mark}
 use Rattle.diagnostics.specs.declared.message.Message.{Message}
-use Rattle.diagnostics.specs.declared.object.Told.{Told}
+use Rattle.diagnostics.specs.declared.object.Notice.{Notice}
 use Rattle.diagnostics.specs.declared.spot.Spot.{Spot}
 
 -- ---- places
@@ -54,7 +54,7 @@ members at code file level message others warning =
     (member (codes "others") (array others)
     (member (codes "warning") warning no_members)))))))
 
-abbrev pub told_object : Told → Data → Items → Data → Data
+abbrev pub told_object : Notice → Data → Items → Data → Data
 told_object told at others warning = members at (number_or_null told.code) told.file.now told.level.now told.message.now others warning
 
 -- the name of a warning, or null where there is none

@@ -35,7 +35,7 @@ fn push_shown(columns: &mut Vec<char>, character: char) -> Result<(), AllocError
 
 /// The columns that show the bytes: a tab as four blanks, control characters, those that change the direction and bytes that aren't
 /// UTF-8 as U+FFFD, and all others as they are, each as one column.
-pub fn shown(alloc: Global, bytes: &[u8]) -> Result<Vec<char>, AllocError>
+pub fn shown_columns(alloc: Global, bytes: &[u8]) -> Result<Vec<char>, AllocError>
     ensures { IfOk result (λ columns. columns.items ≡ shown bytes.now) }
 {
     let mut columns = Vec::new(alloc);

@@ -3,7 +3,7 @@
 ghost use Rattle.std.specs.Prelude.{◌≡◌, ◌≤◌, length, IfOk};
 ghost use Rattle.diagnostics.specs.Excerpt.{IsExcerpt};
 
-use crate::columns::shown;
+use crate::columns::shown_columns;
 use crate::cutting::{WIDTH, mark_width, window, window_start};
 use crate::line::{line_number, line_start, written_line};
 use crate::parts::{behind, front};
@@ -32,12 +32,12 @@ pub fn excerpt_of(alloc: Global, text: &[u8], at: usize, size: usize) -> Result<
     let line = written_line(text, at);
     let offset = at - line_start(text, at);
     let token = front(behind(line, offset), size);
-    let all = shown(alloc, line)?;
-    let mark = shown(alloc, front(line, offset))?.len();
+    let all = shown_columns(alloc, line)?;
+    let mark = shown_columns(alloc, front(line, offset))?.len();
     let start = window_start(all.len(), mark);
     let columns = window(alloc, all.as_slice(), start)?;
     let from = mark.saturating_sub(start);
-    let marks = mark_width(columns.len(), from, shown(alloc, token)?.len());
+    let marks = mark_width(columns.len(), from, shown_columns(alloc, token)?.len());
     Ok(Excerpt {
         line: line_number(text, at),
         is_cut: all.len() > WIDTH,

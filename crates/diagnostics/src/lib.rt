@@ -28,4 +28,4 @@ pub use object_line::{message_line, note_line};
 pub use page::{MOST_TOLD, page_of, warnings_page_of};
 pub use parts::{behind, front};
 pub use place::{Place, place_of};
-pub use quoting::{around, push_quoted, quoted, written};
+pub use quoting::{around, printable, push_quoted, quote};

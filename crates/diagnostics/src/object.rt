@@ -11,7 +11,7 @@ use std::alloc::{AllocError, Global};
 
 /// What is said, and of which file.
 #[derive(Clone, Copy)]
-pub struct Told<'a> {
+pub struct Notice<'a> {
     /// The file's name, as it was given.
     pub file: &'a str,
     /// `error`, `warning` or `note`.
@@ -25,7 +25,7 @@ pub struct Told<'a> {
 /// What is told, at a place or at none, with other places.
 pub fn told_object(
     alloc: Global,
-    told: Told<'_>,
+    told: Notice<'_>,
     at: Value,
     others: Vec<Value>,
     warning: Value,

@@ -6,7 +6,7 @@ ghost use Rattle.serde_json.specs.Written.{compact_text, has_float};
 ghost use Rattle.diagnostics.specs.Object.{code_of, kind_of, level_of, message_object, message_text, note_text};
 
 use crate::message::Message;
-use crate::object::{Told, mark_objects, name_object, place_object, told_object};
+use crate::object::{Notice, mark_objects, name_object, place_object, told_object};
 use serde_json::Value;
 use std::alloc::{AllocError, Global};
 
@@ -49,7 +49,7 @@ fn message_object(
 ) -> Result<Value, AllocError>
     ensures { IfOk result (λ value. view value ≡ message_object file.now text.now message.now) }
 {
-    let told = Told {
+    let told = Notice {
         file,
         level: kind_of(message),
         code: code_of(message),
@@ -91,7 +91,7 @@ pub fn note_line(
 ) -> Result<String, AllocError>
     ensures { IfOk result (λ line. string_bytes line ≡ note_text file.now is_warning note.now) }
 {
-    let told = Told {
+    let told = Notice {
         file,
         level: level_of(is_warning),
         code: None,

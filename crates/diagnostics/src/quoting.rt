@@ -3,7 +3,7 @@
 ghost use Rattle.std.specs.Prelude.{◌≡◌, ◌++◌, codes, encode_utf8_all, string_bytes, IfOk, OnOk};
 ghost use Rattle.diagnostics.specs.Character.{shown};
 
-use crate::columns::shown;
+use crate::columns::shown_columns;
 use std::alloc::{AllocError, Global};
 
 /// Adds bytes as they can be shown.
@@ -11,7 +11,7 @@ fn push_bytes(alloc: Global, text: &mut String, bytes: &[u8]) -> Result<(), Allo
     ensures { OnOk result (string_bytes text.new ≡
         string_bytes text.old ++ encode_utf8_all (shown bytes.now)) }
 {
-    let columns = shown(alloc, bytes)?;
+    let columns = shown_columns(alloc, bytes)?;
     for column in &columns {
         text.push(*column)?;
     }
@@ -19,7 +19,7 @@ fn push_bytes(alloc: Global, text: &mut String, bytes: &[u8]) -> Result<(), Allo
 }
 
 /// What a person wrote, as it can be shown.
-pub fn written(alloc: Global, bytes: &[u8]) -> Result<String, AllocError>
+pub fn printable(alloc: Global, bytes: &[u8]) -> Result<String, AllocError>
     ensures { IfOk result (λ text. string_bytes text ≡ encode_utf8_all (shown bytes.now)) }
 {
     let mut text = String::new(alloc);
@@ -38,7 +38,7 @@ pub fn push_quoted(alloc: Global, text: &mut String, bytes: &[u8]) -> Result<(),
 }
 
 /// What a person wrote, as it can be shown, between backticks.
-pub fn quoted(alloc: Global, bytes: &[u8]) -> Result<String, AllocError>
+pub fn quote(alloc: Global, bytes: &[u8]) -> Result<String, AllocError>
     ensures { IfOk result (λ text. string_bytes text ≡
         codes "`" ++ encode_utf8_all (shown bytes.now) ++ codes "`") }
 {

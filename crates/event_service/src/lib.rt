@@ -3,16 +3,16 @@
 #![tactic(auto)]
 
 mod error;
+mod event_text;
 mod filter;
 mod name;
 mod packet;
 mod sender;
 mod service;
-mod text;
 mod types;
 
 pub use error::EventError;
+pub use event_text::{EventText, MAX_TEXT};
 pub use packet::{EventPacket, PACKET_SIZE};
 pub use service::Events;
-pub use text::{EventText, MAX_TEXT};
 pub use types::EventTypes;

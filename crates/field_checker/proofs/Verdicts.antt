@@ -6,11 +6,11 @@ use Rattle.lc_model.specs.Text.Meaning.{TextFault, faults, first_fault}
 use Rattle.field_checker.specs.declared.error.CheckError.{CheckError}
 use Rattle.field_checker.specs.declared.fault.Check.{Check}
 use Rattle.field_checker.specs.declared.fault.Check.TheVariants as check
-use Rattle.field_checker.specs.declared.fault.Fault.{Fault}
+use Rattle.field_checker.specs.declared.fault.CheckFault.{CheckFault}
 use Rattle.field_checker.specs.Fault.{IsFaultUnlessMemory, error_of, fault_of, text_fault_of}
 
 -- the error of a fault is that fault
-pub error_says : (fault : Fault) → text_fault_of (error_of fault) ≡ Some (fault_of fault)
+pub error_says : (fault : CheckFault) → text_fault_of (error_of fault) ≡ Some (fault_of fault)
 error_says fault = of_check fault.check fault.at
   where
     of_check : (check : Check) (at : ℕ) → text_fault_of (error_of (record { check = check; at = at })) ≡ Some (fault_of (record { check = check; at = at }))
@@ -30,11 +30,11 @@ none_first [] e = refl
 none_first (f ∷ fs) e = absurd (cc e)
 
 -- the first fault that was met of the items of a file
-pub met : (items whole : List Item) (first answer : Option Fault) → items ≡ whole → option_map fault_of first ≡ first_fault (faults items) →
+pub met : (items whole : List Item) (first answer : Option CheckFault) → items ≡ whole → option_map fault_of first ≡ first_fault (faults items) →
     first ≡ answer → first_fault (faults whole) ≡ option_map fault_of answer
 met items whole first answer same is e = sym (ap (λ items. first_fault (faults items)) same) ∙ (sym is ∙ ap (option_map fault_of) e)
 
 -- an error that answers this fault is the one that is expected
-pub answered : (expected : Option TextFault) (fault : Fault) (error : CheckError) → error ≡ error_of fault → expected ≡ Some (fault_of fault) →
+pub answered : (expected : Option TextFault) (fault : CheckFault) (error : CheckError) → error ≡ error_of fault → expected ≡ Some (fault_of fault) →
     IsFaultUnlessMemory expected error
 answered expected fault error is e = inr (ap text_fault_of is ∙ (error_says fault ∙ sym e))

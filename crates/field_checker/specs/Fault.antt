@@ -3,7 +3,7 @@ use Rattle.std.specs.Prelude.{◌≡◌, ℕ, ◌⊎◌, Option, Some, None, opt
 use Rattle.lc_model.specs.Text.Meaning.{TextFault}
 use Rattle.field_checker.specs.declared.fault.Check.{Check}
 use Rattle.field_checker.specs.declared.fault.Check.TheVariants as check
-use Rattle.field_checker.specs.declared.fault.Fault.{Fault}
+use Rattle.field_checker.specs.declared.fault.CheckFault.{CheckFault}
 use Rattle.field_checker.specs.declared.error.CheckError.{CheckError}
 use Rattle.field_checker.specs.declared.error.CheckError.TheVariants.{DuplicateName, UnknownName, MidRange, ReservedMid, FieldOutside, MaskRange, ConstRange, NumberRange, LengthRange, Memory}
 
@@ -20,11 +20,11 @@ number_of_check check.NumberRange = 28
 number_of_check check.LengthRange = 29
 
 -- the fault of a text that a fault of the program is
-abbrev pub fault_of : Fault → TextFault
+abbrev pub fault_of : CheckFault → TextFault
 fault_of f = record { code = number_of_check f.check; at = f.at }
 
 -- the error that answers a fault
-abbrev pub error_of : Fault → CheckError
+abbrev pub error_of : CheckFault → CheckError
 error_of f = answer f.check f.at
   where
     answer : Check → ℕ → CheckError

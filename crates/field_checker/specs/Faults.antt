@@ -4,7 +4,7 @@ use Rattle.lc_model.specs.Text.Syntax.{Item}
 use Rattle.lc_model.specs.Text.Meaning.{TextFault, earlier_of}
 use Rattle.field_checker.specs.Fault.{error_of, fault_of}
 use Rattle.field_checker.specs.Number.{NamesItsNumber}
-use Rattle.field_checker.specs.declared.fault.Fault.{Fault}
+use Rattle.field_checker.specs.declared.fault.CheckFault.{CheckFault}
 use Rattle.field_checker.specs.declared.faults.Faults.{Faults}
 
 -- the first fault that was met
@@ -17,6 +17,6 @@ after first [] = first
 after first (f ∷ fs) = after (Some (earlier_of f first)) fs
 
 -- the fault that was met, if any, names the number that it is of
-abbrev pub NamesItsFault : List Item → Option Fault → Type 0
+abbrev pub NamesItsFault : List Item → Option CheckFault → Type 0
 NamesItsFault items None = ⊤
 NamesItsFault items (Some fault) = NamesItsNumber items (error_of fault)

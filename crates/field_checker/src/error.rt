@@ -4,7 +4,7 @@ ghost use Rattle.std.specs.Prelude.{◌≡◌};
 ghost use Rattle.field_checker.specs.declared.error.CheckError.TheVariants.{Memory};
 ghost use Rattle.field_checker.specs.Fault.{error_code, error_of};
 
-use crate::fault::{Check, Fault};
+use crate::fault::{Check, CheckFault};
 use std::alloc::AllocError;
 use thiserror::Error;
 
@@ -51,10 +51,10 @@ impl From<AllocError> for CheckError {
     }
 }
 
-impl From<Fault> for CheckError {
+impl From<CheckFault> for CheckError {
     ghost from_gives = { λ f e. e ≡ error_of f };
 
-    fn from(fault: Fault) -> CheckError {
+    fn from(fault: CheckFault) -> CheckError {
         let at = fault.at;
         match fault.check {
             Check::DuplicateName => CheckError::DuplicateName { at },

@@ -39,15 +39,15 @@ impl Check {
 
 /// What is refused: by which check, and the number of bytes of the text before it.
 #[derive(Clone, Copy)]
-pub(crate) struct Fault {
+pub(crate) struct CheckFault {
     pub check: Check,
     pub at: usize,
 }
 
-impl Fault {
+impl CheckFault {
     /// Whether this fault is the one to answer of the two: it stands at the lesser place, or has at most the other's
     /// number at the same place.
-    pub fn precedes(self, other: Fault) -> bool
+    pub fn precedes(self, other: CheckFault) -> bool
         ensures { result ≡ precedes (fault_of self) (fault_of other) }
     {
         self.at < other.at || self.at == other.at && self.check.number() <= other.check.number()

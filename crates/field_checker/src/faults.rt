@@ -8,7 +8,7 @@ ghost use Rattle.field_checker.specs.Fault.{error_of, fault_of, number_of_check}
 ghost use Rattle.field_checker.specs.Faults.{NamesItsFault, after, first_of};
 ghost use Rattle.field_checker.specs.Number.{NamesItsNumber, StandsOutside, is_out_of_range, least_of, most_of};
 
-use crate::fault::{Check, Fault};
+use crate::fault::{Check, CheckFault};
 use crate::number::RuleNumber;
 use rule_parser::Number;
 
@@ -22,7 +22,7 @@ fn is_outside(number: Number, low: u32, high: u32) -> bool
 /// What the checks met: of all faults the first alone.
 #[derive(Clone, Copy)]
 pub(crate) struct Faults {
-    pub first: Option<Fault>,
+    pub first: Option<CheckFault>,
 }
 
 impl Faults {
@@ -34,7 +34,7 @@ impl Faults {
 
     /// Meets a fault.
     #[tactic(auto, unfolding(crate::specs::Faults::after))]
-    fn meet(&mut self, fault: Fault)
+    fn meet(&mut self, fault: CheckFault)
         ensures faults { first_of self.new ≡ after (first_of self.old) (fault_of fault ∷ []) }
         ensures names { (items : List Item) → NamesItsFault items self.old.first →
             NamesItsFault items (Some fault) → NamesItsFault items self.new.first }
@@ -55,7 +55,7 @@ impl Faults {
             NamesItsFault items self.new.first }
     {
         if refused {
-            self.meet(Fault { check, at });
+            self.meet(CheckFault { check, at });
         }
     }
 

@@ -17,7 +17,7 @@ use rule_parser::{
 use std::alloc::{AllocError, Global};
 
 /// The bytes, as a value of their own.
-fn owned(alloc: Global, text: &[u8]) -> Result<Bytes, AllocError>
+fn bytes_of(alloc: Global, text: &[u8]) -> Result<Bytes, AllocError>
     ensures { IfOk result (λ bytes. bytes ≡ text.now) }
 {
     Ok(Bytes::from_vec(text.to_vec(alloc)?))
@@ -151,13 +151,13 @@ fn rule<'a>(alloc: Global, names: &Names<'_, 'a>, item: &RuleItem<'a>) -> Result
         Some (model.rule_of rule)) }
 {
     Ok(Rule {
-        name: owned(alloc, item.name.text)?,
+        name: bytes_of(alloc, item.name.text)?,
         mode: item.mode,
         fails: short(item.fails),
         sequence: short(item.sequence),
         event_kind: item.event_kind,
         event_id: short(item.event_id),
-        text: owned(alloc, item.text)?,
+        text: bytes_of(alloc, item.text)?,
         report: report(item.report),
         cond: condition(alloc, names, &item.condition)?,
     })

@@ -34,7 +34,7 @@ impl<'f, 'a> Names<'f, 'a> {
     }
 
     /// What packets and fields declare under the name, where one does.
-    fn declared(&self, name: Name<'a>) -> Option<&Declared<'f, 'a>>
+    fn declarations_of(&self, name: Name<'a>) -> Option<&Declared<'f, 'a>>
         ensures { option_map (λ d. d.now) result ≡ at_name self.now.index.named
             name.entry.text.now }
     {
@@ -45,7 +45,7 @@ impl<'f, 'a> Names<'f, 'a> {
     fn is_named_before(&self, name: Name<'a>) -> bool
         ensures { result ≡ is_named_before self.now.index name.entry.text.now name.entry.at }
     {
-        match self.declared(name) {
+        match self.declarations_of(name) {
             Some(declared) => declared.least < name.at,
             None => false,
         }
@@ -75,7 +75,7 @@ impl<'f, 'a> Names<'f, 'a> {
         ensures { option_map (λ p. packet_of p.now) result ≡
             packet_named (items_of self.now.items.now) (name_of name.entry) }
     {
-        self.declared(name)?.packet
+        self.declarations_of(name)?.packet
     }
 
     /// The first field of the name.
@@ -83,6 +83,6 @@ impl<'f, 'a> Names<'f, 'a> {
         ensures { option_map (λ f. field_of f.now) result ≡
             field_named (items_of self.now.items.now) (name_of name.entry) }
     {
-        self.declared(name)?.field
+        self.declarations_of(name)?.field
     }
 }

@@ -1,7 +1,7 @@
 -- The result of writing rows to standard output. This project's own.
 use Rattle.std.specs.Prelude.{◌≡◌, Result, Ok, Err}
-use Rattle.listing_rows.specs.declared.error.RowError.{RowError}
-use Rattle.listing_rows.specs.declared.error.RowError.TheVariants as row
+use Rattle.packet_rows.specs.declared.error.RowError.{RowError}
+use Rattle.packet_rows.specs.declared.error.RowError.TheVariants as row
 use Rattle.tool_faults.specs.Cause.{IsOfOutput}
 use Rattle.tool_faults.specs.declared.fault.Fault.{Fault}
 use Rattle.tool_faults.specs.declared.fault.Fault.TheVariants as fault

@@ -21,10 +21,10 @@ fn export_all<'a, R: Files + AllocGlobal, S: Write>(
     let mut n = 1u64;
     for _ in 0..u64::MAX {
         let is_more = feed.read_on()?;
-        let held = feed.held().len();
-        let (count, _, _) = whole_records(feed.held());
+        let held = feed.contents().len();
+        let (count, _, _) = whole_records(feed.contents());
         n = n.saturating_add(u64::try_from(count).unwrap_or(u64::MAX));
-        let (left, front) = export_held(&mut packets, feed.held())?;
+        let (left, front) = export_held(&mut packets, feed.contents())?;
         let left = left.len();
         match file.write_all(packets.as_slice()) {
             Ok(()) => packets.clear(),

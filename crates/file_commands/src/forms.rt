@@ -1,11 +1,11 @@
 //! Lists records and packets in the form that the words ask for: text or rows.
 
 use crate::listing;
-use crate::rows::{self, wanted};
+use crate::rows::{self, rows_of};
+use flight_tools_args::RowWords;
 use std::fs::Files;
 use std::io::Write;
 use tool_faults::Fault;
-use tool_words::RowWords;
 
 /// Lists the records of a stream as text, as a script if `whole`, or as rows. Errors if the stream ends early: `Early`
 /// for text, `Stream` with the place for rows.
@@ -16,7 +16,7 @@ pub fn stream<'a, R: Files + AllocGlobal, W: Write>(
     form: RowWords<'a>,
     out: &mut W,
 ) -> Result<(), Fault<'a>> {
-    match wanted(form)? {
+    match rows_of(form)? {
         Some(rows) => rows::records(rt, file, &rows, out),
         None => listing::stream(rt, file, whole, out),
     }
@@ -30,7 +30,7 @@ pub fn packets<'a, R: Files + AllocGlobal, W: Write>(
     form: RowWords<'a>,
     out: &mut W,
 ) -> Result<(), Fault<'a>> {
-    match wanted(form)? {
+    match rows_of(form)? {
         Some(rows) => rows::packets(rt, file, &rows, out),
         None => listing::packets(rt, file, out),
     }

@@ -2,16 +2,18 @@
 
 ghost use Rattle.std.specs.Prelude.{◌≤◌, IfOk, IfSome};
 
+use flight_tools_args::ImportWords;
 use lc_model::Moment;
 use lc_model::stream::{HEADER, moment_of};
-use packet_archive::{Asked, Choice, Clock, Front, Met, Report, Tally, Times, import_held};
+use packet_archive::{
+    ArchiveFront, Choice, Clock, ImportOptions, Met, Report, Tally, Times, import_held,
+};
 use program_files::{begin, discard, fault_of, keep};
 use std::alloc::Global;
 use std::fs::Files;
 use std::io::Write;
 use stream_script::read_script;
-use tool_faults::{Fault, fault_at, feed_of, is_apart, listed};
-use tool_words::ImportWords;
+use tool_faults::{Fault, fault_at, feed_of, is_apart, listing_result};
 
 /// The byte at which the time of this profile's telemetry begins, counted from 0.
 const OWN_TIME: u32 = 6;
@@ -110,7 +112,7 @@ fn ids_of<'a>(alloc: Global, word: Option<&'a str>) -> Result<Vec<u16>, Fault<'a
 
 /// Whether the archive may go on with more bytes: none are left, or those in front are a part of a packet.
 fn may_go_on(met: Met) -> bool {
-    matches!(met, Met::Stands(Front::Over | Front::Cut))
+    matches!(met, Met::Stands(ArchiveFront::Over | ArchiveFront::Cut))
 }
 
 /// The records that bring both halves of a rule text as the Limit Checker's tables, and start it and the scheduler.
@@ -121,10 +123,10 @@ fn start_of<'a>(alloc: Global, moment: Moment, text: u16) -> Result<Vec<u8>, Fau
         subseconds,
     } = moment;
     let mut script = Vec::new(alloc);
-    listed(writeln!(script, "at {seconds} {subseconds}"))?;
-    listed(writeln!(script, "wdt {text} /cf/lc_def_wdt.tbl"))?;
-    listed(writeln!(script, "adt {text} /cf/lc_def_adt.tbl"))?;
-    listed(script.write_all(b"start LC\nstart SCH\n"))?;
+    listing_result(writeln!(script, "at {seconds} {subseconds}"))?;
+    listing_result(writeln!(script, "wdt {text} /cf/lc_def_wdt.tbl"))?;
+    listing_result(writeln!(script, "adt {text} /cf/lc_def_adt.tbl"))?;
+    listing_result(script.write_all(b"start LC\nstart SCH\n"))?;
     read_script(alloc, script.as_slice()).map_err(|_| Fault::Memory)
 }
 
@@ -165,7 +167,7 @@ fn import_one<'a, R: Files + AllocGlobal, S: Write, W: Write>(
     name: &'a str,
     stream: &mut Stream<'a, '_, S>,
     clock: &mut Clock,
-    asked: &Asked<'_>,
+    asked: &ImportOptions<'_>,
     out: &mut W,
 ) -> Result<bool, Fault<'a>> {
     let mut feed = feed_of(rt, name)?;
@@ -173,8 +175,8 @@ fn import_one<'a, R: Files + AllocGlobal, S: Write, W: Write>(
     let mut records = Vec::new(rt.alloc());
     for _ in 0..u64::MAX {
         let is_more = feed.read_on()?;
-        let held = feed.held().len();
-        let (rest, met) = import_held(&mut records, clock, &mut tally, asked, feed.held())?;
+        let held = feed.contents().len();
+        let (rest, met) = import_held(&mut records, clock, &mut tally, asked, feed.contents())?;
         let left = rest.len();
         stream.push_records(rt.alloc(), records.as_slice())?;
         records.clear();
@@ -185,8 +187,8 @@ fn import_one<'a, R: Files + AllocGlobal, S: Write, W: Write>(
                 met,
                 left,
             };
-            listed(write!(out, "{report}"))?;
-            return Ok(matches!(met, Met::Stands(Front::Over)));
+            listing_result(write!(out, "{report}"))?;
+            return Ok(matches!(met, Met::Stands(ArchiveFront::Over)));
         }
         feed.let_go(held.saturating_sub(left));
     }
@@ -199,7 +201,7 @@ fn import_all<'a, R: Files + AllocGlobal, S: Write, W: Write>(
     archives: &[&'a str],
     stream: &mut Stream<'a, '_, S>,
     clock: &mut Clock,
-    asked: &Asked<'_>,
+    asked: &ImportOptions<'_>,
     out: &mut W,
 ) -> Result<bool, Fault<'a>> {
     let mut is_whole = true;
@@ -234,7 +236,7 @@ pub fn import<'a, R: Files + AllocGlobal, W: Write>(
         return Err(Fault::NoText);
     };
     let only = ids_of(rt.alloc(), wanted.only)?;
-    let asked = Asked {
+    let asked = ImportOptions {
         marked: wanted.marked,
         choice: Choice {
             idle: wanted.keep_idle,
@@ -255,7 +257,7 @@ pub fn import<'a, R: Files + AllocGlobal, W: Write>(
     match import_all(rt, archives, &mut into, &mut clock, &asked, out) {
         Ok(is_whole) => {
             keep(rt, draft).map_err(|fault| fault_at(stream, fault))?;
-            listed(out.flush())?;
+            listing_result(out.flush())?;
             if is_whole { Ok(()) } else { Err(Fault::Early) }
         }
         Err(fault) => {

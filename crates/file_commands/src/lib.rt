@@ -12,4 +12,4 @@ mod rows;
 pub use crate::exporting::export;
 pub use crate::forms::{packets, stream};
 pub use crate::importing::import;
-pub use crate::listing::{said, table};
+pub use crate::listing::{table, write_help};

@@ -1,9 +1,9 @@
 //! The commands that list a file as text.
 
+use analysis_listing::{LineChoice, list_actionpoints};
 use clap::Error;
-use judgement_listing::{Which, list_actionpoints};
 use lc_model::packet::first_packet;
-use packet_listing::Line;
+use packet_listing::PacketLine;
 use program_files::Noting;
 use std::alloc::Global;
 use std::cell::Cell;
@@ -12,16 +12,16 @@ use std::io::{Read, Write};
 use stream_script::{Front, front_of, write_listing_from, write_script};
 use table_listing::{ListingError, list_table};
 use tool_faults::{
-    Fault, Feed, LONGEST_TABLE, feed_of, judgement_fault, listed, read, written_fault,
+    Fault, Feed, LONGEST_TABLE, feed_of, judgement_fault, listing_result, read, written_fault,
 };
 
 /// The largest number that a listing gives a record or a packet.
 const MOST_COUNTED: usize = usize::MAX / 2;
 
 /// Writes the help or the version to `out`. The error is that of the output.
-pub fn said<'a, W: Write>(text: &Error, out: &mut W) -> Result<(), Fault<'a>> {
-    listed(write!(out, "{text}"))?;
-    listed(out.flush())
+pub fn write_help<'a, W: Write>(text: &Error, out: &mut W) -> Result<(), Fault<'a>> {
+    listing_result(write!(out, "{text}"))?;
+    listing_result(out.flush())
 }
 
 /// Writes the warnings about a table of actionpoints; the file `watchpoints` has its watchpoints.
@@ -37,12 +37,12 @@ fn mark<'a, R: Files + AllocGlobal, W: Write>(
         rt.alloc(),
         own.as_slice(),
         actionpoints,
-        Which::Warnings,
+        LineChoice::Warnings,
         &mut lines,
     )
     .map_err(|error| judgement_fault(watchpoints, error))?;
-    listed(out.write_all(lines.as_slice()))?;
-    listed(out.flush())
+    listing_result(out.write_all(lines.as_slice()))?;
+    listing_result(out.flush())
 }
 
 /// Lists a table file; with `watchpoints`, the name of the file with the actionpoints' watchpoints, their warnings
@@ -59,7 +59,7 @@ pub fn table<'a, R: Files + AllocGlobal, W: Write>(
     let mut noted = Noting::new(out, &kind);
     match list_table(rt.alloc(), bytes.as_slice(), &mut noted) {
         Ok(is_sound) => {
-            listed(noted.flush())?;
+            listing_result(noted.flush())?;
             if !is_sound {
                 return Err(Fault::Table);
             }
@@ -119,17 +119,17 @@ pub fn stream<'a, R: Files + AllocGlobal, W: Write>(
     let mut first = 1usize;
     for _ in 0..u64::MAX {
         let is_more = feed.read_on()?;
-        let (count, size, behind) = whole_records(feed.held());
+        let (count, size, behind) = whole_records(feed.contents());
         let is_last = !is_more || matches!(behind, Front::NoRecord);
-        let listed_size = if is_last { feed.held().len() } else { size };
+        let listed_size = if is_last { feed.contents().len() } else { size };
         let records = feed
-            .held()
+            .contents()
             .split_at_checked(listed_size)
             .map_or(&[][..], |it| it.0);
         let text = text_of(rt.alloc(), first, records, whole)?;
-        listed(out.write_all(text.as_slice()))?;
+        listing_result(out.write_all(text.as_slice()))?;
         if is_last {
-            listed(out.flush())?;
+            listing_result(out.flush())?;
             return ended_with(matches!(behind, Front::End));
         }
         feed.let_go(size);
@@ -156,7 +156,7 @@ fn list_whole<W: Write>(
             break;
         };
         number = number.saturating_add(1);
-        listed(writeln!(out, "{}", Line { number, packet }))?;
+        listing_result(writeln!(out, "{}", PacketLine { number, packet }))?;
         rest = behind;
     }
     Ok((number, packets.len().saturating_sub(rest.len())))
@@ -173,7 +173,7 @@ pub fn packets<'a, R: Files + AllocGlobal, W: Write>(
     let mut number = 0u64;
     for _ in 0..u64::MAX {
         let is_more = feed.read_on()?;
-        let (count, size) = list_whole(feed.held(), number, out)?;
+        let (count, size) = list_whole(feed.contents(), number, out)?;
         number = count;
         feed.let_go(size);
         if !is_more {
@@ -189,13 +189,13 @@ fn end_of_packets<'a, F: Read + Drop, W: Write>(
     number: u64,
     out: &mut W,
 ) -> Result<(), Fault<'a>> {
-    let left = feed.held().len();
+    let left = feed.contents().len();
     if left > 0 {
-        listed(writeln!(
+        listing_result(writeln!(
             out,
             "cut behind packet {number}: {left} bytes are no whole packet"
         ))?;
     }
-    listed(out.flush())?;
+    listing_result(out.flush())?;
     ended_with(left == 0)
 }

@@ -3,17 +3,17 @@
 ghost use Rattle.file_commands.specs.Taken.{IsTaken};
 
 use crate::ends::{end_of_packets, end_of_stream};
+use flight_tools_args::RowWords;
 use lc_model::packet::first_packet;
-use listing_rows::{
+use packet_listing::PacketLine;
+use packet_rows::{
     Epoch, Form, PACKET_NAMES, RECORD_NAMES, RowError, write_names, write_packet, write_record,
 };
-use packet_listing::Line;
 use std::alloc::Global;
 use std::fs::Files;
 use std::io::Write;
 use stream_script::{Front, front_of};
-use tool_faults::{Fault, epoch_of, feed_of, listed, output_fault};
-use tool_words::RowWords;
+use tool_faults::{Fault, epoch_of, feed_of, listing_result, output_fault};
 
 /// How rows are written: as values or as objects, and from which epoch their times count.
 #[derive(Clone, Copy)]
@@ -24,7 +24,7 @@ pub struct Rows {
 
 /// Returns how rows are to be written, or `None` if the words ask for no rows. Error: `Value` if they ask for values
 /// and objects at once, or for an invalid epoch.
-pub fn wanted<'a>(words: RowWords<'a>) -> Result<Option<Rows>, Fault<'a>> {
+pub fn rows_of<'a>(words: RowWords<'a>) -> Result<Option<Rows>, Fault<'a>> {
     let epoch = epoch_of(words.epoch)?;
     match (words.csv, words.json) {
         (false, false) => Ok(None),
@@ -41,7 +41,7 @@ pub fn wanted<'a>(words: RowWords<'a>) -> Result<Option<Rows>, Fault<'a>> {
 }
 
 /// The result of writing rows to standard output; an error becomes a `Fault`, as `output_fault` has it.
-fn taken<T: Drop>(written: Result<T, RowError>) -> Result<T, Fault<'static>>
+fn row_result<T: Drop>(written: Result<T, RowError>) -> Result<T, Fault<'static>>
     ensures { IsTaken written result }
 {
     match written {
@@ -70,7 +70,13 @@ fn write_packets<W: Write>(
             break;
         };
         number = number.saturating_add(1);
-        write_packet(alloc, rows.form, rows.epoch, Line { number, packet }, out)?;
+        write_packet(
+            alloc,
+            rows.form,
+            rows.epoch,
+            PacketLine { number, packet },
+            out,
+        )?;
         rest = behind;
     }
     Ok((number, packets.len().saturating_sub(rest.len())))
@@ -108,16 +114,22 @@ pub fn packets<'a, R: Files + AllocGlobal, W: Write>(
     out: &mut W,
 ) -> Result<(), Fault<'a>> {
     let mut feed = feed_of(rt, file)?;
-    taken(write_names(rt.alloc(), rows.form, &PACKET_NAMES, out))?;
+    row_result(write_names(rt.alloc(), rows.form, &PACKET_NAMES, out))?;
     let mut number = 0u64;
     for _ in 0..u64::MAX {
         let is_more = feed.read_on()?;
-        let (count, size) = taken(write_packets(rt.alloc(), rows, feed.held(), number, out))?;
+        let (count, size) = row_result(write_packets(
+            rt.alloc(),
+            rows,
+            feed.contents(),
+            number,
+            out,
+        ))?;
         number = count;
         feed.let_go(size);
         if !is_more {
-            listed(out.flush())?;
-            return end_of_packets(file, number, feed.held().len());
+            listing_result(out.flush())?;
+            return end_of_packets(file, number, feed.contents().len());
         }
     }
     Ok(())
@@ -132,16 +144,22 @@ pub fn records<'a, R: Files + AllocGlobal, W: Write>(
     out: &mut W,
 ) -> Result<(), Fault<'a>> {
     let mut feed = feed_of(rt, file)?;
-    taken(write_names(rt.alloc(), rows.form, &RECORD_NAMES, out))?;
+    row_result(write_names(rt.alloc(), rows.form, &RECORD_NAMES, out))?;
     let mut number = 0u64;
     for _ in 0..u64::MAX {
         let is_more = feed.read_on()?;
-        let (count, size) = taken(write_records(rt.alloc(), rows, feed.held(), number, out))?;
+        let (count, size) = row_result(write_records(
+            rt.alloc(),
+            rows,
+            feed.contents(),
+            number,
+            out,
+        ))?;
         number = count;
         feed.let_go(size);
-        let front = front_of(feed.held());
+        let front = front_of(feed.contents());
         if !is_more || matches!(front, Front::NoRecord) {
-            listed(out.flush())?;
+            listing_result(out.flush())?;
             return end_of_stream(file, front, number.saturating_add(1));
         }
     }

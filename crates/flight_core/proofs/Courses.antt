@@ -15,8 +15,8 @@ use Rattle.lc_model.specs.Host.Stream.{StreamEntry, all_kinds, front}
 use Rattle.lc_model.specs.Kept.Executive.{Executive, Written, step_by, written_from}
 use Rattle.lc_model.specs.Kept.Stations as model
 use Rattle.lc_model.specs.Kept.Stations.{host_step}
-use Rattle.host_laws.specs.Statements.{AreBytes, executive_after, RunsGoOn}
-use Rattle.host_laws.specs.Writes.{OpenHostsTake}
+use Rattle.host_refinement.specs.Statements.{AreBytes, executive_after, RunsGoOn}
+use Rattle.host_refinement.specs.Writes.{OpenHostsTake}
 use Rattle.app_host.specs.Shared.{on_board}
 use Rattle.app_host.specs.Hosted.{Hosted}
 use Rattle.app_host.specs.Delivered.{executive_in}

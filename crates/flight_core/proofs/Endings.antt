@@ -13,8 +13,8 @@ use Rattle.lc_model.specs.Host.Stream.{StreamEntry, End, Whole, Bad, Truncated, 
 use Rattle.lc_model.specs.Kept.Executive.{written_from}
 use Rattle.lc_model.specs.Kept.Stations as model
 use Rattle.lc_model.specs.Kept.Stations.{host_step}
-use Rattle.host_laws.specs.Statements.{AreBrought, StreamsBring, executive_after, RunsGoOn}
-use Rattle.host_laws.specs.Writes.{OpenHostsTake, TakesAsAnswered}
+use Rattle.host_refinement.specs.Statements.{AreBrought, StreamsBring, executive_after, RunsGoOn}
+use Rattle.host_refinement.specs.Writes.{OpenHostsTake, TakesAsAnswered}
 use Rattle.app_host.specs.Shared.{on_board}
 use Rattle.app_host.specs.Hosted.{Hosted, in_numbers}
 use Rattle.app_host.specs.Delivered.{executive_in}

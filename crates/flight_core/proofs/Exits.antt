@@ -6,7 +6,7 @@ use Rattle.lc_model.specs.Device.{Source, Sink}
 use Rattle.lc_model.specs.Tables.Interpretation.{FileMeanings}
 use Rattle.lc_model.specs.Host.Outcome.{IsOutcome, devices}
 use Rattle.lc_model.specs.Host.Stream.{StreamEntry, records_of}
-use Rattle.host_laws.specs.Statements.{AreBrought}
+use Rattle.host_refinement.specs.Statements.{AreBrought}
 use Rattle.app_host.specs.Hosted.{Hosted}
 use Rattle.flight_core.specs.declared.error.Report.{Report}
 use Rattle.flight_core.specs.declared.error.RunError.{RunError}

@@ -12,8 +12,8 @@ use Rattle.lc_model.specs.Kept.Executive.{Member, Pipe}
 use Rattle.lc_model.specs.Kept.Stations as model
 use Rattle.lc_model.specs.Kept.Stations.{first_host}
 use Rattle.lc_model.specs.Services.Bus.{seen}
-use Rattle.host_laws.specs.Keeping as keeping
-use Rattle.host_laws.specs.Keeping.{IsSpare}
+use Rattle.host_refinement.specs.Keeping as keeping
+use Rattle.host_refinement.specs.Keeping.{IsSpare}
 use Rattle.app_host.specs.Hosted.{Object, Hosted, in_numbers, member_of, object_at}
 use Rattle.app_host.specs.Whole.{IsKnown}
 use Rattle.app_host.specs.Party.{Party, Hearers, Waiting, Holders, Only, scheduled_mids, AreKnownHearers, IsKnownOnSeat, IsKnownSpare, AreKnownIn}

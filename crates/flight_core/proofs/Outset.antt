@@ -20,7 +20,7 @@ use Rattle.lc_model.proofs.Host.RunsKept.{files_of_halves}
 use Rattle.lc_model.proofs.Host.WholeRuns.{numbered}
 use Rattle.lc_model.proofs.Facts.{tested_not_less}
 use Rattle.rpn_compiler.specs.declared.files.TablePair.{TablePair}
-use Rattle.host_laws.specs.Statements.{AreBrought, WritesByBytes}
+use Rattle.host_refinement.specs.Statements.{AreBrought, WritesByBytes}
 use Rattle.app_host.specs.Shared.{on_board}
 use Rattle.app_host.specs.Hosted.{Object, Hosted, in_numbers}
 use Rattle.flight_core.specs.declared.error.Report.{Report}

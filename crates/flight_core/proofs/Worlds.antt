@@ -19,8 +19,8 @@ use Rattle.lc_model.proofs.Tables.SpellingLaws.{bytes_agree_with_texts, bytes_fo
 use Rattle.lc_model.proofs.Host.RunsKept.{files_of_halves}
 use Rattle.lc_model.proofs.Host.SentOfTwo.{first_alike, step_alike}
 use Rattle.lc_model.proofs.Host.WholeRuns.{IsHalfBelow, brings_alike}
-use Rattle.host_laws.specs.Keeping.{KeepsTo}
-use Rattle.host_laws.specs.Statements.{AreBytes, BeginsSo, EachRecordKeeps, IsBrought, RecordsAreFine, SameStep}
+use Rattle.host_refinement.specs.Keeping.{KeepsTo}
+use Rattle.host_refinement.specs.Statements.{AreBytes, BeginsSo, EachRecordKeeps, IsBrought, RecordsAreFine, SameStep}
 use Rattle.app_host.specs.Delivered.{executive_in}
 use Rattle.app_host.specs.Hosted.{Hosted}
 use Rattle.app_host.specs.Shared.{on_board}

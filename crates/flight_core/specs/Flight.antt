@@ -6,7 +6,7 @@ use Rattle.lc_model.specs.Host.Stream.{StreamEntry, records_of}
 use Rattle.lc_model.specs.Tables.Interpretation.{FileMeanings}
 use Rattle.lc_model.specs.Kept.Executive.{written_from}
 use Rattle.rpn_compiler.specs.declared.files.TablePair.{TablePair}
-use Rattle.host_laws.specs.Statements.{AreBrought}
+use Rattle.host_refinement.specs.Statements.{AreBrought}
 use Rattle.app_host.specs.Shared.{on_board}
 use Rattle.app_host.specs.Hosted.{Hosted}
 use Rattle.app_host.specs.Whole.{IsKnown, AreKnown}

@@ -8,7 +8,7 @@ use Rattle.lc_model.specs.Tables.Interpretation.{FileMeanings}
 use Rattle.app_host.specs.Hosted.{Hosted}
 use Rattle.app_host.specs.Step.{IsBetween, party_of, called_for, StepsWhole, StepsPart}
 use Rattle.app_host.specs.Party.{AreKnownIn}
-use Rattle.host_laws.specs.Statements.{AreBytes}
+use Rattle.host_refinement.specs.Statements.{AreBytes}
 use Rattle.flight_core.specs.declared.halt.Halt.{Halt}
 use Rattle.flight_core.specs.declared.halt.Halt.TheVariants as halt
 use Rattle.flight_core.specs.Front.{part_of}

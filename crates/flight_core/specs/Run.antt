@@ -10,8 +10,8 @@ use Rattle.lc_model.specs.Host.Outcome.{Devices, IsUntouched, IsOutcome}
 use Rattle.lc_model.specs.Host.Promise.{Mission}
 use Rattle.lc_model.specs.Kept.Summary.{Other}
 use Rattle.lc_model.specs.Kept.Executive.{Member, first_executive, written_from}
-use Rattle.host_laws.specs.Keeping.{IsSpare}
-use Rattle.host_laws.specs.Statements.{AreBrought}
+use Rattle.host_refinement.specs.Keeping.{IsSpare}
+use Rattle.host_refinement.specs.Statements.{AreBrought}
 use Rattle.rpn_compiler.specs.declared.files.TablePair.{TablePair}
 use Rattle.app_host.specs.Shared.{on_board}
 use Rattle.app_host.specs.Hosted.{Object, member_of}

@@ -19,8 +19,8 @@ use Rattle.lc_model.specs.Host.World.{World, first_world}
 use Rattle.lc_model.specs.Kept.Executive.{Member}
 use Rattle.lc_model.specs.Kept.Stations.{first_host}
 use Rattle.lc_model.specs.Laws.Correspondence.{AreRead, IsImageOf, WorldAlike}
-use Rattle.host_laws.specs.Keeping.{IsSpare, KeepsTo}
-use Rattle.host_laws.specs.Statements.{AreBytes, IsBrought, IsShort, IsWhole}
+use Rattle.host_refinement.specs.Keeping.{IsSpare, KeepsTo}
+use Rattle.host_refinement.specs.Statements.{AreBytes, IsBrought, IsShort, IsWhole}
 use Rattle.app_host.specs.Delivered.{executive_in}
 use Rattle.app_host.specs.Hosted.{Hosted, in_numbers}
 use Rattle.app_host.specs.Step.{StepsWhole, StepsPart}

@@ -21,7 +21,7 @@ fn file(pair: &TablePair, kind: Kind) -> &[u8]
 
 /// The record that was found, with the compiled file in the place of a half; none where what was found is no record.
 #[inline(always)]
-pub(crate) fn brought<'a>(found: Found<'a>, pairs: &'a [TablePair]) -> Option<Record<'a>>
+pub(crate) fn record_of<'a>(found: Found<'a>, pairs: &'a [TablePair]) -> Option<Record<'a>>
     requires named { IsShortNamed found }
     requires text { NamesText (length pairs.now) found }
     requires files { AreWhole pairs.now }

@@ -86,7 +86,7 @@ impl<B: App> FedHost<B> {
     }
 
     /// How many bytes are held.
-    pub fn held(&self) -> usize
+    pub fn held_size(&self) -> usize
         ensures { result ≡ length (feeding_of B.meaning self.now).held.bytes }
     {
         self.records.held()

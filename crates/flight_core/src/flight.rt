@@ -18,12 +18,12 @@ use crate::pieces::{MOST_READS, PIECE, refill};
 use crate::records::Records;
 use crate::settling::final_reason;
 use app_host::{App, Host};
-use host_laws::{goes_on, records_of_bytes_are_fine, writes_are_the_steps};
+use host_refinement::{goes_on, records_of_bytes_are_fine, writes_are_the_steps};
 use lc_model::{ByteSink, ByteSource};
 use rpn_compiler::TablePair;
 
 /// How a run ends by this, behind the records of the report, where so many bytes of their output are still held.
-fn stopped(halt: Halt, report: Report, held: usize) -> RunError
+fn run_error(halt: Halt, report: Report, held: usize) -> RunError
     requires records { report.records + 1 < 2 ^ 64 }
     requires bytes { report.bytes + 2 ^ 64 < 2 ^ 128 }
     ensures so { result ≡ stopped_by halt report.records report.bytes held }
@@ -90,19 +90,19 @@ pub(crate) fn fly<R: ByteSource, T: ByteSink, O: Outlet<T>, B: App>(
             }
             Ok(None) => match refill::<R, T, O>(records, room, reader, out, report.bytes, most) {
                 Ok(true) => {}
-                Ok(false) => return ended(records, report),
-                Err(halt) => return Err(stopped(halt, report, O::held_in(out))),
+                Ok(false) => return result_at_end(records, report),
+                Err(halt) => return Err(run_error(halt, report, O::held_in(out))),
             },
             Err(halt) => {
                 let reason = final_reason::<T, O>(halt, out, report.bytes);
-                return Err(stopped(reason, report, O::held_in(out)));
+                return Err(run_error(reason, report, O::held_in(out)));
             }
         }
     }
 }
 
 /// How a run ends with its stream, behind the records of the report.
-fn ended(records: &Records, report: Report) -> Result<Report, RunError>
+fn result_at_end(records: &Records, report: Report) -> Result<Report, RunError>
     requires records { report.records + 1 < 2 ^ 64 }
     ensures so { result ≡ ended_by records.now.bytes report }
     ensures begun { RunHasBegun result }

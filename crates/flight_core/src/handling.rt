@@ -11,7 +11,7 @@ ghost use Rattle.flight_core.specs.Going.{HandlesNext};
 ghost use Rattle.flight_core.specs.Leaving.{LeavesForFront};
 ghost use Rattle.flight_core.specs.Records.{front_of};
 
-use crate::bringing::brought;
+use crate::bringing::record_of;
 use crate::halt::Halt;
 use crate::records::Records;
 use app_host::{App, Host, WriteFault};
@@ -101,7 +101,7 @@ pub(crate) fn handle_next<W: ByteSink, B: App>(
 {
     match records.next() {
         None => Ok(None),
-        Some(found) => match brought(found, pairs) {
+        Some(found) => match record_of(found, pairs) {
             None => Err(Halt::NoRecord),
             Some(entry) => match step(host, &entry, writer) {
                 Ok(total) => Ok(Some(total)),

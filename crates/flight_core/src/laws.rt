@@ -4,7 +4,7 @@ ghost use Rattle.flight_core.specs.Cutting.{Begins, Comes, EndsBadly, EndsCut, E
 ghost use Rattle.flight_core.specs.Promises.{RunsKeepTheirPromises};
 ghost use Rattle.flight_core.specs.Worlds.{HostsStandForTheTexts};
 
-use host_laws::{begins_as_the_world, keeps_to_the_world, records_of_bytes_are_fine};
+use host_refinement::{begins_as_the_world, keeps_to_the_world, records_of_bytes_are_fine};
 
 /// Bytes come and records are handed out, one after the other: whatever follows, the records of it all are those handed out,
 /// and then those of what is held and what follows.

@@ -2,7 +2,7 @@
 
 ghost use Rattle.std.specs.Prelude.{◌≡◌, ◌+◌, ◌<◌, ◌≤◌, false, length};
 ghost use Rattle.lc_model.specs.Host.Stream.{header_size, max_body};
-ghost use Rattle.host_laws.specs.Statements.{AreBytes};
+ghost use Rattle.host_refinement.specs.Statements.{AreBytes};
 ghost use Rattle.flight_core.specs.Going.{Refills, TakesPiece};
 
 use crate::halt::Halt;

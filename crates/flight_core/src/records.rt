@@ -61,7 +61,7 @@ impl Records {
             length self.old.bytes + length piece.now ≤ most_held →
             taken_of self.old piece.now ≡ piece.now }
     {
-        let room = MOST_HELD - self.window.held().len();
+        let room = MOST_HELD - self.window.contents().len();
         if self.is_bad {
             return 0;
         }
@@ -83,7 +83,7 @@ impl Records {
         ensures few { IsNone result → length self.old.bytes < header_size + max_body }
         ensures* after { sem 𝓛 (Rests the_row self.entry (λ new. new ≡ after_next self.old)) }
     {
-        match front_of(self.texts, self.window.held()) {
+        match front_of(self.texts, self.window.contents()) {
             Front::Part => None,
             Front::NoRecord => {
                 self.is_bad = true;
@@ -103,6 +103,6 @@ impl Records {
     pub fn held(&self) -> usize
         ensures { result ≡ length self.now.bytes }
     {
-        self.window.held().len()
+        self.window.contents().len()
     }
 }

@@ -23,7 +23,7 @@ use crate::outlet::{AtOnce, Outlet};
 use crate::pieces::{MOST_READS, PIECE};
 use crate::records::Records;
 use app_host::{App, Host};
-use host_laws::writes_a_mission;
+use host_refinement::writes_a_mission;
 use lc_model::{ByteSink, ByteSource};
 use rpn_compiler::TablePair;
 use schedules::Schedule;

@@ -66,7 +66,7 @@ impl Window {
 
     /// What is held.
     #[inline(always)]
-    pub fn held(&self) -> &[u8]
+    pub fn contents(&self) -> &[u8]
         ensures held { result.now ≡ self.now.held }
         ensures few { length self.now.held ≤ MOST_HELD }
     {

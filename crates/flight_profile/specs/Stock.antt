@@ -8,7 +8,7 @@ use Rattle.lc_model.specs.Host.Promise.{Mission}
 use Rattle.lc_model.specs.Kept.Executive.{Member}
 use Rattle.lc_model.specs.Tables.HalvesAndBytes.{as_bytes}
 use Rattle.lc_model.specs.Tables.InForce.{edition, layouts}
-use Rattle.host_laws.specs.Keeping.{IsSpare}
+use Rattle.host_refinement.specs.Keeping.{IsSpare}
 use Rattle.app_host.specs.Hosted.{Object}
 use Rattle.flight_core.specs.Compiled.{sources_of}
 

@@ -9,10 +9,10 @@ mod stock;
 
 pub use command_counter::Counter;
 pub use flight_core::{FedHost, Found, Halt, Records, Report, RunError, run, run_within};
+pub use flight_run_args::{Plan, WordsError, read_words};
 pub use launching::launch;
 pub use limit_checker::LimitChecker;
 pub use members::Member;
-pub use program_words::{Plan, WordsError, read_words};
 pub use schedules::{Schedule, ScheduleError, parse_schedule};
 pub use stock::{add, own_stock};
 pub use tick_scheduler::Scheduler;

@@ -4,7 +4,7 @@ ghost use Rattle.std.specs.Prelude.{◌≡◌, ◌++◌, ◌∷◌, [], None, If
 ghost use Rattle.lc_model.specs.Name.{lc_name};
 ghost use Rattle.lc_model.specs.Tables.HalvesAndBytes.{as_bytes};
 ghost use Rattle.lc_model.specs.Tables.InForce.{layouts};
-ghost use Rattle.host_laws.specs.Keeping.{IsSpare};
+ghost use Rattle.host_refinement.specs.Keeping.{IsSpare};
 ghost use Rattle.app_host.specs.Hosted.{member_of, objects_in};
 ghost use Rattle.app_host.specs.Whole.{AreSpares};
 ghost use Rattle.flight_core.specs.Run.{IsOfProfile};

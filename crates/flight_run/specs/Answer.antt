@@ -2,7 +2,7 @@
 use Rattle.std.specs.Prelude.{◌≡◌, ℕ, codes, Result, Ok, Err}
 use Rattle.std_io.specs.declared.io.kind.ErrorKind.{ErrorKind}
 use Rattle.std_io.specs.declared.io.kind.ErrorKind.TheVariants as kind
-use Rattle.program_words.specs.declared.words.WordsError.TheVariants as words
+use Rattle.flight_run_args.specs.declared.command_line.WordsError.TheVariants as words
 use Rattle.flight_run.specs.declared.fault.Fault.{Fault}
 use Rattle.flight_run.specs.declared.fault.Fault.TheVariants.{Words, File, Memory}
 use Rattle.flight_run.specs.Status.{status_of}

@@ -5,8 +5,8 @@ use Rattle.schedules.specs.declared.error.ScheduleError.{ScheduleError}
 use Rattle.schedules.specs.declared.error.ScheduleError.TheVariants as schedule
 use Rattle.flight_core.specs.declared.error.RunError.{RunError}
 use Rattle.flight_core.specs.declared.error.RunError.TheVariants as run
-use Rattle.program_words.specs.declared.words.WordsError.{WordsError}
-use Rattle.program_words.specs.declared.words.WordsError.TheVariants as words
+use Rattle.flight_run_args.specs.declared.command_line.WordsError.{WordsError}
+use Rattle.flight_run_args.specs.declared.command_line.WordsError.TheVariants as words
 use Rattle.flight_run.specs.declared.fault.Fault.{Fault}
 use Rattle.flight_run.specs.declared.fault.Fault.TheVariants.{Text, Schedule, Words, File, Run, Memory}
 use Rattle.std.specs.Prelude.{◌≡◌, List, ℕ, ⊤}

@@ -1,8 +1,8 @@
 -- What is done for the words of a command line. This project's own.
 use Rattle.std.specs.Prelude.{◌≡◌, ◌⊎◌, ℕ, List, map, Option, Ok, Err, ⊤}
-use Rattle.program_words.specs.declared.words.Plan.{Plan}
-use Rattle.program_words.specs.declared.words.Plan.TheVariants as plan
-use Rattle.program_words.specs.Words.{HoldsWords}
+use Rattle.flight_run_args.specs.declared.command_line.Plan.{Plan}
+use Rattle.flight_run_args.specs.declared.command_line.Plan.TheVariants as plan
+use Rattle.flight_run_args.specs.Words.{HoldsWords}
 use Rattle.flight_run.specs.declared.done.Done.{Done}
 use Rattle.flight_run.specs.declared.done.Done.TheVariants.{Stored, Compiled, Flown}
 use Rattle.flight_run.specs.declared.fault.Fault.{Fault}

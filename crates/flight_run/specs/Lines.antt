@@ -7,10 +7,10 @@ use Rattle.schedules.specs.declared.error.ScheduleError.{ScheduleError}
 use Rattle.schedules.specs.declared.error.ScheduleError.TheVariants as schedule
 use Rattle.flight_core.specs.declared.error.RunError.{RunError}
 use Rattle.flight_core.specs.declared.error.RunError.TheVariants as run
-use Rattle.program_words.specs.declared.words.WordsError.{WordsError}
-use Rattle.program_words.specs.declared.words.WordsError.TheVariants as words
-use Rattle.flight_run.specs.declared.place.Place.{Place}
-use Rattle.flight_run.specs.declared.place.Place.TheVariants.{Whole, At, Rule}
+use Rattle.flight_run_args.specs.declared.command_line.WordsError.{WordsError}
+use Rattle.flight_run_args.specs.declared.command_line.WordsError.TheVariants as words
+use Rattle.flight_run.specs.declared.place.RefusalPlace.{RefusalPlace}
+use Rattle.flight_run.specs.declared.place.RefusalPlace.TheVariants.{Whole, At, Rule}
 use Rattle.flight_run.specs.declared.fault.Fault.{Fault}
 use Rattle.flight_run.specs.declared.fault.Fault.TheVariants.{Text, Schedule, Words, File, Run, Memory}
 
@@ -18,11 +18,11 @@ abbrev pub no_memory : List ℕ
 no_memory = codes "no memory"
 
 -- where a text is refused
-abbrev unparsed : ParseFault → Place
+abbrev unparsed : ParseFault → RefusalPlace
 unparsed (Expected at what) = At at
 unparsed (TooNested at) = At at
 
-abbrev pub place_in : Option TextRefusal → Place
+abbrev pub place_in : Option TextRefusal → RefusalPlace
 place_in None = Whole
 place_in (Some (ForText code)) = Whole
 place_in (Some (AtPlace fault)) = At fault.at
@@ -30,7 +30,7 @@ place_in (Some (Unparsed fault)) = unparsed fault
 place_in (Some (ForRule code rule)) = Rule rule
 
 -- the number of a refusal, and its place or its rule
-abbrev pub refused : ℕ → Place → List ℕ
+abbrev pub refused : ℕ → RefusalPlace → List ℕ
 refused code Whole = codes "refused: " ++ decimal code
 refused code (At at) = codes "refused: " ++ (decimal code ++ (codes " at " ++ decimal at))
 refused code (Rule rule) = codes "refused: " ++ (decimal code ++ (codes " rule " ++ decimal rule))

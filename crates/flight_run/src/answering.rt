@@ -4,7 +4,7 @@ ghost use Rattle.std.specs.Prelude.{◌≡◌};
 ghost use Rattle.flight_run.specs.Answer.{IsSaid, fault_without_words, status_by};
 
 use crate::fault::Fault;
-use program_words::WordsError;
+use flight_run_args::WordsError;
 use std::io::{self, ErrorKind};
 
 /// What is said of a failed print.
@@ -21,7 +21,7 @@ pub fn fault_without_words(kind: ErrorKind) -> Fault<'static>
 }
 
 /// What was done is said, or standard output can't be used.
-pub fn said(printed: io::Result<()>) -> Result<(), Fault<'static>>
+pub fn print_result(printed: io::Result<()>) -> Result<(), Fault<'static>>
     ensures { IsSaid printed result }
 {
     match printed {

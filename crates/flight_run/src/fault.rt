@@ -6,7 +6,7 @@ ghost use Rattle.flight_run.specs.Status.{status_of};
 ghost use Rattle.flight_run.specs.declared.fault.Fault.TheVariants.{Memory};
 
 use flight_core::RunError;
-use program_words::WordsError;
+use flight_run_args::WordsError;
 use rpn_compiler::CompileError;
 use schedules::ScheduleError;
 use std::alloc::{AllocError, AllocFailed};

@@ -5,9 +5,9 @@ ghost use Rattle.rpn_compiler.specs.Fault.{refusal_of};
 ghost use Rattle.flight_run.specs.Lines.{line_of, run_line, schedule_line, text_line, words_line};
 
 use crate::fault::Fault;
-use crate::place::{Place, place_of};
+use crate::place::{RefusalPlace, place_of};
 use flight_core::RunError;
-use program_words::WordsError;
+use flight_run_args::WordsError;
 use rpn_compiler::CompileError;
 use schedules::ScheduleError;
 use std::fmt::{self, Display, Formatter, Write};
@@ -22,9 +22,9 @@ impl Display for RefusedText {
     fn fmt<W: Write>(&self, f: &mut Formatter<W>) -> fmt::Result {
         match self.0.code() {
             Some(code) => match place_of(self.0) {
-                Place::Whole => write!(f, "refused: {code}"),
-                Place::At(at) => write!(f, "refused: {code} at {at}"),
-                Place::Rule(rule) => write!(f, "refused: {code} rule {rule}"),
+                RefusalPlace::Whole => write!(f, "refused: {code}"),
+                RefusalPlace::At(at) => write!(f, "refused: {code} at {at}"),
+                RefusalPlace::Rule(rule) => write!(f, "refused: {code} rule {rule}"),
             },
             None => write!(f, "no memory"),
         }

@@ -3,7 +3,7 @@
 #![tactic(auto)]
 
 ghost use Rattle.std.specs.Prelude.{◌≡◌, ◌<◌, length, map, IfErr, IfOk, IsOk};
-ghost use Rattle.program_words.specs.Words.{GiveAPlan};
+ghost use Rattle.flight_run_args.specs.Words.{GiveAPlan};
 ghost use Rattle.flight_run.specs.Answer.{status_by};
 ghost use Rattle.flight_run.specs.Dispatch.{IsAskedFor, IsStoppedFor};
 
@@ -19,13 +19,13 @@ mod place;
 mod shell;
 mod stored;
 
-use crate::answering::{fault_without_words, said, status_by};
+use crate::answering::{fault_without_words, print_result, status_by};
 use crate::disk::Disk;
 use crate::done::Done;
 use crate::fault::Fault;
 use crate::shell::Shell;
-use program_files::lent;
-use program_words::{Plan, read_words};
+use flight_run_args::{Plan, read_words};
+use program_files::lend_words;
 use std::alloc::Global;
 use std::env::{self, Env};
 use std::fs::Files;
@@ -37,7 +37,7 @@ use std::process::ExitCode;
 pub fn main_on<R: Files + Print + Eprint + AllocGlobal>(rt: &R, words: &[&str]) -> u8 {
     let mut shell = Shell::new(rt);
     match obey(rt.alloc(), &mut shell, words) {
-        Ok(done) => tell(rt, &said(print!(rt; "{done}"))),
+        Ok(done) => tell(rt, &print_result(print!(rt; "{done}"))),
         Err(fault) => tell(rt, &Err(fault)),
     }
 }
@@ -92,7 +92,7 @@ fn status_on<R: Env + Files + Print + Eprint + AllocGlobal>(rt: &R) -> u8 {
         Ok(own) => own,
         Err(fault) => return tell(rt, &Err(fault)),
     };
-    match lent(rt.alloc(), own.as_slice()) {
+    match lend_words(rt.alloc(), own.as_slice()) {
         Ok(words) => main_on(rt, words.as_slice()),
         Err(_) => tell(rt, &Err(Fault::Memory)),
     }

@@ -11,7 +11,7 @@ use rule_parser::ParseError;
 
 /// What a refusal of a rule text is of.
 #[derive(Clone, Copy)]
-pub enum Place {
+pub enum RefusalPlace {
     /// The whole text.
     Whole,
     /// The byte at this place, from 0.
@@ -21,7 +21,7 @@ pub enum Place {
 }
 
 /// Where the text is refused.
-pub fn place_of(error: CompileError) -> Place
+pub fn place_of(error: CompileError) -> RefusalPlace
     ensures { result ≡ place_in (refusal_of error) }
 {
     match error {
@@ -29,12 +29,14 @@ pub fn place_of(error: CompileError) -> Place
             LexError::BadByte { at }
             | LexError::BadNumber { at }
             | LexError::NameTooLong { at }
-            | LexError::BadString { at } => Place::At(at),
-            LexError::TextTooLong | LexError::Memory => Place::Whole,
+            | LexError::BadString { at } => RefusalPlace::At(at),
+            LexError::TextTooLong | LexError::Memory => RefusalPlace::Whole,
         },
         CompileError::Parse(error) => match error {
-            ParseError::Expected { at, what: _ } | ParseError::TooNested { at } => Place::At(at),
-            ParseError::Memory => Place::Whole,
+            ParseError::Expected { at, what: _ } | ParseError::TooNested { at } => RefusalPlace::At(
+                at,
+            ),
+            ParseError::Memory => RefusalPlace::Whole,
         },
         CompileError::Check(error) => match error {
             CheckError::DuplicateName { at }
@@ -45,12 +47,12 @@ pub fn place_of(error: CompileError) -> Place
             | CheckError::MaskRange { at }
             | CheckError::ConstRange { at }
             | CheckError::NumberRange { at }
-            | CheckError::LengthRange { at } => Place::At(at),
-            CheckError::Memory => Place::Whole,
+            | CheckError::LengthRange { at } => RefusalPlace::At(at),
+            CheckError::Memory => RefusalPlace::Whole,
         },
-        CompileError::EquationTooLong { rule } => Place::Rule(rule),
+        CompileError::EquationTooLong { rule } => RefusalPlace::Rule(rule),
         CompileError::TooManyWatchpoints | CompileError::TooManyRules | CompileError::Memory => {
-            Place::Whole
+            RefusalPlace::Whole
         }
     }
 }

@@ -4,7 +4,7 @@
 
 ghost use Rattle.flight_tools.specs.Words.{IsWithoutWords};
 
-use program_files::lent;
+use program_files::lend_words;
 use std::env::{self, Env};
 use std::fs::Files;
 use std::io::{Eprint, ErrorKind, Input, IsTerminal, Print};
@@ -44,7 +44,7 @@ fn status_on<R: Env + Files + Input + Print + Eprint + AllocGlobal>(
         Ok(own) => own,
         Err(fault) => return tell(rt, &Err(fault)),
     };
-    match lent(rt.alloc(), own.as_slice()) {
+    match lend_words(rt.alloc(), own.as_slice()) {
         Ok(words) => main_on(rt, words.as_slice(), is_watched),
         Err(_) => tell(rt, &Err(Fault::Memory)),
     }

@@ -5,7 +5,7 @@ use rpn_compiler::compile;
 use std::process::Abort;
 
 /// Bytes of a file, and the place of the first of them.
-type Part<'a> = (usize, &'a [u8]);
+type FilePart<'a> = (usize, &'a [u8]);
 
 /// The place of the hash in a file, and that of the first entry, counted from 0.
 const HASH: usize = 124;
@@ -18,10 +18,10 @@ const WDT_ENTRY: usize = 24;
 const ADT_ENTRY: usize = 110;
 
 /// A text, the number of entries that it uses in both tables, and parts of both files.
-type Row<'a> = (&'a str, (u16, u16), &'a [Part<'a>], &'a [Part<'a>]);
+type FileRow<'a> = (&'a str, (u16, u16), &'a [FilePart<'a>], &'a [FilePart<'a>]);
 
 /// A text without rules; its hash is the SHA-256 of no bytes.
-const EMPTY: Row<'static> = (
+const EMPTY: FileRow<'static> = (
     "",
     (0, 0),
     &[
@@ -41,7 +41,7 @@ const EMPTY: Row<'static> = (
 );
 
 /// One rule over one watchpoint, with all bytes that aren't blank.
-const LOW: Row<'static> = (
+const LOW: FileRow<'static> = (
     LOW_VOLTS,
     (1, 1),
     &[
@@ -86,7 +86,7 @@ const LOW: Row<'static> = (
 
 /// Two packets that are used before they are declared, a watchpoint that both rules mention, and a condition with the
 /// heavier operand first.
-const TWO: Row<'static> = (
+const TWO: FileRow<'static> = (
     "rule LOW passive fails 1 sequence 300 event debug 2000 \"\" report 1 2 3 when not (V < 2400 and X == -1);
     # used before they are declared
     field X = Q i8 at 12 mask 0x7F; packet Q = mid 0x0884 length 13;
@@ -123,7 +123,7 @@ const TWO: Row<'static> = (
 );
 
 /// Checks that the file has each part at its place.
-fn have<R: Abort>(rt: &R, bytes: &[u8], parts: &[Part]) {
+fn have<R: Abort>(rt: &R, bytes: &[u8], parts: &[FilePart]) {
     for &(place, expected) in parts {
         let there = bytes.get(place..).unwrap_or_default();
         same(rt, place, there.get(..expected.len()), Some(expected));
@@ -143,7 +143,7 @@ fn are_blank<R: Abort>(rt: &R, file: &[u8], size: usize, number: u16) {
 }
 
 /// Checks that each text compiles to its files.
-fn compile_so<R: Abort + AllocGlobal>(rt: &R, rows: &[Row]) {
+fn compile_so<R: Abort + AllocGlobal>(rt: &R, rows: &[FileRow]) {
     for &(text, counts, wdt, adt) in rows {
         let pair = compile(rt.alloc(), text.as_bytes()).expect(rt, "refused");
         same(rt, text, (pair.watchpoints, pair.rules), counts);

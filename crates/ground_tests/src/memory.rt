@@ -19,7 +19,7 @@ const TEXT: &[u8] =
     when not V < 2400 and (W > 1 or V == 3) xor W == 4;";
 
 /// The call's result, or `None` for `Memory`; any other error fails the test.
-fn made<R: Abort, T, E: Copy + Debug + PartialEq>(
+fn unless_memory<R: Abort, T, E: Copy + Debug + PartialEq>(
     rt: &R,
     answer: Result<T, E>,
     memory: E,
@@ -44,7 +44,7 @@ fn items<R: Abort + AllocGlobal>(rt: &R) -> Option<RuleFile<'static>> {
     };
     same(rt, "the tokens", tokens.len(), 63);
     let parsed = parse(rt.alloc(), TEXT, tokens.as_slice());
-    let file = made(rt, parsed, ParseError::Memory)?;
+    let file = unless_memory(rt, parsed, ParseError::Memory)?;
     same(rt, "the items", file.items.len(), 5);
     Some(file)
 }
@@ -52,7 +52,7 @@ fn items<R: Abort + AllocGlobal>(rt: &R) -> Option<RuleFile<'static>> {
 /// Checks the items. It allocates three maps, the list of rules, a rule's name and text, and its condition's boxes.
 fn rules<R: Abort + AllocGlobal>(rt: &R) -> Option<RuleSet> {
     let file = items(rt)?;
-    let set = made(rt, check(rt.alloc(), &file), CheckError::Memory)?;
+    let set = unless_memory(rt, check(rt.alloc(), &file), CheckError::Memory)?;
     same(rt, "the rules", set.rules.as_slice().len(), 1);
     Some(set)
 }
@@ -61,7 +61,7 @@ fn rules<R: Abort + AllocGlobal>(rt: &R) -> Option<RuleSet> {
 #[test]
 fn watchpoints_or_no_memory(rt: HostRuntime) {
     if let Some(set) = rules(&rt) {
-        let shared = made(&rt, share(rt.alloc(), &set), ShareError::Memory);
+        let shared = unless_memory(&rt, share(rt.alloc(), &set), ShareError::Memory);
         if let Some(shared) = shared {
             same(&rt, "the watchpoints", shared.terms.len(), 4);
         }
@@ -70,7 +70,7 @@ fn watchpoints_or_no_memory(rt: HostRuntime) {
 
 /// Compiles the text. It allocates all of that, and both files.
 fn compiles<R: Abort + AllocGlobal>(rt: &R, text: &[u8], entries: (u16, u16)) {
-    let pair = made(rt, compile(rt.alloc(), text), CompileError::Memory);
+    let pair = unless_memory(rt, compile(rt.alloc(), text), CompileError::Memory);
     if let Some(pair) = pair {
         same(rt, "the entries", (pair.watchpoints, pair.rules), entries);
     }

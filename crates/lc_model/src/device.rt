@@ -2,7 +2,7 @@
 
 pub mod limited;
 pub mod pieces;
-pub mod reading;
+pub mod std_reader;
 pub mod writing;
 
 ghost use Rattle.std.specs.Prelude.{◌≡◌, ◌<◌, length, IfErr, IfOk, OnErr, OnOk};

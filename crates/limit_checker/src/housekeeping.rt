@@ -41,7 +41,7 @@ pub(crate) struct Renewal {
 
 /// Whether a packet is a housekeeping request: code 0, without a payload. Errors, the first that stands: `UnknownFunction`,
 /// `WrongLength`.
-fn requested(packet: &[u8]) -> Result<(), CommandRefusal>
+fn check_request(packet: &[u8]) -> Result<(), CommandRefusal>
     requires { command_header_size ≤ length packet.now }
     ensures { answer_of result ≡ bare_request 0 (function_code packet.now) (payload packet.now) }
 {
@@ -128,7 +128,7 @@ impl Application {
         // bounds, each under a name of its own.
         seats_are_kept_by_the_rules();
         services.tables.is_service();
-        match requested(packet) {
+        match check_request(packet) {
             Ok(()) => {
                 let seat = self.seat.unwrap();
                 let renewal = renew(&mut self.engine, services, seat);

@@ -143,7 +143,7 @@ pub(crate) fn take_seat(engine: &mut Engine, seat: Seat, services: &mut Services
     register_both(&mut services.tables, seat);
     let has_tables = begin(engine, &mut services.tables, seat);
     subscribe_to(&mut services.bus, seat, &REQUESTS, engine.watchpoints());
-    let text = texts::started(has_tables);
+    let text = texts::application_started(has_tables);
     tell(
         services,
         Some(seat),

@@ -11,7 +11,7 @@ ghost use Rattle.lc_model.specs.Events.Request.{Event};
 use event_service::EventText;
 
 /// Event 1, of type information: the application started.
-pub(crate) fn started(has_tables: bool) -> EventText
+pub(crate) fn application_started(has_tables: bool) -> EventText
     ensures { Event lc_name 1 Information result ≡
         request.lc_started (if has_tables then codes "with tables" else codes "without tables") }
 {

@@ -15,7 +15,7 @@ use Rattle.lc_model.specs.LimitChecker.Steps.{Point, is_sampled, sampled_point, 
 use Rattle.lc_model.specs.Kept.Summary.{WatchResult, Tally}
 use Rattle.lc_model.specs.Kept.Next.{by_counts}
 use Rattle.lc_model.specs.Kept.Effort.{sampled_words}
-use Rattle.limit_engine.specs.declared.actionpoint.Entry.{Entry}
+use Rattle.limit_engine.specs.declared.actionpoint.RuleEntry.{RuleEntry}
 use Rattle.limit_engine.specs.declared.reaction.Asked.{Asked}
 use Rattle.limit_engine.specs.declared.reaction.Reactions.{Reactions}
 use Rattle.limit_engine.specs.Entry.{rule_in, IsRunnable}
@@ -113,13 +113,13 @@ module _ (request : SampleRequest) (terms : List Term) (mode : LcMode) (watch : 
 
 -- ---- rules that lie in the tables
 
-module _ (request : SampleRequest) (terms : List Term) (mode : LcMode) (watch : List WatchResult) (entries : List Entry) (words : List ℕ) (first : List (Point Tally))
+module _ (request : SampleRequest) (terms : List Term) (mode : LcMode) (watch : List WatchResult) (entries : List RuleEntry) (words : List ℕ) (first : List (Point Tally))
     (tables : AreTables terms watch entries first words) where
   abbrev pub rules_of : List Actionpoint
   rules_of = map (rule_in terms words) entries
 
   module _ (n : ℕ) (points : List (Point Tally)) (asked : List Asked) (steps : ℕ) (so_far : SampledBelow request terms mode watch rules_of first n points (requests_in rules_of asked) steps)
-      (long : length points ≡ length first) (inside : n < length entries) (entry : Entry) (entry_at : entry ≡ get_or entries n entry) where
+      (long : length points ≡ length first) (inside : n < length entries) (entry : RuleEntry) (entry_at : entry ≡ get_or entries n entry) where
     in_rules : n < length rules_of
     in_rules = omega (arith, inside, length-map entries (rule_in terms words))
 
@@ -170,12 +170,12 @@ module _ (request : SampleRequest) (terms : List Term) (mode : LcMode) (watch : 
           rw (points_are, counted) made
 
 -- an entry has at most 31 words before EQUAL
-pub short_entry : (watch : List WatchResult) (entries : List Entry) (points : List (Point Tally)) (words : List ℕ) (terms : List Term) → AreTables terms watch entries points words →
-    (n : ℕ) (entry : Entry) → n < length entries → entry ≡ get_or entries n entry → entry.end - entry.start ≤ 31
+pub short_entry : (watch : List WatchResult) (entries : List RuleEntry) (points : List (Point Tally)) (words : List ℕ) (terms : List Term) → AreTables terms watch entries points words →
+    (n : ℕ) (entry : RuleEntry) → n < length entries → entry ≡ get_or entries n entry → entry.end - entry.start ≤ 31
 short_entry watch entries points words terms tables n entry inside at =
     let runs : IsRunnable terms words entry = subst (IsRunnable terms words) (sym at) (tables.runnable n entry inside) in omega (arith, runs.short)
 
-pub as_many_points : (terms : List Term) (watch : List WatchResult) (entries : List Entry) (first : List (Point Tally)) (words : List ℕ) → AreTables terms watch entries first words →
+pub as_many_points : (terms : List Term) (watch : List WatchResult) (entries : List RuleEntry) (first : List (Point Tally)) (words : List ℕ) → AreTables terms watch entries first words →
     (points : List (Point Tally)) → length points ≡ length first → length points ≡ length (map (rule_in terms words) entries)
 as_many_points terms watch entries first words tables points long = omega (arith, long, tables.counted, length-map entries (rule_in terms words))
 

@@ -21,7 +21,7 @@ use Rattle.lc_model.proofs.Tables.SaidLaws.{all_append}
 use Rattle.lc_model.proofs.Tables.SpelledEquations.{condition_of_equation}
 use Rattle.lc_model.proofs.Tables.SpellsOnce.{computed}
 use Rattle.table_validator.specs.Sound.{adt_layout, IsSoundEquation, HasSoundWatchpoints, HasSoundActionpoints}
-use Rattle.limit_engine.specs.declared.actionpoint.Entry.{Entry}
+use Rattle.limit_engine.specs.declared.actionpoint.RuleEntry.{RuleEntry}
 use Rattle.limit_engine.specs.Entry.{rule_with, rule_in, no_condition, IsRunnable}
 use Rattle.limit_engine.specs.Layout.{entry_for, point_for, words_for, entries_below, points_below, words_below}
 use Rattle.limit_engine.specs.Tables.{AreTables}
@@ -52,7 +52,7 @@ each P (x ∷ xs) all (suc k) d inside = each P xs all.1 k d (omega (arith, insi
 -- ---- actionpoints
 
 module _ (l : Layout) (terms : List Term) (adt : List ℕ) where
-  entry : ℕ → Entry
+  entry : ℕ → RuleEntry
   entry n = entry_for (entry_at l adt n) (length (words_below l adt n)) (length (words_below l adt n) + length (words_for (entry_at l adt n)))
 
   -- the rule of an actionpoint

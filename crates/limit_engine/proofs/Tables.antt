@@ -6,7 +6,7 @@ use Rattle.lc_model.specs.declared.field.Term.{Term}
 use Rattle.lc_model.specs.LimitChecker.Steps.{Point}
 use Rattle.lc_model.specs.Kept.Summary.{WatchResult, Tally}
 use Rattle.lc_model.specs.Kept.Next.{results_by}
-use Rattle.limit_engine.specs.declared.actionpoint.Entry.{Entry}
+use Rattle.limit_engine.specs.declared.actionpoint.RuleEntry.{RuleEntry}
 use Rattle.limit_engine.specs.Tables.{AreTables}
 
 module _ (f : Term → WatchResult → WatchResult) where
@@ -23,7 +23,7 @@ module _ (f : Term → WatchResult → WatchResult) where
   by_number (u ∷ terms) (r ∷ results) (suc j) t long there = by_number terms results j t (omega (arith, long)) there
 
   -- results that depend on the watchpoint and its old result alone
-  pub results_kept : (terms : List Term) (watch : List WatchResult) (entries : List Entry) (points : List (Point Tally)) (words : List ℕ) →
+  pub results_kept : (terms : List Term) (watch : List WatchResult) (entries : List RuleEntry) (points : List (Point Tally)) (words : List ℕ) →
       AreTables terms watch entries points words → AreTables terms (results_by f terms watch) entries points words
   results_kept terms watch entries points words tables = record {
     few = tables.few;

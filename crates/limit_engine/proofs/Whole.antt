@@ -8,7 +8,7 @@ use Rattle.lc_model.specs.Kept.Summary.{WatchResult, Tally}
 use Rattle.lc_model.specs.Kept.Next.{by_counts, unseen_result, seen_result, results_by}
 use Rattle.lc_model.specs.Kept.Effort.{probes_for, watched_ids}
 use Rattle.std.specs.List.{AllByRecursion}
-use Rattle.limit_engine.specs.declared.actionpoint.Entry.{Entry}
+use Rattle.limit_engine.specs.declared.actionpoint.RuleEntry.{RuleEntry}
 use Rattle.limit_engine.specs.declared.watchpoint.Watch.{Watch}
 use Rattle.limit_engine.specs.Engine.{after_telemetry, tells_short}
 use Rattle.limit_engine.specs.Grouped.{watches_for, IsFit, IsInType}
@@ -25,7 +25,7 @@ group_within terms watch mid long =
 pub group_fit : (terms : List Term) (mid : ℕ) → AllByRecursion IsInType terms → All IsFit (watches_for mid 0 terms)
 group_fit terms mid fit = each IsFit (watches_for mid 0 terms) (group_fits mid 0 terms fit)
 
-module _ (mode : LcMode) (terms : List Term) (watch : List WatchResult) (entries : List Entry) (points : List (Point Tally)) (words : List ℕ) (steps probes : ℕ)
+module _ (mode : LcMode) (terms : List Term) (watch : List WatchResult) (entries : List RuleEntry) (points : List (Point Tally)) (words : List ℕ) (steps probes : ℕ)
     (enabled : is_disabled mode ≡ false) where
   pub seen_whole : (packet : List ℕ) (results : List WatchResult) (found : ℕ) → results ≡ results_by (seen_result packet) terms watch →
       found ≡ probes_for (message_id packet) (watched_ids terms) →

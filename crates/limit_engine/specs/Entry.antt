@@ -11,10 +11,10 @@ use Rattle.lc_model.specs.Kept.Next.{truth_in}
 use Rattle.lc_model.specs.Rule.{Actionpoint}
 use Rattle.lc_model.specs.Tables.Spelled.{spelled_condition}
 use Rattle.table_validator.specs.Sound.{IsSoundEquation}
-use Rattle.limit_engine.specs.declared.actionpoint.Entry.{Entry}
+use Rattle.limit_engine.specs.declared.actionpoint.RuleEntry.{RuleEntry}
 
 -- the rule of an entry with this condition
-abbrev pub rule_with : Entry → Condition → Actionpoint
+abbrev pub rule_with : RuleEntry → Condition → Actionpoint
 rule_with entry condition = record {
   mode = entry.mode;
   fails = entry.fails;
@@ -27,7 +27,7 @@ rule_with entry condition = record {
 }
 
 -- the entry's words before EQUAL
-abbrev pub words_of : List ℕ → Entry → List ℕ
+abbrev pub words_of : List ℕ → RuleEntry → List ℕ
 words_of words entry = slice_range words entry.start entry.end
 
 -- in place of the condition of words that spell none; a Limit Checker keeps no such words
@@ -35,19 +35,19 @@ abbrev pub no_condition : Condition
 no_condition = Watch (record { kind = U8; mid = 0; offset = 0; mask = 0; stale = 0; op = Less; value = pos 0 })
 
 -- the condition that the entry's words spell over these watchpoints
-abbrev pub condition_in : List Term → List ℕ → Entry → Condition
+abbrev pub condition_in : List Term → List ℕ → RuleEntry → Condition
 condition_in terms words entry = unwrap_or (spelled_condition terms (words_of words entry)) no_condition
 
 -- the rule that the entry is
-abbrev pub rule_in : List Term → List ℕ → Entry → Actionpoint
+abbrev pub rule_in : List Term → List ℕ → RuleEntry → Actionpoint
 rule_in terms words entry = rule_with entry (condition_in terms words entry)
 
 -- by the watchpoints' results the condition that the entry's words spell has this truth
-abbrev pub HasTruth : List Term → List ℕ → List WatchResult → Entry → Truth → Type 0
+abbrev pub HasTruth : List Term → List ℕ → List WatchResult → RuleEntry → Truth → Type 0
 HasTruth terms words watch entry truth = option_map (truth_by (truth_in terms watch)) (spelled_condition terms (words_of words entry)) ≡ Some truth
 
 -- the entry's words lie among the words, and can be run
-pub record IsRunnable (terms : List Term) (words : List ℕ) (entry : Entry) : Type 0 where
+pub record IsRunnable (terms : List Term) (words : List ℕ) (entry : RuleEntry) : Type 0 where
   pub from : entry.start ≤ entry.end
   pub to : entry.end ≤ length words
   pub short : entry.end ≤ entry.start + 31

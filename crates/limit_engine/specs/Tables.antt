@@ -6,7 +6,7 @@ use Rattle.lc_model.specs.Codes.{table_entries}
 use Rattle.lc_model.specs.LimitChecker.Steps.{Point}
 use Rattle.lc_model.specs.Kept.Summary.{WatchResult, Tally, LcOwn}
 use Rattle.lc_model.specs.Tables.Image.{WideActionpoints, words_in}
-use Rattle.limit_engine.specs.declared.actionpoint.Entry.{Entry}
+use Rattle.limit_engine.specs.declared.actionpoint.RuleEntry.{RuleEntry}
 use Rattle.limit_engine.specs.Entry.{rule_in, IsRunnable}
 use Rattle.lc_model.specs.declared.command.SampleRequest.{SampleRequest}
 use Rattle.limit_engine.specs.Plan.{AreEvaluated, IsPlanned, Planned}
@@ -14,7 +14,7 @@ use Rattle.limit_engine.specs.Running.{truths_of}
 use Rattle.limit_engine.specs.Shared.{AreShared}
 
 -- the object in numbers, with what it tells of its own work
-abbrev pub own_of : LcMode → List Term → List WatchResult → List Entry → List (Point Tally) → List ℕ → (steps probes : ℕ) → LcOwn
+abbrev pub own_of : LcMode → List Term → List WatchResult → List RuleEntry → List (Point Tally) → List ℕ → (steps probes : ℕ) → LcOwn
 own_of mode terms watch entries points words steps probes = record {
   mode = mode;
   terms = terms;
@@ -26,7 +26,7 @@ own_of mode terms watch entries points words steps probes = record {
 
 -- each watchpoint has its result, each entry its point; equal watchpoints have equal results, and each entry's words can
 -- be run
-pub record AreTables (terms : List Term) (watch : List WatchResult) (entries : List Entry) (points : List (Point Tally)) (words : List ℕ) : Type 0 where
+pub record AreTables (terms : List Term) (watch : List WatchResult) (entries : List RuleEntry) (points : List (Point Tally)) (words : List ℕ) : Type 0 where
   pub few : length terms ≤ table_entries
   pub few_rules : length entries ≤ table_entries
   pub found : length watch ≡ length terms
@@ -35,7 +35,7 @@ pub record AreTables (terms : List Term) (watch : List WatchResult) (entries : L
   pub runnable : All (IsRunnable terms words) entries
 
 -- the tables, with the truth of each rule that a request takes
-pub record AreFound (request : SampleRequest) (terms : List Term) (watch : List WatchResult) (entries : List Entry) (points : List (Point Tally)) (words : List ℕ) (plan : Planned) : Type 0 where
+pub record AreFound (request : SampleRequest) (terms : List Term) (watch : List WatchResult) (entries : List RuleEntry) (points : List (Point Tally)) (words : List ℕ) (plan : Planned) : Type 0 where
   pub tables : AreTables terms watch entries points words
   pub planned : IsPlanned (length terms) words entries plan.steps plan.roots
   pub evaluated : AreEvaluated request (truths_of watch) words entries plan.roots plan.places

@@ -21,7 +21,7 @@ pub(crate) const TEXT_LENGTH: usize = 31;
 
 /// A rule as it lies in the actionpoint table.
 #[derive(Debug, Drop)]
-pub(crate) struct Entry {
+pub(crate) struct RuleEntry {
     /// The state that the rule begins in.
     pub(crate) mode: ApMode,
     /// Failures in a row that lead to the sequence request.
@@ -82,7 +82,7 @@ impl Model for Point {
 
 impl Point {
     /// Not sampled yet.
-    pub(crate) fn unsampled(state: ApMode) -> Point
+    pub(crate) fn at_start(state: ApMode) -> Point
         ensures { result ≡ record { state = state; past = by_counts.unsampled } }
     {
         Point {
@@ -159,7 +159,7 @@ impl Point {
     }
 
     /// Counts a sample, and answers what it leads to.
-    pub(crate) fn sample(&mut self, rule: &Entry, mode: LcMode, outcome: ApResult) -> Reactions
+    pub(crate) fn sample(&mut self, rule: &RuleEntry, mode: LcMode, outcome: ApResult) -> Reactions
         // Whatever the rule's number and condition.
         ensures point { (n : ℕ) (c : Condition) →
             self.new ≡ (point_with (rule_with rule.now c) n mode outcome self.old).0 }
@@ -205,7 +205,7 @@ impl Point {
     }
 
     /// The turn that is reported of the newest result, with the counts up to it.
-    fn turn(&self, rule: &Entry, before: Option<ApResult>, outcome: ApResult) -> Option<Turn>
+    fn turn(&self, rule: &RuleEntry, before: Option<ApResult>, outcome: ApResult) -> Option<Turn>
         ensures { (n : ℕ) (c : Condition) →
             turn_requests n result ≡ next_turn_reports (rule_with rule.now c) n before outcome
             self.now.past }
@@ -245,7 +245,7 @@ impl Point {
 
     /// Enough failures in a row: an active rule becomes passive, and requests its sequence where the Limit Checker is
     /// active. Of a rule that is passive already so many reports are made as it says.
-    fn fail(&mut self, rule: &Entry, mode: LcMode) -> Option<Failure>
+    fn fail(&mut self, rule: &RuleEntry, mode: LcMode) -> Option<Failure>
         ensures past { self.new.past ≡ self.old.past }
         ensures state { (n : ℕ) (c : Condition) →
             self.new.state ≡

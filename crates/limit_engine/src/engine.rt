@@ -16,7 +16,7 @@ ghost use Rattle.limit_engine.specs.Reactions.{requests_in, AreInOrder};
 ghost use Rattle.limit_engine.specs.States.{answered, outcome, unless_refused};
 ghost use Rattle.limit_engine.specs.Tables.{most_probes, most_steps};
 
-use crate::actionpoint::{Entry, Point};
+use crate::actionpoint::{Point, RuleEntry};
 use crate::groups::Watchpoints;
 use crate::plan::Plan;
 use crate::reaction::Asked;
@@ -41,7 +41,7 @@ pub struct Engine {
     mode: LcMode,
     watchpoints: Watchpoints,
     watch: Vec<WatchResult>,
-    entries: Vec<Entry>,
+    entries: Vec<RuleEntry>,
     points: Vec<Point>,
     words: Vec<u16>,
     plan: Plan,

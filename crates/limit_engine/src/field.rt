@@ -96,7 +96,7 @@ pub(crate) fn sign(kind: FieldType) -> u32
 }
 
 /// The bits of a number of the type, the sign's turned, so that they are ordered as the numbers are.
-fn ordered(kind: FieldType, value: i64) -> u32
+fn order_key(kind: FieldType, value: i64) -> u32
     requires { IsTrue (is_in_type kind value) }
     ensures { result ≡ ordered kind value }
 {
@@ -118,7 +118,7 @@ impl Range {
         requires { IsTrue (is_in_type kind value) }
         ensures { result ≡ range_of kind op value }
     {
-        let end = ordered(kind, value);
+        let end = order_key(kind, value);
         let (low, span) = match op {
             CmpOp::Less | CmpOp::GreaterOrEqual => (end, u32::MAX - end),
             CmpOp::LessOrEqual | CmpOp::Greater => (0, end),

@@ -13,13 +13,13 @@ ghost use Rattle.limit_engine.specs.Entry.{HasTruth, rule_in};
 ghost use Rattle.limit_engine.specs.Reactions.{requests_in, requests_of, AreInOrder};
 ghost use Rattle.limit_engine.specs.Tables.{AreFound};
 
-use crate::actionpoint::{Entry, Point, result_of_truth};
+use crate::actionpoint::{Point, RuleEntry, result_of_truth};
 use crate::plan::Plan;
 use crate::reaction::{Asked, Reactions};
 use lc_model::{LcMode, SampleRequest, TABLE_ENTRIES, Truth};
 
 /// Samples a rule whose condition was found to be this.
-fn sample_rule(entry: &Entry, truth: Truth, mode: LcMode, point: &mut Point) -> Reactions
+fn sample_rule(entry: &RuleEntry, truth: Truth, mode: LcMode, point: &mut Point) -> Reactions
     ensures point { (terms : List Term) (words : List ℕ) (watch : List ResultIn) (n : ℕ) →
         HasTruth terms words watch entry.now truth
         → point.new ≡ (sampled_point by_counts terms mode watch n
@@ -55,7 +55,7 @@ fn note(asked: &mut Vec<Asked>, rule: u16, reactions: Reactions)
 pub(crate) fn sample_rules(
     request: &SampleRequest,
     mode: LcMode,
-    entries: &[Entry],
+    entries: &[RuleEntry],
     plan: &Plan,
     points: &mut [Point],
     asked: &mut Vec<Asked>,

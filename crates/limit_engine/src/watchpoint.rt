@@ -29,7 +29,7 @@ impl Model for WatchResult {
 
 impl WatchResult {
     /// Before the first packet.
-    pub(crate) fn unseen() -> WatchResult
+    pub(crate) fn at_start() -> WatchResult
         ensures { result ≡ unseen_result }
     {
         WatchResult {
@@ -105,7 +105,7 @@ impl Watch {
     }
 
     /// What a packet of its message id says of it: an error where the field is not in it.
-    fn judged(&self, packet: &[u8]) -> Truth
+    fn truth_in(&self, packet: &[u8]) -> Truth
         requires { IsFit self.now }
         ensures truth { result ≡ judged_by packet.now self.now }
     {
@@ -131,7 +131,7 @@ pub(crate) fn see_group(group: &[Watch], results: &mut [WatchResult], packet: &[
     let mut short = false;
     for watch in group {
         results[watch.number] = WatchResult {
-            truth: watch.judged(packet),
+            truth: watch.truth_in(packet),
             countdown: watch.stale,
         };
         short |= packet.len() < watch.need;

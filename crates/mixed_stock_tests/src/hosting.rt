@@ -6,7 +6,7 @@ ghost use Rattle.app_host.specs.Step.{IsBetween, IsNamed};
 ghost use Rattle.app_host.specs.Whole.{IsWhole};
 
 use app_host::{App, Host};
-use app_host_tests::named::Named;
+use app_host_tests::named::LetterApp;
 use flight_profile::{Counter, LimitChecker, Schedule, Scheduler};
 use lc_model::{Body, ByteSink, Moment, Record};
 use std::alloc::{AllocError, Global};
@@ -66,7 +66,7 @@ fn play<W: ByteSink>(
     stock.push(Box::new(alloc, LimitChecker::new(alloc)?)?)?;
     stock.push(Box::new(alloc, Scheduler::new(alloc, schedule)?)?)?;
     stock.push(Box::new(alloc, Counter::new())?)?;
-    stock.push(Box::new(alloc, Named::new(0))?)?;
+    stock.push(Box::new(alloc, LetterApp::new(0))?)?;
     match Host::new(alloc, stock) {
         Err(_) => Err(AllocError),
         Ok(mut host) => {

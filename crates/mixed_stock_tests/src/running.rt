@@ -11,7 +11,7 @@ ghost use Rattle.flight_core.specs.Fitting.{RefusesUnfitAlone};
 ghost use Rattle.mixed_stock_tests.specs.Mixed.{HasStranger, RunsMixed};
 
 use app_host::App;
-use app_host_tests::named::Named;
+use app_host_tests::named::LetterApp;
 use flight_profile::{Counter, LimitChecker, Report, RunError, Schedule, Scheduler, add, run};
 use lc_model::{ByteSink, ByteSource};
 use std::alloc::{AllocError, Global};
@@ -56,7 +56,7 @@ fn run_mixed<R: ByteSource, W: ByteSink>(
     add(&mut stock, schedule, b"SCH", scheduler)?;
     let counter = Box::new(alloc, Counter::new())?;
     add(&mut stock, schedule, b"COUNTER", counter)?;
-    add_stranger(&mut stock, Box::new(alloc, Named::new(0))?)?;
+    add_stranger(&mut stock, Box::new(alloc, LetterApp::new(0))?)?;
     Ok(run(alloc, texts, schedule, stock, reader, writer))
 }
 

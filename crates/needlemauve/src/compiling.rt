@@ -5,11 +5,11 @@ ghost use Rattle.lc_model.specs.Rule.{NamedRule};
 ghost use Rattle.lc_model.specs.Text.Reading.{TextRefusal};
 ghost use Rattle.lc_model.specs.Tables.Compiling.{Compiles, IsRefused};
 ghost use Rattle.lc_model.specs.Tables.InForce.{limits};
-ghost use Rattle.needlemauve_calls.specs.Compiling.{AreFiles, IsUncompiled};
-ghost use Rattle.needlemauve_calls.specs.Refusing.{no_memory, numbers_of_refusal};
-ghost use Rattle.needlemauve_calls.specs.Said.{no_sentence};
+ghost use Rattle.c_interface.specs.Compiling.{AreFiles, IsUncompiled};
+ghost use Rattle.c_interface.specs.Refusing.{no_memory, numbers_of_refusal};
+ghost use Rattle.c_interface.specs.Said.{no_sentence};
 
-use needlemauve_calls::{ADT, Compiled, WDT, compile_files};
+use c_interface::{ADT, Compiled, WDT, compile_files};
 use std::alloc::Global;
 
 /// Compiles a rule text into two table files, and answers 0, or the number of the refusal; the files are then as before.

@@ -1,14 +1,14 @@
 //! A host that is fed.
 
 ghost use Rattle.std.specs.Prelude.{◌≡◌, ◌≢◌, ◌<◌, ◌⊎◌, length, None, IsSomeAnd};
-ghost use Rattle.needlemauve_calls.specs.Feeding.{AreFed, IsFed, IsMade, IsUnmade, too_small};
+ghost use Rattle.c_interface.specs.Feeding.{AreFed, IsFed, IsMade, IsUnmade, too_small};
 ghost use Rattle.std.specs.List.{sum};
-ghost use Rattle.needlemauve_calls.specs.Refusing.{unfit};
-ghost use Rattle.needlemauve_calls.specs.Running.{IsNotRun, IsUnfit};
-ghost use Rattle.needlemauve_calls.specs.Said.{no_sentence};
-ghost use Rattle.needlemauve_calls.specs.Texts.{texts_in};
+ghost use Rattle.c_interface.specs.Refusing.{unfit};
+ghost use Rattle.c_interface.specs.Running.{IsNotRun, IsUnfit};
+ghost use Rattle.c_interface.specs.Said.{no_sentence};
+ghost use Rattle.c_interface.specs.Texts.{texts_in};
 
-use needlemauve_calls::{Handle, Handled, Made, close_host, feed_host, make_host};
+use c_interface::{Handle, Handled, Made, close_host, feed_host, make_host};
 use std::alloc::Global;
 
 /// Makes a host of rule texts, which lie one behind the other, and answers 0 or the number of what is refused. Condition: the

@@ -2,12 +2,12 @@
 
 ghost use Rattle.std.specs.Prelude.{◌≡◌, ◌≢◌, ◌≤◌, length};
 ghost use Rattle.std.specs.List.{sum};
-ghost use Rattle.needlemauve_calls.specs.Refusing.{unfit};
-ghost use Rattle.needlemauve_calls.specs.Running.{IsKeptBehind, IsNotRun, IsUnfit, RunsOf};
-ghost use Rattle.needlemauve_calls.specs.Said.{no_sentence};
-ghost use Rattle.needlemauve_calls.specs.Texts.{texts_in};
+ghost use Rattle.c_interface.specs.Refusing.{unfit};
+ghost use Rattle.c_interface.specs.Running.{IsKeptBehind, IsNotRun, IsUnfit, RunsOf};
+ghost use Rattle.c_interface.specs.Said.{no_sentence};
+ghost use Rattle.c_interface.specs.Texts.{texts_in};
 
-use needlemauve_calls::{Run, run_texts};
+use c_interface::{Run, run_texts};
 use std::alloc::Global;
 
 /// Runs rule texts, which lie one behind the other, over a stream, and answers 0 or the number of what ended the run.

@@ -8,7 +8,7 @@ use Rattle.lc_model.specs.Packet.{has_secondary_header, header_fault, is_command
 use Rattle.lc_model.proofs.Facts.{not_false, or_first, test_not_less, test_unequal, tested_equal, tested_not_less}
 use Rattle.packet_archive.specs.declared.choice.Fate.TheVariants.{Kept}
 use Rattle.packet_archive.specs.declared.clock.Times.{Times}
-use Rattle.packet_archive.specs.declared.front.Front.TheVariants.{Cut, Foreign, Packet}
+use Rattle.packet_archive.specs.declared.front.ArchiveFront.TheVariants.{Cut, Foreign, Packet}
 use Rattle.packet_archive.specs.Choice.{fate_of}
 use Rattle.packet_archive.specs.Export.{ArchivesAreGivenBack, IsFine, all_of, archive_of, kept_in}
 use Rattle.packet_archive.specs.Front.{front_in, marker, packet_in, packet_size, zeros}

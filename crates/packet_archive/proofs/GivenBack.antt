@@ -10,8 +10,8 @@ use Rattle.packet_archive.specs.declared.choice.Fate.{Fate}
 use Rattle.packet_archive.specs.declared.choice.Fate.TheVariants.{Kept, Idle, Other, Faulty}
 use Rattle.packet_archive.specs.declared.import.Met.{Met}
 use Rattle.packet_archive.specs.declared.import.Met.TheVariants.{Taken, LeftOut, Leap, Stands}
-use Rattle.packet_archive.specs.declared.front.Front.{Front}
-use Rattle.packet_archive.specs.declared.front.Front.TheVariants.{Over, Gap, Cut, Foreign, Unmarked, Packet}
+use Rattle.packet_archive.specs.declared.front.ArchiveFront.{ArchiveFront}
+use Rattle.packet_archive.specs.declared.front.ArchiveFront.TheVariants.{Over, Gap, Cut, Foreign, Unmarked, Packet}
 use Rattle.packet_archive.specs.Choice.{Chosen, fate_by_fault, fate_of, is_asked_for, is_idle}
 use Rattle.packet_archive.specs.Clock.{Clocked, moment_by}
 use Rattle.packet_archive.specs.Export.{ImportsAreGivenBack, exported, is_leap_met, keeps, kept_in, packets_by, packets_in, packets_within}
@@ -43,7 +43,7 @@ enough (suc m) (suc n) marked bytes p q =
     by_front (front_in marked bytes) refl
     (λ size goes. enough m n marked (drop size bytes) (omega (arith, length-drop size bytes, goes.some, goes.inside, p)) (omega (arith, length-drop size bytes, goes.some, goes.inside, q)))
   where
-    by_front : (f : Front) → front_in marked bytes ≡ f →
+    by_front : (f : ArchiveFront) → front_in marked bytes ≡ f →
         ((size : ℕ) → Goes marked bytes size → packets_within m marked (drop size bytes) ≡ packets_within n marked (drop size bytes)) →
         packets_by (packets_within m marked) bytes f ≡ packets_by (packets_within n marked) bytes f
     by_front Over is others = refl
@@ -64,7 +64,7 @@ packets_front marked bytes = first_of marked bytes ∙ by_front (front_in marked
     same size goes =
         enough (length bytes) (length (drop size bytes) + 1) marked (drop size bytes) (omega (arith, length-drop size bytes, goes.some, goes.inside)) (omega arith)
 
-    by_front : (f : Front) → front_in marked bytes ≡ f → packets_by (packets_within (length bytes) marked) bytes f ≡ packets_by (packets_in marked) bytes f
+    by_front : (f : ArchiveFront) → front_in marked bytes ≡ f → packets_by (packets_within (length bytes) marked) bytes f ≡ packets_by (packets_in marked) bytes f
     by_front Over is = refl
     by_front Cut is = refl
     by_front Foreign is = refl
@@ -89,10 +89,10 @@ chosen_first chosen packet packets = by_test (keeps (fate_of chosen packet)) ref
     by_test true is = rw is refl
     by_test false is = rw is refl
 
-abbrev kept_by : Asking → List ℕ → Front → List ℕ
+abbrev kept_by : Asking → List ℕ → ArchiveFront → List ℕ
 kept_by asking bytes f = chosen_of asking.chosen (packets_by (packets_in asking.marked) bytes f)
 
-kept_front : (asking : Asking) (bytes : List ℕ) (f : Front) → front_in asking.marked bytes ≡ f → kept_in asking bytes ≡ kept_by asking bytes f
+kept_front : (asking : Asking) (bytes : List ℕ) (f : ArchiveFront) → front_in asking.marked bytes ≡ f → kept_in asking bytes ≡ kept_by asking bytes f
 kept_front asking bytes f is = ap (chosen_of asking.chosen) (packets_front asking.marked bytes ∙ ap (packets_by (packets_in asking.marked) bytes) is)
 
 pub kept_nothing : (asking : Asking) → kept_in asking [] ≡ []
@@ -162,7 +162,7 @@ module _ (asking : Asking) (clock : Clocked) (bytes : List ℕ) (b s : ℕ) (is 
 
   step_is : (fate : Fate) → fate_of asking.chosen packet ≡ fate → next_step asking clock bytes ≡ by_fate fate asking (b + s) clock packet
   step_is fate becomes =
-      ap (λ (f : Front). by_front f asking clock bytes) is ∙ ap (λ (f : Fate). by_fate f asking (b + s) clock packet) becomes
+      ap (λ (f : ArchiveFront). by_front f asking clock bytes) is ∙ ap (λ (f : Fate). by_fate f asking (b + s) clock packet) becomes
 
   left_out : (fate : Fate) → fate_of asking.chosen packet ≡ fate → keeps fate ≡ false → by_fate fate asking (b + s) clock packet ≡ nothing (LeftOut (b + s) fate) clock →
       Gives asking bytes (imported asking clock bytes)
@@ -194,19 +194,19 @@ module _ (asking : Asking) (clock : Clocked) (bytes : List ℕ) (b s : ℕ) (is 
   by_fates Other becomes = left_out Other becomes refl refl
   by_fates (Faulty fault) becomes = left_out (Faulty fault) becomes refl refl
 
-by_parts : (asking : Asking) (clock : Clocked) (bytes : List ℕ) (f : Front) → front_in asking.marked bytes ≡ f → GivesBehind asking bytes →
+by_parts : (asking : Asking) (clock : Clocked) (bytes : List ℕ) (f : ArchiveFront) → front_in asking.marked bytes ≡ f → GivesBehind asking bytes →
     Gives asking bytes (imported asking clock bytes)
 by_parts asking clock bytes Over is others =
-    ends asking clock bytes (Stands Over) (ap (λ (f : Front). by_front f asking clock bytes) is) refl (λ never. kept_front asking bytes Over is)
+    ends asking clock bytes (Stands Over) (ap (λ (f : ArchiveFront). by_front f asking clock bytes) is) refl (λ never. kept_front asking bytes Over is)
 by_parts asking clock bytes Cut is others =
-    ends asking clock bytes (Stands Cut) (ap (λ (f : Front). by_front f asking clock bytes) is) refl (λ never. kept_front asking bytes Cut is)
+    ends asking clock bytes (Stands Cut) (ap (λ (f : ArchiveFront). by_front f asking clock bytes) is) refl (λ never. kept_front asking bytes Cut is)
 by_parts asking clock bytes Foreign is others =
-    ends asking clock bytes (Stands Foreign) (ap (λ (f : Front). by_front f asking clock bytes) is) refl (λ never. kept_front asking bytes Foreign is)
+    ends asking clock bytes (Stands Foreign) (ap (λ (f : ArchiveFront). by_front f asking clock bytes) is) refl (λ never. kept_front asking bytes Foreign is)
 by_parts asking clock bytes Unmarked is others =
-    ends asking clock bytes (Stands Unmarked) (ap (λ (f : Front). by_front f asking clock bytes) is) refl (λ never. kept_front asking bytes Unmarked is)
+    ends asking clock bytes (Stands Unmarked) (ap (λ (f : ArchiveFront). by_front f asking clock bytes) is) refl (λ never. kept_front asking bytes Unmarked is)
 by_parts asking clock bytes (Gap n) is others =
     let goes : Goes asking.marked bytes n = gap_goes asking.marked bytes n is in
-    goes_on asking clock bytes [] n (nothing (Stands (Gap n)) clock) (ap (λ (f : Front). by_front f asking clock bytes) is) refl brings_none
+    goes_on asking clock bytes [] n (nothing (Stands (Gap n)) clock) (ap (λ (f : ArchiveFront). by_front f asking clock bytes) is) refl brings_none
     (kept_front asking bytes (Gap n) is) (others n clock goes.some goes.inside)
 by_parts asking clock bytes (Packet b s) is others = by_fates asking clock bytes b s is others (fate_of asking.chosen (take s (drop b bytes))) refl
 

@@ -2,7 +2,7 @@
 use Rattle.std.proofs.Common.{◌≡◌, refl, sym, ◌∙◌, ap, ℕ, zero, suc, ◌+◌, ◌<◌, ◌≤◌, List, ◌++◌, drop, append_assoc, append-nil, Some, None, arith}
 use Rattle.packet_archive.specs.declared.import.Met.{Met}
 use Rattle.packet_archive.specs.declared.import.Met.TheVariants.{Stands}
-use Rattle.packet_archive.specs.declared.front.Front.TheVariants.{Over}
+use Rattle.packet_archive.specs.declared.front.ArchiveFront.TheVariants.{Over}
 use Rattle.packet_archive.specs.Clock.{Clocked}
 use Rattle.packet_archive.specs.Import.{Asking, Imported, Step, going_on, imported_within, next_step, passed}
 

@@ -2,7 +2,7 @@
 use Rattle.std.proofs.Common.{◌≡◌, refl, sym, ◌∙◌, ap, ℕ, ◌+◌, List, ◌++◌, take, drop}
 use Rattle.packet_archive.specs.declared.choice.Fate.TheVariants.{Kept}
 use Rattle.packet_archive.specs.declared.clock.Times.{Times}
-use Rattle.packet_archive.specs.declared.front.Front.TheVariants.{Packet}
+use Rattle.packet_archive.specs.declared.front.ArchiveFront.TheVariants.{Packet}
 use Rattle.packet_archive.specs.Choice.{fate_of}
 use Rattle.packet_archive.specs.Clock.{Clocked, moment_by}
 use Rattle.packet_archive.specs.Front.{front_in}

@@ -5,8 +5,8 @@ use Rattle.packet_archive.specs.declared.choice.Fate.{Fate}
 use Rattle.packet_archive.specs.declared.choice.Fate.TheVariants.{Kept, Idle, Other, Faulty}
 use Rattle.packet_archive.specs.declared.import.Met.{Met}
 use Rattle.packet_archive.specs.declared.import.Met.TheVariants.{Stands}
-use Rattle.packet_archive.specs.declared.front.Front.{Front}
-use Rattle.packet_archive.specs.declared.front.Front.TheVariants.{Over, Gap, Cut, Foreign, Unmarked, Packet}
+use Rattle.packet_archive.specs.declared.front.ArchiveFront.{ArchiveFront}
+use Rattle.packet_archive.specs.declared.front.ArchiveFront.TheVariants.{Over, Gap, Cut, Foreign, Unmarked, Packet}
 use Rattle.packet_archive.specs.Choice.{fate_of}
 use Rattle.packet_archive.specs.Clock.{Clocked, moment_by}
 use Rattle.packet_archive.specs.Front.{front_in, zeros}
@@ -42,7 +42,7 @@ record IsInside (n : ℕ) (bytes : List ℕ) : Type 0 where
   pub some : 1 ≤ n
   pub inside : n ≤ length bytes
 
-step_passes : (front : Front) (asking : Asking) (clock : Clocked) (bytes : List ℕ) (n : ℕ) → front_in asking.marked bytes ≡ front →
+step_passes : (front : ArchiveFront) (asking : Asking) (clock : Clocked) (bytes : List ℕ) (n : ℕ) → front_in asking.marked bytes ≡ front →
     passed (by_front front asking clock bytes).met ≡ Some n → IsInside n bytes
 step_passes Over asking clock bytes n is some = cc
 step_passes Cut asking clock bytes n is some = cc
@@ -213,7 +213,7 @@ same_step asking clock xs ys b s is =
     ∙ ap (λ (packet : List ℕ). by_fate (fate_of asking.chosen packet) asking (b + s) clock packet) packet
 
 -- by what is in front
-by_parts : (front : Front) (asking : Asking) (clock : Clocked) (xs ys : List ℕ) → front_in asking.marked xs ≡ front →
+by_parts : (front : ArchiveFront) (asking : Asking) (clock : Clocked) (xs ys : List ℕ) → front_in asking.marked xs ≡ front →
     ((n : ℕ) (after : Clocked) → 1 ≤ n → n ≤ length xs → Goes asking after (drop n xs) ys) → Goes asking clock xs ys
 by_parts Over asking clock xs ys is others = stays asking clock xs ys (Stands Over) (ap (λ front. by_front front asking clock xs) is) refl
 by_parts Cut asking clock xs ys is others = stays asking clock xs ys (Stands Cut) (ap (λ front. by_front front asking clock xs) is) refl

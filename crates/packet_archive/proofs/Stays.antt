@@ -7,8 +7,8 @@ use Rattle.std.proofs.lemmas.List.Sums.{prefix_len-le-length}
 use Rattle.std.proofs.lemmas.List.Folds.{prefix_len-append}
 use Rattle.lc_model.specs.Bytes.{u16_at}
 use Rattle.lc_model.specs.Packet.{version, primary_header_size, message_id_end}
-use Rattle.packet_archive.specs.declared.front.Front.{Front}
-use Rattle.packet_archive.specs.declared.front.Front.TheVariants.{Over, Gap, Cut, Foreign, Unmarked, Packet}
+use Rattle.packet_archive.specs.declared.front.ArchiveFront.{ArchiveFront}
+use Rattle.packet_archive.specs.declared.front.ArchiveFront.TheVariants.{Over, Gap, Cut, Foreign, Unmarked, Packet}
 use Rattle.packet_archive.specs.Front.{front_in, marked_in, marker, packet_in, packet_size, zeros}
 
 -- ---- numbers and lists
@@ -86,7 +86,7 @@ record IsMarked (bytes : List ℕ) (b s : ℕ) : Type 0 where
   pub marked : bytes_eq (take 4 bytes) marker ≡ true
   pub packet : packet_in 4 (drop 4 bytes) ≡ Packet b s
 
-marked_passed : (b s : ℕ) (short begun marked : Bool) (packet : Front) →
+marked_passed : (b s : ℕ) (short begun marked : Bool) (packet : ArchiveFront) →
     (if short then (if begun then Cut else Unmarked) else if marked then packet else Unmarked) ≡ Packet b s →
     (short ≡ false) × (marked ≡ true) × (packet ≡ Packet b s)
 marked_passed b s true true marked packet is = cc
@@ -105,7 +105,7 @@ marked_stays xs ys b s is =
 
 -- ---- what is in front
 
-front_passed : (b s count : ℕ) (none some marked : Bool) (with_marker plain : Front) →
+front_passed : (b s count : ℕ) (none some marked : Bool) (with_marker plain : ArchiveFront) →
     (if none then Over else if some then Gap count else if marked then with_marker else plain) ≡ Packet b s →
     (none ≡ false) × (some ≡ false) × ((if marked then with_marker else plain) ≡ Packet b s)
 front_passed b s count true some marked with_marker plain is = cc
@@ -155,7 +155,7 @@ gap_in_front marked xs some =
 
 -- ---- how long it is
 
-abbrev number_of : Front → ℕ × ℕ
+abbrev number_of : ArchiveFront → ℕ × ℕ
 number_of (Gap size) = (0, size)
 number_of (Packet b s) = (b, s)
 number_of front = (0, 0)
@@ -179,7 +179,7 @@ bounds marked xs b s is =
         (omega (arith, found.1), omega (arith, found.0, found.2, length-drop 4 xs, there))
     by_marked false is = let found = packet_bounds 0 xs b s is in (omega (arith, found.1), omega (arith, found.0, found.2))
 
-gap_passed : (n count : ℕ) (none some marked : Bool) (with_marker plain : Front) →
+gap_passed : (n count : ℕ) (none some marked : Bool) (with_marker plain : ArchiveFront) →
     ((m : ℕ) → with_marker ≢ Gap m) → ((m : ℕ) → plain ≢ Gap m) →
     (if none then Over else if some then Gap count else if marked then with_marker else plain) ≡ Gap n → (some ≡ true) × (count ≡ n)
 gap_passed n count true some marked with_marker plain p q is = cc
@@ -194,7 +194,7 @@ packet_no_gap before size m false false cut is = cc
 packet_no_gap before size m false true true is = cc
 packet_no_gap before size m false true false is = cc
 
-marked_no_gap : (m : ℕ) (short begun marked : Bool) (packet : Front) → packet ≢ Gap m →
+marked_no_gap : (m : ℕ) (short begun marked : Bool) (packet : ArchiveFront) → packet ≢ Gap m →
     (if short then (if begun then Cut else Unmarked) else if marked then packet else Unmarked) ≢ Gap m
 marked_no_gap m true true marked packet p is = cc
 marked_no_gap m true false marked packet p is = cc

@@ -12,8 +12,8 @@ use Rattle.stream_script.specs.Front.{any_text, body_in_front}
 use Rattle.packet_archive.specs.declared.choice.Fate.{Fate}
 use Rattle.packet_archive.specs.declared.choice.Fate.TheVariants.{Kept}
 use Rattle.packet_archive.specs.declared.clock.Times.{Times}
-use Rattle.packet_archive.specs.declared.front.Front.{Front}
-use Rattle.packet_archive.specs.declared.front.Front.TheVariants.{Gap, Packet}
+use Rattle.packet_archive.specs.declared.front.ArchiveFront.{ArchiveFront}
+use Rattle.packet_archive.specs.declared.front.ArchiveFront.TheVariants.{Gap, Packet}
 use Rattle.packet_archive.specs.declared.import.Met.{Met}
 use Rattle.packet_archive.specs.declared.import.Met.TheVariants.{Leap}
 use Rattle.packet_archive.specs.Choice.{fate_of}
@@ -71,7 +71,7 @@ ExportsInPieces = (first next : List ℕ) → exported (first ++ next) ≡ expor
 -- ---- the packets of an archive
 
 -- the packets by what stands in front, where the rest goes on so
-abbrev pub packets_by : (List ℕ → List (List ℕ)) → List ℕ → Front → List (List ℕ)
+abbrev pub packets_by : (List ℕ → List (List ℕ)) → List ℕ → ArchiveFront → List (List ℕ)
 packets_by others bytes (Packet before size) = take size (drop before bytes) ∷ others (drop (before + size) bytes)
 packets_by others bytes (Gap size) = others (drop size bytes)
 packets_by others bytes front = []

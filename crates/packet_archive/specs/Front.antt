@@ -4,8 +4,8 @@ use Rattle.std.specs.Prelude.{ℕ, ◌+◌, ◌≤◌, ◌<◌, Bool, not, ◌==
 use Rattle.std.specs.Prelude.{take_while}
 use Rattle.lc_model.specs.Bytes.{u16_at}
 use Rattle.lc_model.specs.Packet.{version, primary_header_size, length_offset}
-use Rattle.packet_archive.specs.declared.front.Front.{Front}
-use Rattle.packet_archive.specs.declared.front.Front.TheVariants.{Over, Gap, Cut, Foreign, Unmarked, Packet}
+use Rattle.packet_archive.specs.declared.front.ArchiveFront.{ArchiveFront}
+use Rattle.packet_archive.specs.declared.front.ArchiveFront.TheVariants.{Over, Gap, Cut, Foreign, Unmarked, Packet}
 
 -- the bytes in front of each packet of a marked archive
 abbrev pub marker : List ℕ
@@ -20,7 +20,7 @@ abbrev pub packet_size : List ℕ → ℕ
 packet_size packet = u16_at packet 4 + length_offset
 
 -- a packet in front, behind so many bytes of its marker
-abbrev pub packet_in : ℕ → List ℕ → Front
+abbrev pub packet_in : ℕ → List ℕ → ArchiveFront
 packet_in before bytes =
     if nat_lt (length bytes) primary_header_size then Cut
     else if not (version bytes == 0) then Foreign
@@ -28,14 +28,14 @@ packet_in before bytes =
     else Packet before (packet_size bytes)
 
 -- what stands behind a marker, which may have come in part
-abbrev pub marked_in : List ℕ → Front
+abbrev pub marked_in : List ℕ → ArchiveFront
 marked_in bytes =
     if nat_lt (length bytes) (length marker) then (if bytes_eq bytes (take (length bytes) marker) then Cut else Unmarked)
     else if bytes_eq (take (length marker) bytes) marker then packet_in (length marker) (drop (length marker) bytes)
     else Unmarked
 
 -- what stands in front, of an archive with markers or without
-abbrev pub front_in : Bool → List ℕ → Front
+abbrev pub front_in : Bool → List ℕ → ArchiveFront
 front_in marked bytes =
     if length bytes == 0 then Over
     else if nat_lt 0 (zeros bytes) then Gap (zeros bytes)
@@ -43,7 +43,7 @@ front_in marked bytes =
     else packet_in 0 bytes
 
 -- what is in front is there as a whole
-abbrev pub IsInside : List ℕ → Front → Type 0
+abbrev pub IsInside : List ℕ → ArchiveFront → Type 0
 IsInside bytes (Gap size) = (0 < size) × (size ≤ length bytes)
 IsInside bytes (Packet before size) = (length_offset ≤ size) × (before + size ≤ length bytes)
 IsInside bytes front = ⊤

@@ -7,8 +7,8 @@ use Rattle.packet_archive.specs.declared.choice.Fate.TheVariants.{Kept}
 use Rattle.packet_archive.specs.declared.clock.Times.{Times}
 use Rattle.packet_archive.specs.declared.import.Met.{Met}
 use Rattle.packet_archive.specs.declared.import.Met.TheVariants.{Taken, LeftOut, Leap, Stands}
-use Rattle.packet_archive.specs.declared.front.Front.{Front}
-use Rattle.packet_archive.specs.declared.front.Front.TheVariants.{Over, Gap, Cut, Packet}
+use Rattle.packet_archive.specs.declared.front.ArchiveFront.{ArchiveFront}
+use Rattle.packet_archive.specs.declared.front.ArchiveFront.TheVariants.{Over, Gap, Cut, Packet}
 use Rattle.packet_archive.specs.Choice.{Chosen, fate_of}
 use Rattle.packet_archive.specs.Clock.{Clocked, moment_by, most_ticks, next_tick, ticks_due}
 use Rattle.packet_archive.specs.Front.{front_in}
@@ -76,7 +76,7 @@ by_fate Kept asking size clock packet = kept_at size clock (moment_by asking.tim
 by_fate fate asking size clock packet = nothing (LeftOut size fate) clock
 
 -- what is in front, by what it is
-abbrev pub by_front : Front → Asking → Clocked → List ℕ → Step
+abbrev pub by_front : ArchiveFront → Asking → Clocked → List ℕ → Step
 by_front (Packet before size) asking clock bytes =
     let packet : List ℕ = take size (drop before bytes) in
     by_fate (fate_of asking.chosen packet) asking (before + size) clock packet

@@ -1,6 +1,6 @@
 -- What an import says of an archive, a line each. This project's own.
 use Rattle.std.specs.Prelude.{ℕ, ◌-◌, ◌==◌, List, [], ◌++◌, codes, decimal, flat_map, nat_lt, Option, Some, None, if◌then◌else◌}
-use Rattle.packet_archive.specs.declared.front.Front.TheVariants.{Cut, Foreign, Unmarked}
+use Rattle.packet_archive.specs.declared.front.ArchiveFront.TheVariants.{Cut, Foreign, Unmarked}
 use Rattle.packet_archive.specs.declared.import.Met.{Met}
 use Rattle.packet_archive.specs.declared.import.Met.TheVariants.{Leap, Stands}
 use Rattle.packet_archive.specs.declared.tally.Faulty.{Faulty}

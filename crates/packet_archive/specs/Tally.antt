@@ -2,8 +2,8 @@
 use Rattle.std.specs.Prelude.{ℕ, zero, suc, ◌+◌, ◌-◌, ◌^◌, List, drop, length, min, nat_lt, replicate, slice_set, Option, Some, None, if◌then◌else◌}
 use Rattle.packet_archive.specs.declared.choice.Fate.{Fate}
 use Rattle.packet_archive.specs.declared.choice.Fate.TheVariants.{Idle, Faulty}
-use Rattle.packet_archive.specs.declared.front.Front.{Front}
-use Rattle.packet_archive.specs.declared.front.Front.TheVariants.{Gap}
+use Rattle.packet_archive.specs.declared.front.ArchiveFront.{ArchiveFront}
+use Rattle.packet_archive.specs.declared.front.ArchiveFront.TheVariants.{Gap}
 use Rattle.packet_archive.specs.declared.import.Met.{Met}
 use Rattle.packet_archive.specs.declared.import.Met.TheVariants.{Taken, LeftOut, Leap, Stands}
 use Rattle.packet_archive.specs.declared.tally.Tally.{Tally}
@@ -45,7 +45,7 @@ abbrev pub zeros_noted : ℕ → Tally → Tally
 zeros_noted size t = record t { first_zero = first_of t.bytes t.first_zero; zeros = counted t.zeros size }
 
 -- no packet
-abbrev pub front_noted : Front → Tally → Tally
+abbrev pub front_noted : ArchiveFront → Tally → Tally
 front_noted (Gap size) t = zeros_noted size t
 front_noted front t = t
 

@@ -44,7 +44,7 @@ fn export_next(out: &mut Vec<u8>, bytes: &[u8]) -> Result<Front, AllocError>
 }
 
 /// How many bytes the record in front has, where one stands there.
-fn passed(front: Front) -> Option<usize>
+fn record_size(front: Front) -> Option<usize>
     ensures { result ≡ record_passed front }
 {
     match front {
@@ -64,7 +64,7 @@ pub fn export_held<'a>(out: &mut Vec<u8>, bytes: &'a [u8]) -> Result<(&'a [u8], 
     let mut left = bytes;
     for _ in 0..bytes.len() {
         let front = export_next(out, left)?;
-        match passed(front) {
+        match record_size(front) {
             Some(size) => {
                 let (_, behind) = left.split_at(size);
                 left = behind;

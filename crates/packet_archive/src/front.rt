@@ -16,7 +16,7 @@ const LENGTH_OFFSET: usize = 7;
 
 /// What stands at the front of what is left of an archive.
 #[derive(Clone, Copy, Debug, PartialEq, Eq)]
-pub enum Front {
+pub enum ArchiveFront {
     /// Nothing.
     Over,
     /// So many zero bytes, which are no packet.
@@ -40,54 +40,54 @@ fn zeros(bytes: &[u8]) -> usize
 }
 
 /// The packet in front, behind so many bytes of its marker.
-fn packet_of(before: usize, bytes: &[u8]) -> Front
+fn packet_of(before: usize, bytes: &[u8]) -> ArchiveFront
     requires { before ≤ 4 }
     ensures stands { result ≡ packet_in before bytes.now }
 {
     if bytes.len() < PRIMARY_HEADER {
-        return Front::Cut;
+        return ArchiveFront::Cut;
     }
     if bytes[0] >= 0x20 {
-        return Front::Foreign;
+        return ArchiveFront::Foreign;
     }
     let size = usize::from(u16_at(bytes, 4)) + LENGTH_OFFSET;
     if bytes.len() < size {
-        return Front::Cut;
+        return ArchiveFront::Cut;
     }
-    Front::Packet { before, size }
+    ArchiveFront::Packet { before, size }
 }
 
 /// What stands behind a marker, which may have come in part.
-fn marked_of(bytes: &[u8]) -> Front
+fn marked_of(bytes: &[u8]) -> ArchiveFront
     ensures stands { result ≡ marked_in bytes.now }
 {
     if bytes.len() < MARKER.len() {
         let (begun, _) = MARKER.split_at(bytes.len());
         return if bytes == begun {
-            Front::Cut
+            ArchiveFront::Cut
         } else {
-            Front::Unmarked
+            ArchiveFront::Unmarked
         };
     }
     let (front, behind) = bytes.split_at(MARKER.len());
     if front == MARKER.as_slice() {
         packet_of(MARKER.len(), behind)
     } else {
-        Front::Unmarked
+        ArchiveFront::Unmarked
     }
 }
 
 /// What stands in front, of an archive with markers or without.
-pub fn front_of(marked: bool, bytes: &[u8]) -> Front
+pub fn front_of(marked: bool, bytes: &[u8]) -> ArchiveFront
     ensures stands { result ≡ front_in marked bytes.now }
     ensures inside { IsInside bytes.now result }
 {
     if bytes.is_empty() {
-        return Front::Over;
+        return ArchiveFront::Over;
     }
     let size = zeros(bytes);
     if size > 0 {
-        return Front::Gap { size };
+        return ArchiveFront::Gap { size };
     }
     if marked {
         marked_of(bytes)

@@ -9,7 +9,7 @@ ghost use Rattle.packet_archive.specs.Tally.{tallied};
 
 use crate::choice::{Choice, Fate};
 use crate::clock::{Clock, Times, next_tick, ticks_due};
-use crate::front::{Front, front_of};
+use crate::front::{ArchiveFront, front_of};
 use crate::record::push_record;
 use crate::tally::Tally;
 use lc_model::Moment;
@@ -27,12 +27,12 @@ const MOST_TICKS: u64 = 86_400;
 
 impl Met {
     /// How many bytes were behind with it, where an import goes on there.
-    pub fn passed(self) -> Option<usize>
+    pub fn size_behind(self) -> Option<usize>
         ensures { result ≡ passed self }
     {
         match self {
             Met::Taken(size) | Met::LeftOut(size, _) => Some(size),
-            Met::Stands(Front::Gap { size }) => Some(size),
+            Met::Stands(ArchiveFront::Gap { size }) => Some(size),
             Met::Stands(_) | Met::Leap => None,
         }
     }
@@ -59,7 +59,7 @@ fn push_ticks(out: &mut Vec<u8>, period: u32, first: u64, second: u32) -> Result
 
 /// What is asked of an import.
 #[derive(Drop)]
-pub struct Asked<'a> {
+pub struct ImportOptions<'a> {
     /// Whether a marker stands before each packet.
     pub marked: bool,
     /// Which packets become records.
@@ -68,7 +68,7 @@ pub struct Asked<'a> {
     pub times: Times,
 }
 
-impl<'a> Model for Asked<'a> {
+impl<'a> Model for ImportOptions<'a> {
     ghost use Rattle.packet_archive.specs.Import.{Asking};
 
     ghost Value = { Asking };
@@ -86,7 +86,7 @@ pub enum Met {
     /// A packet so late that more than 86,400 ticks would come before it. Nothing was written for it.
     Leap,
     /// No packet: what stands there.
-    Stands(Front),
+    Stands(ArchiveFront),
 }
 
 /// The ticks that are due up to this second, behind other records. Out of memory is the only error.
@@ -135,7 +135,7 @@ fn keep(
 pub fn import_next(
     out: &mut Vec<u8>,
     clock: &mut Clock,
-    asked: &Asked<'_>,
+    asked: &ImportOptions<'_>,
     bytes: &[u8],
 ) -> Result<Met, AllocError>
     ensures met { IfOk result
@@ -147,7 +147,7 @@ pub fn import_next(
     ensures inside { IfOk result (λ met. IfSome (passed met) (λ size. size ≤ length bytes.now)) }
 {
     match front_of(asked.marked, bytes) {
-        Front::Packet { before, size } => {
+        ArchiveFront::Packet { before, size } => {
             let (_, behind) = bytes.split_at(before);
             let (packet, _) = behind.split_at(size);
             match asked.choice.fate(packet) {
@@ -168,7 +168,7 @@ pub fn import_held<'a>(
     out: &mut Vec<u8>,
     clock: &mut Clock,
     tally: &mut Tally,
-    asked: &Asked<'_>,
+    asked: &ImportOptions<'_>,
     bytes: &'a [u8],
 ) -> Result<(&'a [u8], Met), AllocError>
     ensures written { IfOk result (λ _. out.new.items ≡
@@ -186,7 +186,7 @@ pub fn import_held<'a>(
     for _ in 0..bytes.len() + 1 {
         let met = import_next(out, clock, asked, left)?;
         tally.note(met);
-        match met.passed() {
+        match met.size_behind() {
             Some(size) => {
                 let (_, behind) = left.split_at(size);
                 left = behind;
@@ -194,5 +194,5 @@ pub fn import_held<'a>(
             None => return Ok((left, met)),
         }
     }
-    Ok((left, Met::Stands(Front::Over)))
+    Ok((left, Met::Stands(ArchiveFront::Over)))
 }

@@ -3,7 +3,7 @@
 ghost use Rattle.std.specs.Prelude.{Some, flat_map};
 ghost use Rattle.packet_archive.specs.Said.{end_line, fault_line, fault_words, left_out_words, more_line, packet_lines, report_lines, taken_line, zeros_line};
 
-use crate::front::Front;
+use crate::front::ArchiveFront;
 use crate::import::Met;
 use crate::tally::{Faulty, NAMED, Tally};
 use std::fmt::{self, Display, Formatter, Write};
@@ -180,15 +180,15 @@ impl Display for EndLine<'_> {
         let at = self.at;
         let left = self.left;
         match self.met {
-            Met::Stands(Front::Cut) => write!(
+            Met::Stands(ArchiveFront::Cut) => write!(
                 f,
                 "{name}: byte {at}: the last packet is cut, {left} bytes of it are there\n"
             ),
-            Met::Stands(Front::Foreign) => write!(
+            Met::Stands(ArchiveFront::Foreign) => write!(
                 f,
                 "{name}: byte {at}: no packet of version 0 begins here; what follows is not read\n"
             ),
-            Met::Stands(Front::Unmarked) => write!(
+            Met::Stands(ArchiveFront::Unmarked) => write!(
                 f,
                 "{name}: byte {at}: no marker 1ACFFC1D stands here; what follows is not read\n"
             ),

@@ -4,7 +4,7 @@ ghost use Rattle.std.specs.Prelude.{◌≡◌};
 ghost use Rattle.packet_archive.specs.Tally.{bytes_noted, fault_noted, front_noted, left_out_noted, met_noted, noted, nothing_met, zeros_noted};
 
 use crate::choice::Fate;
-use crate::front::Front;
+use crate::front::ArchiveFront;
 use crate::import::Met;
 
 /// How many packets with a fault are named.
@@ -92,13 +92,16 @@ impl Tally {
     }
 
     /// No packet.
-    fn note_front(&mut self, front: Front)
+    fn note_front(&mut self, front: ArchiveFront)
         ensures { self.new ≡ front_noted front self.old }
     {
         match front {
-            Front::Gap { size } => self.note_zeros(size),
-            Front::Over | Front::Cut | Front::Foreign | Front::Unmarked => {}
-            Front::Packet { .. } => {}
+            ArchiveFront::Gap { size } => self.note_zeros(size),
+            ArchiveFront::Over
+            | ArchiveFront::Cut
+            | ArchiveFront::Foreign
+            | ArchiveFront::Unmarked => {}
+            ArchiveFront::Packet { .. } => {}
         }
     }
 
@@ -128,6 +131,6 @@ impl Tally {
         ensures { self.new ≡ noted met self.old }
     {
         self.note_met(met);
-        self.note_bytes(met.passed());
+        self.note_bytes(met.size_behind());
     }
 }

@@ -16,7 +16,7 @@ ghost use Rattle.packet_bus.specs.Slots.{slot_at, used_slots};
 
 use crate::BusError;
 use crate::header::{checked_message_id, judged_message_id};
-use crate::pipe::Place;
+use crate::pipe::PipePlace;
 use crate::pool::{PACKET_SIZE, Pool};
 use crate::seats::SeatSet;
 use lc_model::Seat;
@@ -33,7 +33,7 @@ const MESSAGE_IDS: usize = 8192;
 /// subscriptions and packets.
 #[derive(Drop)]
 pub struct Bus {
-    places: Vec<Place>,
+    places: Vec<PipePlace>,
     pool: Pool,
     /// For each message id who is subscribed to it.
     audience: Vec<SeatSet>,
@@ -67,18 +67,18 @@ fn empty_rows(alloc: Global) -> Result<Vec<SeatSet>, AllocError>
 }
 
 /// A place for each seat, without a pipe.
-fn empty_places(alloc: Global) -> Result<Vec<Place>, AllocError>
+fn empty_places(alloc: Global) -> Result<Vec<PipePlace>, AllocError>
     ensures { IfOk result (λ places. places.items ≡ no_lines) }
 {
     let mut places = Vec::with_capacity(alloc, Seat::COUNT)?;
     for _ in 0..Seat::COUNT {
-        places.push_reserved(Place::new(alloc)?);
+        places.push_reserved(PipePlace::new(alloc)?);
     }
     Ok(places)
 }
 
 /// Puts a slot behind what waits on a seat, whose pipe has room.
-fn deliver_to(seat: Seat, slot: u16, places: &mut Vec<Place>, full: &mut SeatSet)
+fn deliver_to(seat: Seat, slot: u16, places: &mut Vec<PipePlace>, full: &mut SeatSet)
     requires eight { length places.old.items ≡ seat_count }
     requires open { is_some (place_at places.old.items seat) ≡ true }
     requires room { is_long (place_at places.old.items seat) ≡ false }
@@ -99,7 +99,7 @@ fn deliver_to_each(
     hearers: SeatSet,
     packet: &[u8],
     pool: &mut Pool,
-    places: &mut Vec<Place>,
+    places: &mut Vec<PipePlace>,
     full: &mut SeatSet,
 ) -> u16
     requires eight { length places.old.items ≡ seat_count }
@@ -129,7 +129,7 @@ fn deliver(
     hearers: SeatSet,
     packet: &[u8],
     pool: &mut Pool,
-    places: &mut Vec<Place>,
+    places: &mut Vec<PipePlace>,
     ready: &mut SeatSet,
     full: &mut SeatSet,
 ) -> u16
@@ -161,7 +161,7 @@ fn deliver(
 /// Takes the oldest slot that waits on a seat, if one does.
 fn take_oldest(
     seat: Seat,
-    places: &mut Vec<Place>,
+    places: &mut Vec<PipePlace>,
     ready: &mut SeatSet,
     full: &mut SeatSet,
 ) -> Option<u16>

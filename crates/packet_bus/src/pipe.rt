@@ -17,13 +17,13 @@ const SUBSCRIPTIONS: usize = 256;
 
 /// The place of a pipe. Contracts see none, or its subscriptions and the slots of what waits, oldest first.
 #[derive(Drop)]
-pub(crate) struct Place {
+pub(crate) struct PipePlace {
     is_open: bool,
     subscriptions: Vec<u16>,
     waiting: HeapCircularBuffer<u16>,
 }
 
-impl Model for Place {
+impl Model for PipePlace {
     ghost use Rattle.std.specs.Prelude.{Option, vec_capacity, vec_len, ◌≤◌};
     ghost use Rattle.packet_bus.specs.Line.{Line, line_if, IsPlace};
 
@@ -43,12 +43,12 @@ fn place_of(mid: u16, mids: &[u16]) -> Option<usize>
     mids.iter().position(|other| mid == *other)
 }
 
-impl Place {
+impl PipePlace {
     /// No pipe, with room for one. Out of memory is the only error.
-    pub fn new(alloc: Global) -> Result<Place, AllocError>
+    pub fn new(alloc: Global) -> Result<PipePlace, AllocError>
         ensures { IfOk result (λ place. place ≡ None) }
     {
-        Ok(Place {
+        Ok(PipePlace {
             is_open: false,
             subscriptions: Vec::with_capacity(alloc, SUBSCRIPTIONS)?,
             waiting: HeapCircularBuffer::with_capacity(alloc, PIPE_DEPTH)?,

@@ -16,13 +16,13 @@ const SLOTS: usize = 576;
 
 /// A place for a packet, with the number of pipes that wait for it. Contracts see the packet's bytes and that number.
 #[derive(Drop)]
-struct Slot {
+struct PoolSlot {
     bytes: [u8; PACKET_SIZE],
     size: usize,
     readers: u8,
 }
 
-impl Model for Slot {
+impl Model for PoolSlot {
     ghost use Rattle.std.specs.Prelude.{take, ◌≤◌, ◌≡◌, length};
     ghost use Rattle.lc_model.specs.Packet.{longest_packet};
     ghost use Rattle.packet_bus.specs.Slots.{PooledPacket};
@@ -34,11 +34,11 @@ impl Model for Slot {
     ghost invariant = { λ s. (s.size ≤ longest_packet) × (length s.bytes ≡ longest_packet) };
 }
 
-impl Slot {
-    fn new() -> Slot
+impl PoolSlot {
+    fn new() -> PoolSlot
         ensures { result ≡ no_packet }
     {
-        Slot {
+        PoolSlot {
             bytes: [0; PACKET_SIZE],
             size: 0,
             readers: 0,
@@ -86,7 +86,7 @@ impl Slot {
 /// All slots, and the numbers of those that are free. Contracts see the slots, in order.
 #[derive(Drop)]
 pub(crate) struct Pool {
-    slots: Vec<Slot>,
+    slots: Vec<PoolSlot>,
     free: Vec<u16>,
 }
 
@@ -109,7 +109,7 @@ impl Pool {
         let mut slots = Vec::with_capacity(alloc, SLOTS)?;
         let mut free = Vec::with_capacity(alloc, SLOTS)?;
         for number in 0..SLOTS as u16 {
-            slots.push_reserved(Slot::new());
+            slots.push_reserved(PoolSlot::new());
             free.push_reserved(number);
         }
         Ok(Pool { slots, free })

@@ -3,7 +3,7 @@
 ghost use Rattle.std.specs.Prelude.{◌≡◌, length, Some};
 ghost use Rattle.packet_listing.specs.Words.{event_numbered, event_word, type_word};
 
-use crate::text::{Field, time_of};
+use crate::display::{TextField, time_of};
 use lc_model::{EventKind, u16_at};
 use std::fmt::{self, Display, Formatter, Write};
 
@@ -15,10 +15,10 @@ pub fn say_event<W: Write>(packet: &[u8], f: &mut Formatter<W>) -> fmt::Result
     requires { length packet.now ≡ EVENT_SIZE }
 {
     let time = time_of(packet);
-    let sender = Field(&packet[12..32]);
+    let sender = TextField(&packet[12..32]);
     let id = u16_at(packet, 32);
     let kind = EventType(u16_at(packet, 34));
-    let text = Field(&packet[44..166]);
+    let text = TextField(&packet[44..166]);
     write!(f, "{time} {sender} {id} {kind}: {text}")
 }
 

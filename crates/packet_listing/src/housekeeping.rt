@@ -3,7 +3,7 @@
 ghost use Rattle.std.specs.Prelude.{◌≡◌, length, Some};
 ghost use Rattle.packet_listing.specs.Words.{result_word, state_word};
 
-use crate::text::time_of;
+use crate::display::time_of;
 use lc_model::u16_at;
 use std::fmt::{self, Display, Formatter, Write};
 

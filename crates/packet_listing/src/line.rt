@@ -13,7 +13,7 @@ const COUNT_END: u16 = 16_384;
 
 /// A packet with its number; it displays as its line without the line end (docs/TOOLS.md, this project's own).
 #[derive(Clone, Copy)]
-pub struct Line<'a> {
+pub struct PacketLine<'a> {
     /// The packet's number, counted from 1 in `list_packets`.
     pub number: u64,
     /// The packet's bytes, headers included; any bytes are accepted.
@@ -39,7 +39,7 @@ fn say_other<W: Write>(packet: &[u8], f: &mut Formatter<W>) -> fmt::Result {
     write!(f, "- packet 0x{mid:04X} of {size} bytes")
 }
 
-impl Display for Line<'_> {
+impl Display for PacketLine<'_> {
     fn fmt<W: Write>(&self, f: &mut Formatter<W>) -> fmt::Result {
         write!(f, "{} ", self.number)?;
         let size = self.packet.len();

@@ -1,6 +1,6 @@
 //! Lists all packets of a file.
 
-use crate::line::Line;
+use crate::line::PacketLine;
 use lc_model::packet::first_packet;
 use std::io::{self, Write};
 
@@ -14,7 +14,7 @@ pub fn list_packets<W: Write>(packets: &[u8], out: &mut W) -> io::Result<()> {
             break;
         };
         number = number.saturating_add(1);
-        writeln!(out, "{}", Line { number, packet })?;
+        writeln!(out, "{}", PacketLine { number, packet })?;
         rest = behind;
     }
     if rest.is_empty() {

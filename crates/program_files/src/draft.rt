@@ -9,7 +9,7 @@ const TRIES: u32 = 100;
 
 /// The name beside, under which a file is written, and its own, which it takes at the end.
 #[derive(Drop)]
-struct Names {
+struct DraftNames {
     beside: String,
     own: String,
 }
@@ -20,7 +20,7 @@ struct Names {
 pub struct Draft<F: Drop> {
     /// What is written to.
     pub file: F,
-    names: Option<Names>,
+    names: Option<DraftNames>,
 }
 
 /// The name under which a file is really there, or this one.
@@ -53,7 +53,7 @@ fn beside<R: Files + AllocGlobal>(rt: &R, own: String) -> Result<Draft<R::File>,
         if let Some((file, beside)) = new_beside(rt, own.as_str(), number)? {
             return Ok(Draft {
                 file,
-                names: Some(Names { beside, own }),
+                names: Some(DraftNames { beside, own }),
             });
         }
     }

@@ -5,7 +5,7 @@ ghost use Rattle.std.specs.Prelude.{◌≡◌, map, IfOk, string_bytes};
 use std::alloc::{AllocError, Global};
 
 /// The same words, lent. Out of memory is the only error.
-pub fn lent<'a>(alloc: Global, words: &'a [String]) -> Result<Vec<&'a str>, AllocError>
+pub fn lend_words<'a>(alloc: Global, words: &'a [String]) -> Result<Vec<&'a str>, AllocError>
     ensures { IfOk result
         (λ lent. map (λ word. word.now) lent.items ≡ map string_bytes words.now) }
 {

@@ -6,14 +6,14 @@ mod draft;
 mod identity;
 mod lending;
 mod noting;
-mod reading;
+mod whole_files;
 mod why;
 mod writing;
 
 pub use draft::{Draft, begin, discard, keep};
 pub use identity::is_one_file;
-pub use lending::lent;
+pub use lending::lend_words;
 pub use noting::Noting;
-pub use reading::{read_all, read_front};
+pub use whole_files::{read_all, read_front};
 pub use why::{FileFault, Why, fault_of, reason_for};
 pub use writing::write_all_to;

@@ -9,7 +9,7 @@ ghost use Rattle.lc_model.specs.Tables.InForce.{arranged};
 ghost use Rattle.lc_model.specs.Tables.Lowering.{words_in};
 ghost use Rattle.rpn_compiler.specs.Numbered.{by_numbers, operands_by_numbers, words_of};
 
-use lc_model::words::{AND, NOT, OR, XOR};
+use lc_model::equation_words::{AND, NOT, OR, XOR};
 use lc_model::{Cond, EQUATION_WORDS, Rule};
 use std::alloc::{AllocError, Global};
 

@@ -115,7 +115,7 @@ pub fn word_kind(word: &[u8]) -> TokenKind
 {
     if let Some(kind) = plain_word(word) {
         kind
-    } else if let Some(kind) = FieldType::named(word) {
+    } else if let Some(kind) = FieldType::from_word(word) {
         TokenKind::FieldKind(kind)
     } else if let Some(mode) = state(word) {
         TokenKind::State(mode)

@@ -13,7 +13,7 @@ mod number;
 mod reason;
 mod scanner;
 mod sign;
-mod text;
+mod strings;
 mod token;
 mod word;
 

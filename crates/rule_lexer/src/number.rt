@@ -16,7 +16,7 @@ fn is_negative(text: &[u8]) -> bool
 }
 
 /// Returns the text without the `-` at its front, or all of it if there is none.
-pub fn unsigned<'a>(text: &'a [u8]) -> &'a [u8]
+pub fn without_sign<'a>(text: &'a [u8]) -> &'a [u8]
     ensures { result.now ≡ magnitude_text text.now }
 {
     if is_negative(text) { &text[1..] } else { text }
@@ -26,7 +26,7 @@ pub fn unsigned<'a>(text: &'a [u8]) -> &'a [u8]
 pub fn begins_numeral(rest: &[u8]) -> bool
     ensures { result ≡ begins_numeral rest.now }
 {
-    matches!(unsigned(rest), [byte, ..] if byte.is_ascii_digit())
+    matches!(without_sign(rest), [byte, ..] if byte.is_ascii_digit())
 }
 
 /// Returns the length in bytes of the number in front. It includes letters directly after the digits: they make
@@ -35,7 +35,7 @@ pub fn numeral_length(rest: &[u8]) -> usize
     requires { IsTrue (begins_numeral rest.now) }
     ensures { IsFront is_numeral rest.now result }
 {
-    let digits = unsigned(rest);
+    let digits = without_sign(rest);
     rest.len() - digits.len() + run_length(digits)
 }
 
@@ -69,6 +69,6 @@ fn magnitude(text: &[u8]) -> Option<u32>
 pub fn number_value(text: &[u8]) -> Option<i64>
     ensures { result ≡ number text.now }
 {
-    let value = i64::from(magnitude(unsigned(text))?);
+    let value = i64::from(magnitude(without_sign(text))?);
     Some(if is_negative(text) { -value } else { value })
 }

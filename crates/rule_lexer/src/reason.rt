@@ -8,8 +8,8 @@ ghost use Rattle.rule_lexer.specs.Reason.{number_reason, reason_of, string_reaso
 
 use crate::bytes::{LINE_FEED, QUOTE};
 use crate::error::LexError;
-use crate::number::unsigned;
-use crate::text::inner_length;
+use crate::number::without_sign;
+use crate::strings::inner_length;
 use crate::word::run_length;
 use thiserror::Error;
 
@@ -82,7 +82,7 @@ fn is_magnitude(text: &[u8]) -> bool
 fn number_reason(text: &[u8], at: usize) -> LexReason
     ensures { result ≡ number_reason text.now at }
 {
-    let digits = unsigned(behind(text, at));
+    let digits = without_sign(behind(text, at));
     if is_magnitude(&digits[..run_length(digits)]) {
         LexReason::NumberTooLarge { at }
     } else {

@@ -35,7 +35,7 @@ fn comparison<'a>(tokens: &mut Reader<'_, 'a>) -> Result<Comparison<'a>, ParseEr
 
 /// Reads `not` and an operand.
 #[cycle(condition)]
-fn negated<'a>(
+fn read_negation<'a>(
     alloc: Global,
     tokens: &mut Reader<'_, 'a>,
     room: &mut usize,
@@ -52,7 +52,7 @@ fn negated<'a>(
 
 /// Reads a condition in parentheses.
 #[cycle(condition)]
-fn parenthesized<'a>(
+fn read_parentheses<'a>(
     alloc: Global,
     tokens: &mut Reader<'_, 'a>,
     room: &mut usize,
@@ -63,7 +63,7 @@ fn parenthesized<'a>(
         (expression_of found)) (Refuses (Stops tokens.old room.old)) }
 {
     tokens.nest(room)?;
-    let inner = joined(Operator::Or, alloc, tokens, room)?;
+    let inner = read_operands(Operator::Or, alloc, tokens, room)?;
     tokens.sign(Sign::Close)?;
     Ok(inner)
 }
@@ -81,10 +81,10 @@ fn operand<'a>(
         (expression_of found)) (Refuses (Stops tokens.old room.old)) }
 {
     if tokens.begins(TokenKind::Not) {
-        return negated(alloc, tokens, room);
+        return read_negation(alloc, tokens, room);
     }
     if tokens.begins(TokenKind::Open) {
-        return parenthesized(alloc, tokens, room);
+        return read_parentheses(alloc, tokens, room);
     }
     Ok(Expression::Compare(comparison(tokens)?))
 }
@@ -102,15 +102,15 @@ fn part<'a>(
         room.new (expression_of found)) (Refuses (Stops tokens.old room.old)) }
 {
     match operator {
-        Operator::Or => joined(Operator::Xor, alloc, tokens, room),
-        Operator::Xor => joined(Operator::And, alloc, tokens, room),
+        Operator::Or => read_operands(Operator::Xor, alloc, tokens, room),
+        Operator::Xor => read_operands(Operator::And, alloc, tokens, room),
         Operator::And => operand(alloc, tokens, room),
     }
 }
 
 /// Reads parts with the operator between them and joins them from left to right.
 #[cycle(condition)]
-fn joined<'a>(
+fn read_operands<'a>(
     operator: Operator,
     alloc: Global,
     tokens: &mut Reader<'_, 'a>,
@@ -139,5 +139,5 @@ pub fn condition<'a>(
         (Refuses (Stops tokens.old most_nested)) }
 {
     let mut room = MOST_NESTING;
-    joined(Operator::Or, alloc, tokens, &mut room)
+    read_operands(Operator::Or, alloc, tokens, &mut room)
 }

@@ -57,7 +57,7 @@ fn item<'a>(alloc: Global, tokens: &mut Reader<'_, 'a>) -> Result<Item<'a>, Pars
     if tokens.takes(TokenKind::Rule) {
         return Ok(Item::Rule(rule_item(alloc, tokens)?));
     }
-    Err(tokens.expected(What::Item))
+    Err(tokens.error_expecting(What::Item))
 }
 
 /// The number of tokens of the shortest item, a packet. The list starts with room for all items of a valid text.

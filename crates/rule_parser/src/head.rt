@@ -33,8 +33,8 @@ pub fn packet_item<'a>(tokens: &mut Reader<'_, 'a>) -> Result<PacketItem<'a>, Pa
 {
     let name = tokens.name()?;
     tokens.sign(Sign::Equals)?;
-    let mid = tokens.labelled(Word::Mid)?;
-    let length = tokens.labelled(Word::Length)?;
+    let mid = tokens.read_labelled(Word::Mid)?;
+    let length = tokens.read_labelled(Word::Length)?;
     tokens.sign(Sign::Semicolon)?;
     Ok(PacketItem { name, mid, length })
 }
@@ -48,7 +48,7 @@ pub fn field_item<'a>(tokens: &mut Reader<'_, 'a>) -> Result<FieldItem<'a>, Pars
     tokens.sign(Sign::Equals)?;
     let packet = tokens.name()?;
     let kind = tokens.field_type()?;
-    let offset = tokens.labelled(Word::At)?;
+    let offset = tokens.read_labelled(Word::At)?;
     let mask = tokens.optional(Word::Mask)?;
     let stale = tokens.optional(Word::Stale)?;
     tokens.sign(Sign::Semicolon)?;
@@ -70,8 +70,8 @@ pub fn rule_head<'a>(tokens: &mut Reader<'_, 'a>) -> Result<RuleHead<'a>, ParseE
 {
     let name = tokens.name()?;
     let mode = tokens.state()?;
-    let fails = tokens.labelled(Word::Fails)?;
-    let sequence = tokens.labelled(Word::Sequence)?;
+    let fails = tokens.read_labelled(Word::Fails)?;
+    let sequence = tokens.read_labelled(Word::Sequence)?;
     tokens.word(Word::Event)?;
     let event_kind = tokens.level()?;
     let event_id = tokens.number()?;

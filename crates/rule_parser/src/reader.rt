@@ -99,7 +99,7 @@ impl<'t, 'a> Reader<'t, 'a> {
     }
 
     /// Returns the error that `what` is expected at the present place.
-    pub fn expected(&self, what: What) -> ParseError
+    pub fn error_expecting(&self, what: What) -> ParseError
         ensures { result ≡ Expected (place self.now) what }
     {
         ParseError::Expected {
@@ -114,7 +114,7 @@ impl<'t, 'a> Reader<'t, 'a> {
         ensures { Reads token_of self.new result
             (token_in (class_of (kind_of_word word)) self.old) }
     {
-        let missing = self.expected(What::Word(word));
+        let missing = self.error_expecting(What::Word(word));
         self.cursor.take(word.kind()).ok_or(missing)
     }
 
@@ -124,7 +124,7 @@ impl<'t, 'a> Reader<'t, 'a> {
         ensures { Reads token_of self.new result
             (token_in (class_of (kind_of_sign sign)) self.old) }
     {
-        let missing = self.expected(What::Sign(sign));
+        let missing = self.error_expecting(What::Sign(sign));
         self.cursor.take(sign.kind()).ok_or(missing)
     }
 
@@ -133,7 +133,7 @@ impl<'t, 'a> Reader<'t, 'a> {
     pub fn name(&mut self) -> Result<Name<'a>, ParseError>
         ensures { Reads name_of self.new result (name_in self.old) }
     {
-        let missing = self.expected(What::Name);
+        let missing = self.error_expecting(What::Name);
         self.cursor.name().ok_or(missing)
     }
 
@@ -142,7 +142,7 @@ impl<'t, 'a> Reader<'t, 'a> {
     pub fn operand_name(&mut self) -> Result<Name<'a>, ParseError>
         ensures { Reads name_of self.new result (operand_name_in self.old) }
     {
-        let missing = self.expected(What::Operand);
+        let missing = self.error_expecting(What::Operand);
         self.cursor.name().ok_or(missing)
     }
 
@@ -151,7 +151,7 @@ impl<'t, 'a> Reader<'t, 'a> {
     pub fn number(&mut self) -> Result<Number, ParseError>
         ensures { Reads number_of self.new result (number_in self.old) }
     {
-        let missing = self.expected(What::Number);
+        let missing = self.error_expecting(What::Number);
         self.cursor.number().ok_or(missing)
     }
 
@@ -160,7 +160,7 @@ impl<'t, 'a> Reader<'t, 'a> {
     pub fn string(&mut self) -> Result<&'a [u8], ParseError>
         ensures { Reads (λ text. text.now) self.new result (string_in self.old) }
     {
-        let missing = self.expected(What::Text);
+        let missing = self.error_expecting(What::Text);
         self.cursor.string().ok_or(missing)
     }
 
@@ -170,7 +170,7 @@ impl<'t, 'a> Reader<'t, 'a> {
         ensures { Reads (λ kind. kind) self.new result
             (value_in class.FieldKind field_type self.old) }
     {
-        let missing = self.expected(What::FieldKind);
+        let missing = self.error_expecting(What::FieldKind);
         self.cursor.field_type().ok_or(missing)
     }
 
@@ -179,7 +179,7 @@ impl<'t, 'a> Reader<'t, 'a> {
     pub fn state(&mut self) -> Result<ApMode, ParseError>
         ensures { Reads (λ mode. mode) self.new result (value_in class.State state self.old) }
     {
-        let missing = self.expected(What::State);
+        let missing = self.error_expecting(What::State);
         self.cursor.state().ok_or(missing)
     }
 
@@ -188,7 +188,7 @@ impl<'t, 'a> Reader<'t, 'a> {
     pub fn level(&mut self) -> Result<EventKind, ParseError>
         ensures { Reads (λ kind. kind) self.new result (value_in class.Level event_kind self.old) }
     {
-        let missing = self.expected(What::Level);
+        let missing = self.error_expecting(What::Level);
         self.cursor.level().ok_or(missing)
     }
 
@@ -197,13 +197,13 @@ impl<'t, 'a> Reader<'t, 'a> {
     pub fn comparison(&mut self) -> Result<CmpOp, ParseError>
         ensures { Reads (λ op. op) self.new result (value_in class.Compare comparison self.old) }
     {
-        let missing = self.expected(What::Compare);
+        let missing = self.error_expecting(What::Compare);
         self.cursor.comparison().ok_or(missing)
     }
 
     /// Reads a reserved word and the number after it.
     #[tactic(auto, unfolding(crate::specs::Left::labelled_in))]
-    pub fn labelled(&mut self, word: Word) -> Result<Number, ParseError>
+    pub fn read_labelled(&mut self, word: Word) -> Result<Number, ParseError>
         ensures { Reads number_of self.new result
             (labelled_in (class_of (kind_of_word word)) self.old) }
     {
@@ -218,7 +218,7 @@ impl<'t, 'a> Reader<'t, 'a> {
             (option_in (class_of (kind_of_word word)) self.old) }
     {
         if self.begins(word.kind()) {
-            Ok(Some(self.labelled(word)?))
+            Ok(Some(self.read_labelled(word)?))
         } else {
             Ok(None)
         }

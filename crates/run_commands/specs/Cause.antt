@@ -8,20 +8,20 @@ use Rattle.rpn_compiler.specs.declared.error.CompileError.{CompileError}
 use Rattle.flight_core.specs.declared.error.Report.{Report}
 use Rattle.flight_core.specs.declared.error.RunError.{RunError}
 use Rattle.flight_core.specs.declared.error.RunError.TheVariants as run
-use Rattle.run_course.specs.declared.ending.Ending.{Ending}
-use Rattle.run_course.specs.declared.ending.Ending.TheVariants as ending
-use Rattle.run_report.specs.declared.error.ReportError.{ReportError}
-use Rattle.run_report.specs.declared.error.ReportError.TheVariants as page
+use Rattle.run_stepper.specs.declared.ending.Ending.{Ending}
+use Rattle.run_stepper.specs.declared.ending.Ending.TheVariants as ending
+use Rattle.run_page.specs.declared.error.ReportError.{ReportError}
+use Rattle.run_page.specs.declared.error.ReportError.TheVariants as page
 use Rattle.run_comparison.specs.declared.comparison.Compared.{Compared}
 use Rattle.run_comparison.specs.declared.error.ComparisonError.{ComparisonError}
 use Rattle.run_comparison.specs.declared.error.ComparisonError.TheVariants as comparison
 use Rattle.run_comparison.specs.declared.error.Which.TheVariants as which
-use Rattle.run_expectations.specs.declared.error.TrialError.{TrialError}
-use Rattle.run_expectations.specs.declared.error.TrialError.TheVariants as trial
-use Rattle.run_expectations.specs.declared.reading.ReadError.{ReadError}
-use Rattle.run_expectations.specs.declared.reading.ReadError.TheVariants as reading
-use Rattle.scenario_words.specs.declared.error.ScenarioError.{ScenarioError}
-use Rattle.scenario_words.specs.declared.error.ScenarioError.TheVariants as scenario
+use Rattle.scenario_trial.specs.declared.error.TrialError.{TrialError}
+use Rattle.scenario_trial.specs.declared.error.TrialError.TheVariants as trial
+use Rattle.scenario_trial.specs.declared.expectation_lines.ReadError.{ReadError}
+use Rattle.scenario_trial.specs.declared.expectation_lines.ReadError.TheVariants as reading
+use Rattle.scenarios.specs.declared.error.ScenarioError.{ScenarioError}
+use Rattle.scenarios.specs.declared.error.ScenarioError.TheVariants as scenario
 use Rattle.tool_faults.specs.Cause.{IsOfInput, IsOfOutput, IsOfScript, IsOfWrite, IsToldFault}
 use Rattle.tool_faults.specs.declared.fault.Fault.{Fault}
 use Rattle.tool_faults.specs.declared.fault.Fault.TheVariants as fault

@@ -8,7 +8,9 @@ use run_comparison::{Compared, ComparisonError, Side, Which, write_comparison};
 use std::cell::Cell;
 use std::fs::Files;
 use std::io::{ErrorKind, Write};
-use tool_faults::{Fault, LONGEST_WHOLE, listed, read, read_text, schedule_in, written_fault};
+use tool_faults::{
+    Fault, LONGEST_WHOLE, listing_result, read, read_text, schedule_in, written_fault,
+};
 
 /// Why rule texts in files of these names aren't compared.
 fn comparison_fault<'a>(
@@ -82,7 +84,7 @@ pub fn compare<'a, R: Files + AllocGlobal, W: Write>(
     );
     match found {
         Ok(found) => {
-            listed(noted.flush())?;
+            listing_result(noted.flush())?;
             answer_of(found)
         }
         Err(error) => Err(comparison_fault(old, new, error, kind.get())),

@@ -24,7 +24,7 @@ fn refused_text<'a>(rules: &[&'a str], text: usize, error: CompileError) -> Faul
 }
 
 /// How a run of rule texts in these files ended, where its input and its output failed by these kinds of errors, if they did.
-fn answered<'a>(
+fn run_result<'a>(
     rules: &[&'a str],
     answer: Result<Report, RunError>,
     read: Option<ErrorKind>,
@@ -79,7 +79,7 @@ pub fn run<'a, R: Files + Eprint + AllocGlobal, I: Read + Drop, W: Write>(
     let mut reader = Reading::new(Noting::new(input, &read));
     let writer = Writing::new(Noting::new(Prompt { writer: out }, &written));
     let (answer, _device) = launch(rt.alloc(), slices.as_slice(), &plan, &mut reader, writer);
-    let Report { records, bytes } = answered(rules, answer, read.get(), written.get())?;
+    let Report { records, bytes } = run_result(rules, answer, read.get(), written.get())?;
     let _said = eprintln!(rt; "records {records}, bytes {bytes}");
     Ok(())
 }

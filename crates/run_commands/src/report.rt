@@ -6,8 +6,8 @@ ghost use Rattle.run_commands.specs.Cause.{answer_of_ending, fault_of_device, fa
 use flight_core::RunError;
 use lc_model::Reading;
 use program_files::{Noting, Why, begin, discard, fault_of, keep, reason_for};
-use run_course::Ending;
-use run_report::{Progress, ReportError, Run, Source, write_page};
+use run_page::{Progress, ReportError, Run, Source, write_page};
+use run_stepper::Ending;
 use schedules::Schedule;
 use std::alloc::{AllocError, Global};
 use std::cell::Cell;
@@ -23,7 +23,7 @@ const PART: u64 = 16_777_216;
 
 /// Tells on standard error how far a report is, where a person looks at it.
 #[derive(Drop)]
-struct Told<'a, R> {
+struct ProgressLine<'a, R> {
     rt: &'a R,
     is_watched: bool,
     /// The bytes of the stream, where they are known.
@@ -32,7 +32,7 @@ struct Told<'a, R> {
     next: u64,
 }
 
-impl<R> Told<'_, R> {
+impl<R> ProgressLine<'_, R> {
     /// The bytes of a part, behind which it is told again.
     fn part(&self) -> u64 {
         match self.of {
@@ -42,8 +42,8 @@ impl<R> Told<'_, R> {
     }
 }
 
-impl<R: Eprint> Progress for Told<'_, R> {
-    fn done(&mut self, bytes: u64) {
+impl<R: Eprint> Progress for ProgressLine<'_, R> {
+    fn update(&mut self, bytes: u64) {
         if !self.is_watched || bytes < self.next {
             return;
         }
@@ -96,7 +96,7 @@ fn write_to<R: Eprint, I: Read + Drop, F: Write + Drop>(
     run: &Run<'_, '_>,
     input: I,
     file: F,
-    told: &mut Told<'_, R>,
+    told: &mut ProgressLine<'_, R>,
 ) -> Result<Ending, ReportError> {
     let mut reader = Reading::new(input);
     let Ok(mut out) = BufWriter::new(alloc, file) else {
@@ -144,7 +144,7 @@ fn stream_of<'a, R: Files>(rt: &R, name: &'a str) -> Result<(R::File, Option<u64
 }
 
 /// The rule texts, each with the name of its file.
-fn named<'a, 't>(
+fn sources_of<'a, 't>(
     alloc: Global,
     rules: &[&'a str],
     texts: &'t [Vec<u8>],
@@ -161,7 +161,7 @@ fn named<'a, 't>(
 
 /// Writes the page beside its name, which it takes at the end. Where there is none the old page stays.
 fn put_page<'a, R: Files + Eprint + AllocGlobal, I: Read + Drop>(
-    told: &mut Told<'_, R>,
+    told: &mut ProgressLine<'_, R>,
     plan: &Schedule,
     run: &Run<'_, '_>,
     input: I,
@@ -205,7 +205,7 @@ pub fn make_page<'a, R: Files + Eprint + AllocGlobal>(
     let texts = texts_in(rt, rules)?;
     is_apart(rt, page, &[schedule, stream])?;
     is_apart(rt, page, rules)?;
-    let sources = named(rt.alloc(), rules, texts.as_slice())?;
+    let sources = sources_of(rt.alloc(), rules, texts.as_slice())?;
     let run = Run {
         plan: Source {
             name: schedule,
@@ -215,7 +215,7 @@ pub fn make_page<'a, R: Files + Eprint + AllocGlobal>(
         texts: sources.as_slice(),
         epoch: epoch.as_ref().map(|text| text.as_str()),
     };
-    let mut told = Told {
+    let mut told = ProgressLine {
         rt,
         is_watched,
         of,

@@ -3,11 +3,11 @@
 ghost use Rattle.run_commands.specs.Cause.{IsOfReading, IsOfScenario};
 
 use diagnostics::warnings_page_of;
-use line_messages::script_warnings;
 use program_files::{begin, discard, fault_of, keep};
 use rpn_compiler::{CompileError, compile};
-use run_expectations::{ReadError, read_expectations, script_error_at, silenced};
-use scenario_words::{ScenarioError, declared_in, plain_script};
+use scenario_trial::{ReadError, read_expectations, script_error_at, silence};
+use scenarios::{ScenarioError, declared_in, plain_script};
+use script_errors::script_warnings;
 use std::alloc::Global;
 use std::fs::Files;
 use std::io::{Eprint, Write};
@@ -73,7 +73,7 @@ fn stream_of<'a>(
     if let Err(error) = read_expectations(alloc, script) {
         return Err(expectation_fault(alloc, name, scenario, error.at(&plain)));
     }
-    let quiet = silenced(alloc, script)?;
+    let quiet = silence(alloc, script)?;
     match read_script(alloc, quiet.as_slice()) {
         Ok(stream) => Ok(stream),
         Err(error) => Err(script_fault(alloc, name, scenario, script_error_at(&plain, error))),

@@ -4,14 +4,14 @@ ghost use Rattle.run_commands.specs.Cause.{IsOfTrial};
 
 use crate::scenario::{expectation_fault, words_fault};
 use program_files::Noting;
-use run_course::Plan;
-use run_expectations::{TrialError, Tried, try_scenario};
+use run_stepper::RunInputs;
+use scenario_trial::{TrialError, Tried, try_scenario};
 use std::alloc::Global;
 use std::cell::Cell;
 use std::fs::Files;
 use std::io::{ErrorKind, Write};
 use tool_faults::{
-    Fault, LONGEST_WHOLE, listed, read, schedule_in, script_fault, texts_in, written_fault,
+    Fault, LONGEST_WHOLE, listing_result, read, schedule_in, script_fault, texts_in, written_fault,
 };
 
 /// Why a script in a file of this name isn't tried with rule texts in files of these names.
@@ -54,7 +54,7 @@ pub fn try_out<'a, R: Files + AllocGlobal, W: Write>(
     for text in &texts {
         slices.push(text.as_slice())?;
     }
-    let plan = Plan {
+    let plan = RunInputs {
         texts: slices.as_slice(),
         schedule: &schedule,
     };
@@ -62,7 +62,7 @@ pub fn try_out<'a, R: Files + AllocGlobal, W: Write>(
     let mut noted = Noting::new(out, &kind);
     match try_scenario(rt.alloc(), script, text.as_slice(), plan, &mut noted) {
         Ok(Tried { expected: _, unmet }) => {
-            listed(noted.flush())?;
+            listing_result(noted.flush())?;
             if unmet > 0 { Err(Fault::Unmet) } else { Ok(()) }
         }
         Err(error) => Err(trial_fault(

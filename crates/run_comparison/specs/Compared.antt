@@ -2,7 +2,7 @@
 use Rattle.std.specs.Prelude.{ℕ, Bool, true, false, List, filter, Option, Some, None}
 use Rattle.lc_model.specs.declared.record.Moment.{Moment}
 use Rattle.packet_listing.specs.Told.{Told, Request, Event, Housekeeping, told_in}
-use Rattle.run_course.specs.Trace.{Arrived}
+use Rattle.run_stepper.specs.Trace.{Arrived}
 
 -- requests and events are, housekeeping isn't, and nothing that is none of these
 abbrev pub is_told : Option Told → Bool

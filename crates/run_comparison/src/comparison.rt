@@ -1,13 +1,13 @@
 //! From two rule texts and a stream to what differs.
 
 ghost use Rattle.std.specs.Prelude.{◌∷◌, [], IfOk};
-ghost use Rattle.run_course.specs.Trace.{IsTraced};
+ghost use Rattle.run_stepper.specs.Trace.{IsTraced};
 
 use crate::difference::only_in;
 use crate::error::{ComparisonError, Which};
-use crate::lines::{Line, lines_of};
+use crate::lines::{OutputLine, lines_of};
 use packet_listing::Time;
-use run_course::{Ending, Trace, trace_of};
+use run_stepper::{Ending, Trace, trace_of};
 use schedules::Schedule;
 use std::alloc::{AllocError, Global};
 use std::io::{self, Write};
@@ -30,7 +30,7 @@ pub struct Compared {
 }
 
 /// The lines in front that came of this record, and the lines behind them.
-fn parted(lines: &[Line], place: usize) -> (&[Line], &[Line]) {
+fn split_lines(lines: &[OutputLine], place: usize) -> (&[OutputLine], &[OutputLine]) {
     let count = lines.iter().take_while(|line| line.place == place).count();
     match lines.split_at_checked(count) {
         Some(parts) => parts,
@@ -39,7 +39,7 @@ fn parted(lines: &[Line], place: usize) -> (&[Line], &[Line]) {
 }
 
 /// The texts of lines.
-fn texts_of<'a>(alloc: Global, lines: &'a [Line]) -> Result<Vec<&'a [u8]>, AllocError> {
+fn texts_of<'a>(alloc: Global, lines: &'a [OutputLine]) -> Result<Vec<&'a [u8]>, AllocError> {
     let mut texts = Vec::new(alloc);
     for line in lines {
         texts.push(line.text.as_slice())?;
@@ -49,21 +49,21 @@ fn texts_of<'a>(alloc: Global, lines: &'a [Line]) -> Result<Vec<&'a [u8]>, Alloc
 
 /// Where a record stands: its moment and its number from 0.
 #[derive(Clone, Copy)]
-struct Place {
+struct RecordPlace {
     time: Time,
     record: usize,
 }
 
 /// The record of which a line came.
-fn place_of(line: &Line) -> Place {
-    Place {
+fn place_of(line: &OutputLine) -> RecordPlace {
+    RecordPlace {
         time: Time::at(line.moment),
         record: line.place,
     }
 }
 
 /// The least record of which one of these lines came first.
-fn first_place(old: &[Line], new: &[Line]) -> Option<Place> {
+fn first_place(old: &[OutputLine], new: &[OutputLine]) -> Option<RecordPlace> {
     match (old.first(), new.first()) {
         (None, None) => None,
         (Some(line), None) | (None, Some(line)) => Some(place_of(line)),
@@ -79,12 +79,12 @@ fn first_place(old: &[Line], new: &[Line]) -> Option<Place> {
 
 /// Writes the lines that came of a record with one text alone, and answers how many there are.
 fn write_alone<W: Write>(
-    place: Place,
+    place: RecordPlace,
     name: &str,
     lines: &[&[u8]],
     out: &mut W,
 ) -> io::Result<u64> {
-    let Place { time, record } = place;
+    let RecordPlace { time, record } = place;
     let number = record.saturating_add(1);
     let mut count = 0u64;
     for line in lines {
@@ -98,7 +98,7 @@ fn write_alone<W: Write>(
 
 /// The two texts' names.
 #[derive(Clone, Copy)]
-struct Names<'a> {
+struct TextNames<'a> {
     old: &'a str,
     new: &'a str,
 }
@@ -106,10 +106,10 @@ struct Names<'a> {
 /// Writes what differs of a record, and answers the counts with it.
 fn write_record<W: Write>(
     alloc: Global,
-    place: Place,
-    names: Names<'_>,
-    old: &[Line],
-    new: &[Line],
+    place: RecordPlace,
+    names: TextNames<'_>,
+    old: &[OutputLine],
+    new: &[OutputLine],
     counts: Compared,
     out: &mut W,
 ) -> Result<Compared, ComparisonError> {
@@ -131,9 +131,9 @@ fn write_record<W: Write>(
 /// Writes what differs, record by record.
 fn write_records<W: Write>(
     alloc: Global,
-    names: Names<'_>,
-    old: &[Line],
-    new: &[Line],
+    names: TextNames<'_>,
+    old: &[OutputLine],
+    new: &[OutputLine],
     is_whole: bool,
     out: &mut W,
 ) -> Result<Compared, ComparisonError> {
@@ -148,8 +148,8 @@ fn write_records<W: Write>(
         let Some(place) = first_place(olds, news) else {
             break;
         };
-        let (old_here, old_behind) = parted(olds, place.record);
-        let (new_here, new_behind) = parted(news, place.record);
+        let (old_here, old_behind) = split_lines(olds, place.record);
+        let (new_here, new_behind) = split_lines(news, place.record);
         counts = write_record(alloc, place, names, old_here, new_here, counts, out)?;
         olds = old_behind;
         news = new_behind;
@@ -195,7 +195,7 @@ pub fn write_comparison<W: Write>(
 ) -> Result<Compared, ComparisonError> {
     let before = run_of(alloc, schedule, stream, old.text, Which::Old)?;
     let after = run_of(alloc, schedule, stream, new.text, Which::New)?;
-    let names = Names {
+    let names = TextNames {
         old: old.name,
         new: new.name,
     };

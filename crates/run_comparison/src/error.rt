@@ -1,7 +1,7 @@
 //! Why there is no comparison.
 
 use rpn_compiler::CompileError;
-use run_course::CourseError;
+use run_stepper::CourseError;
 use std::alloc::{AllocError, AllocFailed};
 use std::io::{self, ErrorKind};
 use thiserror::Error;

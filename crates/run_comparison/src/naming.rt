@@ -15,7 +15,7 @@ const ABOUT_RULES: [u16; 4] = [3, 4, 5, 6];
 
 /// A rule, by what events and sequence requests say of it.
 #[derive(Clone, Copy)]
-pub struct Named<'a> {
+pub struct RuleNames<'a> {
     pub name: &'a [u8],
     /// The number of its own event, and what that says first.
     event: i64,
@@ -23,10 +23,10 @@ pub struct Named<'a> {
     pub sequence: i64,
 }
 
-impl<'a> Named<'a> {
+impl<'a> RuleNames<'a> {
     /// What is said of a rule.
-    fn of(rule: &RuleItem<'a>) -> Named<'a> {
-        Named {
+    fn of(rule: &RuleItem<'a>) -> RuleNames<'a> {
+        RuleNames {
             name: rule.name.text,
             event: rule.event_id.value,
             text: rule.text,
@@ -36,7 +36,7 @@ impl<'a> Named<'a> {
 }
 
 /// The rules of a text that compiles, in order. Out of memory is the only error.
-pub fn rules_of<'a>(alloc: Global, text: &'a [u8]) -> Result<Vec<Named<'a>>, AllocError> {
+pub fn rules_of<'a>(alloc: Global, text: &'a [u8]) -> Result<Vec<RuleNames<'a>>, AllocError> {
     let mut rules = Vec::new(alloc);
     let Ok(tokens) = lex(alloc, text) else {
         return Err(AllocError);
@@ -46,7 +46,7 @@ pub fn rules_of<'a>(alloc: Global, text: &'a [u8]) -> Result<Vec<Named<'a>>, All
     };
     for item in &file.items {
         if let Item::Rule(rule) = item {
-            rules.push(Named::of(rule))?;
+            rules.push(RuleNames::of(rule))?;
         }
     }
     Ok(rules)
@@ -78,7 +78,7 @@ pub struct About<'r, 't> {
 
 /// The rule with this number whose own event this is, where it is.
 fn own_event<'r, 't>(
-    rule: &Named<'r>,
+    rule: &RuleNames<'r>,
     number: usize,
     id: u16,
     text: &'t [u8],
@@ -98,7 +98,7 @@ fn own_event<'r, 't>(
 }
 
 /// The rule of which an event of the Limit Checker says how it failed or turned, where it does.
-fn about_rule<'r, 't>(rules: &[Named<'r>], id: u16, text: &'t [u8]) -> Option<About<'r, 't>> {
+fn about_rule<'r, 't>(rules: &[RuleNames<'r>], id: u16, text: &'t [u8]) -> Option<About<'r, 't>> {
     if !ABOUT_RULES.contains(&id) {
         return None;
     }
@@ -111,7 +111,11 @@ fn about_rule<'r, 't>(rules: &[Named<'r>], id: u16, text: &'t [u8]) -> Option<Ab
 }
 
 /// The rule that an event of the Limit Checker speaks of, where it speaks of one of these.
-pub fn spoken_of<'r, 't>(rules: &[Named<'r>], id: u16, text: &'t [u8]) -> Option<About<'r, 't>> {
+pub fn spoken_of<'r, 't>(
+    rules: &[RuleNames<'r>],
+    id: u16,
+    text: &'t [u8],
+) -> Option<About<'r, 't>> {
     for (number, rule) in rules.iter().enumerate() {
         let found = own_event(rule, number, id, text);
         if found.is_some() {

@@ -1,7 +1,7 @@
 //! What came of a record, as a line: rules are called by their names.
 
-use crate::naming::{Named, spoken_of};
-use packet_listing::{Event, Field, Sent, event_word};
+use crate::naming::{RuleNames, spoken_of};
+use packet_listing::{Event, Sent, TextField, event_word};
 use std::fmt::{self, Display, Formatter, Write};
 
 /// Who sends what the Limit Checker says.
@@ -9,21 +9,21 @@ const LIMIT_CHECKER: &[u8] = b"LC";
 
 /// A sequence request or an event, and the rules of the text in whose run it came.
 #[derive(Clone, Copy)]
-pub struct Said<'a> {
+pub struct RuleOutput<'a> {
     pub sent: Sent<'a>,
-    pub rules: &'a [Named<'a>],
+    pub rules: &'a [RuleNames<'a>],
 }
 
 /// The rules that request the sequence of this number.
 fn say_requesters<W: Write>(
-    rules: &[Named<'_>],
+    rules: &[RuleNames<'_>],
     sequence: u16,
     f: &mut Formatter<W>,
 ) -> fmt::Result {
     let mut sign = " (";
     for rule in rules {
         if rule.sequence == i64::from(sequence) {
-            let name = Field(rule.name);
+            let name = TextField(rule.name);
             write!(f, "{sign}{name}")?;
             sign = ", ";
         }
@@ -32,8 +32,12 @@ fn say_requesters<W: Write>(
 }
 
 /// An event, and of which rule it is.
-fn say_event<W: Write>(rules: &[Named<'_>], event: Event<'_>, f: &mut Formatter<W>) -> fmt::Result {
-    let sender = Field(event.sender);
+fn say_event<W: Write>(
+    rules: &[RuleNames<'_>],
+    event: Event<'_>,
+    f: &mut Formatter<W>,
+) -> fmt::Result {
+    let sender = TextField(event.sender);
     let level = event_word(event.kind);
     write!(f, "{sender} {} {level}", event.id)?;
     let found = if event.sender == LIMIT_CHECKER {
@@ -45,15 +49,15 @@ fn say_event<W: Write>(rules: &[Named<'_>], event: Event<'_>, f: &mut Formatter<
         Some(rule) => write!(
             f,
             " of {}: {}{}",
-            Field(rule.name),
-            Field(rule.text),
-            Field(rule.rest)
+            TextField(rule.name),
+            TextField(rule.text),
+            TextField(rule.rest)
         ),
-        None => write!(f, ": {}", Field(event.text)),
+        None => write!(f, ": {}", TextField(event.text)),
     }
 }
 
-impl Display for Said<'_> {
+impl Display for RuleOutput<'_> {
     fn fmt<W: Write>(&self, f: &mut Formatter<W>) -> fmt::Result {
         match self.sent {
             Sent::Request(sequence) => {

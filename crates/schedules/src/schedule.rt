@@ -17,11 +17,11 @@ const MOST_ENTRIES: usize = 8;
 
 /// The entries of one slot, in order.
 #[derive(Debug, Drop)]
-struct Slot {
+struct ScheduleSlot {
     entries: ArrayVec<Entry, MOST_ENTRIES>,
 }
 
-impl Model for Slot {
+impl Model for ScheduleSlot {
     ghost use Rattle.std.specs.Prelude.{List};
     ghost use Rattle.lc_model.specs.Host.Schedule.{ScheduleEntry, AreEntries};
     ghost use Rattle.schedules.specs.Entry.{entries_of};
@@ -33,11 +33,11 @@ impl Model for Slot {
     ghost invariant = { λ s. AreEntries (entries_of s.entries.items) };
 }
 
-impl Slot {
-    fn new() -> Slot
+impl ScheduleSlot {
+    fn new() -> ScheduleSlot
         ensures { result ≡ [] }
     {
-        Slot {
+        ScheduleSlot {
             entries: ArrayVec::new(),
         }
     }
@@ -63,10 +63,10 @@ impl Slot {
         self.entries.as_slice()
     }
 
-    fn copy(&self) -> Slot
+    fn copy(&self) -> ScheduleSlot
         ensures { result ≡ self.now }
     {
-        Slot {
+        ScheduleSlot {
             entries: ArrayVec::try_from(self.entries.as_slice()).unwrap(),
         }
     }
@@ -76,7 +76,7 @@ impl Slot {
 /// slot n modulo the number of slots. Contracts see its slots as a list of lists.
 #[derive(Debug, Drop)]
 pub struct Schedule {
-    slots: Vec<Slot>,
+    slots: Vec<ScheduleSlot>,
 }
 
 impl Model for Schedule {
@@ -97,7 +97,7 @@ impl Schedule {
     {
         let mut empty = Vec::with_capacity(alloc, slots)?;
         for _ in 0..slots {
-            empty.push_reserved(Slot::new());
+            empty.push_reserved(ScheduleSlot::new());
         }
         Ok(Schedule { slots: empty })
     }

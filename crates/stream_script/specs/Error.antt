@@ -1,8 +1,8 @@
 -- What the errors of scripts say. This project's own.
 use Rattle.std.specs.Prelude.{◌≡◌, ℕ, Result, Ok, Err, ⊤}
 use Rattle.stream_script.specs.declared.error.Reason.{Reason}
-use Rattle.stream_script.specs.declared.error.Fault.{Fault}
-use Rattle.stream_script.specs.declared.error.Fault.TheVariants as fault
+use Rattle.stream_script.specs.declared.error.StatementFault.{StatementFault}
+use Rattle.stream_script.specs.declared.error.StatementFault.TheVariants as fault
 use Rattle.stream_script.specs.declared.error.ScriptError.{ScriptError}
 use Rattle.stream_script.specs.declared.error.ScriptError.TheVariants as error
 
@@ -18,7 +18,7 @@ abbrev pub ◌>>=◌ : {A B : Type 0} → Result A Reason → (A → Result B Re
 (Err reason) >>= next = Err reason
 
 -- the line was refused for this reason, want of memory aside
-abbrev pub IsRefused : {A : Type 0} → Result A Reason → Fault → Type 0
+abbrev pub IsRefused : {A : Type 0} → Result A Reason → StatementFault → Type 0
 IsRefused said (fault.Line reason) = said ≡ Err reason
 IsRefused said fault.Memory = ⊤
 

@@ -1,7 +1,7 @@
 //! Why a text says no stream.
 
 ghost use Rattle.std.specs.Prelude.{◌≡◌};
-ghost use Rattle.stream_script.specs.declared.error.Fault.TheVariants.{Line, Memory};
+ghost use Rattle.stream_script.specs.declared.error.StatementFault.TheVariants.{Line, Memory};
 
 use std::alloc::AllocError;
 use thiserror::Error;
@@ -48,23 +48,23 @@ pub enum ScriptError {
 
 /// Why a line adds nothing to a stream.
 #[derive(Clone, Copy)]
-pub(crate) enum Fault {
+pub(crate) enum StatementFault {
     Line(Reason),
     Memory,
 }
 
-impl From<AllocError> for Fault {
+impl From<AllocError> for StatementFault {
     ghost from_gives = { λ _ e. e ≡ Memory };
 
-    fn from(_error: AllocError) -> Fault {
-        Fault::Memory
+    fn from(_error: AllocError) -> StatementFault {
+        StatementFault::Memory
     }
 }
 
-impl From<Reason> for Fault {
+impl From<Reason> for StatementFault {
     ghost from_gives = { λ reason e. e ≡ Line reason };
 
-    fn from(reason: Reason) -> Fault {
-        Fault::Line(reason)
+    fn from(reason: Reason) -> StatementFault {
+        StatementFault::Line(reason)
     }
 }

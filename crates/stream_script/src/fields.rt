@@ -10,7 +10,7 @@ ghost use Rattle.stream_script.specs.Error.{IsRefused};
 ghost use Rattle.stream_script.specs.Fields.{field_bytes, field_set, fields_set, payload_of, payload_size, place_in, signed_number, some_type, value_in, written_at};
 ghost use Rattle.stream_script.specs.Part.{texts_of};
 
-use crate::error::{Fault, Reason};
+use crate::error::{Reason, StatementFault};
 use crate::number::number_in;
 use lc_model::FieldType;
 use std::alloc::Global;
@@ -22,7 +22,7 @@ const HEADERS: usize = 12;
 fn some_type(word: &[u8]) -> Result<FieldType, Reason>
     ensures { result ≡ some_type (field_type word.now) }
 {
-    match FieldType::named(word) {
+    match FieldType::from_word(word) {
         Some(kind) => Ok(kind),
         None => Err(Reason::UnknownType),
     }
@@ -36,7 +36,7 @@ fn is_negative(word: &[u8]) -> bool
 }
 
 /// The word without the `-` in front.
-fn unsigned(word: &[u8]) -> &[u8]
+fn without_sign(word: &[u8]) -> &[u8]
     ensures { result.now ≡ magnitude_text word.now }
 {
     if is_negative(word) { &word[1..] } else { word }
@@ -46,7 +46,7 @@ fn unsigned(word: &[u8]) -> &[u8]
 fn signed_number(word: &[u8]) -> Result<i64, Reason>
     ensures { result ≡ signed_number word.now }
 {
-    let number = i64::from(number_in(u32::MAX, unsigned(word))?);
+    let number = i64::from(number_in(u32::MAX, without_sign(word))?);
     Ok(if is_negative(word) { -number } else { number })
 }
 
@@ -163,7 +163,11 @@ fn fields_set(payload: Vec<u8>, words: &[&[u8]]) -> Result<Vec<u8>, Reason>
 }
 
 /// LENGTH {TYPE OFFSET VALUE}: the payload of a packet of this length, zeros but for the fields.
-pub(crate) fn payload_of(alloc: Global, size: &[u8], words: &[&[u8]]) -> Result<Vec<u8>, Fault>
+pub(crate) fn payload_of(
+    alloc: Global,
+    size: &[u8],
+    words: &[&[u8]],
+) -> Result<Vec<u8>, StatementFault>
     ensures said { IfOk result
         (λ payload. payload_of size.now (texts_of words.now) ≡ Ok payload.items) }
     ensures refused { IfErr result (IsRefused (payload_of size.now (texts_of words.now))) }

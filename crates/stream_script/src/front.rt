@@ -27,7 +27,7 @@ fn front_of_header(bytes: &[u8]) -> Front
     ensures stands { result ≡ front_of_kind (kind_numbered (slice_index bytes.now 0)) bytes.now }
     ensures inside { IsInside bytes.now result }
 {
-    let Some(kind) = RecordKind::numbered(bytes[0]) else {
+    let Some(kind) = RecordKind::from_number(bytes[0]) else {
         return Front::NoRecord;
     };
     let length = body_size(bytes);

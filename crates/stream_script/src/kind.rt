@@ -36,7 +36,7 @@ impl RecordKind {
     }
 
     /// The kind with this number.
-    pub(crate) fn numbered(number: u8) -> Option<RecordKind>
+    pub(crate) fn from_number(number: u8) -> Option<RecordKind>
         ensures { result ≡ kind_numbered number }
     {
         match number {

@@ -10,7 +10,7 @@ ghost use Rattle.stream_script.specs.Part.{most_parts};
 use crate::front::{Front, front_of};
 use crate::kind::RecordKind;
 use crate::shown::with_body;
-use crate::text::{with_digits, with_number, with_text};
+use crate::text_building::{with_digits, with_number, with_text};
 use lc_model::stream::HEADER;
 use lc_model::{Moment, u16_at, u32_at};
 use std::alloc::{AllocError, Global};

@@ -7,7 +7,7 @@ ghost use Rattle.stream_script.specs.declared.kind.RecordKind.TheVariants.{Packe
 ghost use Rattle.lc_model.specs.Packet.{telemetry, command_header_size, count_end, longest_packet, telemetry_header_size};
 ghost use Rattle.stream_script.specs.Kind.{fits_kind};
 
-use crate::error::{Fault, Reason};
+use crate::error::{Reason, StatementFault};
 use crate::kind::RecordKind;
 use lc_model::Moment;
 use lc_model::packet::LONGEST_PACKET;
@@ -91,12 +91,12 @@ impl Script {
     }
 
     /// A record more, where one of this kind may have this body.
-    pub(crate) fn bring(self, kind: RecordKind, body: &[u8]) -> Result<Script, Fault>
+    pub(crate) fn bring(self, kind: RecordKind, body: &[u8]) -> Result<Script, StatementFault>
         ensures said { IfOk result (λ after. brought kind body.now self ≡ Ok after) }
         ensures refused { IfErr result (IsRefused (brought kind body.now self)) }
     {
         if !kind.may_bring(body) {
-            return Err(Fault::Line(Reason::BadBody));
+            return Err(StatementFault::Line(Reason::BadBody));
         }
         Ok(self.with_record(kind, body)?)
     }

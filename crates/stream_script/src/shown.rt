@@ -9,7 +9,7 @@ ghost use Rattle.stream_script.specs.Kind.{fits_kind};
 ghost use Rattle.stream_script.specs.Listing.{any_order_shown, app_order, body_shown, event_order, file_shown, half_shown, header_shown, mid_shown, order_shown, packet_shown, table_order};
 
 use crate::kind::RecordKind;
-use crate::text::{with_bytes, with_digits, with_name, with_size, with_text};
+use crate::text_building::{with_bytes, with_digits, with_name, with_size, with_text};
 use lc_model::packet::{function_code, message_id};
 use lc_model::{mids, name_in, u16_at};
 use std::alloc::{AllocError, Global};

@@ -6,7 +6,7 @@ ghost use Rattle.stream_script.specs.Error.{IsRefused};
 ghost use Rattle.stream_script.specs.Part.{texts_of};
 ghost use Rattle.stream_script.specs.Script.{app_ordered, command_brought, command_fits, fields_brought, fields_said, file_brought, five_words, four_words, half_brought, moment_set, moved_on, one_word, packet_brought, record_brought, sample_requested, sets_fields, some_words, statement, table_ordered, telemetry_brought, telemetry_fits, three_words, told, two_words, whole_record};
 
-use crate::error::{Fault, Reason};
+use crate::error::{Reason, StatementFault};
 use crate::fields::payload_of;
 use crate::kind::{RecordKind, some_kind};
 use crate::number::number_in;
@@ -40,7 +40,12 @@ fn moved_on(script: Script, seconds: &[u8]) -> Result<Script, Reason>
 }
 
 /// A record of this kind with this body, at the moment.
-fn record_brought(alloc: Global, script: Script, kind: &[u8], bytes: &[u8]) -> Result<Script, Fault>
+fn record_brought(
+    alloc: Global,
+    script: Script,
+    kind: &[u8],
+    bytes: &[u8],
+) -> Result<Script, StatementFault>
     ensures said { IfOk result (λ after. record_brought script kind.now bytes.now ≡ Ok after) }
     ensures refused { IfErr result (IsRefused (record_brought script kind.now bytes.now)) }
 {
@@ -57,7 +62,7 @@ fn whole_record(
     subseconds: &[u8],
     kind: &[u8],
     bytes: &[u8],
-) -> Result<Script, Fault>
+) -> Result<Script, StatementFault>
     ensures said { IfOk result
         (λ after. whole_record script seconds.now subseconds.now kind.now bytes.now ≡ Ok after) }
     ensures refused { IfErr result
@@ -68,7 +73,7 @@ fn whole_record(
 }
 
 /// `packet BYTES`.
-fn packet_brought(alloc: Global, script: Script, bytes: &[u8]) -> Result<Script, Fault>
+fn packet_brought(alloc: Global, script: Script, bytes: &[u8]) -> Result<Script, StatementFault>
     ensures said { IfOk result (λ after. packet_brought script bytes.now ≡ Ok after) }
     ensures refused { IfErr result (IsRefused (packet_brought script bytes.now)) }
 {
@@ -77,7 +82,12 @@ fn packet_brought(alloc: Global, script: Script, bytes: &[u8]) -> Result<Script,
 }
 
 /// `file NAME BYTES`.
-fn file_brought(alloc: Global, script: Script, name: &[u8], bytes: &[u8]) -> Result<Script, Fault>
+fn file_brought(
+    alloc: Global,
+    script: Script,
+    name: &[u8],
+    bytes: &[u8],
+) -> Result<Script, StatementFault>
     ensures said { IfOk result (λ after. file_brought script name.now bytes.now ≡ Ok after) }
     ensures refused { IfErr result (IsRefused (file_brought script name.now bytes.now)) }
 {
@@ -95,7 +105,7 @@ fn half_brought(
     half: u8,
     text: &[u8],
     name: &[u8],
-) -> Result<Script, Fault>
+) -> Result<Script, StatementFault>
     ensures said { IfOk result (λ after. half_brought script half text.now name.now ≡ Ok after) }
     ensures refused { IfErr result (IsRefused (half_brought script half text.now name.now)) }
 {
@@ -108,7 +118,7 @@ fn half_brought(
 }
 
 /// `start NAME`, `stop NAME`, `restart NAME`, `reload NAME`: the command of this code to the executive services.
-fn app_ordered(script: Script, code: u8, name: &[u8]) -> Result<Script, Fault>
+fn app_ordered(script: Script, code: u8, name: &[u8]) -> Result<Script, StatementFault>
     ensures said { IfOk result (λ after. app_ordered script code name.now ≡ Ok after) }
     ensures refused { IfErr result (IsRefused (app_ordered script code name.now)) }
 {
@@ -117,7 +127,7 @@ fn app_ordered(script: Script, code: u8, name: &[u8]) -> Result<Script, Fault>
 }
 
 /// `load FILE`, `validate TABLE`, `activate TABLE`, `abort TABLE`: the command of this code to the table services.
-fn table_ordered(script: Script, code: u8, name: &[u8]) -> Result<Script, Fault>
+fn table_ordered(script: Script, code: u8, name: &[u8]) -> Result<Script, StatementFault>
     ensures said { IfOk result (λ after. table_ordered script code name.now ≡ Ok after) }
     ensures refused { IfErr result (IsRefused (table_ordered script code name.now)) }
 {
@@ -126,7 +136,12 @@ fn table_ordered(script: Script, code: u8, name: &[u8]) -> Result<Script, Fault>
 }
 
 /// `sample FIRST LAST age` and `sample FIRST LAST keep`: the sample request.
-fn sample_requested(script: Script, first: &[u8], last: &[u8], ages: &[u8]) -> Result<Script, Fault>
+fn sample_requested(
+    script: Script,
+    first: &[u8],
+    last: &[u8],
+    ages: &[u8],
+) -> Result<Script, StatementFault>
     ensures said { IfOk result
         (λ after. sample_requested script first.now last.now ages.now ≡ Ok after) }
     ensures refused { IfErr result
@@ -147,7 +162,7 @@ fn telemetry_brought(
     mid: &[u8],
     count: &[u8],
     bytes: &[u8],
-) -> Result<Script, Fault>
+) -> Result<Script, StatementFault>
     ensures said { IfOk result
         (λ after. telemetry_brought script mid.now count.now bytes.now ≡ Ok after) }
     ensures refused { IfErr result
@@ -160,19 +175,24 @@ fn telemetry_brought(
 }
 
 /// A telemetry packet more, where it has at most 2,048 bytes.
-fn telemetry_fits(script: Script, mid: u16, count: u16, payload: &[u8]) -> Result<Script, Fault>
+fn telemetry_fits(
+    script: Script,
+    mid: u16,
+    count: u16,
+    payload: &[u8],
+) -> Result<Script, StatementFault>
     requires { count < count_end }
     ensures said { IfOk result (λ after. telemetry_fits mid count payload.now script ≡ Ok after) }
     ensures refused { IfErr result (IsRefused (telemetry_fits mid count payload.now script)) }
 {
     if payload.len() > 2_036 {
-        return Err(Fault::Line(Reason::BadBody));
+        return Err(StatementFault::Line(Reason::BadBody));
     }
-    Ok(told(script, mid, count, payload)?)
+    Ok(add_telemetry(script, mid, count, payload)?)
 }
 
 /// Telemetry more, with the time of the moment.
-fn told(script: Script, mid: u16, count: u16, payload: &[u8]) -> Result<Script, AllocError>
+fn add_telemetry(script: Script, mid: u16, count: u16, payload: &[u8]) -> Result<Script, AllocError>
     requires count { count < count_end }
     requires size { telemetry_header_size + length payload.now ≤ longest_packet }
     ensures { IfOk result (λ after. after ≡ told mid count payload.now script) }
@@ -190,7 +210,7 @@ fn fields_brought(
     count: &[u8],
     size: &[u8],
     words: &[&[u8]],
-) -> Result<Script, Fault>
+) -> Result<Script, StatementFault>
     ensures said { IfOk result
         (λ after. fields_brought script mid.now count.now size.now (texts_of words.now) ≡
         Ok after) }
@@ -200,7 +220,7 @@ fn fields_brought(
     let mid = mid_in(alloc, mid)?;
     let count = number_in(16_383, count)?;
     let payload = payload_of(alloc, size, words)?;
-    Ok(told(script, mid, count as u16, payload.as_slice())?)
+    Ok(add_telemetry(script, mid, count as u16, payload.as_slice())?)
 }
 
 /// `command MID CODE BYTES`: the command of this code with this payload.
@@ -210,7 +230,7 @@ fn command_brought(
     mid: &[u8],
     code: &[u8],
     bytes: &[u8],
-) -> Result<Script, Fault>
+) -> Result<Script, StatementFault>
     ensures said { IfOk result
         (λ after. command_brought script mid.now code.now bytes.now ≡ Ok after) }
     ensures refused { IfErr result (IsRefused (command_brought script mid.now code.now bytes.now)) }
@@ -222,17 +242,22 @@ fn command_brought(
 }
 
 /// A command more, where it has at most 2,048 bytes.
-fn command_fits(script: Script, mid: u16, code: u8, payload: &[u8]) -> Result<Script, Fault>
+fn command_fits(
+    script: Script,
+    mid: u16,
+    code: u8,
+    payload: &[u8],
+) -> Result<Script, StatementFault>
     ensures said { IfOk result (λ after. command_fits mid code payload.now script ≡ Ok after) }
     ensures refused { IfErr result (IsRefused (command_fits mid code payload.now script)) }
 {
     if payload.len() > 2_040 {
-        return Err(Fault::Line(Reason::BadBody));
+        return Err(StatementFault::Line(Reason::BadBody));
     }
     Ok(script.command(mid, code, payload)?)
 }
 
-fn one_word(script: Script, verb: &[u8]) -> Result<Script, Fault>
+fn one_word(script: Script, verb: &[u8]) -> Result<Script, StatementFault>
     ensures said { IfOk result (λ after. one_word script verb.now ≡ Ok after) }
     ensures refused { IfErr result (IsRefused (one_word script verb.now)) }
 {
@@ -241,11 +266,11 @@ fn one_word(script: Script, verb: &[u8]) -> Result<Script, Fault>
     } else if is(verb, b"housekeeping") {
         Ok(script.command(mids::LC_HOUSEKEEPING_REQUEST, 0, b"")?)
     } else {
-        Err(Fault::Line(Reason::UnknownStatement))
+        Err(StatementFault::Line(Reason::UnknownStatement))
     }
 }
 
-fn two_words(alloc: Global, script: Script, verb: &[u8], a: &[u8]) -> Result<Script, Fault>
+fn two_words(alloc: Global, script: Script, verb: &[u8], a: &[u8]) -> Result<Script, StatementFault>
     ensures said { IfOk result (λ after. two_words script verb.now a.now ≡ Ok after) }
     ensures refused { IfErr result (IsRefused (two_words script verb.now a.now)) }
 {
@@ -270,7 +295,7 @@ fn two_words(alloc: Global, script: Script, verb: &[u8], a: &[u8]) -> Result<Scr
     } else if is(verb, b"abort") {
         table_ordered(script, 4, a)
     } else {
-        Err(Fault::Line(Reason::UnknownStatement))
+        Err(StatementFault::Line(Reason::UnknownStatement))
     }
 }
 
@@ -280,7 +305,7 @@ fn three_words(
     verb: &[u8],
     a: &[u8],
     b: &[u8],
-) -> Result<Script, Fault>
+) -> Result<Script, StatementFault>
     ensures said { IfOk result (λ after. three_words script verb.now a.now b.now ≡ Ok after) }
     ensures refused { IfErr result (IsRefused (three_words script verb.now a.now b.now)) }
 {
@@ -293,7 +318,7 @@ fn three_words(
     } else if is(verb, b"adt") {
         half_brought(alloc, script, 2, a, b)
     } else {
-        Err(Fault::Line(Reason::UnknownStatement))
+        Err(StatementFault::Line(Reason::UnknownStatement))
     }
 }
 
@@ -304,7 +329,7 @@ fn four_words(
     a: &[u8],
     b: &[u8],
     c: &[u8],
-) -> Result<Script, Fault>
+) -> Result<Script, StatementFault>
     ensures said { IfOk result (λ after. four_words script verb.now a.now b.now c.now ≡ Ok after) }
     ensures refused { IfErr result (IsRefused (four_words script verb.now a.now b.now c.now)) }
 {
@@ -315,7 +340,7 @@ fn four_words(
     } else if is(verb, b"command") {
         command_brought(alloc, script, a, b, c)
     } else {
-        Err(Fault::Line(Reason::UnknownStatement))
+        Err(StatementFault::Line(Reason::UnknownStatement))
     }
 }
 
@@ -327,20 +352,20 @@ fn five_words(
     b: &[u8],
     c: &[u8],
     d: &[u8],
-) -> Result<Script, Fault>
+) -> Result<Script, StatementFault>
     ensures said { IfOk result
         (λ after. five_words script verb.now a.now b.now c.now d.now ≡ Ok after) }
     ensures refused { IfErr result
         (IsRefused (five_words script verb.now a.now b.now c.now d.now)) }
 {
     if !is(verb, b"record") {
-        return Err(Fault::Line(Reason::UnknownStatement));
+        return Err(StatementFault::Line(Reason::UnknownStatement));
     }
     whole_record(alloc, script, a, b, c, d)
 }
 
 /// What a line with these words says, where its statement has a certain number of words.
-fn some_words(alloc: Global, script: Script, words: &[&[u8]]) -> Result<Script, Fault>
+fn some_words(alloc: Global, script: Script, words: &[&[u8]]) -> Result<Script, StatementFault>
     ensures said { IfOk result (λ after. some_words script (texts_of words.now) ≡ Ok after) }
     ensures refused { IfErr result (IsRefused (some_words script (texts_of words.now))) }
 {
@@ -350,8 +375,8 @@ fn some_words(alloc: Global, script: Script, words: &[&[u8]]) -> Result<Script, 
         [verb, a, b] => three_words(alloc, script, verb, a, b),
         [verb, a, b, c] => four_words(alloc, script, verb, a, b, c),
         [verb, a, b, c, d] => five_words(alloc, script, verb, a, b, c, d),
-        [] => Err(Fault::Line(Reason::UnknownStatement)),
-        [_, _, _, _, _, _, ..] => Err(Fault::Line(Reason::UnknownStatement)),
+        [] => Err(StatementFault::Line(Reason::UnknownStatement)),
+        [_, _, _, _, _, _, ..] => Err(StatementFault::Line(Reason::UnknownStatement)),
     }
 }
 
@@ -366,7 +391,7 @@ fn sets_fields(words: &[&[u8]]) -> bool
 }
 
 /// What a line says whose first word is `fields`.
-fn fields_said(alloc: Global, script: Script, words: &[&[u8]]) -> Result<Script, Fault>
+fn fields_said(alloc: Global, script: Script, words: &[&[u8]]) -> Result<Script, StatementFault>
     ensures said { IfOk result (λ after. fields_said script (texts_of words.now) ≡ Ok after) }
     ensures refused { IfErr result (IsRefused (fields_said script (texts_of words.now))) }
 {
@@ -374,12 +399,16 @@ fn fields_said(alloc: Global, script: Script, words: &[&[u8]]) -> Result<Script,
         [_, mid, count, size, fields @ ..] => fields_brought(
             alloc, script, mid, count, size, fields,
         ),
-        [] | [_] | [_, _] | [_, _, _] => Err(Fault::Line(Reason::UnknownStatement)),
+        [] | [_] | [_, _] | [_, _, _] => Err(StatementFault::Line(Reason::UnknownStatement)),
     }
 }
 
 /// What a line with these words says.
-pub(crate) fn statement(alloc: Global, script: Script, words: &[&[u8]]) -> Result<Script, Fault>
+pub(crate) fn statement(
+    alloc: Global,
+    script: Script,
+    words: &[&[u8]],
+) -> Result<Script, StatementFault>
     ensures said { IfOk result (λ after. statement script (texts_of words.now) ≡ Ok after) }
     ensures refused { IfErr result (IsRefused (statement script (texts_of words.now))) }
 {

@@ -6,7 +6,7 @@ ghost use Rattle.stream_script.specs.Error.{IsRefused};
 ghost use Rattle.stream_script.specs.Number.{bytes_in};
 ghost use Rattle.stream_script.specs.Script.{ages_in, mid_in, name_field};
 
-use crate::error::{Fault, Reason};
+use crate::error::{Reason, StatementFault};
 use hex::FromHexError;
 use lc_model::u16_at;
 use std::alloc::Global;
@@ -19,7 +19,7 @@ pub(crate) fn is(word: &[u8], other: &[u8]) -> bool
 }
 
 /// The bytes that a word writes: `-` for none, else two hexadecimal digits for each.
-pub(crate) fn bytes_in(alloc: Global, word: &[u8]) -> Result<Vec<u8>, Fault>
+pub(crate) fn bytes_in(alloc: Global, word: &[u8]) -> Result<Vec<u8>, StatementFault>
     ensures said { IfOk result (λ bytes. bytes_in word.now ≡ Ok bytes.items) }
     ensures refused { IfErr result (IsRefused (bytes_in word.now)) }
 {
@@ -28,8 +28,8 @@ pub(crate) fn bytes_in(alloc: Global, word: &[u8]) -> Result<Vec<u8>, Fault>
     }
     match hex::decode(alloc, word) {
         Ok(bytes) => Ok(bytes),
-        Err(FromHexError::OutOfMemory) => Err(Fault::Memory),
-        Err(_) => Err(Fault::Line(Reason::BadBytes)),
+        Err(FromHexError::OutOfMemory) => Err(StatementFault::Memory),
+        Err(_) => Err(StatementFault::Line(Reason::BadBytes)),
     }
 }
 
@@ -71,13 +71,13 @@ pub(crate) fn ages_in(word: &[u8]) -> Result<u8, Reason>
 }
 
 /// The message id that four hexadecimal digits write.
-pub(crate) fn mid_in(alloc: Global, word: &[u8]) -> Result<u16, Fault>
+pub(crate) fn mid_in(alloc: Global, word: &[u8]) -> Result<u16, StatementFault>
     ensures said { IfOk result (λ mid. mid_in word.now ≡ Ok mid) }
     ensures refused { IfErr result (IsRefused (mid_in word.now)) }
 {
     let bytes = bytes_in(alloc, word)?;
     if bytes.len() != 2 {
-        return Err(Fault::Line(Reason::BadNumber));
+        return Err(StatementFault::Line(Reason::BadNumber));
     }
     Ok(u16_at(bytes.as_slice(), 0))
 }

@@ -9,7 +9,7 @@ ghost use Rattle.stream_script.specs.Whole.{record_line, script_of, script_of_re
 
 use crate::front::{Front, front_of};
 use crate::kind::RecordKind;
-use crate::text::{with_bytes, with_number, with_text};
+use crate::text_building::{with_bytes, with_number, with_text};
 use lc_model::stream::HEADER;
 use lc_model::{Moment, u16_at, u32_at};
 use std::alloc::{AllocError, Global};

@@ -5,11 +5,11 @@
 #[cfg(test)]
 mod compiling;
 #[cfg(test)]
+mod devices;
+#[cfg(test)]
 mod effort;
 #[cfg(test)]
 mod numbers;
-#[cfg(test)]
-mod reading;
 #[cfg(test)]
 mod running;
 #[cfg(test)]

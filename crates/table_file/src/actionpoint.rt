@@ -14,7 +14,7 @@ ghost use Rattle.table_file.specs.Layout.{layout_of};
 use crate::codes::{event_kind_of, state_of};
 use crate::entry::entry_bytes;
 use crate::layout::Layout;
-use lc_model::words::EQUAL;
+use lc_model::equation_words::EQUAL;
 use lc_model::{ApMode, EventKind, ReportMaxima, name_in, u16_at};
 use std::marker::Model;
 

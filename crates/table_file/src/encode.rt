@@ -15,7 +15,7 @@ use crate::error::FileError;
 use crate::image::{AdtImage, TableEntry, WdtImage};
 use crate::layout::Layout;
 use crate::output::{push_u16, push_u32, push_words, push_zeros};
-use lc_model::words::EQUAL;
+use lc_model::equation_words::EQUAL;
 use lc_model::{TABLE_ENTRIES, Term};
 use std::alloc::{AllocError, Global};
 

@@ -10,7 +10,7 @@ ghost use Rattle.table_listing.specs.Formula.{AreNumbers, IsTreeOf, formula_of, 
 
 use crate::equation::{Equation, Operator};
 use lc_model::TABLE_ENTRIES;
-use lc_model::words::{AND, NOT, OR, XOR};
+use lc_model::equation_words::{AND, NOT, OR, XOR};
 use std::alloc::{AllocError, Global};
 
 /// Negates the last waiting operand.

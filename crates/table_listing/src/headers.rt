@@ -6,8 +6,8 @@ ghost use Rattle.lc_model.specs.Name.{name_in};
 ghost use Rattle.lc_model.specs.Tables.Image.{preamble_length};
 ghost use Rattle.table_listing.specs.Headers.{file_line, table_line, preamble_lines, preamble_lines_of};
 
-use crate::shown::{InHex, Named};
-use crate::words::kind_word;
+use crate::shown::{InHex, QuotedName};
+use crate::value_names::kind_word;
 use std::fmt::{self, Display, Formatter, Write};
 use table_file::{TableFile, preamble};
 
@@ -77,7 +77,7 @@ impl Display for FileLine {
 }
 
 /// The line of the table header, as `table: "LC.LC_WDT" description "" reserved 0 offset 0 bytes 4264`. Name and
-/// description end at their first zero byte and display as `Named`. Every file that opens has offset 0.
+/// description end at their first zero byte and display as `QuotedName`. Every file that opens has offset 0.
 #[derive(Clone, Copy)]
 pub struct TableLine<'a> {
     /// The table's name.
@@ -117,7 +117,7 @@ impl Display for TableLine<'_> {
             reserved,
             size,
         } = *self;
-        let (name, description) = (Named(name), Named(description));
+        let (name, description) = (QuotedName(name), QuotedName(description));
         write!(
             f,
             "table: \"{name}\" description \"{description}\" reserved {reserved} offset 0 bytes {size}"

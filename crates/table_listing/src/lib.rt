@@ -11,7 +11,7 @@ pub mod laws;
 mod lines;
 mod listing;
 mod shown;
-mod words;
+mod value_names;
 
 pub use decompiler::decompile;
 pub use equation::{Equation, Operator};
@@ -20,5 +20,5 @@ pub use headers::{FileLine, PreambleLines, TableLine};
 pub use judged::{FaultLine, RefusalLine};
 pub use lines::{ActionpointLine, WatchpointLine};
 pub use listing::list_table;
-pub use shown::{InHex, Named, Shown};
-pub use words::{state_word, type_word};
+pub use shown::{InHex, QuotedName, Shown};
+pub use value_names::{state_word, type_word};

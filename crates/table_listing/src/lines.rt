@@ -6,7 +6,7 @@ ghost use Rattle.table_listing.specs.Lines as line;
 
 use crate::equation::Equation;
 use crate::shown::Shown;
-use crate::words::{comparison_sign, level_word, state_word, type_word};
+use crate::value_names::{comparison_sign, level_word, state_word, type_word};
 use lc_model::{ApMode, EventKind, ReportMaxima, Term};
 use std::fmt::{self, Display, Formatter, Write};
 

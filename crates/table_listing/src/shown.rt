@@ -60,9 +60,9 @@ impl Display for NamedByte {
 /// A name for between quotes. Each unprintable byte, quote and backslash displays as `\x` and two digits, so the name
 /// ends at the closing quote.
 #[derive(Clone, Copy)]
-pub struct Named<'a>(pub &'a [u8]);
+pub struct QuotedName<'a>(pub &'a [u8]);
 
-impl Display for Named<'_> {
+impl Display for QuotedName<'_> {
     ghost output = { λ bytes. Some (named bytes.0.now) };
 
     fn fmt<W: Write>(&self, f: &mut Formatter<W>) -> fmt::Result {

@@ -8,7 +8,7 @@ use Rattle.lc_model.specs.Tables.Image.{first_code, most_waiting, operands_of, w
 use Rattle.lc_model.proofs.Tables.SoundWords.{unknown, missing, too_few, too_many}
 use Rattle.lc_model.proofs.Facts.{or_false, tested_equal, or_assoc, unequal_turned}
 use Rattle.table_validator.specs.declared.operands.OperandCount.{OperandCount}
-use Rattle.table_validator.specs.declared.words.WordScan.{WordScan}
+use Rattle.table_validator.specs.declared.equation_words.WordScan.{WordScan}
 use Rattle.table_validator.specs.Scan.{operands_waiting, word_counted, unread, word_read, scan_tests, word_tests}
 
 -- ---- truth values

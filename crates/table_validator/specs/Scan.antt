@@ -7,7 +7,7 @@ use Rattle.lc_model.specs.Condition.{And}
 use Rattle.lc_model.specs.Tables.Equation.{operator_word, not_word, equal_word, is_mention, is_binary}
 use Rattle.lc_model.specs.Tables.Image.{operands_of, most_waiting, words_before_equal, words_after_equal, equation_tests}
 use Rattle.table_validator.specs.declared.operands.OperandCount.{OperandCount}
-use Rattle.table_validator.specs.declared.words.WordScan.{WordScan}
+use Rattle.table_validator.specs.declared.equation_words.WordScan.{WordScan}
 
 -- the number of operands that wait
 abbrev pub operands_waiting : OperandCount → ℕ

@@ -9,8 +9,8 @@ ghost use Rattle.lc_model.specs.Tables.Image as model;
 ghost use Rattle.lc_model.specs.Tables.Image.{actionpoint_code};
 ghost use Rattle.table_validator.specs.Fault.{code_number};
 
+use crate::equation_words::words_fault;
 use crate::fault::FaultCode;
-use crate::words::words_fault;
 use lc_model::is_text_byte;
 use table_file::{ActionpointEntry, are_zeros};
 

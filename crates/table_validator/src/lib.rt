@@ -4,12 +4,12 @@
 
 mod actionpoint;
 mod entry;
+mod equation_words;
 mod fault;
 mod image;
 mod operands;
 mod preamble;
 mod watchpoint;
-mod words;
 
 pub use fault::{FaultCode, TableFault, WHOLE_IMAGE};
 pub use image::{ValidImage, judged_before, validate};

@@ -6,7 +6,7 @@ ghost use Rattle.lc_model.specs.Tables.Equation as equation;
 ghost use Rattle.lc_model.specs.Tables.Image as model;
 ghost use Rattle.table_validator.specs.Scan.{operands_waiting, word_counted};
 
-use lc_model::words::{AND, EQUAL, NOT, XOR};
+use lc_model::equation_words::{AND, EQUAL, NOT, XOR};
 use lc_model::{MOST_WAITING, TABLE_ENTRIES};
 
 /// Whether the word is a watchpoint's number, below 176.

@@ -129,12 +129,12 @@ impl Table {
 
 /// At most two tables, in the order of their registration.
 #[derive(Debug, Drop)]
-pub(crate) struct Place {
+pub(crate) struct SeatTables {
     tables: Vec<Table>,
     spare: Vec<Images>,
 }
 
-impl Model for Place {
+impl Model for SeatTables {
     ghost use Rattle.std.specs.Prelude.{List, vec_capacity};
     ghost use Rattle.lc_model.specs.Services.Tables.{Table as Kept};
     ghost use Rattle.tbl_service.specs.Places.{IsPlace};
@@ -147,9 +147,9 @@ impl Model for Place {
         (vec_capacity p.spare) };
 }
 
-impl Place {
+impl SeatTables {
     /// Creates a place without tables. The only error is a lack of memory.
-    pub(crate) fn new(alloc: Global) -> Result<Place, TableError>
+    pub(crate) fn new(alloc: Global) -> Result<SeatTables, TableError>
         ensures empty { IfOk result (λ place. place ≡ []) }
         ensures memory { IfErr result (λ e. e ≡ Memory) }
     {
@@ -158,7 +158,7 @@ impl Place {
         for _ in 0..MAX_TABLES {
             spare.push(Images::new(alloc)?)?;
         }
-        Ok(Place { tables, spare })
+        Ok(SeatTables { tables, spare })
     }
 
     /// Adds a table without images and returns its number, or `None` if there are two tables already.

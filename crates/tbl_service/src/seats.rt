@@ -13,7 +13,7 @@ ghost use Rattle.tbl_service.specs.Places.{slot_among};
 ghost use Rattle.tbl_service.specs.Store.{NamedFile};
 
 use crate::error::TableError;
-use crate::place::{Place, number_of};
+use crate::place::{SeatTables, number_of};
 use crate::slot::Move;
 use lc_model::Seat;
 use std::marker::Model;
@@ -46,7 +46,7 @@ impl Slot {
 }
 
 /// The first table with this name, over all seats.
-pub(crate) fn find(places: &[Place], name: &[u8]) -> Option<Slot>
+pub(crate) fn find(places: &[SeatTables], name: &[u8]) -> Option<Slot>
     requires { length places.now ≡ seat_count }
     ensures slot { result ≡ handle_named name.now places.now }
     ensures there { IfSome result (λ slot. IsTrue (is_some (table_at slot places.now))) }
@@ -61,7 +61,7 @@ pub(crate) fn find(places: &[Place], name: &[u8]) -> Option<Slot>
 
 /// Adds a table without images to a seat. Error: `NoSlot` if the seat has two tables or the name is taken.
 pub(crate) fn register(
-    places: &mut [Place],
+    places: &mut [SeatTables],
     seat: Seat,
     name: &[u8],
     size: usize,
@@ -87,7 +87,7 @@ pub(crate) fn register(
 }
 
 /// Loads a table file to the table that the file names.
-pub(crate) fn load_into(places: &mut [Place], bytes: &[u8]) -> Result<(), TableError>
+pub(crate) fn load_into(places: &mut [SeatTables], bytes: &[u8]) -> Result<(), TableError>
     requires seats { length places.old ≡ seat_count }
     requires fits { length bytes.now ≤ max_file_size }
     ensures answer { answered result places.new ≡ loaded_among bytes.now places.old }
@@ -101,7 +101,7 @@ pub(crate) fn load_into(places: &mut [Place], bytes: &[u8]) -> Result<(), TableE
 }
 
 /// Loads an image to the table with this name.
-fn load_among(places: &mut [Place], table: &[u8], image: &[u8]) -> Result<(), TableError>
+fn load_among(places: &mut [SeatTables], table: &[u8], image: &[u8]) -> Result<(), TableError>
     requires seats { length places.old ≡ seat_count }
     requires fits { length image.now ≤ max_file_size }
     ensures answer { answered result places.new ≡ image_loaded_among image.now table.now
@@ -116,7 +116,7 @@ fn load_among(places: &mut [Place], table: &[u8], image: &[u8]) -> Result<(), Ta
 }
 
 /// Makes a file's image the active image of a handle's table, if the file opens.
-pub(crate) fn install_into(places: &mut [Place], slot: Slot, bytes: &[u8])
+pub(crate) fn install_into(places: &mut [SeatTables], slot: Slot, bytes: &[u8])
     requires seats { length places.old ≡ seat_count }
     requires registered { IsTrue (is_some (table_at slot places.old)) }
     requires fits { length bytes.now ≤ max_file_size }
@@ -131,7 +131,7 @@ pub(crate) fn install_into(places: &mut [Place], slot: Slot, bytes: &[u8])
 }
 
 /// Makes `image` the active image of a handle's table.
-fn install_image(places: &mut [Place], slot: Slot, image: &[u8])
+fn install_image(places: &mut [SeatTables], slot: Slot, image: &[u8])
     requires seats { length places.old ≡ seat_count }
     requires registered { IsTrue (is_some (table_at slot places.old)) }
     requires fits { length image.now ≤ max_file_size }
@@ -143,7 +143,7 @@ fn install_image(places: &mut [Place], slot: Slot, image: &[u8])
 
 /// Applies a command to the waiting image of the table with this name.
 pub(crate) fn change_among(
-    places: &mut [Place],
+    places: &mut [SeatTables],
     table: &[u8],
     change: Move,
 ) -> Result<(), TableError>
@@ -160,7 +160,7 @@ pub(crate) fn change_among(
 }
 
 /// Sets the owner's verdict on the image that it is asked about.
-pub(crate) fn judge(places: &mut [Place], slot: Slot, valid: bool)
+pub(crate) fn judge(places: &mut [SeatTables], slot: Slot, valid: bool)
     requires seats { length places.old ≡ seat_count }
     requires registered { IsTrue (is_some (table_at slot places.old)) }
     requires asked { IsTrue (is_some (waiting_at Asked (slot_among slot places.old))) }
@@ -171,7 +171,7 @@ pub(crate) fn judge(places: &mut [Place], slot: Slot, valid: bool)
 }
 
 /// Makes the activated image of a handle's table the active one.
-pub(crate) fn take(places: &mut [Place], slot: Slot)
+pub(crate) fn take(places: &mut [SeatTables], slot: Slot)
     requires seats { length places.old ≡ seat_count }
     requires registered { IsTrue (is_some (table_at slot places.old)) }
     requires activated { IsTrue (is_some (waiting_at Activated (slot_among slot places.old))) }

@@ -11,7 +11,7 @@ ghost use Rattle.tbl_service.specs.Error.{answered};
 ghost use Rattle.tbl_service.specs.Images.{waiting_seen};
 
 use crate::error::TableError;
-use crate::place::{Place, Table};
+use crate::place::{SeatTables, Table};
 use crate::seats::{Slot, change_among, install_into, judge, load_into, register, take};
 use crate::slot::{Move, Stage};
 use crate::store::Files;
@@ -24,7 +24,7 @@ use std::marker::Model;
 #[derive(Debug, Drop)]
 pub struct Tables {
     files: Files,
-    places: Vec<Place>,
+    places: Vec<SeatTables>,
 }
 
 impl Model for Tables {
@@ -47,7 +47,7 @@ impl Tables {
         let files = Files::new(alloc)?;
         let mut places = Vec::with_capacity(alloc, Seat::COUNT)?;
         for _ in 0..Seat::COUNT {
-            places.push(Place::new(alloc)?)?;
+            places.push(SeatTables::new(alloc)?)?;
         }
         Ok(Tables { files, places })
     }

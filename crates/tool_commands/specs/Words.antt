@@ -1,6 +1,6 @@
 -- The faults for words that are no command. This project's own.
-use Rattle.tool_words.specs.declared.error.WordsError.{WordsError}
-use Rattle.tool_words.specs.declared.error.WordsError.TheVariants as words
+use Rattle.flight_tools_args.specs.declared.error.WordsError.{WordsError}
+use Rattle.flight_tools_args.specs.declared.error.WordsError.TheVariants as words
 use Rattle.tool_faults.specs.declared.fault.Fault.{Fault}
 use Rattle.tool_faults.specs.declared.fault.Fault.TheVariants as fault
 

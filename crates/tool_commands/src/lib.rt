@@ -6,11 +6,11 @@ ghost use Rattle.std.specs.Prelude.{◌≡◌};
 ghost use Rattle.tool_commands.specs.Words.{fault_of_words};
 ghost use Rattle.tool_faults.specs.Status.{status_by};
 
-use check_command::{Asked, check};
+use check_command::{CheckOptions, check};
+use flight_tools_args::{CommandPlan, WordsError, read_words};
 use std::fs::Files;
 use std::io::{self, BufWriter, Eprint, Input, Print, Read, Write};
 use tool_faults::Fault;
-use tool_words::{Plan, WordsError, read_words};
 
 /// Does what the words ask for, with the program's name first, and returns the exit status (docs/TOOLS.md).
 /// Listings, help and live packets go to standard output, all else to standard error; so does progress if
@@ -48,16 +48,23 @@ pub fn obey<'a, R: Files + Eprint + AllocGlobal, I: Read + Drop, W: Write>(
     is_watched: bool,
 ) -> Result<(), Fault<'a>> {
     match read_words(rt.alloc(), words).map_err(words_fault)? {
-        Plan::Said(text) => file_commands::said(&text, out),
-        Plan::Table { file, watchpoints } => file_commands::table(rt, file, watchpoints, out),
-        Plan::Stream { file, whole, rows } => file_commands::stream(rt, file, whole, rows, out),
-        Plan::Packets { file, rows } => file_commands::packets(rt, file, rows, out),
-        Plan::Scenario {
+        CommandPlan::Said(text) => file_commands::write_help(&text, out),
+        CommandPlan::Table { file, watchpoints } => file_commands::table(
+            rt,
+            file,
+            watchpoints,
+            out,
+        ),
+        CommandPlan::Stream { file, whole, rows } => file_commands::stream(
+            rt, file, whole, rows, out,
+        ),
+        CommandPlan::Packets { file, rows } => file_commands::packets(rt, file, rows, out),
+        CommandPlan::Scenario {
             script,
             stream,
             rules,
         } => run_commands::make_stream(rt, script, stream, rules),
-        Plan::Report {
+        CommandPlan::Report {
             schedule,
             stream,
             page,
@@ -67,34 +74,34 @@ pub fn obey<'a, R: Files + Eprint + AllocGlobal, I: Read + Drop, W: Write>(
             let rules = rules.as_slice();
             run_commands::make_page(rt, schedule, stream, page, rules, epoch, is_watched)
         }
-        Plan::Check {
+        CommandPlan::Check {
             schedule,
             rules,
             all,
             strict,
             json,
         } => {
-            let asked = Asked {
+            let asked = CheckOptions {
                 is_all: all,
                 is_strict: strict,
                 is_json: json,
             };
             check(rt, schedule, rules.as_slice(), asked, out)
         }
-        Plan::Import { files, how } => file_commands::import(rt, files.as_slice(), how, out),
-        Plan::Export { stream, raw } => file_commands::export(rt, stream, raw),
-        Plan::Compare {
+        CommandPlan::Import { files, how } => file_commands::import(rt, files.as_slice(), how, out),
+        CommandPlan::Export { stream, raw } => file_commands::export(rt, stream, raw),
+        CommandPlan::Compare {
             schedule,
             stream,
             old,
             new,
         } => run_commands::compare(rt, schedule, stream, old, new, out),
-        Plan::Try {
+        CommandPlan::Try {
             script,
             schedule,
             rules,
         } => run_commands::try_out(rt, script, schedule, rules.as_slice(), out),
-        Plan::Live { schedule, rules } => run_commands::run(
+        CommandPlan::Live { schedule, rules } => run_commands::run(
             rt,
             schedule,
             rules.as_slice(),

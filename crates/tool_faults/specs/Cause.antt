@@ -10,12 +10,12 @@ use Rattle.program_files.specs.declared.why.Why.{Why}
 use Rattle.program_files.specs.declared.why.Why.TheVariants as why
 use Rattle.program_files.specs.declared.why.FileFault.{FileFault}
 use Rattle.program_files.specs.declared.why.FileFault.TheVariants as file
-use Rattle.line_messages.specs.declared.refusal.Refusal.{Refusal}
-use Rattle.line_messages.specs.declared.refusal.Refusal.TheVariants as refusal
+use Rattle.script_errors.specs.declared.refusal.Refusal.{Refusal}
+use Rattle.script_errors.specs.declared.refusal.Refusal.TheVariants as refusal
 use Rattle.stream_script.specs.declared.error.ScriptError.{ScriptError}
 use Rattle.stream_script.specs.declared.error.ScriptError.TheVariants as script
-use Rattle.judgement_listing.specs.declared.error.ListingError.{ListingError}
-use Rattle.judgement_listing.specs.declared.error.ListingError.TheVariants as judgement
+use Rattle.analysis_listing.specs.declared.error.ListingError.{ListingError}
+use Rattle.analysis_listing.specs.declared.error.ListingError.TheVariants as judgement
 use Rattle.tool_faults.specs.declared.fault.Fault.{Fault}
 use Rattle.tool_faults.specs.declared.fault.Fault.TheVariants as fault
 

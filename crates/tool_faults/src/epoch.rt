@@ -1,7 +1,7 @@
 //! The instant of second 0.
 
 use crate::fault::Fault;
-use listing_rows::Epoch;
+use packet_rows::Epoch;
 
 /// The instant that the option `--epoch` names, where it is given.
 pub fn epoch_of<'a>(word: Option<&'a str>) -> Result<Option<Epoch>, Fault<'a>> {

@@ -39,7 +39,7 @@ pub enum Fault<'a> {
     /// A rule text that is refused, which the listing says.
     Refused,
     /// Rules or tables that can't be judged, by their file's name.
-    Judgement(&'a str, judgement_listing::ListingError),
+    Judgement(&'a str, analysis_listing::ListingError),
     /// Warnings, which the listing says, where there may be none.
     Warned,
     /// A run that was stopped.

@@ -19,7 +19,7 @@ pub struct Feed<'a, F: Drop> {
 
 impl<'a, F: Read + Drop> Feed<'a, F> {
     /// What is held.
-    pub fn held(&self) -> &[u8] {
+    pub fn contents(&self) -> &[u8] {
         self.held.as_slice()
     }
 

@@ -3,8 +3,8 @@
 use crate::fault::Fault;
 use crate::files::{LONGEST_TEXT, read, read_text};
 use crate::telling::refusal_fault;
-use line_messages::read_schedule;
 use schedules::Schedule;
+use script_errors::read_schedule;
 use std::fs::Files;
 
 /// The schedule that a file's text is.

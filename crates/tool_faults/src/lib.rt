@@ -17,7 +17,7 @@ pub use crate::files::{
     LONGEST_TABLE, LONGEST_TEXT, LONGEST_WHOLE, fault_at, is_apart, read, read_text,
 };
 pub use crate::given::{schedule_in, schedule_of, texts_in};
-pub use crate::output::{input_fault, listed, output_fault, written_fault};
+pub use crate::output::{input_fault, listing_result, output_fault, written_fault};
 pub use crate::telling::{
     MOST_WARNINGS, alone, judgement_fault, line_fault, refusal_fault, script_fault, write_messages,
     write_warnings,

@@ -44,7 +44,7 @@ pub fn written_fault(kind: Option<ErrorKind>) -> Fault<'static>
 }
 
 /// What a listing that was written to standard output leaves: nothing, or why it wasn't taken, as `output_fault` says it.
-pub fn listed(written: io::Result<()>) -> Result<(), Fault<'static>>
+pub fn listing_result(written: io::Result<()>) -> Result<(), Fault<'static>>
     ensures { IsListed written result }
 {
     match written {

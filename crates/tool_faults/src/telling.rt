@@ -4,10 +4,10 @@ ghost use Rattle.std.specs.Prelude.{◌≡◌};
 ghost use Rattle.tool_faults.specs.Cause.{IsOfRefusal, IsOfScript, IsToldFault, fault_of_judgement};
 
 use crate::fault::Fault;
-use crate::output::listed;
+use crate::output::listing_result;
+use analysis_listing::ListingError;
 use diagnostics::{Mark, Message, message_line, page_of, warnings_page_of};
-use judgement_listing::ListingError;
-use line_messages::{Refusal, script_message};
+use script_errors::{Refusal, script_message};
 use std::alloc::{AllocError, Global};
 use std::fmt::Display;
 use std::io::Write;
@@ -121,9 +121,9 @@ fn write_objects<'a, W: Write>(
 ) -> Result<(), Fault<'a>> {
     for message in messages {
         let line = message_line(alloc, name, text, message)?;
-        listed(out.write_all(line.as_bytes()))?;
+        listing_result(out.write_all(line.as_bytes()))?;
     }
-    listed(out.flush())
+    listing_result(out.flush())
 }
 
 /// Writes messages of a text in a file of this name, as a page or each as an object.
@@ -139,8 +139,8 @@ pub fn write_messages<'a, W: Write>(
         return write_objects(alloc, name, text, messages, out);
     }
     let page = page_of(alloc, name, text, messages)?;
-    listed(out.write_all(page.as_bytes()))?;
-    listed(out.flush())
+    listing_result(out.write_all(page.as_bytes()))?;
+    listing_result(out.flush())
 }
 
 /// The most warnings of a text that are written on a page. All are counted, and each is an object.
@@ -160,6 +160,6 @@ pub fn write_warnings<'a, W: Write>(
     }
     let shown = warnings.len().min(MOST_WARNINGS);
     let page = warnings_page_of(alloc, name, text, &warnings[..shown])?;
-    listed(out.write_all(page.as_bytes()))?;
-    listed(out.flush())
+    listing_result(out.write_all(page.as_bytes()))?;
+    listing_result(out.flush())
 }

@@ -3,7 +3,7 @@
 use crate::claims::same;
 use crate::tables::{WDT, watchpoints};
 use lc_model::Reading;
-use run_report::{Run, Silent, Source, write_page};
+use run_page::{Run, Silent, Source, write_page};
 use schedules::parse_schedule;
 use std::alloc::{AllocError, Global};
 use std::env::{self, Env};
@@ -40,9 +40,9 @@ const FILES: &[(&str, &[u8])] = &[
 ];
 
 /// Words behind the program's name, the status, the line on standard error, and what is listed. `@` stands for the folder.
-type Row = (&'static [&'static str], u8, &'static str, &'static str);
+type CommandRow = (&'static [&'static str], u8, &'static str, &'static str);
 
-const ROWS: &[Row] = &[
+const ROWS: &[CommandRow] = &[
     (&["table", "@wdt"], 0, "", WDT),
     (
         &["table", "@cut"],
@@ -174,12 +174,12 @@ fn new_folder<R: Abort + Env + Files + AllocGlobal>(rt: &R) -> String {
 }
 
 /// The text with the folder's path in it.
-fn named<R: Abort + AllocGlobal>(rt: &R, folder: &str, text: &str) -> String {
+fn with_folder<R: Abort + AllocGlobal>(rt: &R, folder: &str, text: &str) -> String {
     text.replace(rt.alloc(), "@", folder).expect(rt, "memory")
 }
 
 fn write<R: Abort + Files + AllocGlobal>(rt: &R, folder: &str, name: &str, bytes: &[u8]) {
-    let path = named(rt, folder, name);
+    let path = with_folder(rt, folder, name);
     fs::write(rt, path.as_str(), bytes).expect(rt, "a file that is written");
 }
 
@@ -187,7 +187,7 @@ fn write<R: Abort + Files + AllocGlobal>(rt: &R, folder: &str, name: &str, bytes
 fn all_named<R: Abort + AllocGlobal>(rt: &R, folder: &str, words: &[&str]) -> Vec<String> {
     let mut all = Vec::new(rt.alloc());
     for word in words {
-        all.push(named(rt, folder, word)).expect(rt, "memory");
+        all.push(with_folder(rt, folder, word)).expect(rt, "memory");
     }
     all
 }
@@ -203,7 +203,7 @@ fn with_name<'a>(alloc: Global, words: &'a [String]) -> Result<Vec<&'a str>, All
 }
 
 /// The status with which the words end, and the line.
-fn ended<R: Abort + Files + Eprint + AllocGlobal>(
+fn status_and_line<R: Abort + Files + Eprint + AllocGlobal>(
     rt: &R,
     words: &[&str],
     out: &mut Vec<u8>,
@@ -218,27 +218,30 @@ fn ended<R: Abort + Files + Eprint + AllocGlobal>(
 }
 
 /// The words end with this status and this line, and this is listed.
-fn ends<R: Abort + Files + Eprint + AllocGlobal>(rt: &R, folder: &str, row: &Row) {
+fn ends<R: Abort + Files + Eprint + AllocGlobal>(rt: &R, folder: &str, row: &CommandRow) {
     let (words, status, line, listing) = *row;
     let spelled = all_named(rt, folder, words);
     let told = with_name(rt.alloc(), spelled.as_slice()).expect(rt, "memory");
     let mut out = Vec::new(rt.alloc());
-    let (found, said) = ended(rt, told.as_slice(), &mut out);
-    let line = named(rt, folder, line);
+    let (found, said) = status_and_line(rt, told.as_slice(), &mut out);
+    let line = with_folder(rt, folder, line);
     same(rt, words, (found, said.as_str()), (status, line.as_str()));
     same(rt, words, out.as_slice(), listing.as_bytes());
 }
 
 /// The file has these bytes.
 fn has<R: Abort + Files + AllocGlobal>(rt: &R, folder: &str, name: &str, expected: &[u8]) {
-    let path = named(rt, folder, name);
+    let path = with_folder(rt, folder, name);
     let found = fs::read(rt, path.as_str()).expect(rt, "a file that is read");
     same(rt, name, found.as_slice() == expected, true);
 }
 
 /// The page of the stream with both texts, under the names of their files.
 fn page<R: Abort + AllocGlobal>(rt: &R, folder: &str) -> Vec<u8> {
-    let (first, second) = (named(rt, folder, "@first"), named(rt, folder, "@second"));
+    let (first, second) = (
+        with_folder(rt, folder, "@first"),
+        with_folder(rt, folder, "@second"),
+    );
     let sources = [
         Source {
             name: first.as_str(),
@@ -251,7 +254,10 @@ fn page<R: Abort + AllocGlobal>(rt: &R, folder: &str) -> Vec<u8> {
     ];
     let schedule = parse_schedule(rt.alloc(), SCHEDULE).expect(rt, "a schedule");
     let mut page = Vec::new(rt.alloc());
-    let (plan, stream) = (named(rt, folder, "@schedule"), named(rt, folder, "@stream"));
+    let (plan, stream) = (
+        with_folder(rt, folder, "@schedule"),
+        with_folder(rt, folder, "@stream"),
+    );
     let run = Run {
         plan: Source {
             name: plan.as_str(),

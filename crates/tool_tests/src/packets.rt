@@ -1,24 +1,24 @@
 //! The lines of packets.
 
 use crate::claims::same;
-use packet_listing::{Line, list_packets};
+use packet_listing::{PacketLine, list_packets};
 use std::alloc::{AllocError, Global};
 use std::process::Abort;
 
 /// Bytes from a place on.
-type Part = (usize, &'static [u8]);
+type BytesAt = (usize, &'static [u8]);
 
 /// A packet of so many bytes with these parts, the others zero; and its line.
-type Row = (usize, &'static [Part], &'static str);
+type PacketRow = (usize, &'static [BytesAt], &'static str);
 
 /// How an event packet at second 100 and a half begins.
-const EVENT: Part = (0, b"\x08\x08\xC0\0\0\xA1\0\0\0\x64\x80\0");
+const EVENT: BytesAt = (0, b"\x08\x08\xC0\0\0\xA1\0\0\0\x64\x80\0");
 
-const LC: Part = (12, b"LC\0X");
+const LC: BytesAt = (12, b"LC\0X");
 
-const TEXT: Part = (44, b"bus \x071");
+const TEXT: BytesAt = (44, b"bus \x071");
 
-const EVENTS: &[Row] = &[
+const EVENTS: &[PacketRow] = &[
     (
         168,
         &[EVENT, LC, (32, b"\x03\xE9\0\x01"), TEXT],
@@ -80,7 +80,7 @@ const EVENTS: &[Row] = &[
     ),
 ];
 
-const OTHERS: &[Row] = &[
+const OTHERS: &[PacketRow] = &[
     (
         192,
         &[(
@@ -138,7 +138,7 @@ const OTHERS: &[Row] = &[
 ];
 
 /// The packet with these parts.
-fn packet(alloc: Global, size: usize, parts: &[Part]) -> Result<Vec<u8>, AllocError> {
+fn packet(alloc: Global, size: usize, parts: &[BytesAt]) -> Result<Vec<u8>, AllocError> {
     let mut bytes = vec![in alloc; 0; size]?;
     for &(from, part) in parts {
         for (place, byte) in bytes.iter_mut().skip(from).zip(part) {
@@ -149,7 +149,7 @@ fn packet(alloc: Global, size: usize, parts: &[Part]) -> Result<Vec<u8>, AllocEr
 }
 
 /// Packets are listed so.
-fn are_listed<R: Abort + AllocGlobal>(rt: &R, rows: &[Row]) {
+fn are_listed<R: Abort + AllocGlobal>(rt: &R, rows: &[PacketRow]) {
     for &(size, parts, line) in rows {
         let bytes = packet(rt.alloc(), size, parts).expect(rt, "memory for a packet");
         let mut listing = Vec::new(rt.alloc());
@@ -174,7 +174,7 @@ const SHORT: &[(&[u8], &str)] = &[
 #[test]
 fn a_line_of_a_packet_without_a_message_id(rt: HostRuntime) {
     for &(packet, expected) in SHORT {
-        let line = format!(in rt.alloc(); "{}", Line { number: 3, packet });
+        let line = format!(in rt.alloc(); "{}", PacketLine { number: 3, packet });
         let line = line.expect(&rt, "memory for a line");
         same(&rt, packet, line.as_str(), expected);
     }

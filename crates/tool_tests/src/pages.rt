@@ -2,8 +2,8 @@
 
 use crate::claims::same;
 use lc_model::{ByteSource, Pieces};
-use run_course::Ending;
-use run_report::{Progress, ReportError, Run, Silent, Source, write_page};
+use run_page::{Progress, ReportError, Run, Silent, Source, write_page};
+use run_stepper::Ending;
 use schedules::parse_schedule;
 use std::alloc::{AllocError, Global};
 use std::io::Write;
@@ -39,7 +39,7 @@ pub const LOW: Source<'static, 'static> = Source {
 
 /// The stream of a script in parts, and bytes behind it.
 pub fn stream_of<R: Abort + AllocGlobal>(rt: &R, script: &[&[u8]], behind: &[u8]) -> Vec<u8> {
-    let script = joined(rt.alloc(), script).expect(rt, "memory for a script");
+    let script = join_parts(rt.alloc(), script).expect(rt, "memory for a script");
     let mut stream = read_script(rt.alloc(), script.as_slice()).expect(rt, "a stream");
     stream
         .extend_from_slice(behind)
@@ -47,7 +47,7 @@ pub fn stream_of<R: Abort + AllocGlobal>(rt: &R, script: &[&[u8]], behind: &[u8]
     stream
 }
 
-fn joined(alloc: Global, parts: &[&[u8]]) -> Result<Vec<u8>, AllocError> {
+fn join_parts(alloc: Global, parts: &[&[u8]]) -> Result<Vec<u8>, AllocError> {
     let mut bytes = Vec::new(alloc);
     for part in parts {
         bytes.extend_from_slice(part)?;

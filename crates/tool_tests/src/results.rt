@@ -7,19 +7,19 @@ use crate::pages::{
     stream_of,
 };
 use lc_model::Pieces;
-use run_course::Ending;
-use run_report::{Progress, ReportError, Silent, Source};
+use run_page::{Progress, ReportError, Silent, Source};
+use run_stepper::Ending;
 use std::process::Abort;
 
 /// Texts, a script in parts, and what the page says of the run, each so many times.
-type Row = (
+type ResultRow = (
     &'static [Source<'static, 'static>],
     &'static [&'static [u8]],
     &'static [(&'static str, usize)],
 );
 
 /// Each page says what its row wants.
-fn show<R: Abort + AllocGlobal>(rt: &R, rows: &[Row]) {
+fn show<R: Abort + AllocGlobal>(rt: &R, rows: &[ResultRow]) {
     for &(sources, script, wanted) in rows {
         let stream = stream_of(rt, script, b"");
         shows(rt, sources, stream.as_slice(), wanted);
@@ -27,7 +27,7 @@ fn show<R: Abort + AllocGlobal>(rt: &R, rows: &[Row]) {
 }
 
 /// Both files, the start, two failing samples, a passing one, and the request for housekeeping.
-const TEN_RECORDS: Row = (
+const TEN_RECORDS: ResultRow = (
     &[LOW],
     &[BEGIN, FAIL, FAIL, PASS, ASK],
     &[
@@ -71,7 +71,7 @@ const TEN_RECORDS: Row = (
 );
 
 /// A failing sample, the request for housekeeping, a stop, and a tick.
-const STOPPED: Row = (
+const STOPPED: ResultRow = (
     &[LOW],
     &[BEGIN, FAIL, ASK, b"after 1\nstop LC\n", TICK],
     &[
@@ -91,7 +91,7 @@ const STOPPED: Row = (
 );
 
 /// The rule is disabled, turned off for good, the Limit Checker made passive, and stopped; then a tick.
-const TURNED_OFF: Row = (
+const TURNED_OFF: ResultRow = (
     &[LOW],
     &[
         BEGIN,
@@ -114,7 +114,7 @@ const TURNED_OFF: Row = (
 );
 
 /// A second rule, which requests with the first.
-const BOTH: Row = (
+const BOTH: ResultRow = (
     &[Source {
         name: "both.rules",
         text: b"packet P = mid 0x0883 length 16; field V = P u16be at 12 stale 2; rule LOW active fails 2 sequence 7 event error 1001 \"low volts\" when V < 2400; rule TOO active fails 2 sequence 8 event error 1002 \"too\" when V < 0x960;",
@@ -133,7 +133,7 @@ const BOTH: Row = (
     ],
 );
 
-const EMPTY: Row = (
+const EMPTY: ResultRow = (
     &[LOW],
     &[],
     &[
@@ -146,7 +146,7 @@ const EMPTY: Row = (
 
 /// A rule whose event has markup in its text, and a comment with markup in its condition, fails once; and a file has a name with
 /// markup and a byte that isn't text.
-const MARKUP: Row = (
+const MARKUP: ResultRow = (
     &[Source {
         name: "rules<1>",
         text: b"packet P = mid 0x0883 length 16; field V = P u16be at 12 stale 2; rule LOW active fails 1 sequence 7 event error 1001 \"<b>a & b</b>\" when not (V >= # <i>\n 2400);",
@@ -179,7 +179,7 @@ fn each_result_stands_behind_its_records(rt: HostRuntime) {
 
 /// Records 1 to 5: the first text, and a failing sample. 6 to 11: the second text's files are loaded and judged. 12 to 14: the
 /// verdicts, and both halves wait. 15: a tick. 16: they are adopted. 17 and 18: a passing sample.
-const SWAPPED: Row = (
+const SWAPPED: ResultRow = (
     &[
         LOW,
         Source {
@@ -225,7 +225,7 @@ const ALONE: &[(&str, usize)] = &[
     ),
 ];
 
-const WATCHPOINTS_ALONE: Row = (
+const WATCHPOINTS_ALONE: ResultRow = (
     &[LOW],
     &[
         BEGIN,
@@ -240,7 +240,7 @@ const WATCHPOINTS_ALONE: Row = (
     ALONE,
 );
 
-const ACTIONPOINTS_ALONE: Row = (
+const ACTIONPOINTS_ALONE: ResultRow = (
     &[LOW],
     &[
         BEGIN,
@@ -352,13 +352,13 @@ fn want_of_memory_is_answered(rt: HostRuntime) {
 
 /// The last that was told, and how often.
 #[derive(Drop)]
-struct Told {
+struct ProgressCount {
     times: usize,
     last: u64,
 }
 
-impl Progress for Told {
-    fn done(&mut self, bytes: u64) {
+impl Progress for ProgressCount {
+    fn update(&mut self, bytes: u64) {
         self.times = self.times.wrapping_add(1);
         self.last = bytes;
     }
@@ -396,7 +396,7 @@ const LANES: &[(&str, usize)] = &[
 #[test]
 fn ten_failures_among_twenty_thousand_records_are_told(rt: HostRuntime) {
     let stream = twenty_thousand(&rt);
-    let mut told = Told { times: 0, last: 0 };
+    let mut told = ProgressCount { times: 0, last: 0 };
     let mut page = Vec::new(rt.alloc());
     let answer = page_of(&rt, &[LOW], stream.as_slice(), &mut page, &mut told);
     let whole = Ending::Whole { records: 20_004 };

@@ -136,10 +136,10 @@ fn a_quote_within_a_name_ends_no_name(rt: HostRuntime) {
 }
 
 /// Bytes that are changed, and the listing's last line.
-type Row = (&'static [(usize, u8)], &'static str);
+type TableRow = (&'static [(usize, u8)], &'static str);
 
 /// The table's file with bytes changed has its last line.
-fn have_faults<R: Abort + AllocGlobal>(rt: &R, kind: Kind, table: Table, rows: &[Row]) {
+fn have_faults<R: Abort + AllocGlobal>(rt: &R, kind: Kind, table: Table, rows: &[TableRow]) {
     for &(edits, line) in rows {
         let mut file = file_of(rt, kind, table);
         for &(place, byte) in edits {
@@ -151,7 +151,7 @@ fn have_faults<R: Abort + AllocGlobal>(rt: &R, kind: Kind, table: Table, rows: &
     }
 }
 
-const OF_WATCHPOINTS: &[Row] = &[
+const OF_WATCHPOINTS: &[TableRow] = &[
     (&[(0, 0x64)], "refused 52: no cFE file\n"),
     (&[(7, 9)], "refused 53: no table file\n"),
     (
@@ -197,7 +197,7 @@ const OF_WATCHPOINTS: &[Row] = &[
     ),
 ];
 
-const OF_ACTIONPOINTS: &[Row] = &[
+const OF_ACTIONPOINTS: &[TableRow] = &[
     (&[(119, 7)], "\nfault 62 image: another table's kind\n"),
     (
         &[(119, 1)],

@@ -25,8 +25,8 @@ use Rattle.lc_model.specs.Host.Outcome.{Complete, Devices, Ending, answer}
 use Rattle.lc_model.specs.Host.Promise.{AreCompiled, CarriesHalf, CarryHalves, HaveOwnHashes, called_for, sequences_called_for}
 use Rattle.worked_examples.proofs.Reading.{low_volts_text, low_volts_rules, low_volts_reads}
 use Rattle.worked_examples.proofs.Missions.{text}
-use Rattle.rule_judgement.specs.Called.{IsNeverWritten}
-use Rattle.rule_judgement.specs.Judgement.{NeverFails}
+use Rattle.rule_analysis.specs.Called.{IsNeverWritten}
+use Rattle.rule_analysis.specs.Judgement.{NeverFails}
 use Rattle.worked_examples.proofs.Lower.{never, lower_volts, lower_text, lower_volts_rules, lower_volts_reads, lower_volts_text, lower_wdt, lower_wdt_is_half}
 use Rattle.flight_core.specs.Fitting.{Fits}
 use Rattle.whole_run_tests.specs.TwoTexts.{WritesBoth, lower_wdt_file, swaps_and_reload}

@@ -21,7 +21,7 @@ use Rattle.lc_model.specs.Host.Promise.{IsUndisturbed, Mission, called_for, sequ
 use Rattle.lc_model.specs.Host.Schedule.{Schedule}
 use Rattle.whole_run_tests.specs.Endings.{EndsWell}
 use Rattle.whole_run_tests.specs.LowVolts.{half_stored, low_volts_source, record_of, sampling, voltage}
-use Rattle.rule_judgement.specs.Called.{GainsNoRequest, packets_called_for}
+use Rattle.rule_analysis.specs.Called.{GainsNoRequest, packets_called_for}
 use Rattle.whole_run_tests.specs.WithStock.{mission, names}
 
 -- the second text: one failure below 2,000 requests sequence 8; a rule that never fails would request sequence 9

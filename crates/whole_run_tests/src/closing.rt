@@ -22,11 +22,11 @@ const START_AND_CUT: &[u8] =
 \x02\0";
 
 /// A stream, the read that fails or 0, the bytes that the writer takes, the most reads, and how the run ends.
-struct Row(&'static [u8], u64, usize, u32, Result<Report, RunError>);
+struct ClosingRow(&'static [u8], u64, usize, u32, Result<Report, RunError>);
 
 /// One row for each ending behind the first read.
-const ROWS: &[Row] = &[
-    Row(
+const ROWS: &[ClosingRow] = &[
+    ClosingRow(
         START,
         0,
         168,
@@ -36,22 +36,22 @@ const ROWS: &[Row] = &[
             bytes: 168,
         }),
     ),
-    Row(
+    ClosingRow(
         START_AND_NO_RECORD,
         0,
         168,
         9,
         Err(RunError::BadRecord { n: 2 }),
     ),
-    Row(START_AND_CUT, 0, 168, 9, Err(RunError::Truncated { n: 2 })),
-    Row(START, 2, 168, 9, Err(RunError::Read)),
-    Row(START, 0, 100, 9, Err(RunError::Write { sent: 100 })),
-    Row(START, 0, 168, 1, Err(RunError::ReadBound)),
+    ClosingRow(START_AND_CUT, 0, 168, 9, Err(RunError::Truncated { n: 2 })),
+    ClosingRow(START, 2, 168, 9, Err(RunError::Read)),
+    ClosingRow(START, 0, 100, 9, Err(RunError::Write { sent: 100 })),
+    ClosingRow(START, 0, 168, 1, Err(RunError::ReadBound)),
 ];
 
 /// The run of a row ends so, and the counter retired once.
-fn retires<R: Abort + AllocGlobal>(rt: &R, row: &Row) {
-    let Row(stream, read, limit, reads, expected) = row;
+fn retires<R: Abort + AllocGlobal>(rt: &R, row: &ClosingRow) {
+    let ClosingRow(stream, read, limit, reads, expected) = row;
     let schedule = parse_schedule(rt.alloc(), NO_ENTRIES).expect(rt, "a schedule");
     let mut source = Pieces::failing_at(stream, 99, *read);
     let mut room = [0; 168];
@@ -64,7 +64,7 @@ fn retires<R: Abort + AllocGlobal>(rt: &R, row: &Row) {
 }
 
 /// Each row, in turn.
-fn retire<R: Abort + AllocGlobal>(rt: &R, rows: &[Row]) {
+fn retire<R: Abort + AllocGlobal>(rt: &R, rows: &[ClosingRow]) {
     for row in rows {
         retires(rt, row);
     }

@@ -10,7 +10,7 @@ use crate::low_volts::LOW_VOLTS;
 use crate::with_stock::run_with_stock;
 use flight_core::{Report, RunError};
 use lc_model::{ByteSink, ByteSource};
-use rule_judgement::laws::quiet_sequences_are_not_written;
+use rule_analysis::laws::quiet_sequences_are_not_written;
 use schedules::Schedule;
 use std::alloc::{AllocError, Global};
 

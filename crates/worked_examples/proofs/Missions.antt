@@ -29,9 +29,9 @@ use Rattle.lc_model.specs.Kept.Effort.{no_effort}
 use Rattle.lc_model.specs.Kept.Summary.{AppState, LcState, SchState, CounterState}
 use Rattle.lc_model.specs.Kept.GoesWith.{own_name, GoesWith}
 use Rattle.lc_model.specs.Kept.Executive.{Member, Executive}
-use Rattle.host_laws.specs.Keeping.{KeepsTo, runs_in, standing_of, LimitChecker}
-use Rattle.host_laws.specs.Statements.{AreBytes, IsStock, IsShort, IsWhole, EachRecordKeeps, BeginsSo, SeatsGoWith, AreFineInputs, RecordsAreFine}
-use Rattle.host_laws.specs.Calls.{AreTwo}
+use Rattle.host_refinement.specs.Keeping.{KeepsTo, runs_in, standing_of, LimitChecker}
+use Rattle.host_refinement.specs.Statements.{AreBytes, IsStock, IsShort, IsWhole, EachRecordKeeps, BeginsSo, SeatsGoWith, AreFineInputs, RecordsAreFine}
+use Rattle.host_refinement.specs.Calls.{AreTwo}
 use Rattle.worked_examples.proofs.Watchpoints.{low_volts}
 use Rattle.worked_examples.proofs.Reading.{low_volts_text, low_volts_rules, low_volts_compiles}
 use Rattle.worked_examples.proofs.Halves.{hash, entries, entry_fits, wdt_is_half, adt_is_half}
@@ -241,7 +241,7 @@ it_runs : runs_in (standing_of last_world) LimitChecker ≡ true
 unfolding world_after starting digits
 it_runs = refl
 
--- by the laws that `host_laws` promises
+-- by the laws that `host_refinement` promises
 module _ (record_keeps : EachRecordKeeps bytes AreBytes low_volts_mission.schedule) (begins : BeginsSo bytes AreBytes low_volts_mission.schedule)
     (are_fine : RecordsAreFine) (seats_go : SeatsGoWith bytes AreBytes low_volts_mission.schedule) where
   kept_after : (entries : List StreamEntry) (w : World (List ℕ)) → Kept w → AreFineInputs bytes AreBytes low_volts_mission.schedule meanings entries → Kept (world_after w entries)

@@ -30,7 +30,7 @@ def counts_of(root):
         (rf"{NUMBER} crates\b(?! (?:of|below|above))", "lines of crates.txt", len(crates)),
         (rf"{NUMBER} (?:must-fail )?edits (?:are |is )?(?:tried by the gate|in `must-fail/`|that the gate tries)", "edits in must-fail/", sum("/must-fail/" in it for it in edits)),
         (rf"{NUMBER} edits\b(?! (?:are |is )?(?:tried by the gate|in `must-fail/`|that the gate tries))", "edits", len(edits)),
-        (rf"{NUMBER} whole runs\b", "folders with a row.txt in crates/rows/data", counted(root, "crates/rows/data/**/row.txt")),
+        (rf"{NUMBER} whole runs\b", "folders with a row.txt in crates/run_rows/data", counted(root, "crates/run_rows/data/**/row.txt")),
         (rf"{NUMBER} rule texts with (?:a )?mistakes?\b", "rule texts in tools/lib/programs/messages", len(glob.glob(f"{messages}/*.rules"))),
         (rf"{NUMBER} schedules with (?:a )?mistakes?\b", "schedules in tools/lib/programs/messages", len(glob.glob(f"{messages}/*.schedule"))),
         (rf"{NUMBER} scripts with (?:a )?mistakes?\b", "scripts in tools/lib/programs/messages", len(glob.glob(f"{messages}/*.script"))),

@@ -27,7 +27,7 @@ rule HIGH passive fails 3 sequence 8 event critical 1002 "high; the rule fails" 
 def texts():
     """The texts that mistakes are made in."""
     found = [TWO_PACKETS, TWO_PACKETS.replace("\n", " ")]
-    for name in sorted(glob.glob(f"{TOP}/crates/judgement_rows/data/*.rules")):
+    for name in sorted(glob.glob(f"{TOP}/crates/analysis_rows/data/*.rules")):
         with open(name, encoding="ascii") as file:
             found.append(file.read())
     return found

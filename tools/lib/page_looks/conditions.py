@@ -1,4 +1,4 @@
-"""Conditions of rules, from their words to comparisons and prefix order, as the page's data has them (crates/run_report/page/DATA.md)."""
+"""Conditions of rules, from their words to comparisons and prefix order, as the page's data has them (crates/run_page/page/DATA.md)."""
 
 import re
 

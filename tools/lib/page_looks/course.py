@@ -1,4 +1,4 @@
-"""A run that is made up, as the page's data (crates/run_report/page/DATA.md).
+"""A run that is made up, as the page's data (crates/run_page/page/DATA.md).
 
 No Limit Checker: it samples, ages, counts failures, requests and reports as far as a page's look needs it, so that its numbers go together.
 """

@@ -1,4 +1,4 @@
-"""Whether the data of a page obeys crates/run_report/page/DATA.md, as far as it says so of itself."""
+"""Whether the data of a page obeys crates/run_page/page/DATA.md, as far as it says so of itself."""
 
 import json
 import re

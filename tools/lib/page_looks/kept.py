@@ -1,4 +1,4 @@
-"""Lists of changes that are reduced by columns of records where there are too many: "Reduced entries" of crates/run_report/page/DATA.md."""
+"""Lists of changes that are reduced by columns of records where there are too many: "Reduced entries" of crates/run_page/page/DATA.md."""
 
 
 class Pool:

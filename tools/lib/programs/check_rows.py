@@ -1,7 +1,7 @@
 """`flight_tools check`, and `table --watchpoints`: what is said of rules before any packet comes.
 
 What is said of each text in the form of warnings is in `warnings/`; for which values rules fail and pass is in
-`crates/judgement_rows/stdout`, and here it is said behind a file's name."""
+`crates/analysis_rows/stdout`, and here it is said behind a file's name."""
 
 import json
 
@@ -10,8 +10,8 @@ from row import Row
 from tool_rows import ADT_LISTING, COMPILED, NOT_THERE, read, unusable
 from warning_rows import read as read_warnings
 
-SAID = read("judgement_rows/stdout").splitlines(keepends=True)
-DEAD = read("judgement_rows/data/dead_rules.rules")
+SAID = read("analysis_rows/stdout").splitlines(keepends=True)
+DEAD = read("analysis_rows/data/dead_rules.rules")
 
 
 def outcomes_of(title):

@@ -16,8 +16,8 @@ def read(path):
 
 
 # The recorded stream of the README, the script that says it, the packets of its run, and their listing.
-BUS_STREAM = read("rows/data/bus.stream")
-BUS_SCRIPT = read("rows/data/bus.scenario")
+BUS_STREAM = read("run_rows/data/bus.stream")
+BUS_SCRIPT = read("run_rows/data/bus.scenario")
 BUS_PACKETS = read("flight_tools/data/run.packets")
 BUS_LINES = read("flight_tools/stdout")
 

@@ -50,7 +50,7 @@ returns-in-Ok-false-clause-outcome g c = λ known output same.
       whole = ends_whole;
       cut = ends_cut;
     }) _ _ _ _ _ _ known output same _ _ _ _ _ _ c.loop-total.invariant.far _ _ _ _ _ _ _ (g.met.O.Outlet.shows c.handle_next.new.writer)
-    (g.met.O.Outlet.grows c.refill.new.out _ c.requires.had) none _ _ over c.loop-total.report refl refl c.ended.result c.ended.ensures.so
+    (g.met.O.Outlet.grows c.refill.new.out _ c.requires.had) none _ _ over c.loop-total.report refl refl c.result_at_end.result c.result_at_end.ensures.so
 
 pub returns-in-Err-refill-clause-outcome : goal.returns-in-Err-refill-clause-outcome
 returns-in-Err-refill-clause-outcome g c = λ known output same.
@@ -65,7 +65,7 @@ returns-in-Err-refill-clause-outcome g c = λ known output same.
       cut = ends_cut;
     }) _ _ _ _ _ _ known output same _ _ _ _ _ _ c.loop-total.invariant.far _ _ _ _ _ _ _ (g.met.O.Outlet.shows c.handle_next.new.writer)
     (g.met.O.Outlet.grows c.refill.new.out _ c.requires.had) none _ _ c.in-Err-refill.halt c.in-Err-refill.ensures.refilled
-    c.stopped.result (c.stopped.ensures.so ∙ ap (λ held. stopped_by c.in-Err-refill.halt c.loop-total.report.records c.loop-total.report.bytes held) c.held_in.ensures)
+    c.run_error.result (c.run_error.ensures.so ∙ ap (λ held. stopped_by c.in-Err-refill.halt c.loop-total.report.records c.loop-total.report.bytes held) c.held_in.ensures)
 
 pub returns-in-Err-clause-outcome : goal.returns-in-Err-clause-outcome
 returns-in-Err-clause-outcome g c = λ known output same.
@@ -79,7 +79,7 @@ returns-in-Err-clause-outcome g c = λ known output same.
       cut = ends_cut;
     }) _ _ _ _ _ _ known output same _ _ _ _ _ _ c.loop-total.invariant.far _ _ _ _ _ _ _ (g.met.O.Outlet.shows c.handle_next.new.writer)
     (g.met.O.Outlet.grows c.final_reason-reason.new.out _ c.requires.had) c.in-Err.halt c.final_reason-reason.result c.in-Err.ensures.next c.final_reason-reason.ensures
-    c.stopped-in-Err.result (c.stopped-in-Err.ensures.so ∙ ap (λ held. stopped_by c.final_reason-reason.result c.loop-total.report.records c.loop-total.report.bytes held) c.held_in-in-Err.ensures)
+    c.run_error-in-Err.result (c.run_error-in-Err.ensures.so ∙ ap (λ held. stopped_by c.final_reason-reason.result c.loop-total.report.records c.loop-total.report.bytes held) c.held_in-in-Err.ensures)
 
 pub returns-in-Ok-false-clause-reasons : goal.returns-in-Ok-false-clause-reasons
 returns-in-Ok-false-clause-reasons g c =
@@ -94,7 +94,7 @@ returns-in-Ok-false-clause-reasons g c =
       whole = ends_whole;
       cut = ends_cut;
     }) _ _ _ _ _ _ _ _ _ _ _ _ c.loop-total.invariant.far _ _ _ _ _ _ _ (g.met.O.Outlet.shows c.handle_next.new.writer)
-    (g.met.O.Outlet.grows c.refill.new.out _ c.requires.had) none _ _ over c.loop-total.report refl refl c.ended.result c.ended.ensures.so
+    (g.met.O.Outlet.grows c.refill.new.out _ c.requires.had) none _ _ over c.loop-total.report refl refl c.result_at_end.result c.result_at_end.ensures.so
 
 pub returns-in-Err-refill-clause-reasons : goal.returns-in-Err-refill-clause-reasons
 returns-in-Err-refill-clause-reasons g c =
@@ -109,7 +109,7 @@ returns-in-Err-refill-clause-reasons g c =
       cut = ends_cut;
     }) _ _ _ _ _ _ _ _ _ _ _ _ c.loop-total.invariant.far _ _ _ _ _ _ _ (g.met.O.Outlet.shows c.handle_next.new.writer)
     (g.met.O.Outlet.grows c.refill.new.out _ c.requires.had) none _ _ c.in-Err-refill.halt c.in-Err-refill.ensures.refilled
-    c.stopped.result (c.stopped.ensures.so ∙ ap (λ held. stopped_by c.in-Err-refill.halt c.loop-total.report.records c.loop-total.report.bytes held) c.held_in.ensures)
+    c.run_error.result (c.run_error.ensures.so ∙ ap (λ held. stopped_by c.in-Err-refill.halt c.loop-total.report.records c.loop-total.report.bytes held) c.held_in.ensures)
 
 pub returns-in-Err-clause-reasons : goal.returns-in-Err-clause-reasons
 returns-in-Err-clause-reasons g c =
@@ -123,4 +123,4 @@ returns-in-Err-clause-reasons g c =
       cut = ends_cut;
     }) _ _ _ _ _ _ _ _ _ _ _ _ c.loop-total.invariant.far _ _ _ _ _ _ _ (g.met.O.Outlet.shows c.handle_next.new.writer)
     (g.met.O.Outlet.grows c.final_reason-reason.new.out _ c.requires.had) c.in-Err.halt c.final_reason-reason.result c.in-Err.ensures.next c.final_reason-reason.ensures
-    c.stopped-in-Err.result (c.stopped-in-Err.ensures.so ∙ ap (λ held. stopped_by c.final_reason-reason.result c.loop-total.report.records c.loop-total.report.bytes held) c.held_in-in-Err.ensures)
+    c.run_error-in-Err.result (c.run_error-in-Err.ensures.so ∙ ap (λ held. stopped_by c.final_reason-reason.result c.loop-total.report.records c.loop-total.report.bytes held) c.held_in-in-Err.ensures)

@@ -16,7 +16,7 @@ all c =
     taken c.args.seat c.args.services.now c.open.new.self c.requires c.is_service.ensures c.open.ensures c.register_both.new.tables c.register_both.ensures c.begin-has_tables.new.tables
     c.begin-has_tables.ensures.tables c.begin-has_tables.new.engine c.begin-has_tables.ensures.engine c.watchpoints.result.now c.watchpoints.ensures.watchpoints c.subscribe_to.new.bus c.subscribe_to.ensures
     c.seats_are_kept_by_the_rules.ensures.telling_is_by_name c.tell.new.services c.begin-has_tables.result c.as_bytes.result.now c.begin-has_tables.ensures.answer
-    (ap (Event lc_name 1 Information) c.as_bytes.ensures.bytes ∙ c.started-text.ensures) c.tell.ensures.told
+    (ap (Event lc_name 1 Information) c.as_bytes.ensures.bytes ∙ c.application_started-text.ensures) c.tell.ensures.told
     c.seats_are_kept_by_the_rules.ensures.opening_starts c.seats_are_kept_by_the_rules.ensures.opening_leaves c.tell.ensures.size c.args.engine.now
 
 pub returns-clause-rules : goal.returns-clause-rules

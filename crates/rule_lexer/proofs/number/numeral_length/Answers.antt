@@ -7,10 +7,10 @@ use Rattle.rule_lexer.proofs.number.numeral_length.Goals as goal
 use Rattle.rule_lexer.proofs.number.numeral_length.Goals.{After-run_length}
 
 -- what the sign and the run behind it have together
-front : (c : After-run_length) → IsFront is_numeral c.args.rest.now (length c.args.rest.now - length c.unsigned-digits.result.now + c.run_length.result)
+front : (c : After-run_length) → IsFront is_numeral c.args.rest.now (length c.args.rest.now - length c.without_sign-digits.result.now + c.run_length.result)
 front c =
-    let run : c.run_length.result ≡ prefix_len is_word_byte c.unsigned-digits.result.now = c.run_length.ensures in
-    let digits : c.unsigned-digits.result.now ≡ magnitude_text c.args.rest.now = c.unsigned-digits.ensures in
+    let run : c.run_length.result ≡ prefix_len is_word_byte c.without_sign-digits.result.now = c.run_length.ensures in
+    let digits : c.without_sign-digits.result.now ≡ magnitude_text c.args.rest.now = c.without_sign-digits.ensures in
     rw (run, digits) (numeral_front c.args.rest.now c.requires)
 
 pub overflow_add-result : goal.overflow_add-result

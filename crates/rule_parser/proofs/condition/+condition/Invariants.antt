@@ -11,11 +11,11 @@ rank And = 2
 rank Xor = 4
 rank Or = 6
 
-abbrev pub decreases-negated : goal.decreases-negated
-decreases-negated l = 8 * l.room.now
+abbrev pub decreases-read_negation : goal.decreases-read_negation
+decreases-read_negation l = 8 * l.room.now
 
-abbrev pub decreases-parenthesized : goal.decreases-parenthesized
-decreases-parenthesized l = 8 * l.room.now
+abbrev pub decreases-read_parentheses : goal.decreases-read_parentheses
+decreases-read_parentheses l = 8 * l.room.now
 
 abbrev pub decreases-operand : goal.decreases-operand
 decreases-operand l = 8 * l.room.now + 1
@@ -23,11 +23,11 @@ decreases-operand l = 8 * l.room.now + 1
 abbrev pub decreases-part : goal.decreases-part
 decreases-part l = 8 * l.room.now + rank l.operator
 
-abbrev pub decreases-joined : goal.decreases-joined
-decreases-joined l = 8 * l.room.now + rank l.operator + 1
+abbrev pub decreases-read_operands : goal.decreases-read_operands
+decreases-read_operands l = 8 * l.room.now + rank l.operator + 1
 
-abbrev pub invariant-joined-loop-operator : goal.invariant-joined-loop-operator
-invariant-joined-loop-operator l = Took (part_of l.operator) (operands_of l.operator) l.fn.tokens l.tokens l.fn.room l.room (expression_of l.left)
+abbrev pub invariant-read_operands-loop-operator : goal.invariant-read_operands-loop-operator
+invariant-read_operands-loop-operator l = Took (part_of l.operator) (operands_of l.operator) l.fn.tokens l.tokens l.fn.room l.room (expression_of l.left)
 
-abbrev pub decreases-joined-loop-operator : goal.decreases-joined-loop-operator
-decreases-joined-loop-operator l = l.room
+abbrev pub decreases-read_operands-loop-operator : goal.decreases-read_operands-loop-operator
+decreases-read_operands-loop-operator l = l.room

@@ -76,6 +76,6 @@ returns c =
     (takes_is (word "packet") c.args.tokens.now c.takes.new.self c.takes.result false c.if-takes.false c.takes.ensures)
     (takes_is (word "field") c.takes.new.self c.takes-2.new.self c.takes-2.result false c.if-takes-2.false c.takes-2.ensures))
     (takes_is (word "rule") c.takes-2.new.self c.takes-3.new.self c.takes-3.result false c.if-takes-3.false c.takes-3.ensures)) in
-    subst (Refuses (StopsAt [] c.args.tokens.now)) (sym c.expected.ensures)
+    subst (Refuses (StopsAt [] c.args.tokens.now)) (sym c.error_expecting.ensures)
     (subst (λ l. Refuses (StopsAt [] c.args.tokens.now) (Expected (place l) Item)) (sym three.0)
     (no_item c.args.tokens.now c.requires first.1 two.1 three.1))

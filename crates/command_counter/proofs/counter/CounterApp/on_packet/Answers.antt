@@ -17,11 +17,11 @@ pub returns-in-Ok-clause-exact : goal.returns-in-Ok-clause-exact
 returns-in-Ok-clause-exact c =
     answer_exact c.args.self.now.seat c.args.self.now.count _ c.args.packet.now 1 Information c.as_bytes.result.now c.args.services.now c.tell.new.self
     c.requires.home c.requires.given c.tell.ensures.told c.seats_are_kept_by_the_rules.ensures.telling_is_by_name c.seats_are_kept_by_the_rules.ensures.telling_leaves (test_equal (message_id c.args.packet.now) counter_mid (sym c.message_id.ensures ∙ c.if-message_id-ne-COUNTER.false))
-    (is_counted c.args.packet.now c.args.self.now.count _ (Event counter_name 1 Information c.as_bytes.result.now) (sym (ap answer_of c.in-Ok.is) ∙ c.accepted.ensures) c.saturating_add-self.ensures (ap (Event counter_name 1 Information) c.as_bytes.ensures.bytes ∙ c.counted-text.ensures))
+    (is_counted c.args.packet.now c.args.self.now.count _ (Event counter_name 1 Information c.as_bytes.result.now) (sym (ap answer_of c.in-Ok.is) ∙ c.check_command.ensures) c.saturating_add-self.ensures (ap (Event counter_name 1 Information) c.as_bytes.ensures.bytes ∙ c.command_count-text.ensures))
 
 pub returns-in-Err-clause-exact : goal.returns-in-Err-clause-exact
 returns-in-Err-clause-exact c =
     answer_exact c.args.self.now.seat c.args.self.now.count c.args.self.now.count c.args.packet.now 2 Error c.as_bytes-in-Err.result.now c.args.services.now c.tell-in-Err.new.self
     c.requires.home c.requires.given c.tell-in-Err.ensures.told c.seats_are_kept_by_the_rules.ensures.telling_is_by_name c.seats_are_kept_by_the_rules.ensures.telling_leaves (test_equal (message_id c.args.packet.now) counter_mid (sym c.message_id.ensures ∙ c.if-message_id-ne-COUNTER.false))
-    (is_refused c.args.packet.now c.args.self.now.count (refusal_number c.in-Err.refusal ∷ []) (Event counter_name 2 Error c.as_bytes-in-Err.result.now) (sym (ap answer_of c.in-Err.is) ∙ c.accepted.ensures)
+    (is_refused c.args.packet.now c.args.self.now.count (refusal_number c.in-Err.refusal ∷ []) (Event counter_name 2 Error c.as_bytes-in-Err.result.now) (sym (ap answer_of c.in-Err.is) ∙ c.check_command.ensures)
     (ap (Event counter_name 2 Error) c.as_bytes-in-Err.ensures.bytes ∙ c.command_refused-text.ensures ∙ ap (λ number. counter_refused (number ∷ [])) (c.from.ensures ∙ c.code.ensures)))

@@ -1,0 +1,105 @@
+//! The fields of a rule text, by their names.
+
+ghost use Rattle.std.specs.Prelude.{◌≡◌, None};
+ghost use Rattle.lc_model.specs.Field.{full_mask};
+
+use lc_model::Term;
+use rule_analysis::{Field, field_of};
+use rule_parser::{FieldItem, Item, RuleFile};
+use std::alloc::{AllocError, Global};
+
+/// A field that a text names.
+#[derive(Clone, Copy)]
+struct NamedField<'a> {
+    name: &'a [u8],
+    field: Field,
+}
+
+/// All that it names.
+#[derive(Drop)]
+pub struct FieldNames<'a> {
+    fields: Vec<NamedField<'a>>,
+}
+
+/// A packet that a text names.
+#[derive(Clone, Copy)]
+pub struct NamedPacket<'a> {
+    pub name: &'a [u8],
+    pub mid: u16,
+}
+
+/// The packets of a text that compiles.
+pub fn packets_of<'a>(
+    alloc: Global,
+    file: &RuleFile<'a>,
+) -> Result<Vec<NamedPacket<'a>>, AllocError> {
+    let mut packets = Vec::new(alloc);
+    for item in &file.items {
+        if let Item::Packet(packet) = item {
+            packets.push(NamedPacket {
+                name: packet.name.text,
+                mid: u16::try_from(packet.mid.value).unwrap_or(0),
+            })?;
+        }
+    }
+    Ok(packets)
+}
+
+/// The message id of the packet of this name; 0 where there is none.
+fn mid_of(file: &RuleFile<'_>, name: &[u8]) -> u16 {
+    for item in &file.items {
+        if let Item::Packet(packet) = item {
+            if packet.name.text == name {
+                return u16::try_from(packet.mid.value).unwrap_or(0);
+            }
+        }
+    }
+    0
+}
+
+/// The field's bits that count: all, where the text says none.
+fn mask_of(item: &FieldItem<'_>) -> u32
+    ensures { item.now.mask ≡ None → result ≡ full_mask item.now.kind }
+{
+    match item.mask {
+        Some(mask) => u32::try_from(mask.value).unwrap_or(0),
+        None => item.kind.full_mask(),
+    }
+}
+
+/// What a text names by this item.
+fn named_field<'a>(file: &RuleFile<'a>, item: &FieldItem<'a>) -> NamedField<'a> {
+    NamedField {
+        name: item.name.text,
+        field: Field {
+            kind: item.kind,
+            mid: mid_of(file, item.packet.text),
+            offset: u32::try_from(item.offset.value).unwrap_or(0),
+            mask: mask_of(item),
+        },
+    }
+}
+
+impl<'a> FieldNames<'a> {
+    /// The fields of a text that compiles.
+    pub fn of(alloc: Global, file: &RuleFile<'a>) -> Result<FieldNames<'a>, AllocError> {
+        let mut fields = Vec::new(alloc);
+        for item in &file.items {
+            if let Item::Field(item) = item {
+                fields.push(named_field(file, item))?;
+            }
+        }
+        Ok(FieldNames { fields })
+    }
+
+    /// The first name of the field that a term reads.
+    pub fn name(&self, term: &Term) -> &'a [u8] {
+        let field = field_of(term);
+        for named in &self.fields {
+            if named.field == field {
+                return named.name;
+            }
+        }
+        b"?"
+    }
+}

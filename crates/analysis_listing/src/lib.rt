@@ -1,0 +1,22 @@
+//! What is to be said of a rule text before any packet comes, in lines that a flight team reads, in the words of the rule
+//! language.
+#![tactic(auto)]
+
+mod error;
+mod fields;
+mod lines;
+mod listing;
+mod marking;
+mod rule_text;
+mod said;
+mod schedule;
+mod tables;
+
+pub use error::ListingError;
+pub use fields::FieldNames;
+pub use lines::{FieldName, NameSource, ShownTerm, Values};
+pub use listing::{LineChoice, goes_both_ways, list_judgement, list_outcomes, terms_in, why};
+pub use marking::list_actionpoints;
+pub use said::{RuleFindings, said_of};
+pub use schedule::{list_unsampled, unsampled_rules};
+pub use tables::{condition_at, terms_of};

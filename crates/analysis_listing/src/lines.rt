@@ -1,0 +1,156 @@
+//! The parts of lines.
+
+use crate::fields::FieldNames;
+use lc_model::{CmpOp, Term};
+use rule_analysis::{Field, field_of, value_with};
+use std::fmt::{self, Display, Formatter, Write};
+
+/// A name of a rule text.
+#[derive(Clone, Copy)]
+pub struct Shown<'a>(pub &'a [u8]);
+
+impl Display for Shown<'_> {
+    fn fmt<W: Write>(&self, f: &mut Formatter<W>) -> fmt::Result {
+        for byte in self.0 {
+            let letter = char::from(*byte);
+            write!(f, "{letter}")?;
+        }
+        Ok(())
+    }
+}
+
+/// What is judged.
+#[derive(Clone, Copy)]
+pub enum Title<'a> {
+    /// The rule of this name.
+    Rule(&'a [u8]),
+    /// The actionpoint of this number, from 0.
+    Actionpoint(usize),
+}
+
+impl Display for Title<'_> {
+    fn fmt<W: Write>(&self, f: &mut Formatter<W>) -> fmt::Result {
+        match *self {
+            Title::Rule(name) => {
+                let name = Shown(name);
+                write!(f, "{name}")
+            }
+            Title::Actionpoint(number) => write!(f, "actionpoint {number}"),
+        }
+    }
+}
+
+/// What a field is called.
+#[derive(Clone, Copy)]
+pub enum FieldName<'a> {
+    /// As the text names it.
+    Text(&'a [u8]),
+    /// As the watchpoint of this number, from 0, in which a table has it first.
+    Watchpoint(usize),
+}
+
+impl Display for FieldName<'_> {
+    fn fmt<W: Write>(&self, f: &mut Formatter<W>) -> fmt::Result {
+        match *self {
+            FieldName::Text(name) => {
+                let name = Shown(name);
+                write!(f, "{name}")
+            }
+            FieldName::Watchpoint(number) => write!(f, "w{number}"),
+        }
+    }
+}
+
+/// Where fields have their names from.
+#[derive(Clone, Copy)]
+pub enum NameSource<'a> {
+    /// From a rule text.
+    Text(&'a FieldNames<'a>),
+    /// From the watchpoints of a table.
+    Table(&'a [Term]),
+}
+
+impl<'a> NameSource<'a> {
+    /// The first name of the field that a term reads.
+    pub fn name(&self, term: &Term) -> FieldName<'a> {
+        match *self {
+            NameSource::Text(names) => FieldName::Text(names.name(term)),
+            NameSource::Table(watchpoints) => FieldName::Watchpoint(first_reader(
+                watchpoints,
+                term,
+            )),
+        }
+    }
+}
+
+/// The number of the first of some watchpoints that reads the field that a term reads; their count where none does.
+fn first_reader(watchpoints: &[Term], term: &Term) -> usize {
+    let field = field_of(term);
+    for (number, watchpoint) in watchpoints.iter().enumerate() {
+        if field_of(watchpoint) == field {
+            return number;
+        }
+    }
+    watchpoints.len()
+}
+
+/// The sign of a comparison.
+fn sign(op: CmpOp) -> &'static str {
+    match op {
+        CmpOp::Less => "<",
+        CmpOp::LessOrEqual => "<=",
+        CmpOp::NotEqual => "!=",
+        CmpOp::Equal => "==",
+        CmpOp::GreaterOrEqual => ">=",
+        CmpOp::Greater => ">",
+    }
+}
+
+/// A comparison, as `VOLTS < 2400`.
+#[derive(Clone, Copy)]
+pub struct ShownTerm<'a> {
+    pub name: FieldName<'a>,
+    pub term: Term,
+}
+
+impl Display for ShownTerm<'_> {
+    fn fmt<W: Write>(&self, f: &mut Formatter<W>) -> fmt::Result {
+        let (name, sign, value) = (self.name, sign(self.term.op), self.term.value);
+        write!(f, "{name} {sign} {value}")
+    }
+}
+
+/// Whether an earlier one of the terms reads the field.
+fn is_read_before(terms: &[Term], at: usize, field: &Field) -> bool {
+    for (i, term) in terms.iter().enumerate() {
+        if i < at && field_of(term) == *field {
+            return true;
+        }
+    }
+    false
+}
+
+/// What the fields of some terms are in packets, as `VOLTS = 2399, DEGREES = 61`; those alone that have a packet.
+#[derive(Clone, Copy)]
+pub struct Values<'a> {
+    pub names: NameSource<'a>,
+    pub terms: &'a [Term],
+    pub packets: &'a [Vec<u8>],
+}
+
+impl Display for Values<'_> {
+    fn fmt<W: Write>(&self, f: &mut Formatter<W>) -> fmt::Result {
+        let mut comma = "";
+        for (i, term) in self.terms.iter().enumerate() {
+            if is_read_before(self.terms, i, &field_of(term)) {
+                continue;
+            }
+            if let Some(value) = value_with(term, self.packets) {
+                let name = self.names.name(term);
+                write!(f, "{comma}{name} = {value}")?;
+                comma = ", ";
+            }
+        }
+        Ok(())
+    }
+}

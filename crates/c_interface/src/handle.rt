@@ -1,0 +1,90 @@
+//! A handle: one pointer, by which a program in C has a host that it can't look into.
+
+ghost use Rattle.std.specs.Prelude.{◌≡◌, Option, Some, None, IsSome};
+ghost use Rattle.std.specs.Borrow.{sem};
+ghost use Rattle.std.specs.Coded.{coded_option};
+ghost use Rattle.std.specs.declared.alloc.Global.{Global as Heap};
+ghost use Rattle.c_interface.specs.declared.handle.Fed.{Fed as FedValue};
+ghost use Rattle.c_interface.specs.Held.{held, fed_row};
+
+use crate::loose::Loose;
+use flight_core::FedHost;
+use flight_profile::Member;
+use std::alloc::Global;
+use std::marker::Model;
+use std::mem::replace;
+use std::ptr::null_mut;
+
+/// What a handle holds: a host, and room for what one record leads to.
+#[derive(Drop)]
+pub struct Fed {
+    pub(crate) host: FedHost<Box<Member>>,
+    pub(crate) room: Vec<u8>,
+}
+
+/// A pointer to what a program in C was given, or null. What it holds is its own.
+#[repr(C)]
+#[derive(Drop)]
+pub struct Handle {
+    at: *mut u8,
+    ghost alloc: { Heap },
+    ghost value: { Option FedValue } by { coded_option fed_row.coded },
+}
+
+impl Model for Handle {
+    ghost also_owns = { λ h. held h.alloc h.at h.value };
+}
+
+fn nothing() -> Handle
+    ensures { result.value ≡ None }
+{
+    Handle { at: null_mut() }
+}
+
+fn closed_in(loose: Loose<Fed, Global>) -> Handle
+    ensures { result.value ≡ Some loose.value }
+{
+    let Loose { at, alloc: _ } = loose;
+    Handle { at: at as *mut u8 }
+}
+
+fn loose_fed(handle: Handle, alloc: Global) -> Loose<Fed, Global>
+    requires { IsSome handle.value }
+    ensures { handle.value ≡ Some result.value }
+{
+    let Handle { at } = handle;
+    Loose {
+        at: at as *mut Fed,
+        alloc,
+    }
+}
+
+/// A handle of this.
+pub(crate) fn handle_of(fed: Box<Fed>) -> Handle
+    ensures { result.value ≡ Some fed.value }
+{
+    closed_in(Loose::of(fed))
+}
+
+/// Takes what a handle holds. Condition: it holds something. It holds nothing afterwards.
+pub(crate) fn take_fed(handle: &mut Handle, alloc: Global) -> Box<Fed>
+    requires { IsSome handle.old.value }
+    ensures taken { handle.old.value ≡ Some result.value }
+    ensures left { handle.new.value ≡ None }
+{
+    let whole = replace(handle, nothing());
+    loose_fed(whole, alloc).into_box()
+}
+
+impl Handle {
+    ghost use Rattle.c_interface.specs.Lent.{LendsFed};
+
+    /// Lends what the handle holds. Condition: it holds something.
+    pub(crate) fn lend(&mut self) -> &mut Fed
+        requires { IsSome self.old.value }
+        ensures* writes_back { sem 𝓛 (LendsFed self.entry result) }
+        ensures value { self.old.value ≡ Some result.now }
+    {
+        unsafe { &mut *(self.at as *mut Fed) }
+    }
+}

@@ -1,0 +1,23 @@
+//! What the library for C calls, below its archives: rule texts are compiled into a caller's room, and a host runs from memory to
+//! memory. Each call takes its memory by an allocator of the caller's program, and gives all of it back before it answers.
+#![tactic(auto)]
+
+mod compiling;
+mod ending;
+mod error_sentences;
+mod feeding;
+mod handle;
+mod loose;
+mod refusal;
+mod room;
+mod running;
+mod sentence;
+mod stream;
+mod texts;
+
+pub use compiling::{ADT, Compiled, WDT, compile_files};
+pub use feeding::{Handled, Made, close_host, feed_host, make_host};
+pub use handle::Handle;
+pub use refusal::Refusal;
+pub use running::{Run, run_texts};
+pub use sentence::Sentence;

@@ -1,0 +1,49 @@
+//! A sentence for people, in a caller's room.
+
+ghost use Rattle.std.specs.Prelude.{◌≡◌, ◌-◌, ◌<◌, length, take, drop, replicate, IfSome};
+ghost use Rattle.std.specs.Fmt.Cut.{IsTextOrCut};
+ghost use Rattle.c_interface.specs.Said.{no_sentence};
+
+use std::fmt::{Display, InlineText};
+
+/// The bytes of a sentence's room; the last one stays 0.
+pub const ROOM: usize = 252;
+
+const MOST: usize = ROOM - 1;
+
+/// A sentence: how many bytes it has, at most 251, and these, with zeros behind them.
+#[repr(C)]
+#[derive(Clone, Copy)]
+pub struct Sentence {
+    pub length: u32,
+    pub bytes: [u8; ROOM],
+}
+
+impl Sentence {
+    /// No sentence.
+    pub fn none() -> Sentence
+        ensures { result ≡ no_sentence }
+    {
+        Sentence {
+            length: 0,
+            bytes: [0; ROOM],
+        }
+    }
+
+    /// What this says, with dots at its end where it is longer than the room.
+    pub fn of<D: Display + Drop>(value: D) -> Sentence
+        ensures ends { result.length < ROOM }
+        ensures zeros { drop result.length result.bytes ≡ replicate (ROOM - result.length) 0 }
+        ensures said { IfSome (D.output value) (λ text.
+            IsTextOrCut MOST text (take result.length result.bytes)) }
+    {
+        let text = InlineText::<MOST>::of(value);
+        let said = text.as_str().as_bytes();
+        let mut bytes = [0; ROOM];
+        bytes[..said.len()].copy_from_slice(said);
+        Sentence {
+            length: said.len() as u32,
+            bytes,
+        }
+    }
+}

@@ -1,5 +1,0 @@
-use Rattle.change_lists.proofs.Kept.{no_result_is_lost}
-use Rattle.change_lists.proofs.laws.no_result_is_lost.Goals as goal
-
-pub returns : goal.returns
-returns c = no_result_is_lost

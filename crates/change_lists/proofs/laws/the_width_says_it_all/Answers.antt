@@ -1,5 +1,0 @@
-use Rattle.change_lists.proofs.Kept.{the_width_says_it_all}
-use Rattle.change_lists.proofs.laws.the_width_says_it_all.Goals as goal
-
-pub returns : goal.returns
-returns c = the_width_says_it_all

@@ -1,0 +1,90 @@
+-- What the words of a command line give. The commands are this project's own; how words are read is `clap`'s.
+use Rattle.std.specs.Prelude.{◌≡◌, Bool, true, false, List, map, codes, option_map, Some, None, Result, Ok, Err}
+use Rattle.clap.specs.Words.{Row, Text, all_of, first_of, one_of}
+use Rattle.clap.specs.declared.error.Error.{Error}
+use Rattle.clap.specs.declared.error.kind.ErrorKind.{ErrorKind}
+use Rattle.clap.specs.declared.error.kind.ErrorKind.TheVariants as kind
+use Rattle.flight_tools_args.specs.declared.error.WordsError.{WordsError}
+use Rattle.flight_tools_args.specs.declared.error.WordsError.TheVariants as words
+use Rattle.flight_tools_args.specs.declared.kind.CommandKind.{CommandKind}
+use Rattle.flight_tools_args.specs.declared.kind.CommandKind.TheVariants as command
+use Rattle.flight_tools_args.specs.declared.plan.CommandPlan.{CommandPlan}
+use Rattle.flight_tools_args.specs.declared.plan.CommandPlan.TheVariants.{Said, Table, Stream, Packets, Scenario, Import, Export, Report, Check, Compare, Try, Live}
+use Rattle.flight_tools_args.specs.declared.plan.ImportWords.{ImportWords}
+use Rattle.flight_tools_args.specs.declared.plan.RowWords.{RowWords}
+
+-- where no command is found, by the kind of what `clap` says: help and the version are asked for, and other words are at fault
+abbrev pub answer_by : ErrorKind → Error → Result CommandPlan WordsError
+answer_by kind.DisplayHelp error = Ok (Said error)
+answer_by kind.DisplayVersion error = Ok (Said error)
+answer_by kind.OutOfMemory error = Err words.Memory
+answer_by rest error = Err (words.Refused error)
+
+-- the word of each command
+abbrev pub word_of : CommandKind → Text
+word_of command.Table = codes "table"
+word_of command.Stream = codes "stream"
+word_of command.Packets = codes "packets"
+word_of command.Scenario = codes "scenario"
+word_of command.Import = codes "import"
+word_of command.Export = codes "export"
+word_of command.Report = codes "report"
+word_of command.Check = codes "check"
+word_of command.Compare = codes "compare"
+word_of command.Try = codes "try"
+word_of command.Live = codes "live"
+
+-- whether a flag is given, which is what its row says
+abbrev pub IsFlag : Text → List Row → Bool → Type 0
+IsFlag id rows is_given = (one_of id rows ≡ Some (codes "true") → is_given ≡ true)
+    × (one_of id rows ≡ Some (codes "false") → is_given ≡ false)
+    × (one_of id rows ≡ None → is_given ≡ false)
+
+-- what is given of an import's options
+abbrev pub HoldsImport : List Row → ImportWords → Type 0
+HoldsImport rows how = IsFlag (codes "marked") rows how.marked
+    × IsFlag (codes "keep-idle") rows how.keep_idle
+    × IsFlag (codes "keep-faulty") rows how.keep_faulty
+    × (first_of (codes "only") rows ≡ option_map (λ word. word.now) how.only)
+    × (first_of (codes "time-at") rows ≡ option_map (λ word. word.now) how.time_at)
+    × (first_of (codes "epoch") rows ≡ option_map (λ word. word.now) how.epoch)
+    × (first_of (codes "step") rows ≡ option_map (λ word. word.now) how.step)
+    × (first_of (codes "tick") rows ≡ option_map (λ word. word.now) how.tick)
+    × (first_of (codes "start") rows ≡ option_map (λ word. word.now) how.start)
+
+-- what is given of the form of a listing
+abbrev pub HoldsForm : List Row → RowWords → Type 0
+HoldsForm rows how = IsFlag (codes "csv") rows how.csv × IsFlag (codes "json") rows how.json
+    × (first_of (codes "epoch") rows ≡ option_map (λ word. word.now) how.epoch)
+
+-- a plan is of the command with this word, and holds the files that it is given
+abbrev pub HoldsRows : Text × List Row → CommandPlan → Type 0
+HoldsRows found (Said error) = ⊥
+HoldsRows found (Table file watchpoints) = (found.0 ≡ codes "table")
+    × (first_of (codes "FILE") found.1 ≡ Some file.now) × (first_of (codes "watchpoints") found.1 ≡ option_map (λ word. word.now) watchpoints)
+HoldsRows found (Stream file whole how) = (found.0 ≡ codes "stream")
+    × (first_of (codes "FILE") found.1 ≡ Some file.now) × IsFlag (codes "whole") found.1 whole × HoldsForm found.1 how
+HoldsRows found (Packets file how) = (found.0 ≡ codes "packets")
+    × (first_of (codes "FILE") found.1 ≡ Some file.now) × HoldsForm found.1 how
+HoldsRows found (Scenario script stream rules) = (found.0 ≡ codes "scenario")
+    × (first_of (codes "SCRIPT") found.1 ≡ Some script.now) × (first_of (codes "STREAM") found.1 ≡ Some stream.now)
+    × (first_of (codes "rules") found.1 ≡ option_map (λ word. word.now) rules)
+HoldsRows found (Import files how) = (found.0 ≡ codes "import")
+    × (all_of (codes "FILES") found.1 ≡ Some (map (λ file. file.now) files.items)) × HoldsImport found.1 how
+HoldsRows found (Export stream raw) = (found.0 ≡ codes "export")
+    × (first_of (codes "STREAM") found.1 ≡ Some stream.now) × (first_of (codes "RAW") found.1 ≡ Some raw.now)
+HoldsRows found (Report schedule stream page rules epoch) = (found.0 ≡ codes "report")
+    × (first_of (codes "SCHEDULE") found.1 ≡ Some schedule.now) × (first_of (codes "STREAM") found.1 ≡ Some stream.now)
+    × (first_of (codes "PAGE") found.1 ≡ Some page.now) × (all_of (codes "RULES") found.1 ≡ Some (map (λ rule. rule.now) rules.items))
+    × (first_of (codes "epoch") found.1 ≡ option_map (λ word. word.now) epoch)
+HoldsRows found (Check schedule rules all strict json) = (found.0 ≡ codes "check")
+    × (first_of (codes "schedule") found.1 ≡ option_map (λ word. word.now) schedule) × (all_of (codes "RULES") found.1 ≡ Some (map (λ rule. rule.now) rules.items))
+    × IsFlag (codes "all") found.1 all × IsFlag (codes "strict") found.1 strict × IsFlag (codes "json") found.1 json
+HoldsRows found (Compare schedule stream old new) = (found.0 ≡ codes "compare")
+    × (first_of (codes "SCHEDULE") found.1 ≡ Some schedule.now) × (first_of (codes "STREAM") found.1 ≡ Some stream.now)
+    × (first_of (codes "OLD") found.1 ≡ Some old.now) × (first_of (codes "NEW") found.1 ≡ Some new.now)
+HoldsRows found (Try script schedule rules) = (found.0 ≡ codes "try")
+    × (first_of (codes "SCRIPT") found.1 ≡ Some script.now) × (first_of (codes "SCHEDULE") found.1 ≡ Some schedule.now)
+    × (all_of (codes "RULES") found.1 ≡ Some (map (λ rule. rule.now) rules.items))
+HoldsRows found (Live schedule rules) = (found.0 ≡ codes "live")
+    × (first_of (codes "SCHEDULE") found.1 ≡ Some schedule.now) × (all_of (codes "RULES") found.1 ≡ Some (map (λ rule. rule.now) rules.items))

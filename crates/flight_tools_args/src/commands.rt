@@ -1,0 +1,303 @@
+//! The commands and their words, as `clap` takes them and its help lists them.
+
+use clap::{Arg, ArgAction, Command};
+use lc_model::VERSION;
+use std::alloc::{AllocError, Global};
+
+/// What a command takes beside its files.
+#[derive(Clone, Copy)]
+enum More {
+    Nothing,
+    /// The file with the watchpoints of a table of actionpoints.
+    Watchpoints,
+    /// The rule text in whose words a script is.
+    Named,
+    /// Whether rows are wanted.
+    Rows,
+    /// Whether a script is wanted, or rows.
+    Whole,
+    /// Archives and a stream, and how they are imported.
+    Imported,
+    /// Rule texts, one at least.
+    Rules,
+    /// Rule texts, and the instant of second 0.
+    Dated,
+    /// Rule texts, and how they are checked.
+    Checked,
+}
+
+/// A command: its word, what it does, the files that have to be named, with what each is, and what more it takes.
+struct CommandEntry {
+    word: &'static str,
+    about: &'static str,
+    files: &'static [(&'static str, &'static str)],
+    more: More,
+}
+
+/// All commands, as the help lists them.
+const ROWS: [CommandEntry; 11] = [
+    CommandEntry {
+        word: "table",
+        about: "Says what a table file holds",
+        files: &[("FILE", "A file of watchpoints or of actionpoints")],
+        more: More::Watchpoints,
+    },
+    CommandEntry {
+        word: "stream",
+        about: "Says what the records of a stream are",
+        files: &[("FILE", "A stream of records")],
+        more: More::Whole,
+    },
+    CommandEntry {
+        word: "packets",
+        about: "Says what the packets are that a run wrote",
+        files: &[("FILE", "The packets, one behind the other")],
+        more: More::Rows,
+    },
+    CommandEntry {
+        word: "scenario",
+        about: "Makes a stream from a script",
+        files: &[
+            ("SCRIPT", "The script, line by line"),
+            ("STREAM", "The stream, which is written"),
+        ],
+        more: More::Named,
+    },
+    CommandEntry {
+        word: "import",
+        about: "Makes a stream from archives of space packets",
+        files: &[],
+        more: More::Imported,
+    },
+    CommandEntry {
+        word: "export",
+        about: "Writes the packets of a stream, one behind the other",
+        files: &[
+            ("STREAM", "A stream of records"),
+            ("RAW", "The packets, which are written"),
+        ],
+        more: More::Nothing,
+    },
+    CommandEntry {
+        word: "report",
+        about: "Makes a page of a run, for a browser",
+        files: &[
+            ("SCHEDULE", "The schedule"),
+            ("STREAM", "A stream of records"),
+            ("PAGE", "The page, which is written"),
+        ],
+        more: More::Dated,
+    },
+    CommandEntry {
+        word: "check",
+        about: "Says of rules whether they compile, and what is so for every stream",
+        files: &[],
+        more: More::Checked,
+    },
+    CommandEntry {
+        word: "compare",
+        about: "Says what comes of one of two rule texts alone, over one stream",
+        files: &[
+            ("SCHEDULE", "The schedule"),
+            ("STREAM", "A stream of records"),
+            ("OLD", "The rule text that flies"),
+            ("NEW", "The rule text that is to fly"),
+        ],
+        more: More::Nothing,
+    },
+    CommandEntry {
+        word: "try",
+        about: "Runs a script, and says what of that which it expects doesn't come",
+        files: &[
+            ("SCRIPT", "The script, line by line"),
+            ("SCHEDULE", "The schedule"),
+        ],
+        more: More::Rules,
+    },
+    CommandEntry {
+        word: "live",
+        about: "Runs a stream from standard input as it comes, to standard output",
+        files: &[("SCHEDULE", "The schedule")],
+        more: More::Rules,
+    },
+];
+
+/// A file that has to be named.
+fn file_word<'a>(alloc: Global, name: &'a str, help: &'a str) -> Arg<'a> {
+    Arg::new(alloc, name).required(true).help(help)
+}
+
+/// Rule texts, one at least.
+fn rule_words<'a>(alloc: Global) -> Arg<'a> {
+    file_word(alloc, "RULES", "The rule texts, numbered from 0")
+        .action(ArgAction::Append)
+        .num_args(1..)
+}
+
+/// A file that may be named behind an option.
+fn option_word<'a>(alloc: Global, name: &'a str, help: &'a str) -> Arg<'a> {
+    Arg::new(alloc, name).long(name).help(help)
+}
+
+/// An option without a value.
+fn flag_word<'a>(alloc: Global, name: &'a str, help: &'a str) -> Arg<'a> {
+    Arg::new(alloc, name)
+        .long(name)
+        .action(ArgAction::SetTrue)
+        .help(help)
+}
+
+/// An import with its choices.
+fn with_choices<'a>(alloc: Global, command: Command<'a>) -> Result<Command<'a>, AllocError> {
+    command
+        .arg(flag_word(
+            alloc,
+            "marked",
+            "A marker (1ACFFC1D) stands before each packet",
+        ))?
+        .arg(flag_word(alloc, "keep-idle", "Idle packets become records, too"))?
+        .arg(flag_word(
+            alloc,
+            "keep-faulty",
+            "Packets with a fault become records, too",
+        ))?
+        .arg(option_word(
+            alloc,
+            "only",
+            "Packets of these message ids alone, parted by commas",
+        ))
+}
+
+/// An import with what it knows of time.
+fn with_times<'a>(alloc: Global, command: Command<'a>) -> Result<Command<'a>, AllocError> {
+    command
+        .arg(option_word(
+            alloc,
+            "time-at",
+            "The byte of each packet at which its time stands [6]",
+        ))?
+        .arg(option_word(
+            alloc,
+            "epoch",
+            "The seconds that are taken from each time [0]",
+        ))?
+        .arg(option_word(
+            alloc,
+            "step",
+            "The seconds from packet to packet, where they have no time",
+        ))?
+        .arg(option_word(
+            alloc,
+            "tick",
+            "The seconds from tick to tick; no ticks where it isn't given",
+        ))?
+        .arg(option_word(
+            alloc,
+            "start",
+            "The rule text whose tables and start stand in front",
+        ))
+}
+
+/// The instant of second 0.
+fn epoch_word<'a>(alloc: Global) -> Arg<'a> {
+    option_word(
+        alloc,
+        "epoch",
+        "The instant of second 0, for times in UTC: 2000-01-01T12:00:00Z",
+    )
+}
+
+/// A listing with its rows.
+fn with_rows<'a>(alloc: Global, command: Command<'a>) -> Result<Command<'a>, AllocError> {
+    command
+        .arg(flag_word(alloc, "csv", "Writes comma-separated values"))?
+        .arg(flag_word(alloc, "json", "Writes one JSON object a line"))?
+        .arg(epoch_word(alloc))
+}
+
+/// A check with how it is made.
+fn with_checks<'a>(alloc: Global, command: Command<'a>) -> Result<Command<'a>, AllocError> {
+    command
+        .arg(option_word(
+            alloc,
+            "schedule",
+            "A schedule, which samples each rule or doesn't",
+        ))?
+        .arg(flag_word(
+            alloc,
+            "all",
+            "Says of each rule for which values it fails and passes",
+        ))?
+        .arg(flag_word(
+            alloc,
+            "strict",
+            "Ends with status 1 where there is a warning",
+        ))?
+        .arg(flag_word(alloc, "json", "Says all of it in JSON, an object a line"))?
+        .arg(rule_words(alloc))
+}
+
+/// Archives and a stream.
+fn archive_words<'a>(alloc: Global) -> Arg<'a> {
+    file_word(
+        alloc,
+        "FILES",
+        "The archives, one behind the other, and the stream, which is written",
+    )
+    .action(ArgAction::Append)
+    .num_args(2..)
+}
+
+/// A command with what more it takes.
+fn with_more<'a>(
+    alloc: Global,
+    command: Command<'a>,
+    more: More,
+) -> Result<Command<'a>, AllocError> {
+    match more {
+        More::Nothing => Ok(command),
+        More::Watchpoints => command.arg(option_word(
+            alloc,
+            "watchpoints",
+            "The watchpoints of these actionpoints, so that these are judged",
+        )),
+        More::Named => command.arg(option_word(
+            alloc,
+            "rules",
+            "The rule text whose packets, fields and rules the script names",
+        )),
+        More::Rows => with_rows(alloc, command),
+        More::Whole => with_rows(alloc, command)?.arg(flag_word(
+            alloc,
+            "whole",
+            "Writes a script from which scenario makes the same stream",
+        )),
+        More::Imported => with_times(alloc, with_choices(alloc, command)?)?.arg(archive_words(
+            alloc,
+        )),
+        More::Rules => command.arg(rule_words(alloc)),
+        More::Dated => command.arg(epoch_word(alloc))?.arg(rule_words(alloc)),
+        More::Checked => with_checks(alloc, command),
+    }
+}
+
+/// A command of the table.
+fn command_of<'a>(alloc: Global, row: &CommandEntry) -> Result<Command<'a>, AllocError> {
+    let mut command = Command::new(alloc, row.word).about(row.about);
+    for (name, help) in row.files {
+        command = command.arg(file_word(alloc, name, help))?;
+    }
+    with_more(alloc, command, row.more)
+}
+
+/// All commands.
+pub fn all_words<'a>(alloc: Global) -> Result<Command<'a>, AllocError> {
+    let mut words = Command::new(alloc, "flight_tools")
+        .about("Tables, streams, packets and runs as text, and streams from scripts")
+        .version(VERSION)
+        .subcommand_required(true);
+    for row in &ROWS {
+        words = words.subcommand(command_of(alloc, row)?)?;
+    }
+    Ok(words)
+}

@@ -1,0 +1,32 @@
+//! Why words are no plan.
+
+ghost use Rattle.std.specs.Prelude.{◌≡◌};
+ghost use Rattle.flight_tools_args.specs.declared.error.WordsError.TheVariants.{Memory};
+
+use clap::Error;
+use std::alloc::{AllocError, AllocFailed};
+
+/// Why the words of a command line are no plan.
+#[derive(Debug, Drop)]
+pub enum WordsError {
+    /// What `clap` says of words that are no command.
+    Refused(Error),
+    /// No memory.
+    Memory,
+}
+
+impl From<AllocError> for WordsError {
+    ghost from_gives = { λ _ e. e ≡ Memory };
+
+    fn from(_error: AllocError) -> WordsError {
+        WordsError::Memory
+    }
+}
+
+impl<T: Drop> From<AllocFailed<T>> for WordsError {
+    ghost from_gives = { λ _ e. e ≡ Memory };
+
+    fn from(_error: AllocFailed<T>) -> WordsError {
+        WordsError::Memory
+    }
+}

@@ -1,0 +1,307 @@
+//! The plan of a command that was found.
+
+ghost use Rattle.std.specs.Prelude.{◌≡◌, codes, map, option_map, IfOk, IfSome, IsSomeAnd, Some};
+ghost use Rattle.clap.specs.Words.{all_of, first_of, found_of, rows_of, subcommand_rows_of};
+ghost use Rattle.flight_tools_args.specs.Words.{HoldsForm, HoldsImport, HoldsRows, IsFlag, word_of};
+
+use crate::kind::{CommandKind, kind_of};
+use crate::plan::{CommandPlan, ImportWords, RowWords};
+use clap::ArgMatches;
+use std::alloc::{AllocError, Global};
+
+/// The plan of the command that was found, where no word of it is missing.
+pub fn given_plan<'a>(
+    alloc: Global,
+    matches: &ArgMatches<'a>,
+) -> Result<Option<CommandPlan<'a>>, AllocError>
+    ensures { IfOk result (λ plan. IfSome plan
+        (λ plan. IsSomeAnd (subcommand_rows_of matches.now) (λ command. HoldsRows command plan))) }
+{
+    match matches.subcommand() {
+        Some((word, found)) => match kind_of(word) {
+            Some(kind) => plan_by(alloc, kind, found),
+            None => Ok(None),
+        },
+        None => Ok(None),
+    }
+}
+
+/// The plan of a command of this kind.
+fn plan_by<'a>(
+    alloc: Global,
+    kind: CommandKind,
+    found: &ArgMatches<'a>,
+) -> Result<Option<CommandPlan<'a>>, AllocError>
+    ensures { IfOk result (λ plan. IfSome plan
+        (HoldsRows (word_of kind, rows_of (found_of found.now)))) }
+{
+    match kind {
+        CommandKind::Table => Ok(table_plan(found)),
+        CommandKind::Stream => Ok(stream_plan(found)),
+        CommandKind::Packets => Ok(packets_plan(found)),
+        CommandKind::Scenario => Ok(scenario_plan(found)),
+        CommandKind::Import => import_plan(alloc, found),
+        CommandKind::Export => Ok(export_plan(found)),
+        CommandKind::Report => report_plan(alloc, found),
+        CommandKind::Check => check_plan(alloc, found),
+        CommandKind::Compare => Ok(compare_plan(found)),
+        CommandKind::Try => try_plan(alloc, found),
+        CommandKind::Live => live_plan(alloc, found),
+    }
+}
+
+/// The file of a name.
+fn file_of<'a>(found: &ArgMatches<'a>, name: &str) -> Option<&'a str>
+    ensures { IfSome result
+        (λ word. first_of name.now (rows_of (found_of found.now)) ≡ Some word.now) }
+{
+    found.get_str(name)
+}
+
+/// The file of an option, where it is given.
+fn option_value<'a>(found: &ArgMatches<'a>, name: &str) -> Option<&'a str>
+    ensures { first_of name.now (rows_of (found_of found.now)) ≡
+        option_map (λ word. word.now) result }
+{
+    found.get_str(name)
+}
+
+/// Whether a flag is given.
+fn flag(found: &ArgMatches<'_>, name: &str) -> bool
+    ensures { IsFlag name.now (rows_of (found_of found.now)) result }
+{
+    found.get_flag(name)
+}
+
+/// The rule texts.
+fn rules_of<'a>(alloc: Global, found: &ArgMatches<'a>) -> Result<Option<Vec<&'a str>>, AllocError>
+    ensures { IfOk result (λ rules. IfSome rules
+        (λ words. all_of (codes "RULES") (rows_of (found_of found.now)) ≡
+        Some (map (λ word. word.now) words.items))) }
+{
+    match found.get_strs("RULES") {
+        Some(rules) => Ok(Some(Vec::from_slice(alloc, rules)?)),
+        None => Ok(None),
+    }
+}
+
+fn table_plan<'a>(found: &ArgMatches<'a>) -> Option<CommandPlan<'a>>
+    ensures { IfSome result (HoldsRows (codes "table", rows_of (found_of found.now))) }
+{
+    Some(CommandPlan::Table {
+        file: file_of(found, "FILE")?,
+        watchpoints: option_value(found, "watchpoints"),
+    })
+}
+
+/// Whether rows are wanted.
+fn row_words<'a>(found: &ArgMatches<'a>) -> RowWords<'a>
+    ensures { HoldsForm (rows_of (found_of found.now)) result }
+{
+    RowWords {
+        csv: flag(found, "csv"),
+        json: flag(found, "json"),
+        epoch: option_value(found, "epoch"),
+    }
+}
+
+fn stream_plan<'a>(found: &ArgMatches<'a>) -> Option<CommandPlan<'a>>
+    ensures { IfSome result (HoldsRows (codes "stream", rows_of (found_of found.now))) }
+{
+    Some(CommandPlan::Stream {
+        file: file_of(found, "FILE")?,
+        whole: flag(found, "whole"),
+        rows: row_words(found),
+    })
+}
+
+fn packets_plan<'a>(found: &ArgMatches<'a>) -> Option<CommandPlan<'a>>
+    ensures { IfSome result (HoldsRows (codes "packets", rows_of (found_of found.now))) }
+{
+    Some(CommandPlan::Packets {
+        file: file_of(found, "FILE")?,
+        rows: row_words(found),
+    })
+}
+
+fn scenario_plan<'a>(found: &ArgMatches<'a>) -> Option<CommandPlan<'a>>
+    ensures { IfSome result (HoldsRows (codes "scenario", rows_of (found_of found.now))) }
+{
+    Some(CommandPlan::Scenario {
+        script: file_of(found, "SCRIPT")?,
+        stream: file_of(found, "STREAM")?,
+        rules: option_value(found, "rules"),
+    })
+}
+
+/// How archives are imported.
+fn import_words<'a>(found: &ArgMatches<'a>) -> ImportWords<'a>
+    ensures { HoldsImport (rows_of (found_of found.now)) result }
+{
+    ImportWords {
+        marked: flag(found, "marked"),
+        keep_idle: flag(found, "keep-idle"),
+        keep_faulty: flag(found, "keep-faulty"),
+        only: option_value(found, "only"),
+        time_at: option_value(found, "time-at"),
+        epoch: option_value(found, "epoch"),
+        step: option_value(found, "step"),
+        tick: option_value(found, "tick"),
+        start: option_value(found, "start"),
+    }
+}
+
+/// The archives and the stream.
+fn files_of<'a>(alloc: Global, found: &ArgMatches<'a>) -> Result<Option<Vec<&'a str>>, AllocError>
+    ensures { IfOk result (λ files. IfSome files
+        (λ words. all_of (codes "FILES") (rows_of (found_of found.now)) ≡
+        Some (map (λ word. word.now) words.items))) }
+{
+    match found.get_strs("FILES") {
+        Some(files) => Ok(Some(Vec::from_slice(alloc, files)?)),
+        None => Ok(None),
+    }
+}
+
+fn import_plan<'a>(
+    alloc: Global,
+    found: &ArgMatches<'a>,
+) -> Result<Option<CommandPlan<'a>>, AllocError>
+    ensures { IfOk result (λ plan. IfSome plan
+        (HoldsRows (codes "import", rows_of (found_of found.now)))) }
+{
+    match files_of(alloc, found)? {
+        Some(files) => Ok(Some(CommandPlan::Import {
+            files,
+            how: import_words(found),
+        })),
+        None => Ok(None),
+    }
+}
+
+fn export_plan<'a>(found: &ArgMatches<'a>) -> Option<CommandPlan<'a>>
+    ensures { IfSome result (HoldsRows (codes "export", rows_of (found_of found.now))) }
+{
+    Some(CommandPlan::Export {
+        stream: file_of(found, "STREAM")?,
+        raw: file_of(found, "RAW")?,
+    })
+}
+
+/// The plan of a report of these rule texts.
+fn report_of<'a>(found: &ArgMatches<'a>, rules: Vec<&'a str>) -> Option<CommandPlan<'a>>
+    requires { all_of (codes "RULES") (rows_of (found_of found.now)) ≡
+        Some (map (λ word. word.now) rules.items) }
+    ensures { IfSome result (HoldsRows (codes "report", rows_of (found_of found.now))) }
+{
+    Some(CommandPlan::Report {
+        schedule: file_of(found, "SCHEDULE")?,
+        stream: file_of(found, "STREAM")?,
+        page: file_of(found, "PAGE")?,
+        rules,
+        epoch: option_value(found, "epoch"),
+    })
+}
+
+fn report_plan<'a>(
+    alloc: Global,
+    found: &ArgMatches<'a>,
+) -> Result<Option<CommandPlan<'a>>, AllocError>
+    ensures { IfOk result (λ plan. IfSome plan
+        (HoldsRows (codes "report", rows_of (found_of found.now)))) }
+{
+    match rules_of(alloc, found)? {
+        Some(rules) => Ok(report_of(found, rules)),
+        None => Ok(None),
+    }
+}
+
+/// The plan of a check of these rule texts.
+fn check_of<'a>(found: &ArgMatches<'a>, rules: Vec<&'a str>) -> CommandPlan<'a>
+    requires { all_of (codes "RULES") (rows_of (found_of found.now)) ≡
+        Some (map (λ word. word.now) rules.items) }
+    ensures { HoldsRows (codes "check", rows_of (found_of found.now)) result }
+{
+    CommandPlan::Check {
+        schedule: option_value(found, "schedule"),
+        rules,
+        all: flag(found, "all"),
+        strict: flag(found, "strict"),
+        json: flag(found, "json"),
+    }
+}
+
+fn check_plan<'a>(
+    alloc: Global,
+    found: &ArgMatches<'a>,
+) -> Result<Option<CommandPlan<'a>>, AllocError>
+    ensures { IfOk result (λ plan. IfSome plan
+        (HoldsRows (codes "check", rows_of (found_of found.now)))) }
+{
+    match rules_of(alloc, found)? {
+        Some(rules) => Ok(Some(check_of(found, rules))),
+        None => Ok(None),
+    }
+}
+
+fn compare_plan<'a>(found: &ArgMatches<'a>) -> Option<CommandPlan<'a>>
+    ensures { IfSome result (HoldsRows (codes "compare", rows_of (found_of found.now))) }
+{
+    Some(CommandPlan::Compare {
+        schedule: file_of(found, "SCHEDULE")?,
+        stream: file_of(found, "STREAM")?,
+        old: file_of(found, "OLD")?,
+        new: file_of(found, "NEW")?,
+    })
+}
+
+/// The plan of a script that is tried with these rule texts.
+fn try_of<'a>(found: &ArgMatches<'a>, rules: Vec<&'a str>) -> Option<CommandPlan<'a>>
+    requires { all_of (codes "RULES") (rows_of (found_of found.now)) ≡
+        Some (map (λ word. word.now) rules.items) }
+    ensures { IfSome result (HoldsRows (codes "try", rows_of (found_of found.now))) }
+{
+    Some(CommandPlan::Try {
+        script: file_of(found, "SCRIPT")?,
+        schedule: file_of(found, "SCHEDULE")?,
+        rules,
+    })
+}
+
+fn try_plan<'a>(
+    alloc: Global,
+    found: &ArgMatches<'a>,
+) -> Result<Option<CommandPlan<'a>>, AllocError>
+    ensures { IfOk result (λ plan. IfSome plan
+        (HoldsRows (codes "try", rows_of (found_of found.now)))) }
+{
+    match rules_of(alloc, found)? {
+        Some(rules) => Ok(try_of(found, rules)),
+        None => Ok(None),
+    }
+}
+
+/// The plan of a run of these rule texts, as it comes.
+fn live_of<'a>(found: &ArgMatches<'a>, rules: Vec<&'a str>) -> Option<CommandPlan<'a>>
+    requires { all_of (codes "RULES") (rows_of (found_of found.now)) ≡
+        Some (map (λ word. word.now) rules.items) }
+    ensures { IfSome result (HoldsRows (codes "live", rows_of (found_of found.now))) }
+{
+    Some(CommandPlan::Live {
+        schedule: file_of(found, "SCHEDULE")?,
+        rules,
+    })
+}
+
+fn live_plan<'a>(
+    alloc: Global,
+    found: &ArgMatches<'a>,
+) -> Result<Option<CommandPlan<'a>>, AllocError>
+    ensures { IfOk result (λ plan. IfSome plan
+        (HoldsRows (codes "live", rows_of (found_of found.now)))) }
+{
+    match rules_of(alloc, found)? {
+        Some(rules) => Ok(live_of(found, rules)),
+        None => Ok(None),
+    }
+}

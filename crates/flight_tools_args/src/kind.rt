@@ -1,0 +1,71 @@
+//! Which command a word is.
+
+ghost use Rattle.std.specs.Prelude.{◌≡◌, IfSome};
+ghost use Rattle.flight_tools_args.specs.Words.{word_of};
+
+/// A command.
+#[derive(Clone, Copy)]
+pub enum CommandKind {
+    Table,
+    Stream,
+    Packets,
+    Scenario,
+    Import,
+    Export,
+    Report,
+    Check,
+    Compare,
+    Try,
+    Live,
+}
+
+/// The command over files with this word.
+fn of_files(word: &str) -> Option<CommandKind>
+    ensures { IfSome result (λ kind. word_of kind ≡ word.now) }
+{
+    match word {
+        "table" => Some(CommandKind::Table),
+        "stream" => Some(CommandKind::Stream),
+        "packets" => Some(CommandKind::Packets),
+        _ => None,
+    }
+}
+
+/// The command with this word that makes a stream or takes one apart.
+fn of_streams(word: &str) -> Option<CommandKind>
+    ensures { IfSome result (λ kind. word_of kind ≡ word.now) }
+{
+    match word {
+        "scenario" => Some(CommandKind::Scenario),
+        "import" => Some(CommandKind::Import),
+        "export" => Some(CommandKind::Export),
+        _ => None,
+    }
+}
+
+/// The command with this word that judges rules, or makes runs of them.
+fn of_rules(word: &str) -> Option<CommandKind>
+    ensures { IfSome result (λ kind. word_of kind ≡ word.now) }
+{
+    match word {
+        "report" => Some(CommandKind::Report),
+        "check" => Some(CommandKind::Check),
+        "compare" => Some(CommandKind::Compare),
+        "try" => Some(CommandKind::Try),
+        "live" => Some(CommandKind::Live),
+        _ => None,
+    }
+}
+
+/// The command with this word.
+pub fn kind_of(word: &str) -> Option<CommandKind>
+    ensures { IfSome result (λ kind. word_of kind ≡ word.now) }
+{
+    match of_files(word) {
+        Some(kind) => Some(kind),
+        None => match of_streams(word) {
+            Some(kind) => Some(kind),
+            None => of_rules(word),
+        },
+    }
+}

@@ -1,0 +1,62 @@
+//! The words of a command line (this project's own), read by `clap`: which command is asked for, over which files, and how.
+#![tactic(auto)]
+
+ghost use Rattle.std.specs.Prelude.{◌≡◌};
+ghost use Rattle.clap.specs.Words.{kind_of};
+ghost use Rattle.flight_tools_args.specs.Words.{answer_by};
+
+mod commands;
+mod error;
+mod given;
+mod kind;
+mod plan;
+
+use crate::commands::all_words;
+pub use crate::error::WordsError;
+use crate::given::given_plan;
+pub use crate::plan::{CommandPlan, ImportWords, RowWords};
+use clap::error::ErrorKind;
+use clap::{ArgMatches, Error};
+use std::alloc::{AllocError, Global};
+
+/// What is to be done where `clap` finds no command: help and the version are asked for, and other words are at fault.
+fn without_command<'a>(error: Error) -> Result<CommandPlan<'a>, WordsError>
+    ensures { result ≡ answer_by (kind_of error) error }
+{
+    match error.kind() {
+        ErrorKind::DisplayHelp | ErrorKind::DisplayVersion => Ok(CommandPlan::Said(error)),
+        ErrorKind::OutOfMemory => Err(WordsError::Memory),
+        _ => Err(WordsError::Refused(error)),
+    }
+}
+
+/// What `clap` says where a word of a command isn't there, which it refuses before.
+fn missing_word(alloc: Global) -> Result<Error, AllocError> {
+    all_words(alloc)?.error(ErrorKind::MissingRequiredArgument, "a word is missing")
+}
+
+/// The plan of what was found.
+fn plan_of<'a>(alloc: Global, found: &ArgMatches<'a>) -> Result<CommandPlan<'a>, WordsError> {
+    match given_plan(alloc, found)? {
+        Some(plan) => Ok(plan),
+        None => without_command(missing_word(alloc)?),
+    }
+}
+
+/// What `clap` finds in the words, or what it says of them.
+fn found_in<'a>(
+    alloc: Global,
+    words: &'a [&'a str],
+) -> Result<Result<ArgMatches<'a>, Error>, AllocError> {
+    Ok(all_words(alloc)?.try_get_matches_from(words))
+}
+
+/// Reads the words of a command line, the program's name first. An option stands anywhere among the files; `--` ends them.
+///
+/// Errors: `Refused` with what `clap` says of words that are none of the commands; `Memory`.
+pub fn read_words<'a>(alloc: Global, words: &'a [&'a str]) -> Result<CommandPlan<'a>, WordsError> {
+    match found_in(alloc, words)? {
+        Ok(found) => plan_of(alloc, &found),
+        Err(error) => without_command(error),
+    }
+}

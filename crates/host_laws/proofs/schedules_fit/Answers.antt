@@ -1,5 +1,0 @@
-use Rattle.host_laws.proofs.Schedules.{schedules_fit}
-use Rattle.host_laws.proofs.schedules_fit.Goals as goal
-
-pub returns : goal.returns
-returns c = schedules_fit

@@ -1,7 +1,0 @@
-use Rattle.lc_model.specs.Tables.HalvesAndBytes.{as_bytes}
-use Rattle.host_laws.specs.Statements.{AreBytes}
-use Rattle.host_laws.proofs.SeatsGo.{seats_go_with}
-use Rattle.host_laws.proofs.seats_go_with_services.Goals as goal
-
-pub returns : goal.returns
-returns c layouts schedule = seats_go_with (as_bytes layouts) AreBytes schedule

@@ -1,0 +1,138 @@
+//! The host in numbers keeps to the world, and over whole runs writes what is called for.
+#![tactic(auto)]
+
+ghost use Rattle.std.specs.Prelude.{List, ℕ};
+ghost use Rattle.lc_model.specs.Host.Promise.{Mission};
+ghost use Rattle.lc_model.specs.Host.Schedule.{Schedule};
+ghost use Rattle.lc_model.specs.Tables.HalvesAndBytes.{as_bytes};
+ghost use Rattle.lc_model.specs.Tables.Image.{Layout};
+ghost use Rattle.host_refinement.specs.Calls.{CallsKeepOthers, CopiesServe, PacketsKeep, PublishesFew, StartsGoWith, StartsWriteLittle, TheHostKeeps, WritesLittle};
+ghost use Rattle.host_refinement.specs.Commands.{CommandsKeepForms, LoadsByName, MovesByName};
+ghost use Rattle.host_refinement.specs.Invariants.{FilesStayAMap, NamesStayOwn, PipesFollowStates};
+ghost use Rattle.host_refinement.specs.Parts.{HasSpares, HasStates, HoldsCounts, HoldsFiles, HoldsFilters, HoldsTables, IsKept, PipesAreEmpty, RunsOnOneSeat};
+ghost use Rattle.host_refinement.specs.Writes.{CallsAreBounded, OpenHostsTake, WritesAreTheSteps};
+ghost use Rattle.host_refinement.specs.Statements.{AreBytes, BeginsSo, EachRecordKeeps, RecordsAreFine, RunsGoOn, SchedulesFit, SeatsGoWith, StreamsBring, WritesByBytes, WritesByTexts, WritesWhatIsCalledFor, WritesWithFixedTables};
+
+use lc_model::laws::table_services::table_services_go_by_names;
+
+/// With nothing running and the same stock, both begin alike.
+pub fn begins_as_the_world()
+    ensures { (layouts : List Layout) (schedule : Schedule) →
+        BeginsSo (as_bytes layouts) AreBytes schedule }
+{}
+
+/// Each record keeps the host in numbers to the world, and the packets that it writes are those that the world sends.
+pub fn keeps_to_the_world()
+    ensures { (layouts : List Layout) (schedule : Schedule) →
+        EachRecordKeeps (as_bytes layouts) AreBytes schedule }
+{}
+
+/// Part by part, what each record keeps.
+pub fn each_part_is_kept()
+    // The stored files, the registered tables with their slots, the senders of events with their types and filters, and each
+    // message id's sequence count are the world's.
+    ensures files { (layouts : List Layout) (schedule : Schedule) →
+        IsKept (as_bytes layouts) schedule AreBytes (HoldsFiles (as_bytes layouts) schedule) }
+    ensures tables { (layouts : List Layout) (schedule : Schedule) →
+        IsKept (as_bytes layouts) schedule AreBytes (HoldsTables (as_bytes layouts) schedule) }
+    ensures filters { (layouts : List Layout) (schedule : Schedule) →
+        IsKept (as_bytes layouts) schedule AreBytes (HoldsFilters (as_bytes layouts) schedule) }
+    ensures counts { (layouts : List Layout) (schedule : Schedule) →
+        IsKept (as_bytes layouts) schedule AreBytes (HoldsCounts (as_bytes layouts) schedule) }
+
+    // An application has one seat where it runs, and none else; its object has the state that its lists come to.
+    ensures seats { (layouts : List Layout) (schedule : Schedule) →
+        IsKept (as_bytes layouts) schedule AreBytes (RunsOnOneSeat (as_bytes layouts) schedule) }
+    ensures states { (layouts : List Layout) (schedule : Schedule) →
+        IsKept (as_bytes layouts) schedule AreBytes (HasStates (as_bytes layouts) schedule) }
+
+    // The stock is the world's, and between records no packet waits.
+    ensures spares { (layouts : List Layout) (schedule : Schedule) →
+        IsKept (as_bytes layouts) schedule AreBytes (HasSpares (as_bytes layouts) schedule) }
+    ensures pipes { (layouts : List Layout) (schedule : Schedule) →
+        IsKept (as_bytes layouts) schedule AreBytes (PipesAreEmpty (as_bytes layouts) schedule) }
+{}
+
+/// Over whole runs it writes exactly what is called for.
+pub fn writes_what_is_called_for()
+    ensures { (layouts : List Layout) (schedule : Schedule) →
+        WritesWhatIsCalledFor (as_bytes layouts) AreBytes schedule }
+{}
+
+/// What it writes for one record more comes behind all else.
+pub fn goes_on()
+    ensures { (layouts : List Layout) → RunsGoOn (as_bytes layouts) }
+{}
+
+/// A stream of bytes brings files of bytes and halves of its texts, and these are what the laws ask of records.
+pub fn records_of_bytes_are_fine()
+    ensures brought { StreamsBring }
+    ensures fine { RecordsAreFine }
+{}
+
+/// A schedule's text says 1 to 64 slots of at most eight entries.
+pub fn schedules_fit()
+    ensures { SchedulesFit }
+{}
+
+/// Over a mission it writes exactly what the promise of `run` calls for: by the bytes of files, by the rule texts, and by one
+/// text whose tables stay.
+pub fn writes_a_mission()
+    ensures bytes { (m : Mission) → WritesByBytes m }
+    ensures texts { (m : Mission) → WritesByTexts m }
+    ensures fixed { (m : Mission) → WritesWithFixedTables m }
+{}
+
+/// What an application's object means goes with the services of the host, from its start on.
+pub fn calls_go_with_services()
+    // An object that starts goes with the services that it leaves, and so does one that has a packet.
+    ensures start { (layouts : List Layout) → StartsGoWith (as_bytes layouts) }
+    ensures packet { (layouts : List Layout) → PacketsKeep (as_bytes layouts) }
+
+    // Calls of other applications keep it, and so do commands to services, stored files and what is sent.
+    ensures others { (layouts : List Layout) → CallsKeepOthers (as_bytes layouts) }
+    ensures host { (layouts : List Layout) → TheHostKeeps (as_bytes layouts) }
+
+    // What the Limit Checker does by its own copy of the tables in force is what it does by the tables.
+    ensures copies { (layouts : List Layout) → CopiesServe (as_bytes layouts) }
+
+    // A call publishes at most eight packets, for a tick alone, and never a tick.
+    ensures publications { (layouts : List Layout) → PublishesFew (as_bytes layouts) }
+{}
+
+/// Each object on a seat of an executive that keeps to a world goes with its services.
+pub fn seats_go_with_services()
+    ensures { (layouts : List Layout) (schedule : Schedule) →
+        SeatsGoWith (as_bytes layouts) AreBytes schedule }
+{}
+
+/// What one call asks to be written has 65,536 bytes at most.
+pub fn calls_write_little()
+    ensures start { (layouts : List Layout) → StartsWriteLittle (as_bytes layouts) }
+    ensures packet { (layouts : List Layout) → WritesLittle (as_bytes layouts) }
+{}
+
+/// Write by write a host does what its step does, with at most 520 calls of `on_packet`; and where a write fails, what was
+/// written is the front of what the record leads to.
+pub fn writes_are_the_steps()
+    ensures packets { (layouts : List Layout) → WritesAreTheSteps (as_bytes layouts) }
+    ensures calls { (layouts : List Layout) → CallsAreBounded (as_bytes layouts) }
+    ensures taken { (layouts : List Layout) → OpenHostsTake (as_bytes layouts) }
+{}
+
+/// What every step keeps, whatever comes: the stored files are at most eight, each under a name of its own; no two seats have
+/// objects of one name; and a pipe is subscribed to what its object's state says, so that no other call can change that.
+pub fn steps_keep_their_order()
+    ensures files { (layouts : List Layout) → FilesStayAMap (as_bytes layouts) }
+    ensures names { (layouts : List Layout) → NamesStayOwn (as_bytes layouts) }
+    ensures pipes { (layouts : List Layout) → PipesFollowStates (as_bytes layouts) }
+{}
+
+/// What a command to a table does at the table's seat is what the host in numbers says of its name. A table keeps its form.
+pub fn table_commands_go_by_names()
+    ensures moves { MovesByName }
+    ensures loads { LoadsByName }
+    ensures forms { CommandsKeepForms }
+{
+    table_services_go_by_names();
+}

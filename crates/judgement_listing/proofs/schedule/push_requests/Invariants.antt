@@ -1,7 +1,0 @@
-use Rattle.std.proofs.Common.{◌≡◌, ◌++◌, take, flat_map}
-use Rattle.schedules.specs.Entry.{entries_of}
-use Rattle.judgement_listing.specs.Requests.{request_in}
-use Rattle.judgement_listing.proofs.schedule.push_requests.Given as goal
-
-abbrev pub invariant-loop-entry : goal.invariant-loop-entry
-invariant-loop-entry l = l.requests.items ≡ l.fn.requests.items ++ flat_map request_in (entries_of (take l.entry-index l.entries))

@@ -1,0 +1,76 @@
+//! Times and names of packets as text.
+
+ghost use Rattle.std.specs.Prelude.{◌≡◌, ◌≤◌, length, Some};
+ghost use Rattle.lc_model.specs.Bytes.{u16_at, u32_at};
+ghost use Rattle.packet_listing.specs.Words.{time_text};
+
+use lc_model::{Moment, u16_at, u32_at};
+use std::fmt::{self, Display, Formatter, Write};
+
+/// The character that is shown for a byte that is no printable ASCII character.
+const UNPRINTABLE: char = '.';
+
+/// The length in bytes of telemetry's headers; the last six bytes are its time.
+const TELEMETRY_HEADERS: usize = 12;
+
+/// The number of parts of a second that the last two bytes of a time count.
+const SUBSECONDS: u32 = 65_536;
+
+/// The number of parts of a second that are shown. Times that differ are shown differently.
+const SAID: u32 = 100_000;
+
+/// A time of telemetry; it displays as seconds and five decimal digits of the second, rounded down.
+#[derive(Clone, Copy)]
+pub struct Time {
+    seconds: u32,
+    subseconds: u16,
+}
+
+impl Time {
+    /// Returns the time of a moment.
+    pub fn at(moment: Moment) -> Time
+        ensures { (result.seconds ≡ moment.seconds) × (result.subseconds ≡ moment.subseconds) }
+    {
+        Time {
+            seconds: moment.seconds,
+            subseconds: moment.subseconds,
+        }
+    }
+}
+
+/// Returns the time in a telemetry packet: seconds at byte 6, parts of a second at byte 10, both high byte first.
+pub fn time_of(packet: &[u8]) -> Time
+    requires { TELEMETRY_HEADERS ≤ length packet.now }
+    ensures { (result.seconds ≡ u32_at packet.now 6) × (result.subseconds ≡ u16_at packet.now 10) }
+{
+    Time {
+        seconds: u32_at(packet, 6),
+        subseconds: u16_at(packet, 10),
+    }
+}
+
+impl Display for Time {
+    ghost output = { λ time. Some (time_text time.seconds time.subseconds) };
+
+    fn fmt<W: Write>(&self, f: &mut Formatter<W>) -> fmt::Result {
+        let part = u64::from(self.subseconds) * u64::from(SAID) / u64::from(SUBSECONDS);
+        write!(f, "{}.{part:05}", self.seconds)
+    }
+}
+
+/// A field of text; it displays up to its first zero byte, with `.` for each byte that isn't printable ASCII.
+#[derive(Clone, Copy)]
+pub struct TextField<'a>(pub &'a [u8]);
+
+impl Display for TextField<'_> {
+    fn fmt<W: Write>(&self, f: &mut Formatter<W>) -> fmt::Result {
+        for byte in self.0 {
+            match *byte {
+                0 => break,
+                0x20..=0x7E => f.write_char(char::from(*byte))?,
+                _ => f.write_char(UNPRINTABLE)?,
+            }
+        }
+        Ok(())
+    }
+}

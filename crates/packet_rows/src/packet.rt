@@ -1,0 +1,162 @@
+//! The packets that a run writes, as rows.
+
+ghost use Rattle.std.specs.Prelude.{◌≤◌, length};
+
+use crate::cell::{Cell, number, some_word, word};
+use crate::epoch::{Epoch, time_cell, utc_cell};
+use crate::error::RowError;
+use crate::form::{Form, write_row};
+use lc_model::packet::message_id;
+use lc_model::{Moment, u16_at, u32_at};
+use packet_listing::{Event, PacketLine, Sent, TextField, event_word, read_packet};
+use std::alloc::Global;
+use std::io::Write;
+
+/// The columns of a packet.
+pub const PACKET_NAMES: [&str; 12] = [
+    "number",
+    "time",
+    "utc",
+    "kind",
+    "sender",
+    "id",
+    "level",
+    "text",
+    "sequence",
+    "count",
+    "message_id",
+    "size",
+];
+
+/// The counts of packets are below this number; the two bits above it say that a packet is whole.
+const COUNT_END: u16 = 16_384;
+
+/// The bytes of a packet's primary header.
+const PRIMARY_HEADER: usize = 6;
+
+/// The bytes of telemetry's headers, whose last six are its time.
+const TELEMETRY_HEADERS: usize = 12;
+
+/// What a packet is.
+#[derive(Drop)]
+struct PacketContent {
+    moment: Option<Moment>,
+    kind: &'static str,
+    sender: Cell,
+    id: Option<u16>,
+    level: Option<&'static str>,
+    text: Cell,
+    sequence: Option<u16>,
+}
+
+/// Nothing but the kind.
+fn plain(kind: &'static str) -> PacketContent {
+    PacketContent {
+        moment: None,
+        kind,
+        sender: Cell::Empty,
+        id: None,
+        level: None,
+        text: Cell::Empty,
+        sequence: None,
+    }
+}
+
+/// Bytes as text, up to the first zero.
+fn text_of(alloc: Global, bytes: &[u8]) -> Result<Cell, RowError> {
+    let field = TextField(bytes);
+    Ok(Cell::Text(format!(in alloc; "{field}")?))
+}
+
+/// An event.
+fn event_said(alloc: Global, event: Event<'_>) -> Result<PacketContent, RowError> {
+    Ok(PacketContent {
+        moment: Some(event.moment),
+        sender: text_of(alloc, event.sender)?,
+        id: Some(event.id),
+        level: Some(event_word(event.kind)),
+        text: text_of(alloc, event.text)?,
+        ..plain("event")
+    })
+}
+
+/// A housekeeping packet: its text is what its line says behind the sender.
+fn housekeeping_said(alloc: Global, packet: &[u8]) -> Result<PacketContent, RowError>
+    requires { TELEMETRY_HEADERS ≤ length packet.now }
+{
+    let line = PacketLine { number: 0, packet };
+    let line = format!(in alloc; "{line}")?;
+    let text = match line.as_str().split_once("housekeeping: ") {
+        Some((_, text)) => word(alloc, text)?,
+        None => Cell::Empty,
+    };
+    Ok(PacketContent {
+        moment: Some(Moment {
+            seconds: u32_at(packet, 6),
+            subseconds: u16_at(packet, 10),
+        }),
+        sender: word(alloc, "LC")?,
+        text,
+        ..plain("housekeeping")
+    })
+}
+
+/// What a packet is.
+fn said_of(alloc: Global, packet: &[u8]) -> Result<PacketContent, RowError> {
+    match read_packet(packet) {
+        Some(Sent::Request(sequence)) => Ok(PacketContent {
+            sequence: Some(sequence),
+            ..plain("request")
+        }),
+        Some(Sent::Event(event)) => event_said(alloc, event),
+        Some(Sent::Housekeeping { .. }) if packet.len() >= TELEMETRY_HEADERS => {
+            housekeeping_said(alloc, packet)
+        }
+        _ => Ok(plain("other")),
+    }
+}
+
+/// A packet's message id, in four hexadecimal digits behind `0x`.
+fn id_cell(alloc: Global, packet: &[u8]) -> Result<Cell, RowError> {
+    if packet.len() < PRIMARY_HEADER {
+        return Ok(Cell::Empty);
+    }
+    let id = message_id(packet);
+    Ok(Cell::Text(format!(in alloc; "0x{id:04X}")?))
+}
+
+/// A packet's sequence count.
+fn count_cell(packet: &[u8]) -> Cell {
+    if packet.len() < PRIMARY_HEADER {
+        return Cell::Empty;
+    }
+    number(Some(u16_at(packet, 2) % COUNT_END))
+}
+
+/// Writes the row of a packet with this number. Times are in UTC, too, where the epoch is known. Bytes of texts that are no
+/// printable ASCII characters are points.
+pub fn write_packet<W: Write>(
+    alloc: Global,
+    form: Form,
+    epoch: Option<Epoch>,
+    line: PacketLine<'_>,
+    out: &mut W,
+) -> Result<(), RowError> {
+    let packet = line.packet;
+    let said = said_of(alloc, packet)?;
+    let cells = [
+        Cell::Number(line.number),
+        time_cell(alloc, said.moment)?,
+        utc_cell(alloc, epoch, said.moment)?,
+        word(alloc, said.kind)?,
+        said.sender,
+        number(said.id),
+        some_word(alloc, said.level)?,
+        said.text,
+        number(said.sequence),
+        count_cell(packet),
+        id_cell(alloc, packet)?,
+        Cell::Number(packet.len() as u64),
+    ];
+    write_row(alloc, form, &PACKET_NAMES, &cells, out)
+}

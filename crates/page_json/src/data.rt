@@ -1,0 +1,213 @@
+//! The data of a page as one object.
+
+use crate::json::{Item, Json};
+use crate::lists::{put_fields, put_lanes, put_modes, put_tables};
+use crate::requests::put_sent;
+use crate::rules::put_texts;
+use bounded_history::Changes;
+use lc_model::VERSION;
+use run_summary::{Account, Figures};
+use sha2::{Digest, Sha256};
+use std::fmt::{self, Display, Formatter, Write};
+
+/// A file, with the name under which a page speaks of it.
+#[derive(Clone, Copy)]
+pub struct Source<'n, 't> {
+    pub name: &'n str,
+    pub text: &'t [u8],
+}
+
+/// What a page is made of, beside its schedule. Names and texts live for as long as they like.
+#[derive(Clone, Copy)]
+pub struct Run<'n, 't> {
+    /// The file of the schedule, and the name of the stream's.
+    pub plan: Source<'n, 't>,
+    pub stream: &'n str,
+    pub texts: &'t [Source<'n, 't>],
+    /// The instant of second 0, as RFC 3339 writes it.
+    pub epoch: Option<&'n str>,
+}
+
+/// How the run ended: behind so many records, at the record of this number, or with as many reads as may be.
+#[derive(Clone, Copy)]
+pub enum Ended {
+    Whole(u64),
+    NoRecord(u64),
+    Cut(u64),
+    Bound,
+}
+
+/// All of it.
+#[derive(Clone, Copy)]
+pub struct Data<'a, 'n, 't, 's> {
+    pub run: &'a Run<'n, 't>,
+    /// How many bytes the stream has, and their SHA-256.
+    pub bytes: u64,
+    pub digest: [u8; 32],
+    pub ended: Ended,
+    /// The time of the first record, that of the last less that of the first, and whether none is before the one in front of it.
+    pub start: u64,
+    pub end: i64,
+    pub is_ordered: bool,
+    pub account: &'a Account<'s>,
+    /// What is told of each rule, and of each field.
+    pub lanes: &'a [Changes],
+    pub values: &'a [Changes],
+}
+
+const WHOLE: &[&str] = &["{\"status\":0,\"says\":\"", " records\",\"whole\":true}"];
+
+const NO_RECORD: &[&str] = &[
+    "{\"status\":4,\"says\":\"record ",
+    " of the stream is none\",\"whole\":false}",
+];
+
+const CUT: &[&str] = &[
+    "{\"status\":4,\"says\":\"the stream ends inside record ",
+    "\",\"whole\":false}",
+];
+
+const BOUND: &[&str] = &[
+    "{\"status\":4,\"says\":\"as many reads were made as may be\",\"whole\":false}",
+];
+
+fn put_ended<W: Write>(json: &mut Json<'_, W>, ended: Ended) {
+    match ended {
+        Ended::Whole(records) => json.row(WHOLE, &[Item::Natural(records)]),
+        Ended::NoRecord(number) => json.row(NO_RECORD, &[Item::Natural(number)]),
+        Ended::Cut(number) => json.row(CUT, &[Item::Natural(number)]),
+        Ended::Bound => json.row(BOUND, &[]),
+    }
+}
+
+const FILE: &[&str] = &[
+    "{\"role\":\"",
+    "\",\"name\":\"",
+    "\",\"bytes\":",
+    ",\"sha256\":\"",
+    "\"}",
+];
+
+/// A file that the page names.
+fn put_file<'x, W: Write>(
+    json: &mut Json<'_, W>,
+    role: &'static str,
+    name: &'x str,
+    bytes: u64,
+    digest: &'x [u8],
+) {
+    let items = [
+        Item::Word(role),
+        Item::Text(name.as_bytes()),
+        Item::Natural(bytes),
+        Item::Digest(digest),
+    ];
+    json.member(FILE, &items)
+}
+
+/// A file whose bytes are there.
+fn put_source<W: Write>(json: &mut Json<'_, W>, role: &'static str, file: &Source<'_, '_>) {
+    let digest = Sha256::digest(file.text);
+    put_file(json, role, file.name, file.text.len() as u64, &digest)
+}
+
+/// All files that the page names but for the stream.
+fn put_sources<W: Write>(json: &mut Json<'_, W>, run: &Run<'_, '_>) {
+    for source in run.texts {
+        put_source(json, "rules", source);
+    }
+    put_source(json, "schedule", &run.plan)
+}
+
+const PROGRAM: &[&str] = &["{\"format\":1,\"program\":\"flight_tools ", "\",\"ended\":"];
+
+const FIGURES: &[&str] = &[
+    "],\"figures\":{\"records\":",
+    ",\"telemetry\":",
+    ",\"commands\":",
+    ",\"ticks\":",
+    ",\"files\":",
+    ",\"packets\":",
+    ",\"requests\":",
+    ",\"housekeeping\":",
+    ",\"critical\":",
+    ",\"error\":",
+    ",\"info\":",
+    ",\"debug\":",
+    ",\"other\":",
+    "},\"start\":",
+];
+
+/// The figures of a run.
+fn put_figures<W: Write>(json: &mut Json<'_, W>, figures: &Figures) {
+    let items = [
+        Item::Natural(figures.records),
+        Item::Natural(figures.telemetry),
+        Item::Natural(figures.commands),
+        Item::Natural(figures.ticks),
+        Item::Natural(figures.files),
+        Item::Natural(figures.packets),
+        Item::Natural(figures.requests),
+        Item::Natural(figures.housekeeping),
+        Item::Natural(figures.critical),
+        Item::Natural(figures.error),
+        Item::Natural(figures.info),
+        Item::Natural(figures.debug),
+        Item::Natural(figures.other),
+    ];
+    json.row(FIGURES, &items)
+}
+
+const CLOCK: &[&str] = &["", ",\"end\":", ",\"ordered\":", ",\"epoch\":"];
+
+/// The times of a run, and the instant of second 0, or null.
+fn put_clock<W: Write>(json: &mut Json<'_, W>, data: &Data<'_, '_, '_, '_>) {
+    let ordered = if data.is_ordered { "true" } else { "false" };
+    let items = [
+        Item::Natural(data.start),
+        Item::Number(data.end),
+        Item::Word(ordered),
+    ];
+    json.row(CLOCK, &items);
+    match data.run.epoch {
+        Some(epoch) => json.row(&["\"", "\""], &[Item::Text(epoch.as_bytes())]),
+        None => json.text("null"),
+    }
+    json.open(",\"texts\":[");
+}
+
+/// What stands in front of the texts of rules.
+fn put_front<W: Write>(json: &mut Json<'_, W>, data: &Data<'_, '_, '_, '_>) {
+    json.row(PROGRAM, &[Item::Word(VERSION)]);
+    put_ended(json, data.ended);
+    json.open(",\"files\":[");
+    put_sources(json, data.run);
+    put_file(json, "stream", data.run.stream, data.bytes, &data.digest);
+    put_figures(json, &data.account.figures);
+    put_clock(json, data);
+}
+
+/// What is told of fields, rules and tables.
+fn put_lists<W: Write>(json: &mut Json<'_, W>, data: &Data<'_, '_, '_, '_>) {
+    json.open("],\"fields\":[");
+    put_fields(json, data.account.seen.as_slice(), data.values);
+    json.open("],\"lanes\":[");
+    put_lanes(json, data.lanes);
+    json.open("],\"tables\":[");
+    put_tables(json, &data.account.bands);
+    json.open("],\"mode\":[");
+    put_modes(json, &data.account.bands);
+    json.open("],\"requests\":[");
+}
+
+impl Display for Data<'_, '_, '_, '_> {
+    fn fmt<W: Write>(&self, f: &mut Formatter<W>) -> fmt::Result {
+        let mut json = Json::new(f);
+        put_front(&mut json, self);
+        put_texts(&mut json, self.account);
+        put_lists(&mut json, self);
+        put_sent(&mut json, self.account);
+        json.text("}");
+        json.end()
+    }
+}

@@ -1,0 +1,157 @@
+//! What was sent, of a page's data: requests with the samples that counted, and events.
+
+use crate::json::{Item, Json};
+use crate::value_names::level;
+use run_summary::{Account, Left, Met, Part, Request, Sample, SeenEvent, verdict};
+use std::fmt::Write;
+
+/// What stands in front of the items of what a comparison met of a field, where a packet of it came, and where none did.
+const MET: &[&str] = &["[", ",", ",", ",\"", "\"]"];
+
+const UNMET: &[&str] = &["[", ",null,null,\"", "\"]"];
+
+/// What a comparison met.
+fn put_met<W: Write>(json: &mut Json<'_, W>, part: Part, met: Met) {
+    let value = Item::NumberIf(met.value);
+    let verdict = Item::Word(verdict(part, met));
+    match met.place {
+        Some(place) => {
+            let record = Item::Natural(place.record);
+            json.member(MET, &[value, record, Item::Number(place.time), verdict])
+        }
+        None => json.member(UNMET, &[value, verdict]),
+    }
+}
+
+/// What the comparisons of a sample met.
+fn put_all_met<W: Write>(json: &mut Json<'_, W>, parts: &[Part], all: &[Met]) {
+    for (number, met) in all.iter().enumerate() {
+        if let Some(part) = parts.get(number) {
+            put_met(json, *part, *met);
+        }
+    }
+}
+
+const SAMPLE: &[&str] = &["[", ",", ""];
+
+/// The samples that counted for a request.
+fn put_samples<W: Write>(json: &mut Json<'_, W>, parts: &[Part], samples: &[Sample]) {
+    for sample in samples {
+        let place = sample.place();
+        let items = [Item::Natural(place.record), Item::Number(place.time)];
+        json.member(SAMPLE, &items);
+        json.open(",[");
+        put_all_met(json, parts, sample.comparisons());
+        json.text("]]");
+    }
+}
+
+/// The comparisons of the rule of a request.
+fn parts_of<'a>(account: &'a Account<'_>, request: &Request) -> &'a [Part] {
+    match request.rule {
+        Some(rule) => account.parts(request.text, rule),
+        None => &[],
+    }
+}
+
+const REQUEST: &[&str] = &[
+    "{\"packet\":",
+    ",\"record\":",
+    ",\"time\":",
+    ",\"rule\":",
+    ",\"text\":",
+    ",\"sequence\":",
+    ",\"count\":",
+    ",\"event\":",
+    ",\"counted\":",
+    "",
+];
+
+/// A request, with the samples that counted.
+fn put_request<W: Write>(json: &mut Json<'_, W>, account: &Account<'_>, request: &Request) {
+    let items = [
+        Item::Natural(request.packet),
+        Item::Natural(request.place.record),
+        Item::Number(request.place.time),
+        Item::RuleIf(request.rule),
+        Item::TextIf(request.text),
+        Item::Natural(request.sequence as u64),
+        Item::Natural(request.count as u64),
+        Item::NaturalIf(request.event),
+        Item::Natural(request.counted as u64),
+    ];
+    json.member(REQUEST, &items);
+    json.open(",\"samples\":[");
+    put_samples(json, parts_of(account, request), request.samples.as_slice());
+    json.text("]}")
+}
+
+/// Requests, one behind the other.
+fn put_some<W: Write>(json: &mut Json<'_, W>, account: &Account<'_>, requests: &[Request]) {
+    for request in requests {
+        put_request(json, account, request);
+    }
+}
+
+/// All requests that are kept, the newest last.
+fn put_requests<W: Write>(json: &mut Json<'_, W>, account: &Account<'_>) {
+    let requests = account.sending.requests();
+    let (from, before) = requests.last();
+    put_some(json, account, requests.first());
+    put_some(json, account, from);
+    put_some(json, account, before);
+    match account.sending.newest() {
+        Some(request) => { put_request(json, account, request) }
+        None => {}
+    }
+}
+
+const EVENT: &[&str] = &["[", ",", ",", ",", ",\"", "\",", ",\"", "\",\"", "\"]"];
+
+/// Events, one behind the other.
+fn put_events<W: Write>(json: &mut Json<'_, W>, events: &[SeenEvent]) {
+    for event in events {
+        let items = [
+            Item::Natural(event.packet),
+            Item::Natural(event.place.record),
+            Item::Number(event.place.time),
+            Item::RuleIf(event.rule),
+            Item::Text(event.sender.as_slice()),
+            Item::Natural(event.id as u64),
+            level(event.kind),
+            Item::Text(event.text.as_slice()),
+        ];
+        json.member(EVENT, &items);
+    }
+}
+
+const LEFT: &[&str] = &["[", ",", ",", "]"];
+
+/// What is left out of a list.
+fn put_left<W: Write>(json: &mut Json<'_, W>, left: Option<Left>) {
+    match left {
+        Some(left) => {
+            let count = Item::Natural(left.count);
+            json.row(
+                LEFT,
+                &[count, Item::Natural(left.from), Item::Natural(left.to)],
+            )
+        }
+        None => json.text("null"),
+    }
+}
+
+/// Requests and events, with how many are left out.
+pub fn put_sent<W: Write>(json: &mut Json<'_, W>, account: &Account<'_>) {
+    put_requests(json, account);
+    json.text("],\"requests_left_out\":");
+    put_left(json, account.sending.requests().omission());
+    json.open(",\"events\":[");
+    let events = account.sending.events();
+    let (from, before) = events.last();
+    put_events(json, events.first());
+    put_events(json, from);
+    put_events(json, before);
+    json.text("],\"events_left_out\":");
+    put_left(json, events.omission())
+}

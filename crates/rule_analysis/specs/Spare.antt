@@ -1,0 +1,95 @@
+-- Comparisons that a rule can do without. This project's own.
+use Rattle.std.specs.Prelude.{◌≡◌, ◌≢◌, ℕ, ◌^◌, ◌<◌, Bool, true, false, List, [], ◌∷◌, ◌++◌, slice_get, Contains, Some, if◌then◌else◌, ◌⊎◌}
+use Rattle.std.specs.List.{AllByRecursion, AllPairs}
+use Rattle.lc_model.specs.declared.field.Term.{Term}
+use Rattle.lc_model.specs.Condition.{And, Or, Xor, Condition, Watch, Not, Join}
+use Rattle.lc_model.specs.Rule.{NamedRule}
+use Rattle.lc_model.specs.Tables.Equation.{same_term, mentions}
+use Rattle.rule_analysis.specs.declared.finding.SpareComparison.{SpareComparison}
+use Rattle.rule_analysis.specs.Judgement.{NeverFails, HoldsForSome}
+use Rattle.rule_analysis.specs.Steps.{AreFewFor}
+
+-- true, or false, wherever the comparison is known
+abbrev pub constant : Bool → Term → Condition
+constant true t = Join Or (Watch t) (Not (Watch t))
+constant false t = Join And (Watch t) (Not (Watch t))
+
+-- the condition with another one in the place of each mention of a comparison
+abbrev pub replaced : Term → Condition → Condition → Condition
+replaced t other (Watch u) = if same_term u t then other else Watch u
+replaced t other (Not c) = Not (replaced t other c)
+replaced t other (Join o a b) = Join o (replaced t other a) (replaced t other b)
+
+-- whatever was seen, the condition says the same with the comparison taken as true, or as false
+abbrev pub CanDoWithout : Condition → Term → Bool → Type 0
+CanDoWithout c t value = NeverFails (Join Xor c (replaced t (constant value t) c))
+
+-- a rule, and a comparison that it can do without
+pub record IsSpare (rules : List NamedRule) (s : SpareComparison) : Type 0 where
+  pub rule : NamedRule
+  pub rule_is : slice_get rules s.rule ≡ Some rule
+  pub without : CanDoWithout rule.action.condition s.term s.taken_as
+
+-- ---- which are told
+
+-- so many steps are left for each comparison, however many there are: enough for rules of eight different ones
+abbrev pub least_spare_steps : ℕ
+least_spare_steps = 2 ^ 8
+
+-- for numbers of the fields the condition says something else with the comparison taken so; or it has so many comparisons that it
+-- may not be known
+abbrev pub MayMatter : Condition → Term → Bool → Type 0
+MayMatter c t value = HoldsForSome (Join Xor c (replaced t (constant value t) c)) ⊎ AreFewFor c least_spare_steps
+
+-- with either value
+abbrev pub MayBeNeeded : Condition → Term → Type 0
+MayBeNeeded c t = MayMatter c t true × MayMatter c t false
+
+-- the comparison stands in the rule of this number
+abbrev pub IsOf : List NamedRule → ℕ → Term → Type 0
+IsOf rules i t = (rule : NamedRule) → slice_get rules i ≡ Some rule → Contains (mentions rule.action.condition) t
+
+-- it is told of the rule of this number
+abbrev pub IsTold : List SpareComparison → ℕ → Term → Type 0
+IsTold spare i t = (s : SpareComparison) × Contains spare s × (s.rule ≡ i) × (s.term ≡ t)
+
+-- it is, or it may be needed
+abbrev pub IsToldOrNeeded : List NamedRule → List SpareComparison → ℕ → Term → Type 0
+IsToldOrNeeded rules spare i t = (rule : NamedRule) → slice_get rules i ≡ Some rule → IsTold spare i t ⊎ MayBeNeeded rule.action.condition t
+
+-- so of the first ones of some terms
+abbrev pub AreToldUpTo : List NamedRule → List SpareComparison → ℕ → List Term → ℕ → Type 0
+AreToldUpTo rules spare i terms count = (k : ℕ) (t : Term) → k < count → slice_get terms k ≡ Some t → IsToldOrNeeded rules spare i t
+
+-- so of each comparison of each rule
+abbrev pub AreToldOrNeeded : List NamedRule → List SpareComparison → Type 0
+AreToldOrNeeded rules spare = (i : ℕ) (rule : NamedRule) → slice_get rules i ≡ Some rule →
+    AllByRecursion (λ t. IsTold spare i t ⊎ MayBeNeeded rule.action.condition t) (mentions rule.action.condition)
+
+-- ---- each comparison once
+
+-- of a rule before, or of the same rule another comparison
+abbrev pub IsAnother : (s t : SpareComparison) → Type 0
+IsAnother s t = (s.rule < t.rule) ⊎ ((s.rule ≡ t.rule) × (s.term ≢ t.term))
+
+-- each comparison of a rule is told once, rule by rule
+abbrev pub AreOnce : List SpareComparison → Type 0
+AreOnce spare = AllPairs IsAnother spare
+
+-- so, and all are of rules before the one of this number
+pub record AreOfRulesBefore (spare : List SpareComparison) (rule : ℕ) : Type 0 where
+  pub once : AreOnce spare
+  pub before : AllByRecursion (λ (s : SpareComparison). s.rule < rule) spare
+
+-- one of the first of these
+abbrev pub IsAmongFirst : List Term → ℕ → Term → Type 0
+IsAmongFirst terms count t = (k : ℕ) × (k < count) × (slice_get terms k ≡ Some t)
+
+-- so, and all are of rules before, or of this one and among its first comparisons
+pub record AreOfTermsBefore (spare : List SpareComparison) (rule : ℕ) (terms : List Term) (count : ℕ) : Type 0 where
+  pub once : AreOnce spare
+  pub before : AllByRecursion (λ (s : SpareComparison). (s.rule < rule) ⊎ ((s.rule ≡ rule) × IsAmongFirst terms count s.term)) spare
+
+-- nothing is told, or this comparison of the rule of this number
+abbrev pub IsToldAtMost : (old new : List SpareComparison) → ℕ → Term → Type 0
+IsToldAtMost old new rule t = (new ≡ old) ⊎ ((s : SpareComparison) × (s.rule ≡ rule) × (s.term ≡ t) × (new ≡ old ++ s ∷ []))

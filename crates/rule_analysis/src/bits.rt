@@ -1,0 +1,69 @@
+//! The bits that a field has in its packets.
+
+ghost use Rattle.std.specs.Prelude.{◌≡◌, ◌<◌};
+ghost use Rattle.std.specs.Int.{byte_at};
+ghost use Rattle.lc_model.specs.Field.{width};
+ghost use Rattle.rule_analysis.specs.Bits.{bits_read, byte_number, byte_there, is_little};
+
+use crate::fields::Field;
+use lc_model::FieldType;
+
+/// A byte of a number; 0 is the lowest.
+fn byte_at(number: u32, index: usize) -> u8
+    requires { index < 4 }
+    ensures { result ≡ byte_at index number }
+{
+    match index {
+        0 => (number & 0xFF) as u8,
+        1 => (number >> 8 & 0xFF) as u8,
+        2 => (number >> 16 & 0xFF) as u8,
+        _ => (number >> 24 & 0xFF) as u8,
+    }
+}
+
+/// Whether the low byte of the type comes first.
+fn is_little(kind: FieldType) -> bool
+    ensures { result ≡ is_little kind }
+{
+    match kind {
+        FieldType::U16Le | FieldType::I16Le | FieldType::U32Le | FieldType::I32Le => true,
+        FieldType::U8
+        | FieldType::I8
+        | FieldType::U16Be
+        | FieldType::I16Be
+        | FieldType::U32Be
+        | FieldType::I32Be => false,
+    }
+}
+
+/// Which byte of a number stands so far behind a field's first byte.
+fn byte_number(kind: FieldType, behind: usize) -> usize
+    requires { behind < width kind }
+    ensures number { result ≡ byte_number kind behind }
+    ensures few { result < 4 }
+{
+    if is_little(kind) {
+        behind
+    } else {
+        kind.width() - 1 - behind
+    }
+}
+
+/// The byte that a number has at this place of a packet, written into the field; 0 beside the field.
+pub(crate) fn byte_there(field: &Field, number: u32, place: usize) -> u8
+    ensures { result ≡ byte_there field.now number place }
+{
+    let start = field.offset as usize;
+    if start <= place && place < start + field.kind.width() {
+        byte_at(number, byte_number(field.kind, place - start))
+    } else {
+        0
+    }
+}
+
+/// The bits that the field reads of the packet's byte at this place.
+pub(crate) fn bits_read(field: &Field, place: usize) -> u8
+    ensures { result ≡ bits_read field.now place }
+{
+    byte_there(field, field.mask, place)
+}

@@ -1,0 +1,101 @@
+//! A few numbers of a field for all that it may have.
+
+ghost use Rattle.std.specs.Prelude.{◌≡◌, ◌==◌, ℕ, Contains, IfOk, IsFalse, IsTrue, OnOk, filter, length};
+ghost use Rattle.std.specs.List.{AllByRecursion};
+ghost use Rattle.rule_analysis.specs.Classes.{Covers, RepresentAll, SaysTheSame};
+ghost use Rattle.rule_analysis.specs.Fields.{field_number};
+ghost use Rattle.rule_analysis.specs.Search.{AreRepresented};
+ghost use Rattle.rule_analysis.specs.Steps.{AreApart, AreNotMany, says_alike};
+
+use crate::fields::{Field, number};
+use crate::numbers::next_bits;
+use crate::outcomes::says_the_same;
+use crate::thresholds::thresholds_of;
+use lc_model::Term;
+use std::alloc::{AllocError, Global};
+
+/// Whether the comparisons say of some of these numbers what they say of this one.
+fn is_represented(kept: &[u32], terms: &[Term], bits: u32) -> bool
+    ensures one { IsTrue result →
+        (candidate : ℕ) × Contains kept.now candidate × AllByRecursion (λ t.
+        SaysTheSame t candidate bits) terms.now }
+    ensures none { IsFalse result → AllByRecursion (λ candidate.
+        IsFalse (says_alike terms.now candidate bits)) kept.now }
+{
+    for one in kept {
+        if says_the_same(terms, *one, bits) {
+            return true;
+        }
+    }
+    false
+}
+
+/// The least number that fits the mask and reaches the threshold joins those kept, unless one of them stands for it.
+fn keep(kept: &mut Vec<u32>, terms: &[Term], mask: u32, threshold: u64) -> Result<(), AllocError>
+    ensures covers { OnOk result (Covers terms.now mask kept.new.items threshold) }
+    ensures apart { OnOk result (AreApart terms.now kept.old.items →
+        AreApart terms.now kept.new.items) }
+    ensures others { OnOk result ((n : ℕ) → Covers terms.now mask kept.old.items n →
+        Covers terms.now mask kept.new.items n) }
+{
+    if let Some(bits) = next_bits(u64::from(mask), threshold) {
+        let bits = bits as u32;
+        if !is_represented(kept, terms, bits) {
+            kept.push(bits)?;
+        }
+    }
+    Ok(())
+}
+
+/// For all numbers of a field with this mask a few, so that its comparisons say of each number what they say of one of these.
+fn candidates(alloc: Global, terms: &[Term], mask: u32) -> Result<Vec<u32>, AllocError>
+    requires { AllByRecursion (λ t. t.mask ≡ mask) terms.now }
+    ensures represent { IfOk result (λ kept. RepresentAll terms.now kept.items) }
+    ensures apart { IfOk result (λ kept. AreApart terms.now kept.items) }
+{
+    let mut kept = Vec::new(alloc);
+    keep(&mut kept, terms, mask, 0)?;
+    for threshold in &thresholds_of(alloc, terms)? {
+        keep(&mut kept, terms, mask, *threshold)?;
+    }
+    Ok(kept)
+}
+
+/// The terms that read the field of this number.
+fn readers(
+    alloc: Global,
+    terms: &[Term],
+    fields: &[Field],
+    field: usize,
+) -> Result<Vec<Term>, AllocError>
+    ensures { IfOk result (λ own. own.items ≡ filter (λ t.
+        field_number fields.now t == field) terms.now) }
+{
+    let mut own = Vec::new(alloc);
+    for term in terms {
+        if number(fields, term) == field {
+            own.push(*term)?;
+        }
+    }
+    Ok(own)
+}
+
+/// For each field a few numbers that stand for all.
+pub(crate) fn rows_of(
+    alloc: Global,
+    terms: &[Term],
+    fields: &[Field],
+) -> Result<Vec<Vec<u32>>, AllocError>
+    ensures represent { IfOk result (λ rows.
+        AreRepresented (field_number fields.now) terms.now rows.items) }
+    ensures few { IfOk result (λ rows.
+        AreNotMany (field_number fields.now) terms.now rows.items) }
+    ensures each { IfOk result (λ rows. length rows.items ≡ length fields.now) }
+{
+    let mut rows = Vec::new(alloc);
+    for field in 0..fields.len() {
+        let own = readers(alloc, terms, fields, field)?;
+        rows.push(candidates(alloc, &own, fields[field].mask)?)?;
+    }
+    Ok(rows)
+}

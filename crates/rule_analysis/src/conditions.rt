@@ -1,0 +1,53 @@
+//! Conditions made of others.
+
+ghost use Rattle.std.specs.Prelude.{◌≡◌, IfOk};
+ghost use Rattle.lc_model.specs.Condition.{And, Join, Not, condition_of};
+
+use lc_model::Cond;
+use std::alloc::{AllocError, Global};
+
+/// The same condition once more.
+pub(crate) fn copy_condition(alloc: Global, cond: &Cond) -> Result<Cond, AllocError>
+    ensures { IfOk result (λ copy. condition_of copy ≡ condition_of cond.now) }
+{
+    match cond {
+        Cond::Watch(term) => Ok(Cond::Watch(*term)),
+        Cond::Not(operand) => {
+            let operand = copy_condition(alloc, operand)?;
+            Ok(Cond::Not(Box::new(alloc, operand)?))
+        }
+        Cond::And(operands) => {
+            let first = copy_condition(alloc, &operands.0)?;
+            let second = copy_condition(alloc, &operands.1)?;
+            Ok(Cond::And(Box::new(alloc, (first, second))?))
+        }
+        Cond::Or(operands) => {
+            let first = copy_condition(alloc, &operands.0)?;
+            let second = copy_condition(alloc, &operands.1)?;
+            Ok(Cond::Or(Box::new(alloc, (first, second))?))
+        }
+        Cond::Xor(operands) => {
+            let first = copy_condition(alloc, &operands.0)?;
+            let second = copy_condition(alloc, &operands.1)?;
+            Ok(Cond::Xor(Box::new(alloc, (first, second))?))
+        }
+    }
+}
+
+/// True where the condition is false, and false where it is true.
+pub(crate) fn negation(alloc: Global, cond: &Cond) -> Result<Cond, AllocError>
+    ensures { IfOk result (λ other. condition_of other ≡ Not (condition_of cond.now)) }
+{
+    let operand = copy_condition(alloc, cond)?;
+    Ok(Cond::Not(Box::new(alloc, operand)?))
+}
+
+/// True where the first condition is true and the second one is false.
+pub(crate) fn but_not(alloc: Global, first: &Cond, second: &Cond) -> Result<Cond, AllocError>
+    ensures { IfOk result (λ both. condition_of both ≡
+        Join And (condition_of first.now) (Not (condition_of second.now))) }
+{
+    let first = copy_condition(alloc, first)?;
+    let second = negation(alloc, second)?;
+    Ok(Cond::And(Box::new(alloc, (first, second))?))
+}

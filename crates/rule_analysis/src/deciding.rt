@@ -1,0 +1,58 @@
+//! Whether numbers of its fields make a condition true.
+
+ghost use Rattle.std.specs.Prelude.{◌≡◌, IfOk, None, Some, false, true};
+ghost use Rattle.lc_model.specs.Condition.{condition_of};
+ghost use Rattle.rule_analysis.specs.Findings.{IsDecided};
+ghost use Rattle.rule_analysis.specs.Judgement.{HoldsForSome, NeverFails};
+ghost use Rattle.rule_analysis.specs.Steps.{AreFewByNames};
+
+use crate::classes::rows_of;
+use crate::fields::{Field, collect, fields_of};
+use crate::walk::{Outcome, walk};
+use lc_model::Cond;
+use std::alloc::{AllocError, Global};
+
+/// What is known of all numbers of a condition's fields.
+#[derive(Debug, Drop)]
+pub(crate) enum Decision {
+    /// None make it true.
+    Never,
+    /// These bits of the first of these fields do, whatever the others have.
+    Holds { fields: Vec<Field>, bits: Vec<u32> },
+    /// It would have taken more steps.
+    Spent,
+}
+
+/// Looks for bits of its fields that make the condition true, in so many steps at most; what it takes is taken from them.
+pub(crate) fn decide(alloc: Global, cond: &Cond, steps: &mut u32) -> Result<Decision, AllocError>
+    ensures { IfOk result (λ decision. IsDecided (condition_of cond.now) steps.old decision) }
+{
+    let mut terms = Vec::new(alloc);
+    collect(cond, &mut terms)?;
+    let fields = fields_of(alloc, &terms)?;
+    let rows = rows_of(alloc, &terms, &fields)?;
+    let mut bits = Vec::new(alloc);
+    match walk(cond, &fields, &rows, &mut bits, steps)? {
+        Outcome::Found => Ok(Decision::Holds { fields, bits }),
+        Outcome::Excluded => Ok(Decision::Never),
+        Outcome::Spent => Ok(Decision::Spent),
+    }
+}
+
+/// Whether some numbers of its fields make the condition true, each field being free; none where it is not known.
+pub(crate) fn holds_for_some(
+    alloc: Global,
+    cond: &Cond,
+    steps: &mut u32,
+) -> Result<Option<bool>, AllocError>
+    ensures some { IfOk result (λ some. some ≡ Some true → HoldsForSome (condition_of cond.now)) }
+    ensures never { IfOk result (λ some. some ≡ Some false → NeverFails (condition_of cond.now)) }
+    ensures none { IfOk result (λ some. some ≡ None →
+        AreFewByNames (condition_of cond.now) steps.old) }
+{
+    match decide(alloc, cond, steps)? {
+        Decision::Holds { .. } => Ok(Some(true)),
+        Decision::Never => Ok(Some(false)),
+        Decision::Spent => Ok(None),
+    }
+}

@@ -1,0 +1,189 @@
+//! The fields that a condition reads.
+
+ghost use Rattle.std.specs.Prelude.{◌≡◌, ◌++◌, Contains, IsTrue, List, length};
+ghost use Rattle.std.specs.Prelude.{IfOk, OnOk};
+ghost use Rattle.std.specs.List.{AllByRecursion, list_any};
+ghost use Rattle.lc_model.specs.Codes.{type_code};
+ghost use Rattle.lc_model.specs.Condition.{condition_of};
+ghost use Rattle.lc_model.specs.Tables.Equation.{mentions};
+ghost use Rattle.lc_model.specs.declared.field.Term.{Term as Comparison};
+ghost use Rattle.rule_analysis.specs.Fields.{AreFieldsOf, HasField, field_number, field_read, is_field_of};
+
+use lc_model::{Cond, FieldType, Term};
+use std::alloc::{AllocError, Global};
+
+/// What two watchpoints share that read the same bits.
+#[derive(Clone, Copy, Debug, PartialEq, Eq)]
+pub struct Field {
+    pub kind: FieldType,
+    /// The message id of the packets that have the field.
+    pub mid: u16,
+    /// Bytes before the field, from the packet's first byte.
+    pub offset: u32,
+    /// The field's bits that count.
+    pub mask: u32,
+}
+
+/// The number of a type.
+pub(crate) fn code(kind: FieldType) -> u8
+    ensures { result ≡ type_code kind }
+{
+    match kind {
+        FieldType::U8 => 1,
+        FieldType::I8 => 2,
+        FieldType::U16Be => 3,
+        FieldType::U16Le => 4,
+        FieldType::I16Be => 5,
+        FieldType::I16Le => 6,
+        FieldType::U32Be => 7,
+        FieldType::U32Le => 8,
+        FieldType::I32Be => 9,
+        FieldType::I32Le => 10,
+    }
+}
+
+/// The field that the term reads.
+pub fn field_of(term: &Term) -> Field
+    ensures reads { IsTrue (is_field_of term.now result) }
+    ensures exact { result ≡ field_read term.now }
+{
+    Field {
+        kind: term.kind,
+        mid: term.mid,
+        offset: term.offset,
+        mask: term.mask,
+    }
+}
+
+/// Whether the term reads the field.
+pub(crate) fn reads(term: &Term, field: &Field) -> bool
+    ensures { result ≡ is_field_of term.now field.now }
+{
+    code(term.kind) == code(field.kind)
+        && term.mid == field.mid
+        && term.offset == field.offset
+        && term.mask == field.mask
+}
+
+/// Whether one of the terms reads the field.
+pub(crate) fn is_read(terms: &[Term], field: &Field) -> bool
+    ensures { result ≡ list_any (λ t. is_field_of t field.now) terms.now }
+{
+    for term in terms {
+        if reads(term, field) {
+            return true;
+        }
+    }
+    false
+}
+
+/// Which of the fields the term reads; their count where none.
+pub(crate) fn number(fields: &[Field], term: &Term) -> usize
+    ensures { result ≡ field_number fields.now term.now }
+{
+    for i in 0..fields.len() {
+        if reads(term, &fields[i]) {
+            return i;
+        }
+    }
+    fields.len()
+}
+
+/// The condition's terms join those before, from left to right.
+pub(crate) fn collect(cond: &Cond, terms: &mut Vec<Term>) -> Result<(), AllocError>
+    ensures { OnOk result (terms.new.items ≡ terms.old.items ++ mentions (condition_of cond.now)) }
+{
+    match cond {
+        Cond::Watch(term) => Ok(terms.push(*term)?),
+        Cond::Not(operand) => collect(operand, terms),
+        Cond::And(operands) | Cond::Or(operands) | Cond::Xor(operands) => {
+            collect(&operands.0, terms)?;
+            collect(&operands.1, terms)
+        }
+    }
+}
+
+/// The term's field joins the others, unless it is among them.
+fn add(fields: &mut Vec<Field>, term: &Term) -> Result<(), AllocError>
+    ensures there { OnOk result (HasField fields.new.items term.now) }
+    ensures others { OnOk result ((t : Term) → HasField fields.old.items t →
+        HasField fields.new.items t) }
+    ensures exact { OnOk result ((terms : List Comparison) → Contains terms term.now →
+        AreFieldsOf terms fields.old.items → AreFieldsOf terms fields.new.items) }
+{
+    if number(fields, term) == fields.len() {
+        fields.push(field_of(term))?;
+    }
+    Ok(())
+}
+
+/// How many of the terms read the same field as each of them.
+fn readers(alloc: Global, terms: &[Term]) -> Result<Vec<usize>, AllocError>
+    ensures { IfOk result (λ counts. length counts.items ≡ length terms.now) }
+{
+    let mut counts = Vec::new(alloc);
+    for term in terms {
+        let field = field_of(term);
+        counts.push(terms.iter().filter(|other| reads(other, &field)).count())?;
+    }
+    Ok(counts)
+}
+
+/// The term's field joins the others, where it is one of this many terms.
+fn add_where(
+    fields: &mut Vec<Field>,
+    term: &Term,
+    readers: usize,
+    count: usize,
+) -> Result<(), AllocError>
+    ensures { OnOk result ((terms : List Comparison) → Contains terms term.now →
+        AreFieldsOf terms fields.old.items → AreFieldsOf terms fields.new.items) }
+{
+    if readers == count {
+        add(fields, term)?;
+    }
+    Ok(())
+}
+
+/// The fields that so many of the terms read join the others.
+fn add_read_by(
+    fields: &mut Vec<Field>,
+    terms: &[Term],
+    readers: &[usize],
+    count: usize,
+) -> Result<(), AllocError>
+    requires each { length readers.now ≡ length terms.now }
+    ensures { OnOk result (AreFieldsOf terms.now fields.old.items →
+        AreFieldsOf terms.now fields.new.items) }
+{
+    for i in 0..terms.len() {
+        add_where(fields, &terms[i], readers[i], count)?;
+    }
+    Ok(())
+}
+
+/// The term's fields join the others.
+fn add_all(fields: &mut Vec<Field>, terms: &[Term]) -> Result<(), AllocError>
+    ensures all { OnOk result (AllByRecursion (λ t. HasField fields.new.items t) terms.now) }
+    ensures exact { OnOk result (AreFieldsOf terms.now fields.old.items →
+        AreFieldsOf terms.now fields.new.items) }
+{
+    for term in terms {
+        add(fields, term)?;
+    }
+    Ok(())
+}
+
+/// The fields that the terms read, each once, those first that the most of them read.
+pub(crate) fn fields_of(alloc: Global, terms: &[Term]) -> Result<Vec<Field>, AllocError>
+    ensures all { IfOk result (λ fields. AllByRecursion (λ t. HasField fields.items t) terms.now) }
+    ensures exact { IfOk result (λ fields. AreFieldsOf terms.now fields.items) }
+{
+    let readers = readers(alloc, terms)?;
+    let mut fields = Vec::new(alloc);
+    for less in 0..terms.len() {
+        add_read_by(&mut fields, terms, &readers, terms.len() - less)?;
+    }
+    add_all(&mut fields, terms)?;
+    Ok(fields)
+}

@@ -1,0 +1,31 @@
+//! What can be said of a rule before any packet comes.
+#![tactic(auto)]
+
+mod bits;
+mod classes;
+mod conditions;
+mod deciding;
+mod fields;
+mod finding;
+mod judging;
+pub mod laws;
+mod numbers;
+mod outcomes;
+mod packets;
+mod pairs;
+mod reach;
+mod seen;
+mod spare;
+mod thresholds;
+mod walk;
+
+pub use fields::{Field, field_of};
+pub use finding::{
+    ComparisonJudgement, Constancy, Finding, Judgement, PairJudgement, Relation, RuleJudgement,
+    SpareComparison, UnknownReason,
+};
+pub use judging::{RULE_STEPS, can_be_true, judge, judge_condition};
+pub use pairs::{TEXT_STEPS, judge_pairs};
+pub use reach::{never_read, never_sampled};
+pub use seen::value_with;
+pub use spare::spare_comparisons;

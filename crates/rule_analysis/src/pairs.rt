@@ -1,0 +1,195 @@
+//! Rules judged two by two.
+
+ghost use Rattle.std.specs.Prelude.{◌≡◌, ◌+◌, ◌<◌, ℕ, Contains, IfOk, IfSome, IsFalse, IsTrue, None, OnOk, Some, false, length, true};
+ghost use Rattle.std.specs.List.{AllByRecursion};
+ghost use Rattle.lc_model.specs.Condition.{And, Join, Not, condition_of};
+ghost use Rattle.lc_model.specs.Rule.{rule_of, rules_of};
+ghost use Rattle.rule_analysis.specs.declared.finding.PairJudgement.{PairJudgement as Pair};
+ghost use Rattle.rule_analysis.specs.Fields.{read_one_field};
+ghost use Rattle.rule_analysis.specs.Findings.{AreBefore, AreInOrder, AreSettled, IsPair, IsRelated, IsRelationSettled, IsSettledAt, MayDiffer, are_near, least_pair_steps};
+ghost use Rattle.rule_analysis.specs.Judgement.{FailsWherever, HoldsForSome, NeverFails};
+ghost use Rattle.rule_analysis.specs.Steps.{AreFewByNames};
+
+use crate::conditions::but_not;
+use crate::deciding::holds_for_some;
+use crate::fields::{field_of, is_read};
+use crate::finding::{PairJudgement, Relation};
+use crate::judging::comparisons_of;
+use lc_model::{Cond, Rule, Rules, Term};
+use std::alloc::{AllocError, Global};
+
+/// The most steps for one question about two rules.
+const PAIR_STEPS: u32 = 1 << 14;
+
+/// The steps that each question has, also where those for all pairs are used up: enough for eight different comparisons.
+const LEAST_PAIR_STEPS: u32 = 1 << 8;
+
+/// The steps for all pairs of a text, beyond the least that each question has.
+pub const TEXT_STEPS: u32 = 1 << 21;
+
+/// Whether some numbers make the condition true; none where it is not known. At most `PAIR_STEPS` of the steps are taken; the
+/// least number of steps may be taken in any case.
+pub(crate) fn ask(
+    alloc: Global,
+    cond: &Cond,
+    least: u32,
+    steps: &mut u32,
+) -> Result<Option<bool>, AllocError>
+    ensures some { IfOk result (λ some. some ≡ Some true → HoldsForSome (condition_of cond.now)) }
+    ensures never { IfOk result (λ some. some ≡ Some false → NeverFails (condition_of cond.now)) }
+    ensures none { IfOk result (λ some. some ≡ None → AreFewByNames (condition_of cond.now) least) }
+{
+    let given = PAIR_STEPS.min(*steps).max(least);
+    let mut left = given;
+    let some = holds_for_some(alloc, cond, &mut left)?;
+    *steps -= given.saturating_sub(left).min(*steps);
+    Ok(some)
+}
+
+/// Whether for some numbers the first condition is true and the second one false; none where it is not known.
+fn are_apart(
+    alloc: Global,
+    first: &Cond,
+    second: &Cond,
+    steps: &mut u32,
+) -> Result<Option<bool>, AllocError>
+    ensures some { IfOk result (λ some. some ≡ Some true →
+        HoldsForSome (Join And (condition_of first.now) (Not (condition_of second.now)))) }
+    ensures never { IfOk result (λ some. some ≡ Some false →
+        NeverFails (Join And (condition_of first.now) (Not (condition_of second.now)))) }
+    ensures none { IfOk result (λ some. some ≡ None →
+        AreFewByNames (Join And (condition_of first.now) (Not (condition_of second.now)))
+        least_pair_steps) }
+{
+    let apart = but_not(alloc, first, second)?;
+    ask(alloc, &apart, LEAST_PAIR_STEPS, steps)
+}
+
+/// Whether the second condition is known to be true wherever the first one is and all is known.
+fn follows(alloc: Global, first: &Cond, second: &Cond, steps: &mut u32) -> Result<bool, AllocError>
+    ensures follows { IfOk result (λ follows. IsTrue follows →
+        FailsWherever (condition_of first.now) (condition_of second.now)) }
+    ensures differ { IfOk result (λ follows. IsFalse follows →
+        MayDiffer (condition_of first.now) (condition_of second.now)) }
+{
+    match are_apart(alloc, first, second, steps)? {
+        Some(apart) => Ok(!apart),
+        None => Ok(false),
+    }
+}
+
+/// How the conditions go together, where that is known.
+fn relation(
+    alloc: Global,
+    first: &Cond,
+    second: &Cond,
+    steps: &mut u32,
+) -> Result<Option<Relation>, AllocError>
+    ensures related { IfOk result (λ found. IfSome found (λ relation.
+        IsRelated (condition_of first.now) (condition_of second.now) relation)) }
+    ensures settled { IfOk result (λ found.
+        IsRelationSettled (condition_of first.now) (condition_of second.now) found) }
+{
+    let second_follows = follows(alloc, first, second, steps)?;
+    let first_follows = follows(alloc, second, first, steps)?;
+    match (first_follows, second_follows) {
+        (true, true) => Ok(Some(Relation::Same)),
+        (true, false) => Ok(Some(Relation::FirstFollows)),
+        (false, true) => Ok(Some(Relation::SecondFollows)),
+        (false, false) => Ok(None),
+    }
+}
+
+/// Whether some term of the first list reads the same field as one of the second.
+fn read_one_field(first: &[Term], second: &[Term]) -> bool
+    ensures { result ≡ read_one_field first.now second.now }
+{
+    for term in first {
+        if is_read(second, &field_of(term)) {
+            return true;
+        }
+    }
+    false
+}
+
+/// Whether the rules request one sequence, or read a common field.
+fn are_near(alloc: Global, first: &Rule, second: &Rule) -> Result<bool, AllocError>
+    ensures { IfOk result (λ near. near ≡ are_near (rule_of first.now) (rule_of second.now)) }
+{
+    let own = comparisons_of(alloc, &first.cond)?;
+    let other = comparisons_of(alloc, &second.cond)?;
+    Ok(first.sequence == second.sequence || read_one_field(&own, &other))
+}
+
+/// The two rules join the pairs, if they are near and it is known how they go together.
+fn judge_pair(
+    alloc: Global,
+    rules: &[Rule],
+    first: usize,
+    second: usize,
+    steps: &mut u32,
+    pairs: &mut Vec<PairJudgement>,
+) -> Result<(), AllocError>
+    requires order { first < second }
+    requires inside { second < length rules.now }
+    ensures sound { OnOk result (AllByRecursion (IsPair (rules_of rules.now)) pairs.old.items →
+        AllByRecursion (IsPair (rules_of rules.now)) pairs.new.items) }
+    ensures kept { OnOk result ((p : Pair) → Contains pairs.old.items p →
+        Contains pairs.new.items p) }
+    ensures settled { OnOk result (IsSettledAt (rules_of rules.now) pairs.new.items first second) }
+    ensures order { OnOk result (AreBefore pairs.old.items first second →
+        AreBefore pairs.new.items (first + 1) second) }
+{
+    if !are_near(alloc, &rules[first], &rules[second])? {
+        return Ok(());
+    }
+    match relation(alloc, &rules[first].cond, &rules[second].cond, steps)? {
+        Some(relation) => Ok(pairs.push(PairJudgement {
+            first,
+            second,
+            relation,
+        })?),
+        None => Ok(()),
+    }
+}
+
+/// A rule's pairs with the rules before it join the others.
+fn judge_with_earlier(
+    alloc: Global,
+    rules: &[Rule],
+    second: usize,
+    steps: &mut u32,
+    pairs: &mut Vec<PairJudgement>,
+) -> Result<(), AllocError>
+    requires { second < length rules.now }
+    ensures sound { OnOk result (AllByRecursion (IsPair (rules_of rules.now)) pairs.old.items →
+        AllByRecursion (IsPair (rules_of rules.now)) pairs.new.items) }
+    ensures kept { OnOk result ((p : Pair) → Contains pairs.old.items p →
+        Contains pairs.new.items p) }
+    ensures settled { OnOk result ((first : ℕ) → first < second →
+        IsSettledAt (rules_of rules.now) pairs.new.items first second) }
+    ensures order { OnOk result (AreBefore pairs.old.items 0 second →
+        AreBefore pairs.new.items 0 (second + 1)) }
+{
+    for first in 0..second {
+        judge_pair(alloc, rules, first, second, steps, pairs)?;
+    }
+    Ok(())
+}
+
+/// The pairs of rules with one sequence or a common field of which it is found that one fails wherever the other does. Each
+/// pair is found that has at most eight different comparisons; of others as many as in `TEXT_STEPS` steps for all. Each is told
+/// once, in the order of the second rule, and of those with one second rule in that of the first.
+pub fn judge_pairs(alloc: Global, rules: &Rules) -> Result<Vec<PairJudgement>, AllocError>
+    ensures sound { IfOk result (λ pairs. AllByRecursion (IsPair rules.now) pairs.items) }
+    ensures settled { IfOk result (λ pairs. AreSettled rules.now pairs.items) }
+    ensures once { IfOk result (λ pairs. AreInOrder pairs.items) }
+{
+    let rules = rules.as_slice();
+    let mut steps = TEXT_STEPS;
+    let mut pairs = Vec::new(alloc);
+    for second in 0..rules.len() {
+        judge_with_earlier(alloc, rules, second, &mut steps, &mut pairs)?;
+    }
+    Ok(pairs)
+}

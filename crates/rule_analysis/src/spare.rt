@@ -1,0 +1,276 @@
+//! Comparisons that a rule can do without.
+
+ghost use Rattle.std.specs.Prelude.{◌≡◌, ◌≢◌, ◌⊎◌, ◌+◌, ◌<◌, ℕ, Contains, IfOk, IfSome, IsFalse, IsTrue, None, OnOk, Some, length, slice_get};
+ghost use Rattle.std.specs.List.{AllByRecursion};
+ghost use Rattle.lc_model.specs.declared.field.Term.{Term as Comparison};
+ghost use Rattle.lc_model.specs.Codes.{operator_code};
+ghost use Rattle.lc_model.specs.Condition.{Join, Xor, condition_of};
+ghost use Rattle.lc_model.specs.Rule.{rules_of};
+ghost use Rattle.lc_model.specs.Tables.Equation.{mentions, same_term};
+ghost use Rattle.rule_analysis.specs.declared.finding.SpareComparison.{SpareComparison as Spare};
+ghost use Rattle.rule_analysis.specs.Spare.{AreOfRulesBefore, AreOfTermsBefore, AreOnce, AreToldOrNeeded, AreToldUpTo, CanDoWithout, IsOf, IsSpare, IsToldAtMost, IsToldOrNeeded, MayBeNeeded, MayMatter, constant, least_spare_steps, replaced};
+ghost use Rattle.rule_analysis.specs.Judgement.{HoldsForSome, NeverFails};
+ghost use Rattle.rule_analysis.specs.Steps.{AreFewByNames};
+
+use crate::conditions::copy_condition;
+use crate::fields::code;
+use crate::finding::SpareComparison;
+use crate::judging::comparisons_of;
+use crate::pairs::{TEXT_STEPS, ask};
+use lc_model::{CmpOp, Cond, Rule, Rules, Term};
+use std::alloc::{AllocError, Global};
+
+/// The steps that each question has, also where those for all are used up: enough for eight different comparisons.
+const LEAST_SPARE_STEPS: u32 = 1 << 8;
+
+/// The number of a comparison's operator.
+fn operator(op: CmpOp) -> u8
+    ensures { result ≡ operator_code op }
+{
+    match op {
+        CmpOp::Less => 1,
+        CmpOp::LessOrEqual => 2,
+        CmpOp::NotEqual => 3,
+        CmpOp::Equal => 4,
+        CmpOp::GreaterOrEqual => 5,
+        CmpOp::Greater => 6,
+    }
+}
+
+/// Whether the terms are one.
+fn are_one(one: &Term, other: &Term) -> bool
+    ensures { result ≡ same_term one.now other.now }
+{
+    code(one.kind) == code(other.kind)
+        && one.mid == other.mid
+        && one.offset == other.offset
+        && one.mask == other.mask
+        && one.stale == other.stale
+        && operator(one.op) == operator(other.op)
+        && one.value == other.value
+}
+
+/// True, or false, wherever the term is known.
+fn constant(alloc: Global, term: &Term, value: bool) -> Result<Cond, AllocError>
+    ensures { IfOk result (λ cond. condition_of cond ≡ constant value term.now) }
+{
+    let other = Cond::Not(Box::new(alloc, Cond::Watch(*term))?);
+    let both = Box::new(alloc, (Cond::Watch(*term), other))?;
+    if value {
+        Ok(Cond::Or(both))
+    } else {
+        Ok(Cond::And(both))
+    }
+}
+
+/// The condition with a term taken as true, or as false.
+fn replace_term(alloc: Global, cond: &Cond, term: &Term, value: bool) -> Result<Cond, AllocError>
+    ensures { IfOk result (λ other. condition_of other ≡
+        replaced term.now (constant value term.now) (condition_of cond.now)) }
+{
+    match cond {
+        Cond::Watch(own) => if are_one(own, term) {
+            constant(alloc, term, value)
+        } else {
+            Ok(Cond::Watch(*own))
+        },
+        Cond::Not(operand) => {
+            let operand = replace_term(alloc, operand, term, value)?;
+            Ok(Cond::Not(Box::new(alloc, operand)?))
+        }
+        Cond::And(operands) => {
+            let first = replace_term(alloc, &operands.0, term, value)?;
+            let second = replace_term(alloc, &operands.1, term, value)?;
+            Ok(Cond::And(Box::new(alloc, (first, second))?))
+        }
+        Cond::Or(operands) => {
+            let first = replace_term(alloc, &operands.0, term, value)?;
+            let second = replace_term(alloc, &operands.1, term, value)?;
+            Ok(Cond::Or(Box::new(alloc, (first, second))?))
+        }
+        Cond::Xor(operands) => {
+            let first = replace_term(alloc, &operands.0, term, value)?;
+            let second = replace_term(alloc, &operands.1, term, value)?;
+            Ok(Cond::Xor(Box::new(alloc, (first, second))?))
+        }
+    }
+}
+
+/// True where the condition and the one with a term taken as true, or as false, differ.
+fn difference(alloc: Global, cond: &Cond, term: &Term, value: bool) -> Result<Cond, AllocError>
+    ensures { IfOk result (λ both. condition_of both ≡ Join Xor (condition_of cond.now)
+        (replaced term.now (constant value term.now) (condition_of cond.now))) }
+{
+    let first = copy_condition(alloc, cond)?;
+    let second = replace_term(alloc, cond, term, value)?;
+    Ok(Cond::Xor(Box::new(alloc, (first, second))?))
+}
+
+/// Whether it is known that no numbers make the condition true.
+fn is_never_true(alloc: Global, cond: &Cond, steps: &mut u32) -> Result<bool, AllocError>
+    ensures never { IfOk result (λ never. IsTrue never → NeverFails (condition_of cond.now)) }
+    ensures other { IfOk result (λ never. IsFalse never →
+        HoldsForSome (condition_of cond.now) ⊎
+        AreFewByNames (condition_of cond.now) least_spare_steps) }
+{
+    match ask(alloc, cond, LEAST_SPARE_STEPS, steps)? {
+        Some(some) => Ok(!some),
+        None => Ok(false),
+    }
+}
+
+/// Whether the rule is known to say the same with the term taken so.
+fn does_without(
+    alloc: Global,
+    cond: &Cond,
+    term: &Term,
+    value: bool,
+    steps: &mut u32,
+) -> Result<bool, AllocError>
+    requires { Contains (mentions (condition_of cond.now)) term.now }
+    ensures without { IfOk result (λ spare. IsTrue spare →
+        CanDoWithout (condition_of cond.now) term.now value) }
+    ensures matters { IfOk result (λ spare. IsFalse spare →
+        MayMatter (condition_of cond.now) term.now value) }
+{
+    let both = difference(alloc, cond, term, value)?;
+    is_never_true(alloc, &both, steps)
+}
+
+/// As which of both the rule can take the term, if as one.
+fn taken_as(
+    alloc: Global,
+    cond: &Cond,
+    term: &Term,
+    steps: &mut u32,
+) -> Result<Option<bool>, AllocError>
+    requires { Contains (mentions (condition_of cond.now)) term.now }
+    ensures without { IfOk result (λ found. IfSome found (λ value.
+        CanDoWithout (condition_of cond.now) term.now value)) }
+    ensures needed { IfOk result (λ found. found ≡ None →
+        MayBeNeeded (condition_of cond.now) term.now) }
+{
+    if does_without(alloc, cond, term, true, steps)? {
+        return Ok(Some(true));
+    }
+    if does_without(alloc, cond, term, false, steps)? {
+        return Ok(Some(false));
+    }
+    Ok(None)
+}
+
+/// The term joins the others, if it is known that the rule can do without it.
+fn judge_term(
+    alloc: Global,
+    rules: &[Rule],
+    rule: usize,
+    term: &Term,
+    steps: &mut u32,
+    spare: &mut Vec<SpareComparison>,
+) -> Result<(), AllocError>
+    requires inside { rule < length rules.now }
+    requires own { IsOf (rules_of rules.now) rule term.now }
+    ensures sound { OnOk result (AllByRecursion (IsSpare (rules_of rules.now)) spare.old.items →
+        AllByRecursion (IsSpare (rules_of rules.now)) spare.new.items) }
+    ensures kept { OnOk result ((s : Spare) → Contains spare.old.items s →
+        Contains spare.new.items s) }
+    ensures told { OnOk result (IsToldOrNeeded (rules_of rules.now) spare.new.items rule term.now) }
+    ensures once { OnOk result (IsToldAtMost spare.old.items spare.new.items rule term.now) }
+{
+    match taken_as(alloc, &rules[rule].cond, term, steps)? {
+        Some(taken_as) => Ok(spare.push(SpareComparison {
+            rule,
+            term: *term,
+            taken_as,
+        })?),
+        None => Ok(()),
+    }
+}
+
+/// Whether an earlier one of the terms is the same.
+fn is_again(terms: &[Term], at: usize) -> bool
+    requires { at < length terms.now }
+    ensures again { IsTrue result →
+        (i : ℕ) × (i < at) × (slice_get terms.now i ≡ slice_get terms.now at) }
+    ensures first { IsFalse result →
+        (i : ℕ) → i < at → slice_get terms.now i ≢ slice_get terms.now at }
+{
+    for i in 0..at {
+        if are_one(&terms[i], &terms[at]) {
+            return true;
+        }
+    }
+    false
+}
+
+/// One of a rule's terms joins the others, if it is known that the rule can do without it, unless it stands before already.
+fn judge_at(
+    alloc: Global,
+    rules: &[Rule],
+    rule: usize,
+    terms: &[Term],
+    at: usize,
+    steps: &mut u32,
+    spare: &mut Vec<SpareComparison>,
+) -> Result<(), AllocError>
+    requires rule { rule < length rules.now }
+    requires at { at < length terms.now }
+    requires own { (t : Comparison) → slice_get terms.now at ≡ Some t →
+        IsOf (rules_of rules.now) rule t }
+    ensures sound { OnOk result (AllByRecursion (IsSpare (rules_of rules.now)) spare.old.items →
+        AllByRecursion (IsSpare (rules_of rules.now)) spare.new.items) }
+    ensures kept { OnOk result ((s : Spare) → Contains spare.old.items s →
+        Contains spare.new.items s) }
+    ensures told { OnOk result (AreToldUpTo (rules_of rules.now) spare.old.items rule terms.now at →
+        AreToldUpTo (rules_of rules.now) spare.new.items rule terms.now (at + 1)) }
+    ensures once { OnOk result (AreOfTermsBefore spare.old.items rule terms.now at →
+        AreOfTermsBefore spare.new.items rule terms.now (at + 1)) }
+{
+    if is_again(terms, at) {
+        return Ok(());
+    }
+    judge_term(alloc, rules, rule, &terms[at], steps, spare)?;
+    Ok(())
+}
+
+/// The terms of a rule that it can do without join the others.
+fn judge_terms(
+    alloc: Global,
+    rules: &[Rule],
+    rule: usize,
+    steps: &mut u32,
+    spare: &mut Vec<SpareComparison>,
+) -> Result<(), AllocError>
+    requires { rule < length rules.now }
+    ensures sound { OnOk result (AllByRecursion (IsSpare (rules_of rules.now)) spare.old.items →
+        AllByRecursion (IsSpare (rules_of rules.now)) spare.new.items) }
+    ensures kept { OnOk result ((s : Spare) → Contains spare.old.items s →
+        Contains spare.new.items s) }
+    ensures told { OnOk result ((t : Comparison) → IsOf (rules_of rules.now) rule t →
+        IsToldOrNeeded (rules_of rules.now) spare.new.items rule t) }
+    ensures once { OnOk result (AreOfRulesBefore spare.old.items rule →
+        AreOfRulesBefore spare.new.items (rule + 1)) }
+{
+    let terms = comparisons_of(alloc, &rules[rule].cond)?;
+    for at in 0..terms.len() {
+        judge_at(alloc, rules, rule, &terms, at, steps, spare)?;
+    }
+    Ok(())
+}
+
+/// The comparisons of a text's rules without which these say the same, each taken as true or as false. Each is found of rules
+/// that have at most eight different comparisons; of others as many as in `TEXT_STEPS` steps for all. Each is told once, rule by
+/// rule.
+pub fn spare_comparisons(alloc: Global, rules: &Rules) -> Result<Vec<SpareComparison>, AllocError>
+    ensures sound { IfOk result (λ spare. AllByRecursion (IsSpare rules.now) spare.items) }
+    ensures told { IfOk result (λ spare. AreToldOrNeeded rules.now spare.items) }
+    ensures once { IfOk result (λ spare. AreOnce spare.items) }
+{
+    let rules = rules.as_slice();
+    let mut steps = TEXT_STEPS;
+    let mut spare = Vec::new(alloc);
+    for rule in 0..rules.len() {
+        judge_terms(alloc, rules, rule, &mut steps, &mut spare)?;
+    }
+    Ok(spare)
+}

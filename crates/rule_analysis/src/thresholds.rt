@@ -1,0 +1,87 @@
+//! The numbers from which on a comparison says something else.
+
+ghost use Rattle.std.specs.Prelude.{◌≡◌, ◌≤◌, ◌<◌, ◌^◌, ◌-ℤ◌, ℕ, int_le, int_lt, nat_le, pos, IfOk, OnOk};
+ghost use Rattle.std.specs.List.{AllByRecursion};
+ghost use Rattle.lc_model.specs.declared.field.Term.{Term as Comparison};
+ghost use Rattle.rule_analysis.specs.Classes.{Separates};
+
+use crate::outcomes::sign_weight;
+use lc_model::Term;
+use std::alloc::{AllocError, Global};
+
+/// More than any 32 bits say, of either sign.
+const BEYOND: i64 = 1 << 33;
+
+/// The number, or 0 where it is less.
+fn at_least_zero(number: i64) -> u64
+    ensures { (n : ℕ) → nat_le result n ≡ int_le number (pos n) }
+{
+    if number < 0 { 0 } else { number as u64 }
+}
+
+/// The number from which on 32 bits, less the shift, are no less than what the term compares with.
+fn first_from(term: &Term, shift: u64) -> u64
+    requires { shift ≤ 2 ^ 32 }
+    ensures { (n : ℕ) → n < 2 ^ 32 → nat_le result n ≡ int_le term.now.value (pos n -ℤ pos shift) }
+{
+    let value = term.value;
+    if value > BEYOND {
+        BEYOND as u64
+    } else if value < -BEYOND {
+        0
+    } else {
+        at_least_zero(value + shift as i64)
+    }
+}
+
+/// The number from which on 32 bits, less the shift, are more than what the term compares with.
+fn first_above(term: &Term, shift: u64) -> u64
+    requires { shift ≤ 2 ^ 32 }
+    ensures { (n : ℕ) → n < 2 ^ 32 → nat_le result n ≡ int_lt term.now.value (pos n -ℤ pos shift) }
+{
+    let value = term.value;
+    if value > BEYOND {
+        BEYOND as u64
+    } else if value < -BEYOND {
+        0
+    } else {
+        at_least_zero(value + 1 + shift as i64)
+    }
+}
+
+/// The numbers from which on the term's comparison may say something else.
+fn thresholds(term: &Term) -> [u64; 5]
+    ensures { Separates result term.now }
+{
+    let sign = sign_weight(term.kind);
+    let shift = 2 * sign;
+    [
+        sign,
+        first_from(term, 0),
+        first_above(term, 0),
+        first_from(term, shift),
+        first_above(term, shift),
+    ]
+}
+
+/// They join those before.
+fn push_thresholds(term: &Term, all: &mut Vec<u64>) -> Result<(), AllocError>
+    ensures own { OnOk result (Separates all.new.items term.now) }
+    ensures others { OnOk result ((t : Comparison) → Separates all.old.items t →
+        Separates all.new.items t) }
+{
+    all.extend_from_slice(&thresholds(term))?;
+    Ok(())
+}
+
+/// The numbers from which on some of the comparisons may say something else.
+pub(crate) fn thresholds_of(alloc: Global, terms: &[Term]) -> Result<Vec<u64>, AllocError>
+    ensures { IfOk result (λ thresholds. AllByRecursion (λ t.
+        Separates thresholds.items t) terms.now) }
+{
+    let mut all = Vec::new(alloc);
+    for term in terms {
+        push_thresholds(term, &mut all)?;
+    }
+    Ok(all)
+}

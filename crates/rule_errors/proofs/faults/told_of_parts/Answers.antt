@@ -1,0 +1,11 @@
+use Rattle.std.proofs.Common.{subst}
+use Rattle.rpn_compiler.specs.Fault.{refusal_of}
+use Rattle.rule_errors.specs.Telling.{TellsOf}
+use Rattle.rule_errors.proofs.Reasons.{told_first}
+use Rattle.rule_errors.proofs.faults.told_of_parts.Goals as goal
+
+pub returns : goal.returns
+returns c =
+    told_first c.args.text.now (refusal_of c.args.first) c.in_ok-message.message c.in_ok-told.told.items c.add_others.new.told.items
+    (subst (λ text. TellsOf text (refusal_of c.args.first) c.in_ok-message.message) c.in_ok-source.ensures c.in_ok-message.ensures)
+    c.in_ok-told.ensures c.in_ok-add_others.ensures

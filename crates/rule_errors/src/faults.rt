@@ -1,0 +1,211 @@
+//! All faults of a text: the compiler's first, and others that don't follow from it.
+
+ghost use Rattle.std.specs.Prelude.{◌≡◌, ◌++◌, List, [], ◌∷◌, IfOk};
+ghost use Rattle.lc_model.specs.Rule.{NamedRule};
+ghost use Rattle.lc_model.specs.Text.Reading.{TextRefusal};
+ghost use Rattle.lc_model.specs.Tables.Compiling.{Compiles, IsRefused};
+ghost use Rattle.lc_model.specs.Tables.InForce.{limits};
+ghost use Rattle.rpn_compiler.specs.Fault.{refusal_of};
+ghost use Rattle.rule_errors.specs.Telling.{BeginsWith, TellsOf};
+ghost use Rattle.diagnostics.specs.declared.message.Message.{Message};
+
+use crate::checks::check_place;
+use crate::explaining::explain;
+use crate::grammar_errors::read_items;
+use crate::item_faults::Checked;
+use crate::source::Source;
+use crate::tables::{is_too_long, rule_parts, words_of};
+use crate::tokens::{Mended, hides_items, mend, own_errors};
+use diagnostics::{MOST_TOLD, Message};
+use field_checker::CheckError;
+use rpn_compiler::{CompileError, compile};
+use rule_lexer::{LexError, lex};
+use rule_parser::ParseError;
+use std::alloc::{AllocError, Global};
+
+/// The errors of rules that are too long.
+fn long_rules(alloc: Global, source: &Source<'_>) -> Result<Vec<CompileError>, AllocError> {
+    let mut errors = Vec::new(alloc);
+    for (rule, item) in rule_parts(alloc, source)?.iter().enumerate() {
+        if is_too_long(words_of(source, *item)) {
+            errors.push(CompileError::EquationTooLong { rule })?;
+        }
+    }
+    Ok(errors)
+}
+
+/// The errors of items, by place.
+fn item_errors(
+    alloc: Global,
+    source: &Source<'_>,
+    whole: &[bool],
+    hides_items: bool,
+) -> Result<Vec<CheckError>, AllocError> {
+    let checked = Checked::new(&*source, &*whole, hides_items);
+    let mut faults = checked.faults(alloc)?;
+    faults.sort_by_key(|fault| (check_place(*fault), fault.code()))?;
+    Ok(faults)
+}
+
+/// Adds errors of tokens.
+fn add_tokens(errors: &[LexError], all: &mut Vec<CompileError>) -> Result<(), AllocError> {
+    for error in errors {
+        all.push(CompileError::Lex(*error))?;
+    }
+    Ok(())
+}
+
+/// Adds errors of the grammar.
+fn add_grammar(errors: &[ParseError], all: &mut Vec<CompileError>) -> Result<(), AllocError> {
+    for error in errors {
+        all.push(CompileError::Parse(*error))?;
+    }
+    Ok(())
+}
+
+/// Adds errors of items.
+fn add_items(errors: &[CheckError], all: &mut Vec<CompileError>) -> Result<(), AllocError> {
+    for error in errors {
+        all.push(CompileError::Check(*error))?;
+    }
+    Ok(())
+}
+
+/// Adds the errors of the grammar, and then those of items.
+fn add_parts(
+    alloc: Global,
+    source: &Source<'_>,
+    mended: &Mended,
+    all: &mut Vec<CompileError>,
+) -> Result<(), AllocError> {
+    let bad = mended.errors.as_slice();
+    let grammar = read_items(alloc, source, mended.text.as_slice(), bad)?;
+    add_grammar(grammar.errors.as_slice(), all)?;
+    let hides_items = bad.iter().any(|error| hides_items(source.text, *error));
+    let faults = item_errors(alloc, source, grammar.whole.as_slice(), hides_items)?;
+    add_items(faults.as_slice(), all)
+}
+
+/// All errors of tokens, of the grammar and of items, in this order.
+fn all_errors(
+    alloc: Global,
+    source: &Source<'_>,
+    mended: &Mended,
+) -> Result<Vec<CompileError>, AllocError> {
+    let mut all = Vec::new(alloc);
+    let own = own_errors(alloc, source.text, mended.errors.as_slice())?;
+    add_tokens(own.as_slice(), &mut all)?;
+    add_parts(alloc, source, mended, &mut all)?;
+    Ok(all)
+}
+
+/// All errors, in the order of the compiler's parts. Where the compiler's first may follow from another of them, nobody knows which of the
+/// two is the mistake, and there are none beside it.
+fn errors(
+    alloc: Global,
+    source: &Source<'_>,
+    mended: &Mended,
+    first: CompileError,
+) -> Result<Vec<CompileError>, AllocError> {
+    let all = all_errors(alloc, source, mended)?;
+    if all.contains(&first) {
+        return Ok(all);
+    }
+    if all.is_empty() && matches!(first, CompileError::EquationTooLong { .. }) {
+        return long_rules(alloc, source);
+    }
+    Ok(Vec::new(alloc))
+}
+
+/// This message alone.
+fn alone(alloc: Global, message: Message) -> Result<Vec<Message>, AllocError>
+    ensures { IfOk result (λ told. told.items ≡ message ∷ []) }
+{
+    let mut told = Vec::new(alloc);
+    told.push(message)?;
+    Ok(told)
+}
+
+/// Adds what is said of each other error, up to so many that it is known that there are more than are told of.
+fn add_others(
+    alloc: Global,
+    source: &Source<'_>,
+    first: CompileError,
+    errors: &[CompileError],
+    told: &mut Vec<Message>,
+) -> Result<(), AllocError>
+    ensures { IfOk result (λ _. (more : List Message) × (told.new.items ≡ told.old.items ++ more)) }
+{
+    for error in errors {
+        if told.len() > MOST_TOLD {
+            break;
+        }
+        if *error != first {
+            told.push(explain(alloc, source, *error)?)?;
+        }
+    }
+    Ok(())
+}
+
+/// What is said of a text that is too long, which has no tokens.
+fn told_of_all(alloc: Global, text: &[u8], first: CompileError) -> Result<Vec<Message>, AllocError>
+    ensures { IfOk result (λ told. (message : Message) × (more : List Message)
+        × (told.items ≡ message ∷ more) × TellsOf text.now (refusal_of first) message) }
+{
+    let source = Source::new(alloc, text, Vec::new(alloc))?;
+    let message = explain(alloc, &source, first)?;
+    alone(alloc, message)
+}
+
+/// What is said of a text with tokens and its first error, and of the errors that don't follow from it.
+fn told_of_parts(
+    alloc: Global,
+    text: &[u8],
+    first: CompileError,
+) -> Result<Vec<Message>, AllocError>
+    ensures { IfOk result (λ told. (message : Message) × (more : List Message)
+        × (told.items ≡ message ∷ more) × TellsOf text.now (refusal_of first) message) }
+{
+    let mended = mend(alloc, text)?;
+    let Ok(tokens) = lex(alloc, mended.text.as_slice()) else {
+        return Err(AllocError);
+    };
+    let source = Source::new(alloc, text, tokens)?;
+    let message = explain(alloc, &source, first)?;
+    let mut told = alone(alloc, message)?;
+    let errors = errors(alloc, &source, &mended, first)?;
+    add_others(alloc, &source, first, errors.as_slice(), &mut told)?;
+    Ok(told)
+}
+
+/// What is said of a text that has this first error.
+fn told_of(alloc: Global, text: &[u8], first: CompileError) -> Result<Vec<Message>, AllocError>
+    ensures { IfOk result (λ told. (message : Message) × (more : List Message)
+        × (told.items ≡ message ∷ more) × TellsOf text.now (refusal_of first) message) }
+{
+    if first == CompileError::Lex(LexError::TextTooLong) {
+        told_of_all(alloc, text, first)
+    } else {
+        told_of_parts(alloc, text, first)
+    }
+}
+
+/// What is said of a text that doesn't compile: first of the compiler's refusal, by its number and its place, and then of faults that
+/// don't follow from it or from one another, in the order of the compiler's parts. Nothing is said of a text that compiles.
+///
+/// A fault of a quoted text is told at the character that may not stand there, and else at the quote; a refusal without a place is told
+/// at the comparison or the rule that is too much.
+///
+/// Errors: there is no memory for what is said, or for compiling.
+pub fn messages(alloc: Global, text: &[u8]) -> Result<Vec<Message>, AllocError>
+    ensures quiet { (rules : List NamedRule) → Compiles limits text.now rules →
+        IfOk result (λ told. told.items ≡ []) }
+    ensures first { (refusal : TextRefusal) → IsRefused limits text.now refusal →
+        IfOk result (λ told. BeginsWith text.now refusal told.items) }
+{
+    match compile(alloc, text) {
+        Ok(_) => Ok(Vec::new(alloc)),
+        Err(CompileError::Memory) => Err(AllocError),
+        Err(error) => told_of(alloc, text, error),
+    }
+}

@@ -1,0 +1,396 @@
+//! All faults of items that are whole.
+
+use crate::fields::{packet_of, type_of};
+use crate::marks::value_of;
+use crate::naming::{declared_in, names};
+use crate::source::{Declaration, NameKind, Source, TokenRange};
+use field_checker::{CheckError, RuleNumber};
+use lc_model::{FieldType, mids};
+use rule_lexer::{Token, TokenKind};
+use std::alloc::{AllocError, Global};
+
+/// A packet's least and most bytes.
+const SHORTEST_PACKET: i64 = 12;
+
+const LONGEST_PACKET: i64 = 2_048;
+
+/// The items of a text that are whole, by their numbers, and what is found of them.
+#[derive(Drop)]
+pub struct Checked<'s, 'a> {
+    source: &'s Source<'a>,
+    /// For each item whether it is whole.
+    whole: &'s [bool],
+    /// Whether all packets, and all fields, that were meant to be declared are: no name was lost, and none has another's name.
+    knows_packets: bool,
+    knows_fields: bool,
+}
+
+/// Whether the number isn't the least, the most or between them.
+fn is_outside(value: i64, least: i64, most: i64) -> bool {
+    value < least || most < value
+}
+
+/// The fault of a message id. Those of the host's own are telemetry, so there is one at most.
+fn check_mid(mid: Token<'_>, found: &mut Vec<CheckError>) -> Result<(), AllocError> {
+    let value = value_of(mid);
+    let least = i64::from(mids::FIRST_TELEMETRY);
+    let most = i64::from(mids::LAST_TELEMETRY);
+    if is_outside(value, least, most) {
+        found.push(CheckError::MidRange { at: mid.at })?;
+    } else if value == i64::from(mids::EVENT) || value == i64::from(mids::LC_HOUSEKEEPING) {
+        found.push(CheckError::ReservedMid { at: mid.at })?;
+    }
+    Ok(())
+}
+
+impl<'s, 'a> Checked<'s, 'a> {
+    /// Of a text, which of whose items are whole, and whether some stand in quoted texts that aren't right.
+    pub fn new(source: &'s Source<'a>, whole: &'s [bool], hides_items: bool) -> Checked<'s, 'a> {
+        let mut checked = Checked {
+            source,
+            whole,
+            knows_packets: true,
+            knows_fields: true,
+        };
+        let is_lost = hides_items || checked.is_name_lost();
+        checked.knows_packets = !is_lost && !checked.is_name_taken(NameKind::Packet);
+        checked.knows_fields = !is_lost && !checked.is_name_taken(NameKind::Field);
+        checked
+    }
+
+    /// Whether the item with this number is whole.
+    fn is_whole_part(&self, number: usize) -> bool {
+        self.whole.get(number).copied().unwrap_or(false)
+    }
+
+    /// Whether the item that declares a name is whole.
+    fn is_whole(&self, name: Declaration<'a>) -> bool {
+        self.is_whole_part(name.part)
+    }
+
+    /// Whether an item that isn't whole may declare the name: one of its first three tokens is that name.
+    fn is_half_declared(&self, text: &[u8]) -> bool {
+        for (number, part) in self.source.parts.iter().enumerate() {
+            if self.is_whole_part(number) {
+                continue;
+            }
+            let mut front = self.source.tokens_of(*part).iter().take(3);
+            if front.any(|token| token.kind == TokenKind::Name && token.text == text) {
+                return true;
+            }
+        }
+        false
+    }
+
+    /// Whether an item that isn't whole, and that may declare a packet or a field, has no name before its `=`: what it declares isn't
+    /// known then.
+    fn is_name_lost(&self) -> bool {
+        for (number, part) in self.source.parts.iter().enumerate() {
+            if self.is_whole_part(number) {
+                continue;
+            }
+            match self.source.tokens_of(*part) {
+                [first, ..] if first.kind == TokenKind::Rule => {}
+                [_, name, sign, ..]
+                    if name.kind == TokenKind::Name && sign.kind == TokenKind::Equals => {}
+                _ => return true,
+            }
+        }
+        false
+    }
+
+    /// Whether the name of a declaration is one that can be gone by: its item is whole, and it has no other.
+    fn is_right(&self, name: Declaration<'a>) -> bool {
+        self.is_whole(name)
+            && !self
+                .source
+                .names
+                .iter()
+                .any(|other| other.text == name.text && other.at != name.at)
+    }
+
+    /// Whether one of two declarations of a name is of this kind, so that it may have been meant to have another.
+    fn is_name_taken(&self, kind: NameKind) -> bool {
+        for name in &self.source.names {
+            if let Some(first) = self.source.first_declared(name.text) {
+                if first.at != name.at && (name.kind == Some(kind) || first.kind == Some(kind)) {
+                    return true;
+                }
+            }
+        }
+        false
+    }
+
+    /// Whether the names that are declared as this are known.
+    fn knows(&self, kind: NameKind) -> bool {
+        match kind {
+            NameKind::Packet => self.knows_packets,
+            _ => self.knows_fields,
+        }
+    }
+
+    /// The length of the packet that a field lies in, where that is right.
+    fn right_length(&self, packet: Declaration<'a>) -> Option<i64> {
+        let value = value_of(self.source.value_in(packet, TokenKind::Length)?);
+        if is_outside(value, SHORTEST_PACKET, LONGEST_PACKET) {
+            return None;
+        }
+        Some(value)
+    }
+
+    /// The fault of a name that was declared before.
+    fn check_name(&self, number: usize, found: &mut Vec<CheckError>) -> Result<(), AllocError> {
+        let Some(name) = declared_in(self.source, number) else {
+            return Ok(());
+        };
+        if let Some(first) = self.source.first_declared(name.text) {
+            if first.at < name.at {
+                found.push(CheckError::DuplicateName { at: name.at })?;
+            }
+        }
+        Ok(())
+    }
+
+    /// The faults of a packet.
+    fn check_packet(
+        &self,
+        tokens: &[Token<'a>],
+        found: &mut Vec<CheckError>,
+    ) -> Result<(), AllocError> {
+        let [_, _, _, _, mid, _, length, ..] = tokens else {
+            return Ok(());
+        };
+        check_mid(*mid, found)?;
+        if is_outside(value_of(*length), SHORTEST_PACKET, LONGEST_PACKET) {
+            found.push(CheckError::LengthRange { at: length.at })?;
+        }
+        Ok(())
+    }
+
+    /// The fault of where a field lies.
+    fn check_place(
+        &self,
+        number: usize,
+        width: i64,
+        found: &mut Vec<CheckError>,
+    ) -> Result<(), AllocError> {
+        let Some(place) = self
+            .source
+            .first_number(self.source.part_of(number), TokenKind::At)
+        else {
+            return Ok(());
+        };
+        let Some(packet) = packet_of(self.source, number) else {
+            return Ok(());
+        };
+        if !self.is_right(packet) {
+            return Ok(());
+        }
+        let Some(length) = self.right_length(packet) else {
+            return Ok(());
+        };
+        let value = value_of(place);
+        if value < 0 || length < value.saturating_add(width) {
+            found.push(CheckError::FieldOutside { at: place.at })?;
+        }
+        Ok(())
+    }
+
+    /// The fault of a mask, where one is written.
+    fn check_mask(
+        &self,
+        token: Option<Token<'a>>,
+        kind: FieldType,
+        found: &mut Vec<CheckError>,
+    ) -> Result<(), AllocError> {
+        let Some(mask) = token else {
+            return Ok(());
+        };
+        if is_outside(value_of(mask), 1, i64::from(kind.full_mask())) {
+            found.push(CheckError::MaskRange { at: mask.at })?;
+        }
+        Ok(())
+    }
+
+    /// The faults of a field.
+    fn check_field(&self, number: usize, found: &mut Vec<CheckError>) -> Result<(), AllocError> {
+        let part = self.source.part_of(number);
+        let Some(field) = declared_in(self.source, number) else {
+            return Ok(());
+        };
+        let Some(typed) = type_of(self.source, field) else {
+            return Ok(());
+        };
+        let kind = typed.kind;
+        let Some(packet) = self.source.token(part.from.saturating_add(3)) else {
+            return Ok(());
+        };
+        self.check_use(packet, NameKind::Packet, found)?;
+        self.check_place(number, kind.width() as i64, found)?;
+        self.check_mask(self.source.first_number(part, TokenKind::Mask), kind, found)?;
+        let stale = self.source.first_number(part, TokenKind::Stale);
+        self.check_behind(stale, RuleNumber::Stale, found)
+    }
+
+    /// The fault of a name that nothing has, at its first use. It is not told where the declaration may be in an item that isn't whole, or
+    /// may have got another's name.
+    fn check_use(
+        &self,
+        token: Token<'a>,
+        kind: NameKind,
+        found: &mut Vec<CheckError>,
+    ) -> Result<(), AllocError> {
+        if self.source.find_declaration(kind, token.text).is_some()
+            || self.is_half_declared(token.text)
+        {
+            return Ok(());
+        }
+        if !self.knows(kind) || !self.is_first_use(token, kind) {
+            return Ok(());
+        }
+        found.push(CheckError::UnknownName { at: token.at })?;
+        Ok(())
+    }
+
+    /// Whether no whole item before uses the name so.
+    fn is_first_use(&self, token: Token<'a>, kind: NameKind) -> bool {
+        for (number, part) in self.source.parts.iter().enumerate() {
+            if self.is_whole_part(number) && self.uses_before(*part, token, kind) {
+                return false;
+            }
+        }
+        true
+    }
+
+    /// Whether the item uses the token's name before it as a name of this kind.
+    fn uses_before(&self, part: TokenRange, token: Token<'a>, kind: NameKind) -> bool {
+        for (number, other) in self.source.tokens_of(part).iter().enumerate() {
+            if other.at < token.at
+                && other.kind == TokenKind::Name
+                && other.text == token.text
+                && names(self.source, number.saturating_add(part.from), kind)
+            {
+                return true;
+            }
+        }
+        false
+    }
+
+    /// The fault of a number.
+    fn check_number(
+        &self,
+        token: Token<'a>,
+        number: RuleNumber,
+        found: &mut Vec<CheckError>,
+    ) -> Result<(), AllocError> {
+        let least = i64::from(number.least());
+        let most = i64::from(number.most());
+        if is_outside(value_of(token), least, most) {
+            found.push(CheckError::NumberRange { at: token.at })?;
+        }
+        Ok(())
+    }
+
+    /// The faults of a comparison.
+    fn check_comparison(
+        &self,
+        name: Token<'a>,
+        value: Token<'a>,
+        found: &mut Vec<CheckError>,
+    ) -> Result<(), AllocError> {
+        let Some(field) = self.source.find_declaration(NameKind::Field, name.text) else {
+            return self.check_use(name, NameKind::Field, found);
+        };
+        if !self.is_right(field) {
+            return Ok(());
+        }
+        if let Some(typed) = type_of(self.source, field) {
+            if !typed.kind.has(value_of(value)) {
+                found.push(CheckError::ConstRange { at: value.at })?;
+            }
+        }
+        Ok(())
+    }
+
+    /// The fault of the number so many tokens behind the first of this kind in an item, where there is one.
+    fn check_behind(
+        &self,
+        token: Option<Token<'a>>,
+        number: RuleNumber,
+        found: &mut Vec<CheckError>,
+    ) -> Result<(), AllocError> {
+        match token {
+            Some(token) => self.check_number(token, number, found),
+            None => Ok(()),
+        }
+    }
+
+    /// The faults of the numbers of a report.
+    fn check_report(
+        &self,
+        part: TokenRange,
+        found: &mut Vec<CheckError>,
+    ) -> Result<(), AllocError> {
+        let report = TokenKind::Report;
+        let first = self.source.behind_first(part, report, 1);
+        self.check_behind(first, RuleNumber::ReportPassive, found)?;
+        let second = self.source.behind_first(part, report, 2);
+        self.check_behind(second, RuleNumber::ReportPassToFail, found)?;
+        let third = self.source.behind_first(part, report, 3);
+        self.check_behind(third, RuleNumber::ReportFailToPass, found)
+    }
+
+    /// The faults of the other numbers of a rule.
+    fn check_numbers(
+        &self,
+        part: TokenRange,
+        found: &mut Vec<CheckError>,
+    ) -> Result<(), AllocError> {
+        let fails = self.source.first_number(part, TokenKind::Fails);
+        self.check_behind(fails, RuleNumber::Fails, found)?;
+        let sequence = self.source.first_number(part, TokenKind::Sequence);
+        self.check_behind(sequence, RuleNumber::Sequence, found)?;
+        let event = self.source.behind_first(part, TokenKind::Event, 2);
+        self.check_behind(event, RuleNumber::EventId, found)
+    }
+
+    /// The faults of a rule.
+    fn check_rule(&self, part: TokenRange, found: &mut Vec<CheckError>) -> Result<(), AllocError> {
+        self.check_numbers(part, found)?;
+        self.check_report(part, found)?;
+        for (number, token) in self.source.tokens_of(part).iter().enumerate() {
+            if !matches!(token.kind, TokenKind::Compare(_)) {
+                continue;
+            }
+            let number = number.saturating_add(part.from);
+            if let (Some(name), Some(value)) = (
+                self.source.token(number.saturating_sub(1)),
+                self.source.token(number.saturating_add(1)),
+            ) {
+                self.check_comparison(name, value, found)?;
+            }
+        }
+        Ok(())
+    }
+
+    /// The faults of all items, in the order of the text.
+    pub fn faults(&self, alloc: Global) -> Result<Vec<CheckError>, AllocError> {
+        let mut found = Vec::new(alloc);
+        for (number, part) in self.source.parts.iter().enumerate() {
+            if !self.is_whole_part(number) {
+                continue;
+            }
+            self.check_name(part.from, &mut found)?;
+            match self.source.kind_of(*part) {
+                Some(NameKind::Packet) => self.check_packet(
+                    self.source.tokens_of(*part),
+                    &mut found,
+                )?,
+                Some(NameKind::Field) => self.check_field(part.from, &mut found)?,
+                Some(NameKind::Rule) => self.check_rule(*part, &mut found)?,
+                None => {}
+            }
+        }
+        Ok(found)
+    }
+}

@@ -1,0 +1,26 @@
+//! What a rule author is told of a text that doesn't compile: the compiler's own refusal, with the place, what was found and what was
+//! wanted, and further faults that don't follow from it.
+#![tactic(auto)]
+
+mod bytes;
+mod checks;
+mod explaining;
+mod faults;
+mod fields;
+mod grammar;
+mod grammar_errors;
+mod item_faults;
+mod marks;
+mod naming;
+mod nearest;
+mod numbers;
+mod packets;
+mod rules;
+mod source;
+mod tables;
+mod token_faults;
+mod tokens;
+mod wanted;
+
+pub use explaining::explain;
+pub use faults::messages;

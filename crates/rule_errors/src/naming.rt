@@ -1,0 +1,196 @@
+//! What is said of names that are declared twice, or not at all.
+
+ghost use Rattle.std.specs.Prelude.{◌≡◌, IfOk};
+ghost use Rattle.diagnostics.specs.Message.{IsAt};
+
+use crate::marks::{declared_mark, mark};
+use crate::nearest::nearest_name;
+use crate::source::{Declaration, NameKind, Source};
+use diagnostics::{Many, Message, around, printable};
+use rule_lexer::{Token, TokenKind};
+use std::alloc::{AllocError, Global};
+
+/// The name that the item of the token with this number declares.
+pub fn declared_in<'a>(source: &Source<'a>, number: usize) -> Option<Declaration<'a>> {
+    let part = source.part_of(number);
+    let second = source.token(part.from.saturating_add(1))?;
+    source
+        .names
+        .iter()
+        .find(|name| name.at == second.at)
+        .copied()
+}
+
+/// Where a name is first declared, as what, where that is another kind than the second one's.
+fn first_label(kind: Option<NameKind>, is_alike: bool) -> &'static str {
+    if is_alike {
+        return "first declared here";
+    }
+    match kind {
+        Some(NameKind::Packet) => "first declared here, as a packet",
+        Some(NameKind::Field) => "first declared here, as a field",
+        Some(NameKind::Rule) => "first declared here, as a rule",
+        None => "first declared here, as another item",
+    }
+}
+
+/// What to do about a name that is declared twice.
+fn twice_label(is_alike: bool) -> &'static str {
+    if is_alike {
+        "give one of the two another name"
+    } else {
+        "packets, fields and rules share their names: take another"
+    }
+}
+
+/// A name that is declared twice.
+pub fn duplicate(
+    alloc: Global,
+    source: &Source<'_>,
+    number: usize,
+    token: Token<'_>,
+) -> Result<Message, AllocError>
+    ensures { IfOk result (IsAt 21 token.entry.at) }
+{
+    let kind = source.kind_of(source.part_of(number));
+    let first = source.first_declared(token.text);
+    let first_kind = match first {
+        Some(first) => first.kind,
+        None => kind,
+    };
+    let is_alike = first_kind == kind;
+    let head = around(alloc, "the name ", token.text, " is declared twice")?;
+    let label = String::from_str(alloc, twice_label(is_alike))?;
+    let other = declared_mark(alloc, first, first_label(first_kind, is_alike))?;
+    Message::at(alloc, 21, head, mark(token, label)).with(other)
+}
+
+/// How a declaration of the name would begin.
+fn declaration(alloc: Global, kind: NameKind, text: &[u8]) -> Result<String, AllocError> {
+    let name = printable(alloc, text)?;
+    match kind {
+        NameKind::Packet => format!(in alloc;
+            "declare it: `packet {name} = mid NUMBER length NUMBER;`"
+        ),
+        _ => format!(in alloc; "declare it: `field {name} = PACKET TYPE at NUMBER;`"),
+    }
+}
+
+/// What to do about a name of another kind.
+fn other_kind(wanted: NameKind, kind: Option<NameKind>) -> &'static str {
+    match (wanted, kind) {
+        (NameKind::Field, Some(NameKind::Packet)) => "this is a packet: name one of its fields",
+        (NameKind::Packet, Some(NameKind::Field)) => "this is a field: name a packet",
+        (NameKind::Packet, _) => "this is a rule: name a packet",
+        _ => "this is a rule: name a field",
+    }
+}
+
+/// What has an unknown name as something else, or else has a name that may have been meant.
+fn near_name<'a>(
+    alloc: Global,
+    source: &Source<'a>,
+    wanted: NameKind,
+    text: &[u8],
+) -> Result<Option<Declaration<'a>>, AllocError> {
+    if let Some(other) = source.first_declared(text) {
+        return Ok(Some(other));
+    }
+    match nearest_name(alloc, source, wanted, text)? {
+        Some(near) => Ok(source.find_declaration(wanted, near)),
+        None => Ok(None),
+    }
+}
+
+/// What to do about an unknown name, by what is near.
+fn advice(
+    alloc: Global,
+    near: Option<Declaration<'_>>,
+    wanted: NameKind,
+    text: &[u8],
+) -> Result<String, AllocError> {
+    match near {
+        Some(near) if near.text == text => String::from_str(alloc, other_kind(wanted, near.kind)),
+        Some(near) => around(alloc, "did you mean ", near.text, "?"),
+        None => declaration(alloc, wanted, text),
+    }
+}
+
+/// Whether the token with this number names a packet or a field of this kind.
+pub fn names(source: &Source<'_>, number: usize, kind: NameKind) -> bool {
+    let part = source.part_of(number);
+    match (source.kind_of(part), kind) {
+        (Some(NameKind::Field), NameKind::Packet) => number == part.from.saturating_add(3),
+        (Some(NameKind::Rule), NameKind::Field) => number > part.from.saturating_add(1),
+        _ => false,
+    }
+}
+
+/// Whether the token with this number is another use of the same name for the same.
+fn is_other_use(
+    source: &Source<'_>,
+    number: usize,
+    other: Token<'_>,
+    token: Token<'_>,
+    kind: NameKind,
+) -> bool {
+    other.at != token.at
+        && other.kind == TokenKind::Name
+        && other.text == token.text
+        && names(source, number, kind)
+}
+
+/// In how many other places the same name is used for the same.
+fn other_uses(source: &Source<'_>, token: Token<'_>, kind: NameKind) -> usize {
+    let mut count = 0usize;
+    for (number, other) in source.tokens.iter().enumerate() {
+        if is_other_use(source, number, *other, token, kind) {
+            count = count.saturating_add(1);
+        }
+    }
+    count
+}
+
+/// The advice, with how often the name is used besides.
+fn with_uses(alloc: Global, advice: String, others: usize) -> Result<String, AllocError> {
+    if others == 0 {
+        return Ok(advice);
+    }
+    let more = Many(others, "more place");
+    format!(in alloc; "{advice} (used here and in {more})")
+}
+
+/// What is wrong with a name that nothing of this kind has.
+fn unknown_head(alloc: Global, wanted: NameKind, text: &[u8]) -> Result<String, AllocError> {
+    let before = match wanted {
+        NameKind::Packet => "no packet has the name ",
+        _ => "no field has the name ",
+    };
+    around(alloc, before, text, "")
+}
+
+/// What an item of this kind names: a field a packet, a rule fields.
+fn named_kind(kind: Option<NameKind>) -> NameKind {
+    match kind {
+        Some(NameKind::Field) => NameKind::Packet,
+        _ => NameKind::Field,
+    }
+}
+
+/// A name that nothing of its kind has.
+pub fn unknown(
+    alloc: Global,
+    source: &Source<'_>,
+    number: usize,
+    token: Token<'_>,
+) -> Result<Message, AllocError>
+    ensures { IfOk result (IsAt 22 token.entry.at) }
+{
+    let wanted = named_kind(source.kind_of(source.part_of(number)));
+    let near = near_name(alloc, source, wanted, token.text)?;
+    let others = other_uses(source, token, wanted);
+    let head = unknown_head(alloc, wanted, token.text)?;
+    let label = with_uses(alloc, advice(alloc, near, wanted, token.text)?, others)?;
+    let other = declared_mark(alloc, near, "declared here")?;
+    Message::at(alloc, 22, head, mark(token, label)).with(other)
+}

@@ -1,0 +1,435 @@
+//! What is said of tokens that are none, and of a text that is too long.
+
+ghost use Rattle.std.specs.Prelude.{◌≡◌, None, drop, if◌then◌else◌, IfOk};
+ghost use Rattle.rule_lexer.specs.declared.error.LexError.{LexError};
+ghost use Rattle.rpn_compiler.specs.declared.error.CompileError.TheVariants.{Lex};
+ghost use Rattle.rpn_compiler.specs.Fault.{refusal_of};
+ghost use Rattle.diagnostics.specs.Message.{IsAt, first_place};
+ghost use Rattle.rule_errors.specs.Telling.{TellsOf, TellsReason, ends_line, place_of};
+
+use crate::bytes::{character, last_word, word_size};
+use diagnostics::{Grouped, Many, Mark, Message, around, behind, front};
+use rule_lexer::{LexError, LexReason, TokenKind, lex};
+use std::alloc::{AllocError, Global};
+
+/// The most bytes of a name, and of a quoted text.
+const LONGEST_NAME: usize = 32;
+
+const LONGEST_STRING: usize = 31;
+
+const LARGEST_NUMBER: u64 = 0xFFFF_FFFF;
+
+/// Whether a token begins with what would else be one more of a run: `!=`, or a negative number.
+fn begins_token(rest: &[u8]) -> bool {
+    match rest {
+        [b'!', b'=', ..] => true,
+        [b'-', digit, ..] => digit.is_ascii_digit(),
+        _ => false,
+    }
+}
+
+/// The bytes of the run of one character in front.
+fn run_size(rest: &[u8]) -> usize {
+    let (_, size) = character(rest);
+    let one = front(rest, size);
+    let mut run = size;
+    for _ in 0..rest.len() {
+        let next = behind(rest, run);
+        if !next.starts_with(one) || begins_token(next) {
+            break;
+        }
+        run = run.saturating_add(size);
+    }
+    run.min(rest.len())
+}
+
+/// Blanks that aren't ASCII, byte order marks, and other characters without width, from the first to the last of each row.
+const UNSEEN: &[(u32, u32)] = &[
+    (0xA0, 0xA0),
+    (0xAD, 0xAD),
+    (0x1680, 0x1680),
+    (0x2000, 0x200D),
+    (0x2028, 0x2029),
+    (0x202F, 0x202F),
+    (0x205F, 0x2060),
+    (0x3000, 0x3000),
+    (0xFEFF, 0xFEFF),
+];
+
+/// Single quotes, slanted quotes and angle quotes.
+const OTHER_QUOTES: &[(u32, u32)] = &[
+    (0x27, 0x27),
+    (0x60, 0x60),
+    (0xAB, 0xAB),
+    (0xB4, 0xB4),
+    (0xBB, 0xBB),
+    (0x2018, 0x201F),
+    (0x2039, 0x203A),
+];
+
+/// Whether one of the rows has the character.
+fn is_among(character: char, rows: &[(u32, u32)]) -> bool {
+    let code = character as u32;
+    rows.iter().any(|row| row.0 <= code && code <= row.1)
+}
+
+/// What to do about characters that other languages have.
+const ADVICE: &[(char, &str)] = &[
+    ('&', "did you mean `and`?"),
+    ('|', "did you mean `or`?"),
+    ('!', "did you mean `not`?"),
+    ('^', "did you mean `xor`?"),
+    ('-', "`-` stands directly before a number"),
+    ('/', "a comment begins with `#`"),
+    ('[', "did you mean `(`?"),
+    ('{', "did you mean `(`?"),
+    (']', "did you mean `)`?"),
+    ('}', "did you mean `)`?"),
+];
+
+/// What to do about a character that begins no token, wherever it stands.
+fn plain_advice(character: char) -> &'static str {
+    if let Some(row) = ADVICE.iter().find(|row| row.0 == character) {
+        row.1
+    } else if is_among(character, OTHER_QUOTES) {
+        "write `\"` around a quoted text"
+    } else if is_among(character, UNSEEN) {
+        "this can't be seen: leave it out"
+    } else {
+        "leave it out"
+    }
+}
+
+/// What to do about a character that begins no token.
+fn advice(text: &[u8], at: usize, character: char) -> &'static str {
+    if character == '.' && is_behind_number(text, at) {
+        "numbers are whole: write the raw value of the telemetry"
+    } else {
+        plain_advice(character)
+    }
+}
+
+/// Whether a number ends at this place.
+fn is_behind_number(text: &[u8], at: usize) -> bool {
+    matches!(last_word(front(text, at)), [first, ..] if first.is_ascii_digit())
+}
+
+fn bad_byte(alloc: Global, text: &[u8], at: usize) -> Result<Message, AllocError>
+    ensures { IfOk result (IsAt 1 at) }
+{
+    let rest = behind(text, at);
+    let size = run_size(rest);
+    let (first, _) = character(rest);
+    let head = around(
+        alloc,
+        "",
+        front(rest, size),
+        " has no meaning in this language",
+    )?;
+    let label = String::from_str(alloc, advice(text, at, first))?;
+    Ok(Message::at(alloc, 1, head, Mark { at, size, label }))
+}
+
+/// How many bytes the sign in front has.
+fn sign_size(rest: &[u8]) -> usize {
+    usize::from(matches!(rest, [b'-', ..]))
+}
+
+/// The bytes of the number in front, right or wrong, with its sign.
+fn number_size(rest: &[u8]) -> usize {
+    let sign = sign_size(rest);
+    word_size(behind(rest, sign)).saturating_add(sign)
+}
+
+/// The decimal digits in front.
+fn digit_count(text: &[u8]) -> usize {
+    text.iter().take_while(|byte| byte.is_ascii_digit()).count()
+}
+
+fn are_hexadecimal(text: &[u8]) -> bool {
+    !text.is_empty() && text.iter().all(|byte| byte.is_ascii_hexdigit())
+}
+
+/// The digits in front where only letters stand behind them.
+fn without_unit(digits: &[u8]) -> Option<&[u8]> {
+    let count = digit_count(digits);
+    let unit = behind(digits, count);
+    if count == 0 || !unit.iter().all(|byte| byte.is_ascii_alphabetic()) {
+        return None;
+    }
+    Some(front(digits, count))
+}
+
+/// What stands behind `0X`, or before an `h`.
+fn inner_digits(digits: &[u8]) -> &[u8] {
+    match digits {
+        [b'0', b'X', inner @ ..] => inner,
+        [inner @ .., b'h' | b'H'] => inner,
+        _ => &[],
+    }
+}
+
+/// A number, as it may have been meant, of what is written without a sign.
+fn intended_number(alloc: Global, digits: &[u8]) -> Result<Vec<u8>, AllocError> {
+    let inner = inner_digits(digits);
+    if are_hexadecimal(inner) {
+        return hexadecimal(alloc, inner);
+    }
+    match without_unit(digits) {
+        Some(number) => Vec::from_slice(alloc, number),
+        None => without_lines(alloc, digits),
+    }
+}
+
+/// The digits behind `0x`.
+fn hexadecimal(alloc: Global, digits: &[u8]) -> Result<Vec<u8>, AllocError> {
+    let mut number = Vec::from_slice(alloc, b"0x")?;
+    number.extend_from_slice(digits)?;
+    Ok(number)
+}
+
+/// All bytes but each `_`.
+fn without_lines(alloc: Global, digits: &[u8]) -> Result<Vec<u8>, AllocError> {
+    let mut number = Vec::new(alloc);
+    for byte in digits {
+        if *byte != b'_' {
+            number.push(*byte)?;
+        }
+    }
+    Ok(number)
+}
+
+/// Whether the bytes are one number, and nothing else.
+fn is_number(alloc: Global, text: &[u8]) -> bool {
+    match lex(alloc, text) {
+        Ok(tokens) =>
+            matches!(tokens.as_slice(), [token] if matches!(token.kind, TokenKind::Number(_))),
+        Err(_) => false,
+    }
+}
+
+/// The same with the sign that is written.
+fn with_sign(alloc: Global, written: &[u8]) -> Result<Vec<u8>, AllocError> {
+    let sign = sign_size(written);
+    let mut whole = Vec::from_slice(alloc, front(written, sign))?;
+    let number = intended_number(alloc, behind(written, sign))?;
+    whole.extend_from_slice(number.as_slice())?;
+    Ok(whole)
+}
+
+/// What to write in the place of a number that is none.
+fn number_advice(alloc: Global, written: &[u8]) -> Result<String, AllocError> {
+    if matches!(behind(written, sign_size(written)), b"0x") {
+        return String::from_str(alloc, "write hexadecimal digits behind `0x`");
+    }
+    let number = with_sign(alloc, written)?;
+    if is_number(alloc, number.as_slice()) {
+        return around(alloc, "did you mean ", number.as_slice(), "?");
+    }
+    String::from_str(alloc, "write digits, or hexadecimal digits behind `0x`")
+}
+
+/// What to do about a number that is none, or that is too large.
+fn number_label(alloc: Global, written: &[u8], is_too_large: bool) -> Result<String, AllocError> {
+    if !is_too_large {
+        return number_advice(alloc, written);
+    }
+    let most = Grouped(LARGEST_NUMBER);
+    format!(in alloc; "write at most {most}")
+}
+
+fn bad_number(
+    alloc: Global,
+    text: &[u8],
+    at: usize,
+    is_too_large: bool,
+) -> Result<Message, AllocError>
+    ensures { IfOk result (IsAt 2 at) }
+{
+    let rest = behind(text, at);
+    let size = number_size(rest);
+    let written = front(rest, size);
+    let what = if is_too_large {
+        " is too large"
+    } else {
+        " is not a number"
+    };
+    let head = around(alloc, "", written, what)?;
+    let label = number_label(alloc, written, is_too_large)?;
+    Ok(Message::at(alloc, 2, head, Mark { at, size, label }))
+}
+
+fn long_name(alloc: Global, text: &[u8], at: usize) -> Result<Message, AllocError>
+    ensures { IfOk result (IsAt 3 at) }
+{
+    let size = word_size(behind(text, at));
+    let count = Many(size, "character");
+    let more = Many(size.saturating_sub(LONGEST_NAME), "character");
+    let head = format!(in alloc; "the name has {count}, at most 32 are allowed")?;
+    let label = format!(in alloc; "shorten it by {more}")?;
+    Ok(Message::at(alloc, 3, head, Mark { at, size, label }))
+}
+
+/// The bytes up to the line's end, without the carriage return that may end it.
+pub fn line_rest(rest: &[u8]) -> usize {
+    let size = rest.iter().take_while(|byte| **byte != b'\n').count();
+    match front(rest, size) {
+        [before @ .., b'\r'] => before.len(),
+        line => line.len(),
+    }
+}
+
+/// The bytes between a quote and the next one on its line, or up to its line's end, and whether there is a next one.
+fn inside(rest: &[u8]) -> (usize, bool) {
+    let size = rest
+        .iter()
+        .take_while(|byte| **byte != b'"' && **byte != b'\n')
+        .count();
+    match behind(rest, size) {
+        [b'"', ..] => (size, true),
+        _ => (line_rest(rest), false),
+    }
+}
+
+fn unclosed_string(alloc: Global, text: &[u8], at: usize) -> Result<Message, AllocError>
+    ensures { IfOk result (IsAt 4 at) }
+{
+    let head = String::from_str(alloc, "the quoted text has no closing quote on its line")?;
+    let size = line_rest(behind(text, at));
+    let label = String::from_str(alloc, "write `\"` where the quoted text ends")?;
+    Ok(Message::at(alloc, 4, head, Mark { at, size, label }))
+}
+
+fn long_string(alloc: Global, text: &[u8], at: usize) -> Result<Message, AllocError>
+    ensures { IfOk result (IsAt 4 at) }
+{
+    let (size, _) = inside(behind(text, at.saturating_add(1)));
+    let count = Many(size, "character");
+    let more = Many(size.saturating_sub(LONGEST_STRING), "character");
+    let head = format!(in alloc; "the quoted text has {count}, at most 31 are allowed")?;
+    let label = format!(in alloc; "shorten it by {more}")?;
+    let size = size.saturating_add(2);
+    Ok(Message::at(alloc, 4, head, Mark { at, size, label }))
+}
+
+/// What is wrong with a character, of these bytes, that stands in a quoted text.
+fn forbidden_head(alloc: Global, first: char, found: &[u8]) -> Result<String, AllocError> {
+    if first == '\t' {
+        return String::from_str(alloc, "a tab may not stand in a quoted text");
+    }
+    around(alloc, "", found, " may not stand in a quoted text")
+}
+
+fn forbidden_byte(alloc: Global, text: &[u8], at: usize) -> Result<Message, AllocError>
+    ensures { IfOk result (IsAt 4 at) }
+{
+    let rest = behind(text, at);
+    let (first, size) = character(rest);
+    let head = forbidden_head(alloc, first, front(rest, size))?;
+    let label = String::from_str(
+        alloc,
+        "write A to Z, a to z, digits and signs of ASCII only",
+    )?;
+    Ok(Message::at(alloc, 4, head, Mark { at, size, label }))
+}
+
+/// Whether a carriage return stands here right before its line's end.
+fn is_line_end(text: &[u8], at: usize) -> bool
+    ensures { result ≡ ends_line (drop at text.now) }
+{
+    match behind(text, at) {
+        [byte] => *byte == b'\r',
+        [byte, next, ..] => *byte == b'\r' && *next == b'\n',
+        [] => false,
+    }
+}
+
+fn long_text(alloc: Global, text: &[u8]) -> Result<Message, AllocError>
+    ensures { IfOk result (λ message. (message.code ≡ 5) × (first_place message ≡ None)) }
+{
+    let count = Many(text.len(), "byte");
+    let head = format!(in alloc; "the file has {count}, at most 65,536 are allowed")?;
+    Ok(Message {
+        code: 5,
+        warning: None,
+        head,
+        first: None,
+        others: Vec::new(alloc),
+    })
+}
+
+/// What is said of a quoted text that begins at a place and has a character at another that may not stand there. A carriage return at
+/// the line's end is none: that text isn't closed.
+fn forbidden_or_unclosed(
+    alloc: Global,
+    text: &[u8],
+    at: usize,
+    begin: usize,
+) -> Result<Message, AllocError>
+    ensures { IfOk result (IsAt 4 (if ends_line (drop at text.now) then begin else at)) }
+{
+    if is_line_end(text, at) {
+        unclosed_string(alloc, text, begin)
+    } else {
+        forbidden_byte(alloc, text, at)
+    }
+}
+
+/// What is said of the fault of a token that begins at this place.
+fn describe_fault(
+    alloc: Global,
+    text: &[u8],
+    reason: LexReason,
+    begin: usize,
+) -> Result<Message, AllocError>
+    ensures { IfOk result (TellsReason text.now reason begin) }
+{
+    match reason {
+        LexReason::NoToken { at } => bad_byte(alloc, text, at),
+        LexReason::NotANumber { at } => bad_number(alloc, text, at, false),
+        LexReason::NumberTooLarge { at } => bad_number(alloc, text, at, true),
+        LexReason::NameTooLong { at } => long_name(alloc, text, at),
+        LexReason::Unclosed { at } => unclosed_string(alloc, text, at),
+        LexReason::StringTooLong { at } => long_string(alloc, text, at),
+        LexReason::ForbiddenByte { at } => forbidden_or_unclosed(alloc, text, at, begin),
+        LexReason::TextTooLong => long_text(alloc, text),
+        LexReason::Memory => Err(AllocError),
+    }
+}
+
+/// Where the token with this error begins.
+pub fn place(error: LexError) -> usize
+    ensures { result ≡ place_of error }
+{
+    match error {
+        LexError::BadByte { at }
+        | LexError::BadNumber { at }
+        | LexError::NameTooLong { at }
+        | LexError::BadString { at } => at,
+        LexError::TextTooLong | LexError::Memory => 0,
+    }
+}
+
+/// What is said of an error of tokens.
+pub fn token_message(alloc: Global, text: &[u8], error: LexError) -> Result<Message, AllocError>
+    ensures { IfOk result (TellsOf text.now (refusal_of (Lex error))) }
+{
+    describe_fault(alloc, text, error.reason(text), place(error))
+}
+
+/// The bytes that the bad token has, from its first one on. Of a quoted text these go to its closing quote, or to its line's end.
+pub fn bad_size(text: &[u8], error: LexError) -> usize {
+    let rest = behind(text, place(error));
+    let size = match error {
+        LexError::BadByte { .. } => run_size(rest),
+        LexError::BadNumber { .. } => number_size(rest),
+        LexError::NameTooLong { .. } => word_size(rest),
+        LexError::BadString { .. } => {
+            let (size, is_closed) = inside(behind(rest, 1));
+            size.saturating_add(1)
+                .saturating_add(usize::from(is_closed))
+        }
+        LexError::TextTooLong | LexError::Memory => rest.len(),
+    };
+    size.max(1)
+}

@@ -1,5 +1,0 @@
-use Rattle.rule_judgement.specs.Fields.{AreFieldsOf}
-use Rattle.rule_judgement.proofs.fields.add_read_by.Given as goal
-
-abbrev pub invariant-loop-i : goal.invariant-loop-i
-invariant-loop-i l = AreFieldsOf l.terms l.fn.fields.items → AreFieldsOf l.terms l.fields.items

@@ -1,5 +1,0 @@
-use Rattle.rule_judgement.specs.Fields.{AreFieldsOf}
-use Rattle.rule_judgement.proofs.fields.fields_of.Given as goal
-
-abbrev pub invariant-loop-less : goal.invariant-loop-less
-invariant-loop-less l = AreFieldsOf l.terms l.fields.items

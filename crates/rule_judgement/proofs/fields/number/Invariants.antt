@@ -1,6 +1,0 @@
-use Rattle.std.proofs.Common.{◌≡◌, ◌+◌, drop}
-use Rattle.rule_judgement.specs.Fields.{field_number}
-use Rattle.rule_judgement.proofs.fields.number.Given as goal
-
-abbrev pub invariant-loop-i : goal.invariant-loop-i
-invariant-loop-i l = field_number l.fields l.term ≡ field_number (drop l.i l.fields) l.term + l.i

@@ -1,5 +1,0 @@
-use Rattle.rule_judgement.proofs.QuietLaws.{quiet_rules_stay_quiet}
-use Rattle.rule_judgement.proofs.laws.quiet_rules_stay_quiet.Goals as goal
-
-pub returns : goal.returns
-returns c = quiet_rules_stay_quiet

@@ -1,5 +1,0 @@
-use Rattle.rule_judgement.proofs.TextFields.{texts_read_telemetry}
-use Rattle.rule_judgement.proofs.laws.texts_read_telemetry.Goals as goal
-
-pub returns : goal.returns
-returns c = texts_read_telemetry

@@ -1,4 +1,0 @@
-use Rattle.rule_judgement.proofs.numbers.+next_bits.Given as goal
-
-abbrev pub decreases-next_bits : goal.decreases-next_bits
-decreases-next_bits l = l.mask

@@ -1,6 +1,0 @@
-use Rattle.std.proofs.Common.{take}
-use Rattle.rule_judgement.specs.Laid.{AreLaidFor}
-use Rattle.rule_judgement.proofs.packets.packets_of.Given as goal
-
-abbrev pub invariant-loop-one : goal.invariant-loop-one
-invariant-loop-one l = AreLaidFor l.chosen (take l.one-index l.chosen) l.packets.items

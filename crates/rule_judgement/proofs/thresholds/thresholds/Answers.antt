@@ -1,7 +1,0 @@
-use Rattle.rule_judgement.proofs.ClassLaws.{five_by}
-use Rattle.rule_judgement.proofs.thresholds.thresholds.Goals as goal
-
-pub returns : goal.returns
-returns c =
-    five_by c.args.term.now c.sign_weight-sign.result c.first_from.result c.first_above.result c.first_from-2.result c.first_above-2.result
-    c.sign_weight-sign.ensures c.first_from.ensures c.first_above.ensures c.first_from-2.ensures c.first_above-2.ensures

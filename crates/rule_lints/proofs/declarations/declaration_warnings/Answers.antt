@@ -1,0 +1,5 @@
+use Rattle.rule_lints.proofs.Listed.{of_all}
+use Rattle.rule_lints.proofs.declarations.declaration_warnings.Goals as goal
+
+pub returns : goal.returns
+returns c = of_all _ _ c.args.items.now c.loop-item.item-index c.loop-item.invariant c.loop-item-test.false

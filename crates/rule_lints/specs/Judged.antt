@@ -1,0 +1,150 @@
+-- The warnings of what is judged of rules before any packet comes. This project's own.
+use Rattle.std.specs.Prelude.{ℕ, zero, suc, Bool, true, false, not, ◌&&◌, if◌then◌else◌, List, [], ◌∷◌, ◌++◌, filter_map, flat_map, length, slice_get, Option, Some, None, option_map}
+use Rattle.std.specs.List.{list_all}
+use Rattle.lc_model.specs.Text.Syntax.{Expression, Compare, Not, Join, RuleItem, Item, Packet, Field, Rule}
+use Rattle.rule_analysis.specs.declared.finding.ComparisonJudgement.{ComparisonJudgement}
+use Rattle.rule_analysis.specs.declared.finding.Constancy.{Constancy}
+use Rattle.rule_analysis.specs.declared.finding.Constancy.TheVariants as constancy
+use Rattle.rule_analysis.specs.declared.finding.PairJudgement.{PairJudgement}
+use Rattle.rule_analysis.specs.declared.finding.Relation.{Relation}
+use Rattle.rule_analysis.specs.declared.finding.Relation.TheVariants as relation
+use Rattle.rule_analysis.specs.declared.finding.RuleJudgement.{RuleJudgement}
+use Rattle.rule_analysis.specs.declared.finding.SpareComparison.{SpareComparison}
+use Rattle.analysis_listing.specs.Said as said
+use Rattle.analysis_listing.specs.Said.{Line, is_never, line_of}
+use Rattle.rule_lints.specs.declared.lint.Lint.{Lint}
+use Rattle.rule_lints.specs.declared.lint.Lint.TheVariants as lint
+use Rattle.rule_lints.specs.declared.warning.Warning.{Warning}
+use Rattle.rule_lints.specs.Items.{warn_if}
+
+-- ---- the rules of a text
+
+abbrev pub rule_in : Item → Option RuleItem
+rule_in (Packet p) = None
+rule_in (Field f) = None
+rule_in (Rule r) = Some r
+
+abbrev pub rules_among : List Item → List RuleItem
+rules_among = filter_map rule_in
+
+-- the rule of this number, and the place of its name
+abbrev pub rule_at : List Item → ℕ → Option RuleItem
+rule_at items number = slice_get (rules_among items) number
+
+abbrev pub name_at : List Item → ℕ → Option ℕ
+name_at items number = option_map (λ (r : RuleItem). r.name.at) (rule_at items number)
+
+-- the places of a condition's comparisons, from left to right
+abbrev pub places : Expression → List ℕ
+places (Compare field op value) = field.at ∷ []
+places (Not e) = places e
+places (Join o a b) = places a ++ places b
+
+-- ---- a rule by itself
+
+-- this warning, if there is one, and if there is such a place
+abbrev pub warn_of : Option Lint → (at about : ℕ) → List Warning
+warn_of None place number = []
+warn_of (Some which) place number = record { lint = which; at = place; about = number } ∷ []
+
+abbrev pub warn_at : Option ℕ → Lint → (about : ℕ) → List Warning
+warn_at None which number = []
+warn_at (Some place) which number = record { lint = which; at = place; about = number } ∷ []
+
+abbrev pub lint_of : Line → Option Lint
+lint_of said.FailsAndPasses = None
+lint_of said.NeverFails = Some lint.NeverFails
+lint_of said.AlwaysFails = Some lint.AlwaysFails
+lint_of said.NeverPasses = Some lint.NeverPasses
+lint_of said.FailsUnknown = Some lint.NotKnown
+lint_of said.PassesUnknown = Some lint.NotKnown
+
+-- the comparison says the same of all numbers
+abbrev pub is_constant : Constancy → Bool
+is_constant constancy.Always = true
+is_constant constancy.Never = true
+is_constant constancy.Varies = false
+
+abbrev pub of_comparison : ℕ → Option ℕ → Option ComparisonJudgement → List Warning
+of_comparison number (Some place) (Some j) = warn_if (is_constant j.says) lint.ConstantComparison place number
+of_comparison number place j = []
+
+-- those of the first so many comparisons
+abbrev pub comparisons_below : ℕ → List ℕ → List ComparisonJudgement → ℕ → List Warning
+comparisons_below number ats js zero = []
+comparisons_below number ats js (suc n) =
+    comparisons_below number ats js n ++ of_comparison number (slice_get ats n) (slice_get js n)
+
+abbrev pub of_judged : ℕ → RuleItem → RuleJudgement → List Warning
+of_judged number r j =
+    warn_of (lint_of (line_of j.fails j.passes)) r.name.at number
+    ++ comparisons_below number (places r.condition) j.comparisons.items (length j.comparisons.items)
+
+abbrev pub of_found : ℕ → Option RuleItem → Option RuleJudgement → List Warning
+of_found number (Some r) (Some j) = of_judged number r j
+of_found number r j = []
+
+-- those of the first so many rules
+abbrev pub rules_below : List Item → List RuleJudgement → ℕ → List Warning
+rules_below items js zero = []
+rules_below items js (suc n) = rules_below items js n ++ of_found n (rule_at items n) (slice_get js n)
+
+-- ---- rules together
+
+-- the rule both can fail and can pass, or may
+abbrev pub goes_both_ways : Option RuleJudgement → Bool
+goes_both_ways None = false
+goes_both_ways (Some j) = not (is_never j.fails) && not (is_never j.passes)
+
+-- the rule of a pair that is told of, and the other one: the later one where both fail alike, and else the one that fails less often
+abbrev pub told_first : Relation → Bool
+told_first relation.Same = false
+told_first relation.FirstFollows = false
+told_first relation.SecondFollows = true
+
+abbrev pub told_of : PairJudgement → ℕ
+told_of p = if told_first p.relation then p.first else p.second
+
+abbrev pub other_of : PairJudgement → ℕ
+other_of p = if told_first p.relation then p.second else p.first
+
+abbrev pub lint_of_relation : Relation → Lint
+lint_of_relation relation.Same = lint.FailsAlike
+lint_of_relation relation.FirstFollows = lint.FailsWherever
+lint_of_relation relation.SecondFollows = lint.FailsWherever
+
+-- rules that always or never fail are told of already
+abbrev pub of_pair : List Item → List RuleJudgement → PairJudgement → List Warning
+of_pair items js p =
+    if goes_both_ways (slice_get js p.first) && goes_both_ways (slice_get js p.second)
+    then warn_at (name_at items (told_of p)) (lint_of_relation p.relation) (other_of p) else []
+
+-- ---- comparisons that can be done without
+
+-- no comparison of the rule says the same of all numbers: those are told of already
+abbrev pub all_vary : Option RuleJudgement → Bool
+all_vary None = false
+all_vary (Some j) = list_all (λ (c : ComparisonJudgement). not (is_constant c.says)) j.comparisons.items
+
+abbrev pub of_spare : List Item → List RuleJudgement → ℕ → Option SpareComparison → List Warning
+of_spare items js number None = []
+of_spare items js number (Some s) =
+    if goes_both_ways (slice_get js s.rule) && all_vary (slice_get js s.rule)
+    then warn_at (name_at items s.rule) lint.SpareComparison number else []
+
+-- those of the first so many
+abbrev pub spare_below : List Item → List RuleJudgement → List SpareComparison → ℕ → List Warning
+spare_below items js spare zero = []
+spare_below items js spare (suc n) = spare_below items js spare n ++ of_spare items js n (slice_get spare n)
+
+-- ---- rules that a schedule never samples
+
+abbrev pub of_unsampled : List Item → ℕ → List Warning
+of_unsampled items number = warn_at (name_at items number) lint.NeverSampled number
+
+-- ---- all that is judged
+
+abbrev pub judged : List Item → List RuleJudgement → List PairJudgement → List SpareComparison → List ℕ → List Warning
+judged items js pairs spare unsampled =
+    rules_below items js (length js) ++ flat_map (of_pair items js) pairs
+    ++ spare_below items js spare (length spare) ++ flat_map (of_unsampled items) unsampled

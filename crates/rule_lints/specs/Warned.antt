@@ -1,0 +1,72 @@
+-- What is told of a rule text that compiles. This project's own.
+use Rattle.std.specs.Prelude.{◌≡◌, ℕ, not, List, [], ◌++◌, filter, length, map, Option, Some, None, option_map}
+use Rattle.std.specs.List.{AllByRecursion}
+use denote.Ref.{Bor}
+use Rattle.lc_model.specs.Rule.{NamedRule}
+use Rattle.lc_model.specs.Host.Schedule.{Schedule}
+use Rattle.lc_model.specs.Tables.Image.{numbers_below}
+use Rattle.lc_model.specs.Text.Meaning.{Means}
+use Rattle.lc_model.specs.Text.Reading.{Parses}
+use Rattle.lc_model.specs.Text.Syntax.{Item}
+use Rattle.lc_model.specs.Text.Token.{Token, Splits}
+use Rattle.analysis_listing.specs.Requests.{requests_of}
+use Rattle.rule_analysis.specs.Findings.{AreInOrder, AreJudged, AreSettled, IsPair}
+use Rattle.rule_analysis.specs.Reach.{is_sampled}
+use Rattle.rule_analysis.specs.Spare.{AreOnce, AreToldOrNeeded, IsSpare}
+use Rattle.diagnostics.specs.Message.{first_place}
+use Rattle.diagnostics.specs.declared.message.Message.{Message}
+use Rattle.rule_lints.specs.declared.judging.Judged.{Judged}
+use Rattle.rule_lints.specs.declared.warning.Warning.{Warning}
+use Rattle.rule_lints.specs.Names.{name_of}
+use Rattle.rule_lints.specs.Items.{declared}
+use Rattle.rule_lints.specs.Judged.{judged}
+use Rattle.rule_lints.specs.Quiet.{kept, spare_quiets}
+
+-- the text reads as these items, and they mean these rules
+pub record IsRead (text : List ℕ) (items : List Item) (rules : List NamedRule) : Type 0 where
+  pub tokens : List Token
+  pub splits : Splits text tokens
+  pub parses : Parses tokens items
+  pub means : Means items rules
+
+-- of so many rules those that the schedule never samples; none without a schedule
+abbrev pub unsampled : Option (Bor Schedule) → ℕ → List ℕ
+unsampled None rules = []
+unsampled (Some plan) rules = filter (λ rule. not (is_sampled (requests_of plan.now) rule)) (numbers_below rules)
+
+-- this is judged of the rules
+pub record IsJudged (rules : List NamedRule) (plan : Option (Bor Schedule)) (all : Judged) : Type 0 where
+  pub judged : AreJudged rules all.rules.items
+  pub sound : AllByRecursion (IsPair rules) all.pairs.items
+  pub settled : AreSettled rules all.pairs.items
+  pub needless : AllByRecursion (IsSpare rules) all.spare.items
+  pub told : AreToldOrNeeded rules all.spare.items
+  pub pairs_once : AreInOrder all.pairs.items
+  pub spare_once : AreOnce all.spare.items
+  pub never : all.unsampled.items ≡ unsampled plan (length rules)
+
+-- all warnings, those that are kept quiet among them
+abbrev pub found : List ℕ → List Item → Judged → List Warning
+found text items all =
+    declared items (length text)
+    ++ judged items all.rules.items all.pairs.items all.spare.items all.unsampled.items
+
+-- those that are told: the others, and the comments that keep nothing quiet
+abbrev pub told : List ℕ → List Item → Judged → List Warning
+told text items all = kept text (found text items all) ++ spare_quiets text (found text items all)
+
+-- the name and the place of a warning, and of a message
+abbrev pub named : Warning → Option (List ℕ) × Option ℕ
+named w = (Some (name_of w.lint), Some w.at)
+
+abbrev pub seen : Message → Option (List ℕ) × Option ℕ
+seen message = (option_map (λ (text : Bor (List ℕ)). text.now) message.warning, first_place message)
+
+-- the messages are those of the warnings that are told, in their order
+pub record AreWarned (text : List ℕ) (plan : Option (Bor Schedule)) (messages : List Message) : Type 0 where
+  pub items : List Item
+  pub rules : List NamedRule
+  pub read : IsRead text items rules
+  pub all : Judged
+  pub are_judged : IsJudged rules plan all
+  pub are_told : map seen messages ≡ map named (told text items all)

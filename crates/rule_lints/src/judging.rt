@@ -1,0 +1,408 @@
+//! The warnings of what is judged.
+
+ghost use Rattle.std.specs.Prelude.{◌≡◌, ◌++◌, Some, OnOk, IfOk, flat_map, length, not, option_map, slice_get};
+ghost use Rattle.std.specs.List.{list_all};
+ghost use Rattle.analysis_listing.specs.Said.{line_of};
+ghost use Rattle.rule_parser.specs.Syntax.{expression_of, items_of, rule_of};
+ghost use Rattle.rule_analysis.specs.declared.finding.PairJudgement.{PairJudgement as Pair};
+ghost use Rattle.rule_lints.specs.Judged.{all_vary, comparisons_below, goes_both_ways, is_constant, judged, lint_of, lint_of_relation, name_at, of_comparison, of_found, of_judged, of_pair, of_spare, of_unsampled, other_of, places, rule_at, rules_below, spare_below, told_first, told_of, warn_at, warn_of};
+
+use crate::declarations::warn_if;
+use crate::lint::Lint;
+use crate::warning::Warning;
+use analysis_listing::{RuleFindings, goes_both_ways, said_of};
+use rule_analysis::{
+    ComparisonJudgement, Constancy, PairJudgement, Relation, RuleJudgement, SpareComparison,
+};
+use rule_parser::{Expression, Item, RuleItem};
+use std::alloc::{AllocError, Global};
+
+/// What is judged of the rules of a text.
+#[derive(Drop)]
+pub(crate) struct Judged {
+    pub rules: Vec<RuleJudgement>,
+    pub pairs: Vec<PairJudgement>,
+    pub spare: Vec<SpareComparison>,
+    /// The rules that the schedule never samples, by their numbers.
+    pub unsampled: Vec<usize>,
+}
+
+/// The rule with this number.
+pub(crate) fn rule_at<'f, 'a>(items: &'f [Item<'a>], number: usize) -> Option<&'f RuleItem<'a>>
+    ensures { option_map (λ r. rule_of r.now) result ≡ rule_at (items_of items.now) number }
+{
+    let mut left = number;
+    for item in items {
+        if let Item::Rule(rule) = item {
+            if left == 0 {
+                return Some(rule);
+            }
+            left -= 1;
+        }
+    }
+    None
+}
+
+/// The place of its name.
+fn name_at(items: &[Item<'_>], number: usize) -> Option<usize>
+    ensures { result ≡ name_at (items_of items.now) number }
+{
+    match rule_at(items, number) {
+        Some(rule) => Some(rule.name.at),
+        None => None,
+    }
+}
+
+/// Adds the places of a condition's comparisons, from left to right.
+fn add_places(condition: &Expression<'_>, found: &mut Vec<usize>) -> Result<(), AllocError>
+    ensures { OnOk result (found.new.items ≡
+        found.old.items ++ places (expression_of condition.now)) }
+{
+    match condition {
+        Expression::Compare(comparison) => Ok(found.push(comparison.field.at)?),
+        Expression::Not(operand) => add_places(operand, found),
+        Expression::And(operands) | Expression::Or(operands) | Expression::Xor(operands) => {
+            add_places(&operands.0, found)?;
+            add_places(&operands.1, found)
+        }
+    }
+}
+
+/// The places of a condition's comparisons.
+pub(crate) fn places_of(alloc: Global, condition: &Expression<'_>) -> Result<Vec<usize>, AllocError>
+    ensures { IfOk result (λ found. found.items ≡ places (expression_of condition.now)) }
+{
+    let mut places = Vec::new(alloc);
+    add_places(condition, &mut places)?;
+    Ok(places)
+}
+
+/// Adds this warning, if there is one.
+fn warn_of(
+    found: &mut Vec<Warning>,
+    lint: Option<Lint>,
+    at: usize,
+    about: usize,
+) -> Result<(), AllocError>
+    ensures { OnOk result (found.new.items ≡ found.old.items ++ warn_of lint at about) }
+{
+    if let Some(lint) = lint {
+        found.push(Warning { lint, at, about })?;
+    }
+    Ok(())
+}
+
+/// Adds this warning, if there is such a place.
+fn warn_at(
+    found: &mut Vec<Warning>,
+    at: Option<usize>,
+    lint: Lint,
+    about: usize,
+) -> Result<(), AllocError>
+    ensures { OnOk result (found.new.items ≡ found.old.items ++ warn_at at lint about) }
+{
+    if let Some(at) = at {
+        found.push(Warning { lint, at, about })?;
+    }
+    Ok(())
+}
+
+/// What a rule is warned of by itself, if anything.
+fn lint_of(judged: &RuleJudgement) -> Option<Lint>
+    ensures { result ≡ lint_of (line_of judged.now.fails judged.now.passes) }
+{
+    match said_of(judged) {
+        RuleFindings::FailsAndPasses { .. } => None,
+        RuleFindings::NeverFails(_) => Some(Lint::NeverFails),
+        RuleFindings::AlwaysFails(_) => Some(Lint::AlwaysFails),
+        RuleFindings::NeverPasses => Some(Lint::NeverPasses),
+        RuleFindings::FailsUnknown(_) | RuleFindings::PassesUnknown(_) => Some(Lint::NotKnown),
+    }
+}
+
+/// Whether a comparison says the same of all numbers.
+fn is_constant(says: Constancy) -> bool
+    ensures { result ≡ is_constant says }
+{
+    match says {
+        Constancy::Always | Constancy::Never => true,
+        Constancy::Varies => false,
+    }
+}
+
+/// Adds the warning of the comparison with this number of a rule.
+fn add_comparison(
+    number: usize,
+    places: &[usize],
+    judged: &[ComparisonJudgement],
+    n: usize,
+    found: &mut Vec<Warning>,
+) -> Result<(), AllocError>
+    ensures { OnOk result (found.new.items ≡ found.old.items ++
+        of_comparison number (slice_get places.now n) (slice_get judged.now n)) }
+{
+    match (places.get(n), judged.get(n)) {
+        (Some(place), Some(judged)) => {
+            let is_constant = is_constant(judged.says);
+            warn_if(found, is_constant, Lint::ConstantComparison, *place, number)
+        }
+        _ => Ok(()),
+    }
+}
+
+/// Adds those of all comparisons of a rule.
+fn add_comparisons(
+    number: usize,
+    places: &[usize],
+    judged: &[ComparisonJudgement],
+    found: &mut Vec<Warning>,
+) -> Result<(), AllocError>
+    ensures { OnOk result (found.new.items ≡
+        found.old.items ++ comparisons_below number places.now judged.now (length judged.now)) }
+{
+    for n in 0..judged.len() {
+        add_comparison(number, places, judged, n, found)?;
+    }
+    Ok(())
+}
+
+/// Adds the warnings of a rule by itself.
+fn add_rule(
+    alloc: Global,
+    number: usize,
+    rule: &RuleItem<'_>,
+    judged: &RuleJudgement,
+    found: &mut Vec<Warning>,
+) -> Result<(), AllocError>
+    ensures { OnOk result (found.new.items ≡
+        found.old.items ++ of_judged number (rule_of rule.now) judged.now) }
+{
+    let places = places_of(alloc, &rule.condition)?;
+    warn_of(found, lint_of(judged), rule.name.at, number)?;
+    add_comparisons(number, &places, &judged.comparisons, found)
+}
+
+/// Adds the warnings of the rule with this number, by itself.
+#[tactic(auto, using(crate::proofs::Nothing::no_rule, crate::proofs::Nothing::no_judgement))]
+fn add_rule_at(
+    alloc: Global,
+    items: &[Item<'_>],
+    rules: &[RuleJudgement],
+    number: usize,
+    found: &mut Vec<Warning>,
+) -> Result<(), AllocError>
+    ensures { OnOk result (found.new.items ≡ found.old.items ++
+        of_found number (rule_at (items_of items.now) number) (slice_get rules.now number)) }
+{
+    match (rule_at(items, number), rules.get(number)) {
+        (Some(rule), Some(judged)) => add_rule(alloc, number, rule, judged, found),
+        _ => Ok(()),
+    }
+}
+
+/// Adds the warnings of each rule by itself.
+fn add_rules(
+    alloc: Global,
+    items: &[Item<'_>],
+    rules: &[RuleJudgement],
+    found: &mut Vec<Warning>,
+) -> Result<(), AllocError>
+    ensures { OnOk result (found.new.items ≡
+        found.old.items ++ rules_below (items_of items.now) rules.now (length rules.now)) }
+{
+    for number in 0..rules.len() {
+        add_rule_at(alloc, items, rules, number, found)?;
+    }
+    Ok(())
+}
+
+/// Whether the rule with this number both can fail and can pass, or may.
+fn is_open(rules: &[RuleJudgement], number: usize) -> bool
+    ensures { result ≡ goes_both_ways (slice_get rules.now number) }
+{
+    match rules.get(number) {
+        Some(judged) => goes_both_ways(judged),
+        None => false,
+    }
+}
+
+/// Whether a pair is told of at its first rule: where that one fails less often.
+fn told_first(relation: Relation) -> bool
+    ensures { result ≡ told_first relation }
+{
+    matches!(relation, Relation::SecondFollows)
+}
+
+/// The rule of a pair that is told of.
+fn told_of(pair: PairJudgement) -> usize
+    ensures { result ≡ told_of pair }
+{
+    if told_first(pair.relation) {
+        pair.first
+    } else {
+        pair.second
+    }
+}
+
+/// The other one.
+fn other_of(pair: PairJudgement) -> usize
+    ensures { result ≡ other_of pair }
+{
+    if told_first(pair.relation) {
+        pair.second
+    } else {
+        pair.first
+    }
+}
+
+/// What a pair is warned of.
+fn lint_of_relation(relation: Relation) -> Lint
+    ensures { result ≡ lint_of_relation relation }
+{
+    match relation {
+        Relation::Same => Lint::FailsAlike,
+        Relation::FirstFollows | Relation::SecondFollows => Lint::FailsWherever,
+    }
+}
+
+/// Adds the warning of a pair of rules.
+fn add_pair(
+    items: &[Item<'_>],
+    rules: &[RuleJudgement],
+    pair: PairJudgement,
+    found: &mut Vec<Warning>,
+) -> Result<(), AllocError>
+    ensures { OnOk result (found.new.items ≡
+        found.old.items ++ of_pair (items_of items.now) rules.now pair) }
+{
+    if !(is_open(rules, pair.first) && is_open(rules, pair.second)) {
+        return Ok(());
+    }
+    let place = name_at(items, told_of(pair));
+    warn_at(
+        found,
+        place,
+        lint_of_relation(pair.relation),
+        other_of(pair),
+    )
+}
+
+/// Adds those of all pairs.
+fn add_pairs(
+    items: &[Item<'_>],
+    rules: &[RuleJudgement],
+    pairs: &[PairJudgement],
+    found: &mut Vec<Warning>,
+) -> Result<(), AllocError>
+    ensures { OnOk result (found.new.items ≡
+        found.old.items ++ flat_map (of_pair (items_of items.now) rules.now) pairs.now) }
+{
+    for pair in pairs {
+        add_pair(items, rules, *pair, found)?;
+    }
+    Ok(())
+}
+
+/// Whether no comparison says the same of all numbers.
+fn all_comparisons_vary(judged: &[ComparisonJudgement]) -> bool
+    ensures { result ≡ list_all (λ c. not (is_constant c.says)) judged.now }
+{
+    for comparison in judged {
+        if is_constant(comparison.says) {
+            return false;
+        }
+    }
+    true
+}
+
+/// Whether no comparison of the rule with this number does.
+fn all_vary(rules: &[RuleJudgement], number: usize) -> bool
+    ensures { result ≡ all_vary (slice_get rules.now number) }
+{
+    match rules.get(number) {
+        Some(judged) => all_comparisons_vary(&judged.comparisons),
+        None => false,
+    }
+}
+
+/// Adds the warning of a comparison with this number that its rule can do without.
+fn add_spare(
+    items: &[Item<'_>],
+    rules: &[RuleJudgement],
+    number: usize,
+    spare: SpareComparison,
+    found: &mut Vec<Warning>,
+) -> Result<(), AllocError>
+    ensures { OnOk result (found.new.items ≡
+        found.old.items ++ of_spare (items_of items.now) rules.now number (Some spare)) }
+{
+    if !(is_open(rules, spare.rule) && all_vary(rules, spare.rule)) {
+        return Ok(());
+    }
+    let place = name_at(items, spare.rule);
+    warn_at(found, place, Lint::SpareComparison, number)
+}
+
+/// Adds that of the one with this number.
+fn add_spare_at(
+    items: &[Item<'_>],
+    rules: &[RuleJudgement],
+    spare: &[SpareComparison],
+    number: usize,
+    found: &mut Vec<Warning>,
+) -> Result<(), AllocError>
+    ensures { OnOk result (found.new.items ≡ found.old.items ++
+        of_spare (items_of items.now) rules.now number (slice_get spare.now number)) }
+{
+    match spare.get(number) {
+        Some(one) => add_spare(items, rules, number, *one, found),
+        None => Ok(()),
+    }
+}
+
+/// Adds those of all such comparisons.
+fn add_spares(
+    items: &[Item<'_>],
+    rules: &[RuleJudgement],
+    spare: &[SpareComparison],
+    found: &mut Vec<Warning>,
+) -> Result<(), AllocError>
+    ensures { OnOk result (found.new.items ≡ found.old.items ++
+        spare_below (items_of items.now) rules.now spare.now (length spare.now)) }
+{
+    for number in 0..spare.len() {
+        add_spare_at(items, rules, spare, number, found)?;
+    }
+    Ok(())
+}
+
+/// Adds the warnings of rules that the schedule never samples.
+fn add_unsampled(
+    items: &[Item<'_>],
+    unsampled: &[usize],
+    found: &mut Vec<Warning>,
+) -> Result<(), AllocError>
+    ensures { OnOk result (found.new.items ≡
+        found.old.items ++ flat_map (of_unsampled (items_of items.now)) unsampled.now) }
+{
+    for number in unsampled {
+        warn_at(found, name_at(items, *number), Lint::NeverSampled, *number)?;
+    }
+    Ok(())
+}
+
+/// Adds the warnings of all that is judged.
+pub(crate) fn add_judged(
+    alloc: Global,
+    items: &[Item<'_>],
+    all: &Judged,
+    found: &mut Vec<Warning>,
+) -> Result<(), AllocError>
+    ensures { OnOk result (found.new.items ≡ found.old.items ++ judged (items_of items.now)
+        all.now.rules.items all.now.pairs.items all.now.spare.items all.now.unsampled.items) }
+{
+    add_rules(alloc, items, &all.rules, found)?;
+    add_pairs(items, &all.rules, &all.pairs, found)?;
+    add_spares(items, &all.rules, &all.spare, found)?;
+    add_unsampled(items, &all.unsampled, found)
+}

@@ -1,0 +1,570 @@
+//! Warnings in words.
+
+ghost use Rattle.std.specs.Prelude.{IfOk};
+ghost use Rattle.diagnostics.specs.Message.{IsWarning};
+ghost use Rattle.rule_lints.specs.Names.{name_of};
+
+use crate::comments::quiet_names;
+use crate::compiled_text::Read;
+use crate::judging::{Judged, places_of, rule_at};
+use crate::lint::Lint;
+use crate::warning::Warning;
+use analysis_listing::{
+    FieldNames, NameSource, RuleFindings, ShownTerm, Values, said_of, terms_in, why,
+};
+use diagnostics::{Mark, Message, around, written_line};
+use lc_model::Term;
+use rule_analysis::{ComparisonJudgement, Constancy, RuleJudgement, SpareComparison};
+use rule_lexer::{Token, TokenKind};
+use rule_parser::{Item, RuleItem};
+use std::alloc::{AllocError, Global};
+
+/// A text with what is judged of it, and the names of its fields.
+#[derive(Drop)]
+pub(crate) struct Subject<'s, 'a> {
+    read: &'s Read<'a>,
+    judged: &'s Judged,
+    names: FieldNames<'a>,
+}
+
+/// What is said of a warning.
+#[derive(Drop)]
+struct WarningWords {
+    head: String,
+    label: String,
+    other: Option<Mark>,
+}
+
+/// Words without another place.
+fn plain(head: String, label: String) -> WarningWords {
+    WarningWords {
+        head,
+        label,
+        other: None,
+    }
+}
+
+/// A name between two parts of a sentence, and what to do.
+fn of_name(
+    alloc: Global,
+    before: &str,
+    name: &[u8],
+    behind: &str,
+    label: &str,
+) -> Result<WarningWords, AllocError> {
+    let head = around(alloc, before, name, behind)?;
+    Ok(plain(head, String::from_str(alloc, label)?))
+}
+
+impl<'s, 'a> Subject<'s, 'a> {
+    /// Of a text, and what is judged of it.
+    pub fn new(
+        alloc: Global,
+        read: &'s Read<'a>,
+        judged: &'s Judged,
+    ) -> Result<Subject<'s, 'a>, AllocError> {
+        Ok(Subject {
+            read,
+            judged,
+            names: FieldNames::of(alloc, &read.file)?,
+        })
+    }
+
+    /// The number of the token at this place, or how many there are.
+    fn number_at(&self, at: usize) -> usize {
+        self.read
+            .tokens
+            .iter()
+            .position(|token| token.at == at)
+            .unwrap_or(self.read.tokens.len())
+    }
+
+    /// The token with this number.
+    fn token(&self, number: usize) -> Option<Token<'a>> {
+        self.read.tokens.get(number).copied()
+    }
+
+    /// What stands at this place.
+    fn text_at(&self, at: usize) -> &'a [u8] {
+        match self.token(self.number_at(at)) {
+            Some(token) => token.text,
+            None => &[],
+        }
+    }
+
+    /// The name of the rule with this number, and its place.
+    fn rule_mark(
+        &self,
+        alloc: Global,
+        number: usize,
+        label: &str,
+    ) -> Result<Option<Mark>, AllocError> {
+        match rule_at(&self.read.file.items, number) {
+            Some(rule) => Ok(Some(Mark {
+                at: rule.name.at,
+                size: rule.name.text.len(),
+                label: String::from_str(alloc, label)?,
+            })),
+            None => Ok(None),
+        }
+    }
+
+    /// The name of the rule with this number.
+    fn rule_name(&self, number: usize) -> &'a [u8] {
+        match rule_at(&self.read.file.items, number) {
+            Some(rule) => rule.name.text,
+            None => &[],
+        }
+    }
+}
+
+/// A text without a rule.
+fn no_rules(alloc: Global) -> Result<WarningWords, AllocError> {
+    let head = String::from_str(alloc, "the file has no rule")?;
+    Ok(plain(head, String::from_str(alloc, "write a rule")?))
+}
+
+/// A field that no rule compares.
+fn unused_field(alloc: Global, name: &[u8]) -> Result<WarningWords, AllocError> {
+    let label = "leave it out, or compare it in a rule";
+    of_name(alloc, "no rule uses the field ", name, "", label)
+}
+
+/// A packet of which no rule compares a field.
+fn unused_packet(alloc: Global, name: &[u8]) -> Result<WarningWords, AllocError> {
+    let label = "leave it out, or compare one of its fields in a rule";
+    of_name(alloc, "no rule uses the packet ", name, "", label)
+}
+
+/// A rule whose event is off.
+fn debug_event(
+    alloc: Global,
+    subject: &Subject<'_, '_>,
+    at: usize,
+) -> Result<WarningWords, AllocError> {
+    let label = "such events are off until a command turns them on";
+    let mut words = of_name(
+        alloc,
+        "the event of ",
+        subject.text_at(at),
+        " has the type `debug`",
+        label,
+    )?;
+    words.other = subject.level_mark(alloc, at)?;
+    Ok(words)
+}
+
+/// A rule whose sequence one before it requests.
+fn same_sequence(
+    alloc: Global,
+    subject: &Subject<'_, '_>,
+    at: usize,
+) -> Result<WarningWords, AllocError> {
+    let Some(rule) = rule_asking(&subject.read.file.items, at) else {
+        return Err(AllocError);
+    };
+    let mut words = of_name(
+        alloc,
+        "",
+        rule.name.text,
+        " requests the sequence of another rule",
+        "take another sequence, or join the two rules",
+    )?;
+    words.other = subject.sequence_mark(alloc, rule.sequence.value)?;
+    Ok(words)
+}
+
+/// The rule whose sequence stands at this place.
+fn rule_asking<'f, 'a>(items: &'f [Item<'a>], at: usize) -> Option<&'f RuleItem<'a>> {
+    for item in items {
+        if let Item::Rule(rule) = item {
+            if rule.sequence.at == at {
+                return Some(rule);
+            }
+        }
+    }
+    None
+}
+
+/// The first rule that requests this sequence.
+fn first_asking<'f, 'a>(items: &'f [Item<'a>], value: i64) -> Option<&'f RuleItem<'a>> {
+    for item in items {
+        if let Item::Rule(rule) = item {
+            if rule.sequence.value == value {
+                return Some(rule);
+            }
+        }
+    }
+    None
+}
+
+impl<'s, 'a> Subject<'s, 'a> {
+    /// A mark under the event's type of the rule whose name stands at this place.
+    fn level_mark(&self, alloc: Global, at: usize) -> Result<Option<Mark>, AllocError> {
+        let from = self.number_at(at);
+        let level = self
+            .read
+            .tokens
+            .iter()
+            .skip(from)
+            .find(|token| matches!(token.kind, TokenKind::Level(_)));
+        match level {
+            Some(level) => Ok(Some(Mark {
+                at: level.at,
+                size: level.text.len(),
+                label: String::from_str(alloc, "its type")?,
+            })),
+            None => Ok(None),
+        }
+    }
+
+    /// A mark under the sequence of the first rule that requests this one.
+    fn sequence_mark(&self, alloc: Global, value: i64) -> Result<Option<Mark>, AllocError> {
+        match first_asking(&self.read.file.items, value) {
+            Some(rule) => Ok(Some(Mark {
+                at: rule.sequence.at,
+                size: self.text_at(rule.sequence.at).len(),
+                label: around(alloc, "", rule.name.text, " requests it, too")?,
+            })),
+            None => Ok(None),
+        }
+    }
+
+    /// What the fields of a rule are in packets.
+    fn values(
+        &self,
+        alloc: Global,
+        before: &str,
+        judged: &RuleJudgement,
+        packets: &[Vec<u8>],
+    ) -> Result<String, AllocError> {
+        let terms = terms_in(alloc, &judged.comparisons)?;
+        let values = Values {
+            names: NameSource::Text(&self.names),
+            terms: &terms,
+            packets,
+        };
+        format!(in alloc; "{before}{values}")
+    }
+}
+
+/// A comparison, as it is written between backticks.
+fn shown_term(
+    alloc: Global,
+    subject: &Subject<'_, '_>,
+    term: Term,
+    behind: &str,
+) -> Result<String, AllocError> {
+    let shown = ShownTerm {
+        name: NameSource::Text(&subject.names).name(&term),
+        term,
+    };
+    format!(in alloc; "`{shown}`{behind}")
+}
+
+/// What is known of a rule that never fails, or always.
+fn rule_label(
+    alloc: Global,
+    subject: &Subject<'_, '_>,
+    judged: &RuleJudgement,
+) -> Result<String, AllocError> {
+    match said_of(judged) {
+        RuleFindings::NeverFails(Some(packets)) => {
+            subject.values(alloc, "it passes for ", judged, packets)
+        }
+        RuleFindings::AlwaysFails(packets) => subject.values(alloc, "as for ", judged, packets),
+        RuleFindings::FailsUnknown(reason) | RuleFindings::PassesUnknown(reason) =>
+            String::from_str(alloc, why(reason)),
+        RuleFindings::NeverPasses => String::from_str(alloc, "no packets make its condition false"),
+        _ => String::from_str(alloc, "no packets make its condition true"),
+    }
+}
+
+/// What stands before and behind the name of a rule that is judged.
+fn rule_head(judged: &RuleJudgement) -> (&'static str, &'static str) {
+    match said_of(judged) {
+        RuleFindings::NeverFails(_) => ("", " never fails"),
+        RuleFindings::AlwaysFails(_) => ("", " always fails"),
+        RuleFindings::NeverPasses => ("", " never passes"),
+        RuleFindings::PassesUnknown(_) => ("it is not known whether ", " passes"),
+        _ => ("it is not known whether ", " fails"),
+    }
+}
+
+/// A rule that is judged by itself.
+fn judged_rule(
+    alloc: Global,
+    subject: &Subject<'_, '_>,
+    number: usize,
+) -> Result<WarningWords, AllocError> {
+    let Some(judged) = subject.judged.rules.get(number) else {
+        return Err(AllocError);
+    };
+    let (before, behind) = rule_head(judged);
+    let head = around(alloc, before, subject.rule_name(number), behind)?;
+    Ok(plain(head, rule_label(alloc, subject, judged)?))
+}
+
+impl<'s, 'a> Subject<'s, 'a> {
+    /// The comparison at this place of the rule with this number.
+    fn comparison_at(
+        &self,
+        alloc: Global,
+        number: usize,
+        at: usize,
+    ) -> Result<Option<ComparisonJudgement>, AllocError> {
+        let Some(rule) = rule_at(&self.read.file.items, number) else {
+            return Ok(None);
+        };
+        let places = places_of(alloc, &rule.condition)?;
+        let count = places.iter().take_while(|place| **place != at).count();
+        match self.judged.rules.get(number) {
+            Some(judged) => Ok(judged.comparisons.get(count).copied()),
+            None => Ok(None),
+        }
+    }
+
+    /// The bytes of the comparison that begins at this place.
+    fn comparison_size(&self, at: usize) -> usize {
+        match self.token(self.number_at(at).saturating_add(2)) {
+            Some(value) => value.at.saturating_add(value.text.len()).saturating_sub(at),
+            None => 0,
+        }
+    }
+
+    /// A mark under the first comparison of a rule that says this.
+    fn term_mark(
+        &self,
+        alloc: Global,
+        number: usize,
+        term: &Term,
+    ) -> Result<Option<Mark>, AllocError> {
+        let (Some(rule), Some(judged)) = (
+            rule_at(&self.read.file.items, number),
+            self.judged.rules.get(number),
+        ) else {
+            return Ok(None);
+        };
+        let places = places_of(alloc, &rule.condition)?;
+        let count = judged
+            .comparisons
+            .iter()
+            .take_while(|comparison| comparison.term != *term)
+            .count();
+        match places.get(count) {
+            Some(place) => Ok(Some(Mark {
+                at: *place,
+                size: self.comparison_size(*place),
+                label: String::from_str(alloc, "this comparison")?,
+            })),
+            None => Ok(None),
+        }
+    }
+}
+
+/// A comparison that says the same of all numbers.
+fn constant_comparison(
+    alloc: Global,
+    subject: &Subject<'_, '_>,
+    warning: Warning,
+) -> Result<WarningWords, AllocError> {
+    let Some(comparison) = subject.comparison_at(alloc, warning.about, warning.at)? else {
+        return Err(AllocError);
+    };
+    let holds = match comparison.says {
+        Constancy::Never => " never holds",
+        _ => " always holds",
+    };
+    let head = shown_term(alloc, subject, comparison.term, holds)?;
+    let label = "take another number, or leave the comparison out";
+    Ok(plain(head, String::from_str(alloc, label)?))
+}
+
+/// Two names, with what stands between and behind them.
+fn two_names(
+    alloc: Global,
+    first: &[u8],
+    between: &str,
+    second: &[u8],
+    behind: &str,
+) -> Result<String, AllocError> {
+    let mut text = around(alloc, "", first, between)?;
+    let rest = around(alloc, "", second, behind)?;
+    text.push_str(rest.as_str())?;
+    Ok(text)
+}
+
+/// Two rules that fail alike.
+fn fails_alike(
+    alloc: Global,
+    subject: &Subject<'_, '_>,
+    warning: Warning,
+) -> Result<WarningWords, AllocError> {
+    let other = subject.rule_name(warning.about);
+    let head = two_names(
+        alloc,
+        other,
+        " and ",
+        subject.text_at(warning.at),
+        " fail alike",
+    )?;
+    let mut words = plain(head, String::from_str(alloc, "leave one of the two out")?);
+    words.other = subject.rule_mark(alloc, warning.about, "the other one")?;
+    Ok(words)
+}
+
+/// A rule wherever it fails another one does.
+fn fails_wherever(
+    alloc: Global,
+    subject: &Subject<'_, '_>,
+    warning: Warning,
+) -> Result<WarningWords, AllocError> {
+    let other = subject.rule_name(warning.about);
+    let head = two_names(
+        alloc,
+        other,
+        " fails wherever ",
+        subject.text_at(warning.at),
+        " does",
+    )?;
+    let label = "with one sequence it may go, unless it counts fewer failures";
+    let mut words = plain(head, String::from_str(alloc, label)?);
+    words.other = subject.rule_mark(alloc, warning.about, "fails there, too")?;
+    Ok(words)
+}
+
+/// What a rule does without.
+fn spare_head(
+    alloc: Global,
+    subject: &Subject<'_, '_>,
+    spare: &SpareComparison,
+) -> Result<String, AllocError> {
+    let value = if spare.taken_as {
+        " taken as true"
+    } else {
+        " taken as false"
+    };
+    let term = shown_term(alloc, subject, spare.term, value)?;
+    let mut head = around(
+        alloc,
+        "",
+        subject.rule_name(spare.rule),
+        " says the same with ",
+    )?;
+    head.push_str(term.as_str())?;
+    Ok(head)
+}
+
+/// A rule that can do without a comparison.
+fn spare_comparison(
+    alloc: Global,
+    subject: &Subject<'_, '_>,
+    warning: Warning,
+) -> Result<WarningWords, AllocError> {
+    let Some(spare) = subject.judged.spare.get(warning.about) else {
+        return Err(AllocError);
+    };
+    let head = spare_head(alloc, subject, spare)?;
+    let label = String::from_str(alloc, "leave the comparison out")?;
+    let mut words = plain(head, label);
+    words.other = subject.term_mark(alloc, spare.rule, &spare.term)?;
+    Ok(words)
+}
+
+/// A rule that the schedule never samples.
+fn never_sampled(alloc: Global, name: &[u8], number: usize) -> Result<WarningWords, AllocError> {
+    let head = around(alloc, "the schedule never samples ", name, "")?;
+    let label = format!(in alloc; "sample it, as rule {number}, or leave it out")?;
+    Ok(plain(head, label))
+}
+
+impl<'s, 'a> Subject<'s, 'a> {
+    /// The line that begins at this place.
+    fn line_at(&self, at: usize) -> &'a [u8] {
+        written_line(self.read.text, at.min(self.read.text.len()))
+    }
+}
+
+/// A comment that keeps nothing quiet.
+fn unused_quiet(
+    alloc: Global,
+    subject: &Subject<'_, '_>,
+    warning: Warning,
+) -> Result<WarningWords, AllocError> {
+    let names = quiet_names(alloc, subject.line_at(warning.at))?;
+    let name: &[u8] = match names.get(warning.about) {
+        Some(name) => *name,
+        None => &[],
+    };
+    of_name(
+        alloc,
+        "no ",
+        name,
+        " is to be kept quiet in the next line",
+        "leave the name out",
+    )
+}
+
+/// What is said of a warning of what is declared.
+fn declared_words(
+    alloc: Global,
+    subject: &Subject<'_, '_>,
+    warning: Warning,
+) -> Result<WarningWords, AllocError> {
+    let name = subject.text_at(warning.at);
+    match warning.lint {
+        Lint::NoRules => no_rules(alloc),
+        Lint::UnusedField => unused_field(alloc, name),
+        Lint::UnusedPacket => unused_packet(alloc, name),
+        Lint::DebugEvent => debug_event(alloc, subject, warning.at),
+        Lint::SameSequence => same_sequence(alloc, subject, warning.at),
+        Lint::NeverSampled => never_sampled(alloc, name, warning.about),
+        _ => unused_quiet(alloc, subject, warning),
+    }
+}
+
+/// What is said of a warning.
+fn words_of(
+    alloc: Global,
+    subject: &Subject<'_, '_>,
+    warning: Warning,
+) -> Result<WarningWords, AllocError> {
+    match warning.lint {
+        Lint::NeverFails | Lint::AlwaysFails | Lint::NeverPasses | Lint::NotKnown => judged_rule(
+            alloc,
+            subject,
+            warning.about,
+        ),
+        Lint::ConstantComparison => constant_comparison(alloc, subject, warning),
+        Lint::FailsAlike => fails_alike(alloc, subject, warning),
+        Lint::FailsWherever => fails_wherever(alloc, subject, warning),
+        Lint::SpareComparison => spare_comparison(alloc, subject, warning),
+        _ => declared_words(alloc, subject, warning),
+    }
+}
+
+/// How many bytes are marked.
+fn size_of(subject: &Subject<'_, '_>, warning: Warning) -> usize {
+    match warning.lint {
+        Lint::ConstantComparison => subject.comparison_size(warning.at),
+        Lint::UnusedQuiet => subject.line_at(warning.at).len(),
+        _ => subject.text_at(warning.at).len(),
+    }
+}
+
+/// A warning as a message.
+pub(crate) fn explain(
+    alloc: Global,
+    subject: &Subject<'_, '_>,
+    warning: Warning,
+) -> Result<Message, AllocError>
+    ensures { IfOk result (IsWarning (name_of warning.lint) warning.at) }
+{
+    let words = words_of(alloc, subject, warning)?;
+    let first = Mark {
+        at: warning.at,
+        size: size_of(subject, warning),
+        label: words.label,
+    };
+    Message::warning(alloc, warning.lint.name(), words.head, first).with(words.other)
+}

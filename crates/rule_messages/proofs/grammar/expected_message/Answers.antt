@@ -1,4 +1,0 @@
-use Rattle.rule_messages.proofs.grammar.expected_message.Goals as goal
-
-pub returns : goal.returns
-returns c = c.with-2.ensures.error 11 c.args.at (c.in_ok-with.ensures.error 11 c.args.at c.at.ensures)

@@ -1,5 +1,0 @@
-use Rattle.std.proofs.Common.{◌∙◌, ap, Some}
-use Rattle.rule_messages.proofs.tables.rules_message.Goals as goal
-
-pub returns : goal.returns
-returns c = (c.at.ensures.0, (c.in_ok-name.name.at, c.at.ensures.1 ∙ ap Some c.name_mark.ensures, c.in_ok-name.ensures))

@@ -1,6 +1,0 @@
-use Rattle.std.proofs.Common.{◌≡◌, take}
-use Rattle.rule_warnings.specs.Quiet.{kept}
-use Rattle.rule_warnings.proofs.comments.kept.Given as goal
-
-abbrev pub invariant-loop-warning : goal.invariant-loop-warning
-invariant-loop-warning l = l.told.items ≡ kept l.text (take l.warning-index l.found)

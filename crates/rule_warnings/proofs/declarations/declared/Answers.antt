@@ -1,5 +1,0 @@
-use Rattle.rule_warnings.proofs.Listed.{of_all}
-use Rattle.rule_warnings.proofs.declarations.declared.Goals as goal
-
-pub returns : goal.returns
-returns c = of_all _ _ c.args.items.now c.loop-item.item-index c.loop-item.invariant c.loop-item-test.false

@@ -1,7 +1,0 @@
-use Rattle.std.proofs.Common.{◌≡◌, map, fold, max, drop, length}
-use Rattle.run_account.specs.Texts.{items_in, most_rules, rules_of}
-use Rattle.run_account.proofs.account.most_rules.Given as goal
-
-abbrev pub invariant-loop-text : goal.invariant-loop-text
-invariant-loop-text l =
-    fold (λ most items. max most (length (rules_of items))) l.most (map items_in (drop l.text-index l.texts)) ≡ most_rules (map items_in l.texts)

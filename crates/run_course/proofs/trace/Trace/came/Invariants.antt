@@ -1,7 +1,0 @@
-use Rattle.std.proofs.Common.{◌≡◌, ◌++◌, drop}
-use Rattle.run_course.specs.Trace.{arrived_from}
-use Rattle.run_course.proofs.trace.Trace.came.Given as goal
-
--- those of the records that are left come behind those so far
-abbrev pub invariant-loop-place : goal.invariant-loop-place
-invariant-loop-place l = l.came.items ++ arrived_from l.place (drop l.place l.self.parts) ≡ arrived_from 0 l.self.parts

@@ -1,0 +1,72 @@
+//! The times of records.
+
+ghost use Rattle.std.specs.Prelude.{◌≡◌, ◌<◌, ◌^◌, ◌==◌, ◌-ℤ◌, pos, if◌then◌else◌};
+ghost use Rattle.run_page.specs.Model.{ticks_of};
+
+use lc_model::stream::{HEADER, moment_of};
+use run_summary::Place;
+
+/// The time of the first record, that of the last one less that of the first, and whether none is before the one in front of it.
+#[derive(Clone, Copy)]
+pub struct Clock {
+    pub start: u64,
+    pub end: i64,
+    pub is_ordered: bool,
+}
+
+/// The time of a record in 1/65,536 s; 0 where its header isn't whole.
+pub fn ticks_in(record: &[u8]) -> u64
+    ensures ticks { result ≡ ticks_of record.now }
+    ensures small { result < 2 ^ 48 }
+{
+    if record.len() < HEADER {
+        return 0;
+    }
+    let moment = moment_of(record);
+    u64::from(moment.seconds) * 65_536 + u64::from(moment.subseconds)
+}
+
+/// One time less another.
+fn difference(one: u64, other: u64) -> i64
+    requires one { one < 2 ^ 48 }
+    requires other { other < 2 ^ 48 }
+    ensures { result ≡ pos one -ℤ pos other }
+{
+    one as i64 - other as i64
+}
+
+impl Clock {
+    /// No record came.
+    pub fn new() -> Clock
+        ensures { result.start ≡ 0 }
+    {
+        Clock {
+            start: 0,
+            end: 0,
+            is_ordered: true,
+        }
+    }
+
+    /// The place of the record of this number and time. The first one's time is 0.
+    pub fn next(&mut self, number: u64, ticks: u64) -> Place
+        requires ticks { ticks < 2 ^ 48 }
+        requires start { self.old.start < 2 ^ 48 }
+        ensures start { self.new.start ≡ (if number == 1 then ticks else self.old.start) }
+        ensures small { self.new.start < 2 ^ 48 }
+        ensures number { result.«record» ≡ number }
+        ensures time { result.time ≡ pos ticks -ℤ pos self.new.start }
+    {
+        if number == 1 {
+            self.start = ticks;
+        }
+        let time = difference(ticks, self.start);
+        if time < self.end {
+            self.is_ordered = false;
+        }
+        self.end = time;
+        Place {
+            record: number,
+            time,
+        }
+    }
+}

@@ -1,0 +1,46 @@
+//! What lists are told from a place on.
+
+ghost use Rattle.std.specs.Prelude.{◌≡◌};
+ghost use Rattle.run_page.specs.Model.{stood, valued};
+
+use bounded_history::{Content, Entry};
+use run_summary::{Met, Place, Stand};
+
+/// A field has this value from here on. One that the packet is too short for is none, which is less than the least and more than
+/// the greatest.
+pub fn value_entry(place: Place, met: Met) -> Entry
+    ensures { result ≡ valued place met.value }
+{
+    let (low, high) = match met.value {
+        Some(value) => (value, value),
+        None => (i64::MAX, i64::MIN),
+    };
+    Entry {
+        from: place.record,
+        time: place.time,
+        told: Content {
+            results: 0,
+            states: 0,
+            low,
+            high,
+        },
+        changes: 1,
+    }
+}
+
+/// A rule stands so from here on.
+pub fn stand_entry(place: Place, stand: Stand) -> Entry
+    ensures { result ≡ stood place stand }
+{
+    Entry {
+        from: place.record,
+        time: place.time,
+        told: Content {
+            results: stand.result,
+            states: stand.state,
+            low: 0,
+            high: 0,
+        },
+        changes: 1,
+    }
+}

@@ -1,0 +1,26 @@
+//! A run as one page (page/DATA.md): the account of the run, taken behind each record in memory that doesn't grow, and the page's
+//! own HTML, style and script, which tools/gate/page_constants makes of page/.
+#![tactic(auto)]
+
+mod behind;
+mod clock;
+mod entry;
+mod error;
+mod incoming;
+mod intake;
+mod lists;
+mod page_front;
+mod page_script_0;
+mod page_script_1;
+mod page_script_2;
+mod progress;
+mod report;
+mod telling;
+mod window;
+
+pub use error::ReportError;
+pub use intake::Taken;
+pub use page_json::{Run, Source};
+pub use progress::{Progress, Silent};
+pub use report::write_page;
+pub use telling::{Telling, tell_run};

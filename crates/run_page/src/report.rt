@@ -1,0 +1,98 @@
+//! From a stream to its page.
+
+use crate::error::ReportError;
+use crate::intake::Taken;
+use crate::progress::Progress;
+use crate::telling::{Telling, tell_run};
+use crate::{page_front, page_script_0, page_script_1, page_script_2};
+use lc_model::ByteSource;
+use page_json::{Data, Ended, Run, Source};
+use run_stepper::Ending;
+use schedules::Schedule;
+use std::alloc::{AllocError, Global};
+use std::io::{self, Write};
+
+/// The bytes of the texts.
+fn bytes_of<'t>(alloc: Global, sources: &[Source<'_, 't>]) -> Result<Vec<&'t [u8]>, AllocError> {
+    let mut texts = Vec::new(alloc);
+    for source in sources {
+        texts.push(source.text)?;
+    }
+    Ok(texts)
+}
+
+/// How the run ended, as a page says it.
+fn page_end(ending: Ending) -> Ended {
+    match ending {
+        Ending::Whole { records } => Ended::Whole(records),
+        Ending::NoRecord { n } => Ended::NoRecord(n),
+        Ending::Cut { n } => Ended::Cut(n),
+        Ending::Bound => Ended::Bound,
+    }
+}
+
+/// The page behind its data.
+const SCRIPT: &[&str] = &[
+    page_script_0::TEXT,
+    page_script_1::TEXT,
+    page_script_2::TEXT,
+];
+
+/// Writes a page of this data.
+fn put_page<W: Write>(out: &mut W, data: &Data<'_, '_, '_, '_>) -> io::Result<()> {
+    out.write_all(page_front::TEXT.as_bytes())?;
+    write!(out, "{data}")?;
+    for text in SCRIPT {
+        out.write_all(text.as_bytes())?;
+    }
+    Ok(())
+}
+
+/// Writes the page of what was told of a run.
+fn put_told<W: Write>(
+    out: &mut W,
+    run: &Run<'_, '_>,
+    telling: &Telling<'_>,
+    taken: Taken,
+    ending: Ending,
+) -> io::Result<()> {
+    let (lanes, values) = telling.lists.parts();
+    let Taken { bytes, digest } = taken;
+    let data = Data {
+        run,
+        bytes,
+        digest,
+        ended: page_end(ending),
+        start: telling.clock.start,
+        end: telling.clock.end,
+        is_ordered: telling.clock.is_ordered,
+        account: &telling.account,
+        lanes,
+        values,
+    };
+    put_page(out, &data)
+}
+
+/// Runs rule texts under a schedule over a stream, and writes what happened as one page of HTML, which needs no other file.
+///
+/// What the page has is said in page/DATA.md: the stream is read to its end, in pieces; the run is stepped through once, and
+/// the account of it is taken behind each record, in memory that the run's length doesn't change. `progress` is told behind
+/// each record how many bytes are handled. A stream that ends early has a page, which says so, and so does the answer: how
+/// the run ended.
+///
+/// Errors: before anything is written, `Rules` with the first text that doesn't compile, numbered from 0, `Read`, where a read
+/// fails, and `Bound`, where there are more records or reads than 64 bits count; `Memory`; `Write`, where the writer fails. What was
+/// written before stands.
+pub fn write_page<R: ByteSource, W: Write, P: Progress>(
+    alloc: Global,
+    schedule: &Schedule,
+    run: &Run<'_, '_>,
+    reader: &mut R,
+    out: &mut W,
+    progress: &mut P,
+) -> Result<Ending, ReportError> {
+    let texts = bytes_of(alloc, run.texts)?;
+    let (telling, taken, ending) = tell_run(alloc, schedule, texts.as_slice(), reader, progress)?;
+    put_told(out, run, &telling, taken, ending)?;
+    Ok(ending)
+}

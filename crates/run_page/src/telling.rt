@@ -1,0 +1,292 @@
+//! From a stream to what its page tells.
+
+ghost use Rattle.std.specs.Prelude.{◌≡◌, ◌<◌, ℕ, ◌==◌, ◌≤◌, ◌^◌, [], List, false, OnOk, IfOk, length, map, if◌then◌else◌};
+ghost use Rattle.bounded_history.specs.declared.entry.Entry.{Entry as Told};
+ghost use Rattle.flight_core.specs.Compiled.{sources_of};
+ghost use Rattle.lc_model.specs.Host.Schedule.{Schedule as Plan};
+ghost use Rattle.run_stepper.specs.Stepping.{BeginsWith, IsAtRest, engine_among, host_in, written_by};
+ghost use Rattle.run_summary.specs.Account.{account_of};
+ghost use Rattle.run_summary.specs.Brought.{brings};
+ghost use Rattle.run_summary.specs.Fields.{AreKnown, all_brought, come_in};
+ghost use Rattle.run_summary.specs.declared.texts.Field.{Field};
+ghost use Rattle.run_summary.specs.Run as run;
+ghost use Rattle.run_summary.specs.Run.{AreRead, OfTexts};
+ghost use Rattle.run_summary.specs.Texts.{HaveItems};
+ghost use Rattle.run_page.specs.Coming.{most_held, piece_size};
+ghost use Rattle.run_page.specs.Model.{HasTaken, HasTold, IsKept, KeepsStands, ListsTell, SaidLast, TellsRead, TellsTaken, led_to, place_of, stands_of, stood_more, ticks_of, values_more};
+
+use crate::behind::Behind;
+use crate::clock::{Clock, ticks_in};
+use crate::entry::value_entry;
+use crate::error::ReportError;
+use crate::incoming::{Incoming, PIECE};
+use crate::intake::Taken;
+use crate::lists::Lists;
+use crate::progress::Progress;
+use lc_model::ByteSource;
+use run_stepper::{Ending, Handled, Stepping};
+use run_summary::laws::{fields_that_come, rules_that_stand_as_before};
+use run_summary::{Account, Place, Seen};
+use schedules::Schedule;
+use std::alloc::{AllocError, Global};
+
+/// All that a page tells of a run, of the records so far.
+#[derive(Drop)]
+pub struct Telling<'a> {
+    pub(crate) clock: Clock,
+    pub(crate) lists: Lists,
+    pub(crate) behind: Behind,
+    pub(crate) account: Account<'a>,
+}
+
+/// The fields that a packet of this place brought have new values.
+fn tell_values(seen: &[Seen<'_>], place: Place, lists: &mut Lists) -> Result<(), AllocError>
+    ensures { (lanes values : List (List Told)) → ListsTell lists.old lanes values →
+        OnOk result (ListsTell lists.new lanes
+        (values_more place (map (come_in place) seen.now) values)) }
+{
+    for (field, seen) in seen.iter().enumerate() {
+        if let Some(met) = seen.come_in(place) {
+            lists.value(field, value_entry(place, met))?;
+        }
+    }
+    Ok(())
+}
+
+impl<'a> Telling<'a> {
+    /// Of no record, for runs of these texts, which compile.
+    fn new(alloc: Global, texts: &[&'a [u8]]) -> Result<Telling<'a>, ReportError>
+        ensures small { IfOk result (λ telling. telling.clock.start < 2 ^ 48) }
+        ensures nothing { IfOk result (λ telling. (read : OfTexts) ×
+            HaveItems (sources_of texts.now) read.texts × AreRead read ×
+            HasTold read telling.lists telling.behind
+            (account_of telling.account) telling.clock.start []) }
+    {
+        fields_that_come();
+        let account = Account::new(alloc, texts)?;
+        let lists = Lists::new(alloc, account.lanes, account.seen.len())?;
+        Ok(Telling {
+            clock: Clock::new(),
+            lists,
+            behind: Behind::new(alloc),
+            account,
+        })
+    }
+
+    /// A record behind which rules stand otherwise than before, or the first.
+    fn take_new(&mut self, place: Place, written: &[u8]) -> Result<(), AllocError>
+        ensures clock { self.new.clock ≡ self.old.clock }
+        ensures behind { self.new.behind ≡ self.old.behind }
+        ensures told { (lanes values : List (List Told)) →
+            ListsTell self.old.lists lanes values → OnOk result (ListsTell self.new.lists
+            (stood_more place self.old.behind.rules.items 0 lanes) values) }
+        ensures account { OnOk result (account_of self.new.account ≡
+            led_to written.now place self.old.behind (account_of self.old.account)) }
+    {
+        let stands = self.behind.rules.as_slice();
+        self.account.sample(place, stands)?;
+        self.account.write(written, place, stands)?;
+        self.account.stand(place, self.behind.mode, stands)?;
+        self.lists.stand(place, stands)
+    }
+
+    /// A record behind which all rules stand as before: no sample counts, and what stood in front of the next one is known.
+    fn take_same(&mut self, place: Place, written: &[u8]) -> Result<(), AllocError>
+        ensures clock { self.new.clock ≡ self.old.clock }
+        ensures behind { self.new.behind ≡ self.old.behind }
+        ensures told { (lanes values : List (List Told)) →
+            ListsTell self.old.lists lanes values →
+            SaidLast place 0 self.old.behind.rules.items lanes →
+            OnOk result (ListsTell self.new.lists
+            (stood_more place self.old.behind.rules.items 0 lanes) values) }
+        ensures account { run.StoodLast self.old.behind.rules.items (account_of self.old.account) →
+            OnOk result (account_of self.new.account ≡
+            led_to written.now place self.old.behind (account_of self.old.account)) }
+    {
+        rules_that_stand_as_before();
+        let stands = self.behind.rules.as_slice();
+        self.account.write(written, place, stands)?;
+        self.account.stand_again(place, self.behind.mode)?;
+        self.lists.stand_again(place, stands);
+        Ok(())
+    }
+
+    /// What a record leads to, behind which the rules were looked at.
+    fn take_behind(&mut self, place: Place, written: &[u8], is_new: bool) -> Result<(), AllocError>
+        ensures clock { self.new.clock ≡ self.old.clock }
+        ensures behind { self.new.behind ≡ self.old.behind }
+        ensures told { (lanes values : List (List Told)) →
+            ListsTell self.old.lists lanes values →
+            (is_new ≡ false → SaidLast place 0 self.old.behind.rules.items lanes) →
+            OnOk result (ListsTell self.new.lists
+            (stood_more place self.old.behind.rules.items 0 lanes) values) }
+        ensures account { (is_new ≡ false → run.StoodLast self.old.behind.rules.items (account_of self.old.account)) →
+            OnOk result (account_of self.new.account ≡
+            led_to written.now place self.old.behind (account_of self.old.account)) }
+    {
+        if is_new {
+            return self.take_new(place, written);
+        }
+        self.take_same(place, written)
+    }
+
+    /// A record that was handled.
+    fn take(&mut self, stepping: &Stepping, record: &[u8], number: u64) -> Result<(), AllocError>
+        requires rest { IsAtRest stepping.now }
+        requires start { self.old.clock.start < 2 ^ 48 }
+        ensures start { self.new.clock.start ≡
+            (if number == 1 then ticks_of record.now else self.old.clock.start) }
+        ensures small { self.new.clock.start < 2 ^ 48 }
+        ensures told { (fields : List Field) (lanes values : List (List Told)) →
+            AreKnown number fields (account_of self.old.account).seen →
+            ListsTell self.old.lists lanes values → IsKept self.old.behind lanes →
+            let place = place_of self.new.clock.start number record.now in
+            let stood = stood_more place
+            (stands_of (engine_among (host_in stepping.now).host.seats)) 0 lanes in
+            let came = values_more place (all_brought fields place (brings record.now)) values in
+            OnOk result (ListsTell self.new.lists stood came × IsKept self.new.behind stood) }
+        ensures account { KeepsStands self.old.behind (account_of self.old.account) → OnOk result
+            (HasTaken (record {
+              bytes = record.now;
+              host = host_in stepping.now;
+              written = written_by stepping.now;
+            }) self.new.clock.start number self.new.behind
+            (account_of self.old.account) (account_of self.new.account)) }
+    {
+        rules_that_stand_as_before();
+        fields_that_come();
+        let place = self.clock.next(number, ticks_in(record));
+        self.account.add_record(record, place)?;
+        tell_values(self.account.seen.as_slice(), place, &mut self.lists)?;
+        let is_new = self.behind.look(stepping)?;
+        self.take_behind(place, stepping.packets(), is_new)
+    }
+}
+
+/// All records of a stream. Answers how it ended.
+fn tell_all<R: ByteSource, P: Progress>(
+    telling: &mut Telling<'_>,
+    stepping: &mut Stepping,
+    incoming: &mut Incoming,
+    room: &mut [u8],
+    reader: &mut R,
+    progress: &mut P,
+) -> Result<Ending, ReportError>
+    requires rest { IsAtRest stepping.old }
+    requires start { telling.old.clock.start < 2 ^ 48 }
+    requires room { length room.old ≡ piece_size }
+    requires empty { incoming.old.window ≡ [] }
+    ensures rest { IsAtRest stepping.new }
+    ensures room { length room.new ≡ piece_size }
+    ensures few { OnOk result (length incoming.new.window ≤ most_held) }
+    ensures told { (read : OfTexts) → HasTold read telling.old.lists telling.old.behind
+        (account_of telling.old.account) telling.old.clock.start [] →
+        IfOk result (TellsTaken read (R.source reader.old).rest (R.source reader.new).rest
+        incoming.old.intake incoming.new.intake (host_in stepping.old)
+        telling.new.lists (account_of telling.new.account)) }
+{
+    let mut number = 0u64;
+    let mut done = 0u64;
+    for _ in 0..u64::MAX {
+        incoming.bring(room, reader)?;
+        let record = incoming.front();
+        let size = record.len();
+        if size == 0 {
+            return Ok(Ending::Whole { records: number });
+        }
+        let next = number + 1;
+        match stepping.step(record)? {
+            Handled::Whole => telling.take(stepping, record, next)?,
+            Handled::NoRecord => return Ok(Ending::NoRecord { n: next }),
+            Handled::Part => return Ok(Ending::Cut { n: next }),
+        }
+        incoming.window.let_go(size);
+        number = next;
+        done = done.saturating_add(size as u64);
+        progress.update(done);
+    }
+    Err(ReportError::Bound)
+}
+
+/// All of a stream by a host that is stepped, of which nothing is told yet. Answers what was taken, and how the run ended.
+fn tell_stream<R: ByteSource, P: Progress>(
+    alloc: Global,
+    telling: &mut Telling<'_>,
+    stepping: &mut Stepping,
+    reader: &mut R,
+    progress: &mut P,
+) -> Result<(Taken, Ending), ReportError>
+    requires rest { IsAtRest stepping.old }
+    requires start { telling.old.clock.start < 2 ^ 48 }
+    ensures rest { IsAtRest stepping.new }
+    ensures told { (sources : List (List ℕ)) (schedule : Plan) (read : OfTexts) →
+        HaveItems sources read.texts → AreRead read →
+        BeginsWith sources schedule (host_in stepping.old) →
+        HasTold read telling.old.lists telling.old.behind
+        (account_of telling.old.account) telling.old.clock.start [] →
+        IfOk result (λ told. TellsRead sources schedule
+        (R.source reader.old).rest (R.source reader.new).rest telling.new.lists
+        (account_of telling.new.account) told.0.bytes told.0.digest told.1) }
+{
+    let mut incoming = Incoming::new(alloc)?;
+    let mut room = vec![in alloc; 0; PIECE]?;
+    let ending = tell_all(
+        telling,
+        stepping,
+        &mut incoming,
+        room.as_mut_slice(),
+        reader,
+        progress,
+    )?;
+    let Incoming {
+        window: _,
+        mut intake,
+    } = incoming;
+    intake.take_rest(room.as_mut_slice(), reader)?;
+    Ok((intake.into_taken(), ending))
+}
+
+/// All of a stream by a host of these texts that is new.
+fn tell_new<'a, R: ByteSource, P: Progress>(
+    alloc: Global,
+    texts: &[&'a [u8]],
+    stepping: &mut Stepping,
+    reader: &mut R,
+    progress: &mut P,
+) -> Result<(Telling<'a>, Taken, Ending), ReportError>
+    requires { IsAtRest stepping.old }
+    ensures rest { IsAtRest stepping.new }
+    ensures told { (schedule : Plan) →
+        BeginsWith (sources_of texts.now) schedule (host_in stepping.old) →
+        IfOk result (λ told. TellsRead (sources_of texts.now) schedule
+        (R.source reader.old).rest (R.source reader.new).rest told.0.lists
+        (account_of told.0.account) told.1.bytes told.1.digest told.2) }
+{
+    let mut telling = Telling::new(alloc, texts)?;
+    let (taken, ending) = tell_stream(alloc, &mut telling, stepping, reader, progress)?;
+    Ok((telling, taken, ending))
+}
+
+/// Runs rule texts under a schedule over a stream, record by record, which is read in pieces of 8,192 bytes at most, to its end. Answers
+/// what is told of the run, how many bytes the stream has and their SHA-256, and how the run ended (`TellsRead`): the bytes that were
+/// taken are all of the stream, and of these it is told what the rules and fields of these texts do (`TellsRun`), of a host that was new,
+/// with these texts' files and this profile's applications under this schedule in stock. Of the stream at most 73,739 bytes are held.
+///
+/// Errors: `Rules` with the first text that doesn't compile, numbered from 0; `Memory`; `Read`, where a read fails; `Bound`, where there
+/// are more records, or reads behind them, than 64 bits count.
+pub fn tell_run<'a, R: ByteSource, P: Progress>(
+    alloc: Global,
+    schedule: &Schedule,
+    texts: &[&'a [u8]],
+    reader: &mut R,
+    progress: &mut P,
+) -> Result<(Telling<'a>, Taken, Ending), ReportError>
+    ensures { IfOk result (λ told. TellsRead (sources_of texts.now) schedule.now
+        (R.source reader.old).rest (R.source reader.new).rest told.0.lists
+        (account_of told.0.account) told.1.bytes told.1.digest told.2) }
+{
+    let mut stepping = Stepping::new(alloc, texts, schedule)?;
+    let told = tell_new(alloc, texts, &mut stepping, reader, progress);
+    stepping.close();
+    told
+}

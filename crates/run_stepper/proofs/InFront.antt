@@ -1,0 +1,139 @@
+-- The record in front of a stream, where only a piece of the stream is there.
+use Rattle.std.proofs.Common.{◌≡◌, refl, sym, ◌∙◌, ap, subst, ℕ, ◌+◌, ◌<◌, ◌≤◌, ◌⊎◌, inl, inr, min, Bool, true, false, not, cond, nat_lt, List, [], ◌∷◌, ◌++◌, length, take, drop, length-drop, length-take, Option, Some, None, arith}
+use Rattle.std.specs.Int.{w32, from_be_bytes}
+use Rattle.std.proofs.lemmas.List.{drop-append-le, drop_all, take-append-drop}
+use Rattle.std.proofs.Math.Seq.{take-length}
+use Rattle.lc_model.specs.Host.Stream.{StreamEntry, Contents, Record, CutRecord, NoRecord, all_kinds, body_size, contents_of, fits_body, front, header_size, moment_of, record_of}
+use Rattle.lc_model.proofs.Facts.{tested_less, tested_not_less, test_less, test_not_less}
+use Rattle.lc_model.proofs.Host.StreamsGoOn.{all_fronts_stay}
+use Rattle.run_stepper.specs.Trace.{moment_in, size_in_front}
+
+-- ---- what is known by what stands in front
+
+module _ (n kind : ℕ) (bytes : List ℕ) where
+  abbrev all : List ℕ
+  all = kind ∷ bytes
+
+  record_tests : (entry : StreamEntry) (rest : List ℕ) (short fits cut : Bool) (contents : Option Contents) → nat_lt (length all) header_size ≡ short →
+      cond short CutRecord (cond (not fits) NoRecord (cond cut CutRecord (record_of contents (moment_of all) (drop (header_size + body_size all) all)))) ≡ Record entry rest →
+      (11 ≤ length all) × (rest ≡ drop (11 + body_size all) all) × (entry.moment ≡ moment_of all)
+  record_tests entry rest true fits cut contents long is = absurd (cc is)
+  record_tests entry rest false false cut contents long is = absurd (cc is)
+  record_tests entry rest false true true contents long is = absurd (cc is)
+  record_tests entry rest false true false None long is = absurd (cc is)
+  record_tests entry rest false true false (Some contents) long is =
+      let first : record { moment = moment_of all; contents = contents } ≡ entry = cc is in
+      let second : drop (header_size + body_size all) all ≡ rest = cc is in
+      (tested_not_less (length all) 11 long, sym second, sym (ap (λ (e : StreamEntry). e.moment) first))
+
+  cut_tests : (short fits cut : Bool) (contents : Option Contents) → nat_lt (length all) header_size ≡ short → nat_lt (length all) (header_size + body_size all) ≡ cut →
+      cond short CutRecord (cond (not fits) NoRecord (cond cut CutRecord (record_of contents (moment_of all) (drop (header_size + body_size all) all)))) ≡ CutRecord →
+      (length all < 11) ⊎ (length all < 11 + body_size all)
+  cut_tests true fits cut contents short part is = inl (tested_less (length all) 11 short)
+  cut_tests false false cut contents short part is = absurd (cc is)
+  cut_tests false true true contents short part is = inr (tested_less (length all) (11 + body_size all) part)
+  cut_tests false true false None short part is = absurd (cc is)
+  cut_tests false true false (Some contents) short part is = absurd (cc is)
+
+a_record : (n : ℕ) (bytes : List ℕ) (entry : StreamEntry) (rest : List ℕ) → front all_kinds n bytes ≡ Record entry rest →
+    (11 ≤ length bytes) × (rest ≡ drop (11 + body_size bytes) bytes) × (entry.moment ≡ moment_of bytes)
+a_record n [] entry rest is = absurd (cc is)
+a_record n (kind ∷ bytes) entry rest is =
+    record_tests n kind bytes entry rest (nat_lt (length (kind ∷ bytes)) header_size) (fits_body all_kinds kind (body_size (kind ∷ bytes)))
+    (nat_lt (length (kind ∷ bytes)) (header_size + body_size (kind ∷ bytes)))
+    (contents_of n kind (drop header_size (take (header_size + body_size (kind ∷ bytes)) (kind ∷ bytes)))) refl is
+
+a_part : (n : ℕ) (bytes : List ℕ) → front all_kinds n bytes ≡ CutRecord → (length bytes < 11) ⊎ (length bytes < 11 + body_size bytes)
+a_part n [] is = absurd (cc is)
+a_part n (kind ∷ bytes) is =
+    cut_tests n kind bytes (nat_lt (length (kind ∷ bytes)) header_size) (fits_body all_kinds kind (body_size (kind ∷ bytes)))
+    (nat_lt (length (kind ∷ bytes)) (header_size + body_size (kind ∷ bytes)))
+    (contents_of n kind (drop header_size (take (header_size + body_size (kind ∷ bytes)) (kind ∷ bytes)))) refl refl is
+
+-- ---- sizes
+
+four_in_front : (ds ys : List ℕ) → 4 ≤ length ds → from_be_bytes w32 (ds ++ ys) ≡ from_be_bytes w32 ds
+four_in_front [] ys some = absurd (omega (arith, some))
+four_in_front (a ∷ []) ys some = absurd (omega (arith, some))
+four_in_front (a ∷ b ∷ []) ys some = absurd (omega (arith, some))
+four_in_front (a ∷ b ∷ c ∷ []) ys some = absurd (omega (arith, some))
+four_in_front (a ∷ b ∷ c ∷ d ∷ ds) ys some = refl
+
+same_size : (xs ys : List ℕ) → 11 ≤ length xs → body_size (xs ++ ys) ≡ body_size xs
+same_size xs ys long =
+    ap (from_be_bytes w32) (drop-append-le 7 xs ys (omega (arith, long))) ∙ four_in_front (drop 7 xs) ys (omega (arith, length-drop 7 xs, long))
+
+long_moment : (bytes : List ℕ) → 11 ≤ length bytes → moment_in bytes ≡ moment_of bytes
+long_moment bytes long = rw (test_not_less (length bytes) 11 long) refl
+
+pub long_size : (bytes : List ℕ) → 11 ≤ length bytes → size_in_front bytes ≡ min (11 + body_size bytes) (length bytes)
+long_size bytes long = rw (test_not_less (length bytes) 11 long) refl
+
+pub short_size : (bytes : List ℕ) → length bytes < 11 → size_in_front bytes ≡ length bytes
+short_size bytes short = rw (test_less (length bytes) 11 short) refl
+
+drop_least : (n : ℕ) (xs : List ℕ) → drop (min n (length xs)) xs ≡ drop n xs
+drop_least n xs = by_test (nat_lt n (length xs)) refl
+  where
+    by_test : (b : Bool) → nat_lt n (length xs) ≡ b → drop (min n (length xs)) xs ≡ drop n xs
+    by_test true less = let same : min n (length xs) ≡ n = grind (arith, less) in ap (λ k. drop k xs) same
+    by_test false more =
+        let past : length xs ≤ n = tested_not_less n (length xs) more in
+        let same : min n (length xs) ≡ length xs = omega (arith, past) in
+        ap (λ k. drop k xs) same ∙ drop_all (length xs) xs (omega arith) ∙ sym (drop_all n xs past)
+
+-- ---- a piece of the record in front
+
+-- what is taken of the record in front, and what there is behind it
+module _ (n : ℕ) (stream piece more : List ℕ) (is : stream ≡ piece ++ more) where
+  whole_stays : (entry : StreamEntry) (rest : List ℕ) → front all_kinds n piece ≡ Record entry rest → front all_kinds n stream ≡ Record entry (rest ++ more)
+  whole_stays entry rest there = ap (front all_kinds n) is ∙ (all_fronts_stay all_kinds n piece more).a_record entry rest there
+
+  -- a whole record is all that was taken, and the rest stands behind it
+  pub record IsAllOf (entry : StreamEntry) (rest : List ℕ) : Type 0 where
+    pub none_left : rest ≡ []
+    pub moment : entry.moment ≡ moment_in stream
+    pub there : front all_kinds n stream ≡ Record entry (drop (size_in_front stream) stream)
+
+  pub all_of : (entry : StreamEntry) (rest : List ℕ) → length piece ≤ size_in_front stream → front all_kinds n piece ≡ Record entry rest → IsAllOf entry rest
+  all_of entry rest few there =
+      let own = a_record n piece entry rest there in
+      let whole = a_record n stream entry (rest ++ more) (whole_stays entry rest there) in
+      let size : body_size stream ≡ body_size piece = ap body_size is ∙ same_size piece more own.0 in
+      let least : size_in_front stream ≡ min (11 + body_size stream) (length stream) = long_size stream whole.0 in
+      record {
+        none_left = own.1 ∙ drop_all (11 + body_size piece) piece (omega (arith, few, least, size));
+        moment = whole.2 ∙ sym (long_moment stream whole.0);
+        there = whole_stays entry rest there ∙ ap (Record entry) (whole.1 ∙ sym (drop_least (11 + body_size stream) stream) ∙ ap (λ k. drop k stream) (sym least));
+      }
+
+  pub none_of : front all_kinds n piece ≡ NoRecord → front all_kinds n stream ≡ NoRecord
+  none_of there = ap (front all_kinds n) is ∙ (all_fronts_stay all_kinds n piece more).none there
+
+-- where a part of a record is all that is there, the stream is cut in it
+pub part_of_all : (n : ℕ) (stream piece : List ℕ) → piece ≡ take (size_in_front stream) stream → 0 < length stream → front all_kinds n piece ≡ CutRecord →
+    front all_kinds n stream ≡ CutRecord
+part_of_all n stream piece is some there = subst (λ (bytes : List ℕ). front all_kinds n bytes ≡ CutRecord) (all_there (nat_lt (length stream) 11) refl) there
+  where
+    as_long : length piece ≡ min (size_in_front stream) (length stream)
+    as_long = ap length is ∙ length-take (size_in_front stream) stream
+
+    by_size : size_in_front stream ≡ length stream → piece ≡ stream
+    by_size same = is ∙ ap (λ k. take k stream) same ∙ take-length stream
+
+    behind : stream ≡ piece ++ drop (size_in_front stream) stream
+    behind = sym (take-append-drop (size_in_front stream) stream) ∙ ap (λ (front : List ℕ). front ++ drop (size_in_front stream) stream) (sym is)
+
+    by_cut : 11 ≤ length stream → size_in_front stream ≡ min (11 + body_size stream) (length stream) → 11 ≤ length piece → body_size stream ≡ body_size piece →
+        (length piece < 11) ⊎ (length piece < 11 + body_size piece) → size_in_front stream ≡ length stream
+    by_cut enough least of_piece size (inl short) = absurd (omega (arith, short, of_piece))
+    by_cut enough least of_piece size (inr cut) = omega (arith, cut, least, size, as_long, enough)
+
+    all_there : (b : Bool) → nat_lt (length stream) 11 ≡ b → piece ≡ stream
+    all_there true short = by_size (short_size stream (tested_less (length stream) 11 short))
+    all_there false long =
+        let enough : 11 ≤ length stream = tested_not_less (length stream) 11 long in
+        let least : size_in_front stream ≡ min (11 + body_size stream) (length stream) = long_size stream enough in
+        let of_piece : 11 ≤ length piece = omega (arith, as_long, least, enough) in
+        let size : body_size stream ≡ body_size piece = ap body_size behind ∙ same_size piece (drop (size_in_front stream) stream) of_piece in
+        by_size (by_cut enough least of_piece size (a_part n piece there))

@@ -1,0 +1,140 @@
+//! A run that goes record by record, and lets be seen how the Limit Checker stands behind each.
+
+ghost use Rattle.std.specs.Prelude.{◌≡◌, ◌<◌, option_map, IfErr, IfOk, Some};
+ghost use Rattle.app_host.specs.Hosted.{object_at};
+ghost use Rattle.flight_core.specs.Compiled.{IsNotCompiled, sources_of};
+ghost use Rattle.run_stepper.specs.declared.error.CourseError.TheVariants.{Memory};
+ghost use Rattle.run_stepper.specs.Stepping.{HasStepped, IsAtRest, BeginsWith, IsRefusal, engine_among, engine_of, host_in, refusal_of, written_by};
+
+use crate::error::CourseError;
+use crate::handled::Handled;
+use flight_core::{FedHost, Halt, RunError};
+use flight_profile::{Member, own_stock};
+use lc_model::{ByteSink, DeviceFault, Seat};
+use limit_engine::Engine;
+use schedules::Schedule;
+use std::alloc::Global;
+
+/// What one record leads to, in memory. A write fails only for want of memory.
+#[derive(Drop)]
+struct Written {
+    bytes: Vec<u8>,
+    failed: bool,
+}
+
+impl ByteSink for Written {
+    ghost sink = { λ it. record { gained = Some it.bytes.items; failed = it.failed } };
+
+    fn write(&mut self, bytes: &[u8]) -> Result<usize, DeviceFault> {
+        if self.bytes.extend_from_slice(bytes).is_err() {
+            self.failed = true;
+            return Err(DeviceFault);
+        }
+        Ok(bytes.len())
+    }
+
+    fn failed(&self) -> bool {
+        self.failed
+    }
+}
+
+/// A run of this profile's stock, record by record.
+#[derive(Drop)]
+pub struct Stepping {
+    fed: FedHost<Box<Member>>,
+    written: Written,
+}
+
+/// Why a run doesn't begin.
+fn course_error(error: RunError) -> CourseError
+    ensures { result ≡ refusal_of error }
+{
+    match error {
+        RunError::Compile { text, error } => CourseError::Rules { text, error },
+        _other => CourseError::Memory,
+    }
+}
+
+impl Stepping {
+    /// Compiles the rule texts, and makes a host, to which nothing has come.
+    pub fn new(alloc: Global, texts: &[&[u8]], schedule: &Schedule) -> Result<Stepping, CourseError>
+        ensures ready { IfOk result IsAtRest }
+        ensures begun { IfOk result
+            (λ it. BeginsWith (sources_of texts.now) schedule.now (host_in it)) }
+        ensures refused { IfErr result (IsRefusal (sources_of texts.now)) }
+    {
+        let stock = own_stock(alloc, schedule)?;
+        match FedHost::new(alloc, texts, stock) {
+            Ok(fed) => Ok(Stepping {
+                fed,
+                written: Written {
+                    bytes: Vec::new(alloc),
+                    failed: false,
+                },
+            }),
+            Err(error) => Err(course_error(error)),
+        }
+    }
+
+    /// Handles a record, of which these are the bytes. What it leads to is there until the next one comes.
+    pub fn step(&mut self, record: &[u8]) -> Result<Handled, CourseError>
+        requires ready { IsAtRest self.old }
+        ensures ready { IsAtRest self.new }
+        ensures stepped { HasStepped record.now (host_in self.old) (host_in self.new)
+            (written_by self.new) result }
+        ensures memory { IfErr result (λ error. error ≡ Memory) }
+    {
+        self.written.bytes.clear();
+        let _taken = self.fed.feed(record);
+        match self.fed.handle(&mut self.written) {
+            Ok(Some(_)) => Ok(Handled::Whole),
+            Ok(None) => Ok(Handled::Part),
+            Err(Halt::NoRecord) => Ok(Handled::NoRecord),
+            Err(_) => Err(CourseError::Memory),
+        }
+    }
+
+    /// The packets that the last record led to, one behind the other.
+    pub fn packets(&self) -> &[u8]
+        ensures { result.now ≡ written_by self.now }
+    {
+        self.written.bytes.as_slice()
+    }
+
+    /// The engine of the Limit Checker that runs, where one does.
+    pub fn checker(&self) -> Option<&Engine>
+        requires { IsAtRest self.now }
+        ensures { option_map (λ engine. engine.now) result ≡
+            engine_among (host_in self.now).host.seats }
+    {
+        for number in 0..8u8 {
+            if let Some(engine) = self.engine_at(number) {
+                return Some(engine);
+            }
+        }
+        None
+    }
+
+    /// The engine of the Limit Checker on this seat, where one is there.
+    fn engine_at(&self, number: u8) -> Option<&Engine>
+        requires { number < 8 }
+        ensures { option_map (λ engine. engine.now) result ≡
+            engine_of (object_at number (host_in self.now).host.seats) }
+    {
+        match self.fed.host().application(Seat::new(number)) {
+            Some(app) => match &**app {
+                Member::Checker(checker) => Some(checker.engine()),
+                _ => None,
+            },
+            None => None,
+        }
+    }
+
+    /// All that run retire, and all applications are dropped.
+    pub fn close(self)
+        requires { IsAtRest self }
+    {
+        let Stepping { fed, written: _ } = self;
+        fed.close();
+    }
+}

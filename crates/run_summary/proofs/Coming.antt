@@ -1,0 +1,178 @@
+-- What a record brings of the fields.
+use Rattle.std.proofs.Common.{◌≡◌, ℕ, ◌+◌, Bool, true, false, List, [], ◌∷◌, length, nat_lt, refl, ap, ◌∙◌, Option, Some, None, ℤ, if◌then◌else◌, bytes_eq, map, arith}
+use Rattle.std.specs.Prelude.{not, ◌==◌}
+use Rattle.std.specs.Ordering.{int_eq}
+use Rattle.std.proofs.lemmas.Bool.Decides.{nat_tests}
+use Rattle.lc_model.proofs.Facts.{test_equal}
+use Rattle.lc_model.specs.Name.{lc_name}
+use Rattle.lc_model.specs.Packet.{message_id}
+use Rattle.packet_listing.specs.Told as told
+use Rattle.packet_listing.specs.Told.{told_in}
+use Rattle.run_summary.specs.declared.bands.How.TheVariants as how
+use Rattle.run_summary.specs.declared.place.Place.{Place}
+use Rattle.run_summary.specs.declared.place.Stand.{Stand}
+use Rattle.run_summary.specs.declared.seen.Seen.{Seen}
+use Rattle.run_summary.specs.declared.texts.Field.{Field}
+use Rattle.run_summary.specs.Account.{Account, Reading, Step, account_with, come, come_by, enforced_so, read, read_all, read_by, sampled, started_with_tables}
+use Rattle.run_summary.specs.Brought.{Brings, Command, File, Half, Load, Telemetry, Tick, brings}
+use Rattle.run_summary.specs.Fields.{AreKnown, IsBefore, all_brought, come_in, forgotten, is_at, is_place, met_in, seen_by, seen_in, unseen}
+use Rattle.run_summary.specs.Figures.{with_event, with_packet}
+use Rattle.run_summary.specs.Packets.{packets_of}
+use Rattle.run_summary.specs.Run.{FieldsCome}
+
+-- ---- places
+
+int_itself : (n : ℤ) → int_eq n n ≡ true
+int_itself n = grind arith
+
+itself : (place : Place) → is_place place place ≡ true
+itself place = rw (test_equal place.«record» place.«record» refl) (int_itself place.time)
+
+not_there : (place : Place) (other : Option Place) → IsBefore place.«record» other → is_at place other ≡ false
+not_there place None before = refl
+not_there place (Some other) before =
+    let isnt : (other.«record» == place.«record») ≡ false = grind (arith, nat_tests, before) in
+    rw isnt refl
+
+later : (number : ℕ) (place : Option Place) → IsBefore number place → IsBefore (number + 1) place
+later number None before = tt
+later number (Some place) before = omega (arith, before)
+
+-- ---- known fields
+
+unseen_known : (number : ℕ) (fields : List Field) → AreKnown number fields (map unseen fields)
+unseen_known number [] = tt
+unseen_known number (field ∷ fields) = (refl, tt, unseen_known number fields)
+
+later_known : (number : ℕ) (fields : List Field) (all : List Seen) → AreKnown number fields all → AreKnown (number + 1) fields all
+later_known number [] [] known = tt
+later_known number [] (seen ∷ all) known = absurd known
+later_known number (field ∷ fields) [] known = absurd known
+later_known number (field ∷ fields) (seen ∷ all) known =
+    (known.0, later number seen.met.place known.1, later_known number fields all known.2)
+
+forgotten_known : (number : ℕ) (fields : List Field) (all : List Seen) → AreKnown number fields all → AreKnown number fields (map forgotten all)
+forgotten_known number [] [] known = tt
+forgotten_known number [] (seen ∷ all) known = absurd known
+forgotten_known number (field ∷ fields) [] known = absurd known
+forgotten_known number (field ∷ fields) (seen ∷ all) known = (known.0, tt, forgotten_known number fields all known.2)
+
+-- ---- a packet
+
+one_known : (b : Bool) (place : Place) (packet : List ℕ) (seen : Seen) → IsBefore place.«record» seen.met.place →
+    IsBefore (place.«record» + 1) (if b then seen_in packet place seen else seen).met.place
+one_known true place packet seen before = omega arith
+one_known false place packet seen before = later place.«record» seen.met.place before
+
+same_field : (b : Bool) (place : Place) (packet : List ℕ) (seen : Seen) → (if b then seen_in packet place seen else seen).field ≡ seen.field
+same_field true place packet seen = refl
+same_field false place packet seen = refl
+
+packet_known : (place : Place) (packet : List ℕ) (fields : List Field) (all : List Seen) → AreKnown place.«record» fields all →
+    AreKnown (place.«record» + 1) fields (map (seen_by packet place) all)
+packet_known place packet [] [] known = tt
+packet_known place packet [] (seen ∷ all) known = absurd known
+packet_known place packet (field ∷ fields) [] known = absurd known
+packet_known place packet (field ∷ fields) (seen ∷ all) known = (
+  same_field (seen.field.mid == message_id packet) place packet seen ∙ known.0,
+  one_known (seen.field.mid == message_id packet) place packet seen known.1,
+  packet_known place packet fields all known.2,
+)
+
+one_comes : (b : Bool) (place : Place) (packet : List ℕ) (seen : Seen) → IsBefore place.«record» seen.met.place →
+    come_in place (if b then seen_in packet place seen else seen) ≡ (if b then Some (met_in seen.field place packet) else None)
+one_comes true place packet seen before = rw (itself place) refl
+one_comes false place packet seen before = rw (not_there place seen.met.place before) refl
+
+packet_comes : (place : Place) (packet : List ℕ) (fields : List Field) (all : List Seen) → AreKnown place.«record» fields all →
+    map (come_in place) (map (seen_by packet place) all)
+    ≡ map (λ (field : Field). if field.mid == message_id packet then Some (met_in field place packet) else None) fields
+packet_comes place packet [] [] known = refl
+packet_comes place packet [] (seen ∷ all) known = absurd known
+packet_comes place packet (field ∷ fields) [] known = absurd known
+packet_comes place packet (field ∷ fields) (seen ∷ all) known = λ i.
+    (one_comes (seen.field.mid == message_id packet) place packet seen known.1
+    ∙ ap (λ (it : Field). if it.mid == message_id packet then Some (met_in it place packet) else None) known.0) i
+    ∷ packet_comes place packet fields all known.2 i
+
+none_come : (place : Place) (fields : List Field) (all : List Seen) → AreKnown place.«record» fields all →
+    map (come_in place) all ≡ map (λ (field : Field). None) fields
+none_come place [] [] known = refl
+none_come place [] (seen ∷ all) known = absurd known
+none_come place (field ∷ fields) [] known = absurd known
+none_come place (field ∷ fields) (seen ∷ all) known =
+    let none : come_in place seen ≡ None = rw (not_there place seen.met.place known.1) refl in
+    λ i. none i ∷ none_come place fields all known.2 i
+
+-- ---- a record
+
+telemetry_comes : (short : Bool) (place : Place) (packet : List ℕ) (fields : List Field) (all : List Seen) → AreKnown place.«record» fields all →
+    map (come_in place) (if short then all else map (seen_by packet place) all)
+    ≡ map (λ (field : Field). if short then None else if field.mid == message_id packet then Some (met_in field place packet) else None) fields
+telemetry_comes true place packet fields all known = none_come place fields all known
+telemetry_comes false place packet fields all known = packet_comes place packet fields all known
+
+record_comes : (brought : Brings) (place : Place) (fields : List Field) (a : Account) → AreKnown place.«record» fields a.seen →
+    map (come_in place) (come_by brought place a).seen ≡ all_brought fields place brought
+record_comes (Telemetry packet) place fields a known = telemetry_comes (nat_lt (length packet) 2) place packet fields a.seen known
+record_comes Tick place fields a known = none_come place fields a.seen known
+record_comes Command place fields a known = none_come place fields a.seen known
+record_comes (Load name) place fields a known = none_come place fields a.seen known
+record_comes (File name) place fields a known = none_come place fields a.seen known
+record_comes (Half name text) place fields a known = none_come place fields a.seen known
+
+telemetry_known : (short : Bool) (place : Place) (packet : List ℕ) (fields : List Field) (all : List Seen) → AreKnown place.«record» fields all →
+    AreKnown (place.«record» + 1) fields (if short then all else map (seen_by packet place) all)
+telemetry_known true place packet fields all known = later_known place.«record» fields all known
+telemetry_known false place packet fields all known = packet_known place packet fields all known
+
+record_known : (brought : Brings) (place : Place) (fields : List Field) (a : Account) → AreKnown place.«record» fields a.seen →
+    AreKnown (place.«record» + 1) fields (come_by brought place a).seen
+record_known (Telemetry packet) place fields a known = telemetry_known (nat_lt (length packet) 2) place packet fields a.seen known
+record_known Tick place fields a known = later_known place.«record» fields a.seen known
+record_known Command place fields a known = later_known place.«record» fields a.seen known
+record_known (Load name) place fields a known = later_known place.«record» fields a.seen known
+record_known (File name) place fields a known = later_known place.«record» fields a.seen known
+record_known (Half name text) place fields a known = later_known place.«record» fields a.seen known
+
+-- ---- what it led to
+
+-- tables come into force, or not
+chosen : (b c d : Bool) (number : ℕ) (fields : List Field) (a x y : Account) → AreKnown number fields a.seen → AreKnown number fields x.seen →
+    AreKnown number fields y.seen → AreKnown number fields (if not b then a else if c then x else if d then y else a).seen
+chosen false c d number fields a x y p q r = p
+chosen true true d number fields a x y p q r = q
+chosen true false true number fields a x y p q r = r
+chosen true false false number fields a x y p q r = p
+
+read_known : (says : Option told.Told) (packet : List ℕ) (place : Place) (stands : List Stand) (number : ℕ) (fields : List Field) (r : Reading) →
+    AreKnown number fields r.account.seen → AreKnown number fields (read_by says packet place stands r).account.seen
+read_known None packet place stands number fields r known = known
+read_known (Some (told.Housekeeping mode count rules)) packet place stands number fields r known = known
+read_known (Some (told.Request sequence)) packet place stands number fields r known = known
+read_known (Some (told.Event moment sender id kind text)) packet place stands number fields r known =
+    let a : Account = record r.account { figures = with_event kind r.account.figures } in
+    let forgets : AreKnown number fields (map forgotten r.account.seen) = forgotten_known number fields r.account.seen known in
+    chosen (bytes_eq sender lc_name) (id == 2) (id == 1) number fields a (enforced_so place how.Adopted a)
+    (enforced_so place (if bytes_eq text started_with_tables then how.Started else how.None) a) known forgets forgets
+
+reads_known : (packets : List (List ℕ)) (place : Place) (stands : List Stand) (number : ℕ) (fields : List Field) (r : Reading) →
+    AreKnown number fields r.account.seen → AreKnown number fields (read_all packets place stands r).account.seen
+reads_known [] place stands number fields r known = known
+reads_known (packet ∷ packets) place stands number fields r known =
+    reads_known packets place stands number fields (read packet place stands r)
+    (read_known (told_in packet) packet place stands number fields (record r { account = record r.account { figures = with_packet r.account.figures } }) known)
+
+step_known : (fields : List Field) (step : Step) (a : Account) → AreKnown step.place.«record» fields a.seen →
+    AreKnown (step.place.«record» + 1) fields (account_with step a).seen
+step_known fields step a known =
+    let came : Account = come step.bytes step.place a in
+    reads_known (packets_of step.written) step.place step.stands (step.place.«record» + 1) fields (record { account = sampled step.place step.stands came; from = 0 })
+    (record_known (brings step.bytes) step.place fields a known)
+
+pub fields_come : FieldsCome
+fields_come = record {
+  begin = λ texts. unseen_known 1 texts.fields;
+  come = λ fields bytes place a known. record_comes (brings bytes) place fields a known;
+  go_on = step_known;
+}

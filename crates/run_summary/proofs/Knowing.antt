@@ -1,0 +1,195 @@
+-- What is known of fields, by what happened.
+use Rattle.std.proofs.Common.{◌≡◌, ℕ, Bool, true, false, nat_lt, List, [], ◌∷◌, length, map, refl, ap, sym, ◌∙◌, Option, Some, None, if◌then◌else◌, bytes_eq, arith}
+use Rattle.std.specs.Prelude.{◌==◌, is_some, not}
+use Rattle.std.specs.List.{cons_option}
+use Rattle.std.proofs.lemmas.List.Sums.{take_while-cons}
+use Rattle.lc_model.specs.Name.{lc_name}
+use Rattle.lc_model.specs.Packet.{message_id}
+use Rattle.packet_listing.specs.Told as told
+use Rattle.packet_listing.specs.Told.{told_in}
+use Rattle.run_summary.specs.declared.bands.How.{How}
+use Rattle.run_summary.specs.declared.bands.How.TheVariants as how
+use Rattle.run_summary.specs.declared.place.Place.{Place}
+use Rattle.run_summary.specs.declared.place.Stand.{Stand}
+use Rattle.run_summary.specs.declared.seen.Met.{Met}
+use Rattle.run_summary.specs.declared.seen.Seen.{Seen}
+use Rattle.run_summary.specs.declared.texts.Field.{Field}
+use Rattle.run_summary.specs.Account.{Account, Reading, Step, account_behind, account_with, come_by, enforced_so, read, read_all, read_by, sampled, started_with_tables}
+use Rattle.run_summary.specs.Brought.{Brings, Command, File, Half, Load, Telemetry, Tick, brings}
+use Rattle.run_summary.specs.Fields.{forgotten, met_in, seen_by, unseen}
+use Rattle.run_summary.specs.Figures.{one_more, with_event, with_packet}
+use Rattle.run_summary.specs.Happened.{Came, Happened, Over, Sent, TellsFields, behind_packets, behind_record, happened_from, how_told, is_enforcing, newest_met, packets_led_to, seen_behind, since_enforced, value_came, values_came}
+use Rattle.run_summary.specs.Packets.{packets_of}
+use Rattle.run_summary.specs.Run.{Packet, nothing_told, number_behind, numbered, stopped}
+
+-- ---- one thing more
+
+-- it isn't that tables come into force
+no_enforcing : (it : Happened) (happened : List Happened) → is_enforcing it ≡ false → since_enforced (it ∷ happened) ≡ it ∷ since_enforced happened
+no_enforcing it happened isnt = take_while-cons (λ it. not (is_enforcing it)) it happened ∙ rw isnt refl
+
+enforcing : (it : Happened) (happened : List Happened) → is_enforcing it ≡ true → since_enforced (it ∷ happened) ≡ []
+enforcing it happened is = take_while-cons (λ it. not (is_enforcing it)) it happened ∙ rw is refl
+
+-- it brings nothing of the field
+nothing_more : (it : Happened) (happened : List Happened) (field : Field) → is_enforcing it ≡ false → value_came field it ≡ None →
+    seen_behind (it ∷ happened) field ≡ seen_behind happened field
+nothing_more it happened field isnt none =
+    let same : (before : List Happened) → values_came field (it ∷ before) ≡ values_came field before =
+    λ before. ap (λ value. cons_option value (values_came field before)) none in
+    λ i. record {
+      field = field;
+      packets = stopped (length (same happened i));
+      last = (newest_met (same happened i)).place;
+      met = newest_met ((ap (values_came field) (no_enforcing it happened isnt) ∙ same (since_enforced happened)) i);
+    }
+
+-- .. or this
+value_more : (it : Happened) (happened : List Happened) (field : Field) (met : Met) → is_enforcing it ≡ false → value_came field it ≡ Some met →
+    seen_behind (it ∷ happened) field
+    ≡ record { field = field; packets = one_more (stopped (length (values_came field happened))); last = met.place; met = met }
+value_more it happened field met isnt is =
+    let longer : (before : List Happened) → values_came field (it ∷ before) ≡ met ∷ values_came field before =
+    λ before. ap (λ value. cons_option value (values_came field before)) is in
+    let count : stopped (length (met ∷ values_came field happened)) ≡ one_more (stopped (length (values_came field happened))) = omega arith in
+    λ i. record {
+      field = field;
+      packets = (ap (λ (values : List Met). stopped (length values)) (longer happened) ∙ count) i;
+      last = (newest_met (longer happened i)).place;
+      met = newest_met ((ap (values_came field) (no_enforcing it happened isnt) ∙ longer (since_enforced happened)) i);
+    }
+
+-- tables come into force
+forgotten_more : (it : Happened) (happened : List Happened) (field : Field) → is_enforcing it ≡ true → value_came field it ≡ None →
+    seen_behind (it ∷ happened) field ≡ forgotten (seen_behind happened field)
+forgotten_more it happened field is none =
+    let same : values_came field (it ∷ happened) ≡ values_came field happened = ap (λ value. cons_option value (values_came field happened)) none in
+    λ i. record {
+      field = field;
+      packets = stopped (length (same i));
+      last = (newest_met (same i)).place;
+      met = newest_met (ap (values_came field) (enforcing it happened is) i);
+    }
+
+-- ---- a record comes
+
+telemetry_one : (place : Place) (packet : List ℕ) (happened : List Happened) (field : Field) →
+    (if nat_lt (length packet) 2 then seen_behind happened field else seen_by packet place (seen_behind happened field))
+    ≡ seen_behind (Came place (Telemetry packet) ∷ happened) field
+telemetry_one place packet happened field = by_tests (nat_lt (length packet) 2) (field.mid == message_id packet) refl refl
+  where
+    it : Happened
+    it = Came place (Telemetry packet)
+
+    by_tests : (b c : Bool) → nat_lt (length packet) 2 ≡ b → (field.mid == message_id packet) ≡ c →
+        (if nat_lt (length packet) 2 then seen_behind happened field else seen_by packet place (seen_behind happened field))
+        ≡ seen_behind (it ∷ happened) field
+    by_tests true c is other = rw is refl ∙ sym (nothing_more it happened field refl (rw is refl))
+    by_tests false false is other = rw (is, other) refl ∙ sym (nothing_more it happened field refl (rw (is, other) refl))
+    by_tests false true is other =
+        rw (is, other) refl ∙ sym (value_more it happened field (met_in field place packet) refl (rw (is, other) refl))
+
+telemetry_seen : (place : Place) (packet : List ℕ) (happened : List Happened) (fields : List Field) →
+    (if nat_lt (length packet) 2 then map (seen_behind happened) fields else map (seen_by packet place) (map (seen_behind happened) fields))
+    ≡ map (seen_behind (Came place (Telemetry packet) ∷ happened)) fields
+telemetry_seen place packet happened [] = by_test (nat_lt (length packet) 2)
+  where
+    none : List Seen
+    none = []
+
+    by_test : (b : Bool) → (if b then none else none) ≡ none
+    by_test true = refl
+    by_test false = refl
+telemetry_seen place packet happened (field ∷ fields) =
+    parted (nat_lt (length packet) 2) (seen_behind happened field) (seen_by packet place (seen_behind happened field))
+    (map (seen_behind happened) fields) (map (seen_by packet place) (map (seen_behind happened) fields))
+    ∙ (λ i. telemetry_one place packet happened field i ∷ telemetry_seen place packet happened fields i)
+  where
+    parted : (b : Bool) (x y : Seen) (xs ys : List Seen) → (if b then x ∷ xs else y ∷ ys) ≡ (if b then x else y) ∷ (if b then xs else ys)
+    parted true x y xs ys = refl
+    parted false x y xs ys = refl
+
+pub none_more : (it : Happened) (happened : List Happened) (fields : List Field) → is_enforcing it ≡ false → ((field : Field) → value_came field it ≡ None) →
+    map (seen_behind happened) fields ≡ map (seen_behind (it ∷ happened)) fields
+none_more it happened [] isnt none = refl
+none_more it happened (field ∷ fields) isnt none =
+    λ i. sym (nothing_more it happened field isnt (none field)) i ∷ none_more it happened fields isnt none i
+
+pub come_seen : (brought : Brings) (place : Place) (a : Account) (happened : List Happened) (fields : List Field) → a.seen ≡ map (seen_behind happened) fields →
+    (come_by brought place a).seen ≡ map (seen_behind (Came place brought ∷ happened)) fields
+come_seen (Telemetry packet) place a happened fields is =
+    ap (λ (all : List Seen). if nat_lt (length packet) 2 then all else map (seen_by packet place) all) is ∙ telemetry_seen place packet happened fields
+come_seen Tick place a happened fields is = is ∙ none_more (Came place Tick) happened fields refl (λ field. refl)
+come_seen Command place a happened fields is = is ∙ none_more (Came place Command) happened fields refl (λ field. refl)
+come_seen (Load name) place a happened fields is = is ∙ none_more (Came place (Load name)) happened fields refl (λ field. refl)
+come_seen (File name) place a happened fields is = is ∙ none_more (Came place (File name)) happened fields refl (λ field. refl)
+come_seen (Half name text) place a happened fields is = is ∙ none_more (Came place (Half name text)) happened fields refl (λ field. refl)
+
+-- ---- a packet
+
+abbrev pub forgotten_if : Bool → List Seen → List Seen
+forgotten_if true all = map forgotten all
+forgotten_if false all = all
+
+in_force_seen : (b c d : Bool) (place : Place) (begins : How) (a : Account) →
+    (if not b then a else if c then enforced_so place how.Adopted a else if d then enforced_so place begins a else a).seen
+    ≡ forgotten_if (is_some (if not b then None else if c then Some how.Adopted else if d then Some begins else None)) a.seen
+in_force_seen false c d place begins a = refl
+in_force_seen true true d place begins a = refl
+in_force_seen true false true place begins a = refl
+in_force_seen true false false place begins a = refl
+
+pub read_seen : (says : Option told.Told) (packet : List ℕ) (place : Place) (stands : List Stand) (r : Reading) →
+    (read_by says packet place stands r).account.seen ≡ forgotten_if (is_some (how_told says)) r.account.seen
+read_seen None packet place stands r = refl
+read_seen (Some (told.Housekeeping mode count rules)) packet place stands r = refl
+read_seen (Some (told.Request sequence)) packet place stands r = refl
+read_seen (Some (told.Event moment sender id kind text)) packet place stands r =
+    in_force_seen (bytes_eq sender lc_name) (id == 2) (id == 1) place (if bytes_eq text started_with_tables then how.Started else how.None)
+    (record r.account { figures = with_event kind r.account.figures })
+
+all_forgotten : (packet : Packet) (happened : List Happened) (fields : List Field) → is_enforcing (Sent packet) ≡ true →
+    map forgotten (map (seen_behind happened) fields) ≡ map (seen_behind (Sent packet ∷ happened)) fields
+all_forgotten packet happened [] is = refl
+all_forgotten packet happened (field ∷ fields) is =
+    λ i. sym (forgotten_more (Sent packet) happened field is refl) i ∷ all_forgotten packet happened fields is i
+
+pub packet_seen : (packet : Packet) (happened : List Happened) (fields : List Field) →
+    forgotten_if (is_some (how_told (told_in packet.bytes))) (map (seen_behind happened) fields) ≡ map (seen_behind (Sent packet ∷ happened)) fields
+packet_seen packet happened fields = by_test (is_some (how_told (told_in packet.bytes))) refl
+  where
+    by_test : (b : Bool) → is_some (how_told (told_in packet.bytes)) ≡ b →
+        forgotten_if (is_some (how_told (told_in packet.bytes))) (map (seen_behind happened) fields) ≡ map (seen_behind (Sent packet ∷ happened)) fields
+    by_test true is = rw is refl ∙ all_forgotten packet happened fields is
+    by_test false is = rw is refl ∙ none_more (Sent packet) happened fields is (λ field. refl)
+
+reads_seen : (packets : List (List ℕ)) (place : Place) (stands : List Stand) (r : Reading) (number : ℕ) (happened : List Happened) (fields : List Field) →
+    r.account.seen ≡ map (seen_behind happened) fields →
+    (read_all packets place stands r).account.seen ≡ map (seen_behind (behind_packets (numbered number place packets) happened)) fields
+reads_seen [] place stands r number happened fields is = is
+reads_seen (bytes ∷ packets) place stands r number happened fields is =
+    let packet : Packet = record { number = one_more number; place = place; bytes = bytes } in
+    reads_seen packets place stands (read bytes place stands r) (one_more number) (Sent packet ∷ happened) fields
+    (read_seen (told_in bytes) bytes place stands (record r { account = record r.account { figures = with_packet r.account.figures } })
+    ∙ ap (λ (all : List Seen). forgotten_if (is_some (how_told (told_in bytes))) all) is
+    ∙ packet_seen packet happened fields)
+
+-- ---- a run
+
+run_seen : (steps : List Step) (a : Account) (number : ℕ) (happened : List Happened) (fields : List Field) → a.seen ≡ map (seen_behind happened) fields →
+    (account_behind a steps).seen ≡ map (seen_behind (happened_from happened number steps)) fields
+run_seen [] a number happened fields is = is
+run_seen (step ∷ steps) a number happened fields is =
+    let own : List (List ℕ) = packets_of step.written in
+    let now : List Happened = Came step.place (brings step.bytes) ∷ happened in
+    run_seen steps (account_with step a) (number_behind number own) (behind_record number step happened) fields
+    (reads_seen own step.place step.stands (record { account = sampled step.place step.stands (come_by (brings step.bytes) step.place a); from = 0 }) number now fields
+    (come_seen (brings step.bytes) step.place a happened fields is)
+    ∙ none_more (Over step.place step.mode) (behind_packets (packets_led_to number step) now) fields refl (λ field. refl))
+
+pub unseen_all : (fields : List Field) → map unseen fields ≡ map (seen_behind []) fields
+unseen_all [] = refl
+unseen_all (field ∷ fields) = ap (λ (all : List Seen). unseen field ∷ all) (unseen_all fields)
+
+pub tells_fields : TellsFields
+tells_fields texts steps = run_seen steps (nothing_told texts) 0 [] texts.fields (unseen_all texts.fields)

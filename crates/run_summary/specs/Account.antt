@@ -1,0 +1,228 @@
+-- The account of a run, record by record, as plain data: what each record brings, what counts of its samples, what it led to, and how
+-- the rules stand behind it. This project's own.
+use Rattle.std.specs.Prelude.{ℕ, ◌+◌, ◌%◌, List, [], ◌∷◌, codes, bytes_eq, length, map, nat_lt, not, ◌==◌, if◌then◌else◌, Option, Some, None}
+use Rattle.lc_model.specs.declared.mode.LcMode.{LcMode}
+use Rattle.lc_model.specs.declared.rule.EventKind.{EventKind}
+use Rattle.lc_model.specs.Bytes.{u16_at}
+use Rattle.lc_model.specs.Name.{lc_name}
+use Rattle.lc_model.specs.Packet.{count_end}
+use Rattle.lc_model.specs.Text.Syntax.{Item}
+use Rattle.packet_listing.specs.Told as told
+use Rattle.packet_listing.specs.Told.{told_in}
+use Rattle.run_summary.specs.declared.bands.How.{How}
+use Rattle.run_summary.specs.declared.bands.How.TheVariants as how
+use Rattle.run_summary.specs.declared.figures.Figures.{Figures}
+use Rattle.run_summary.specs.declared.place.Place.{Place}
+use Rattle.run_summary.specs.declared.place.Stand.{Stand}
+use Rattle.run_summary.specs.declared.seen.Seen.{Seen}
+use Rattle.run_summary.specs.declared.account.Account.{Account as Held}
+use Rattle.run_summary.specs.About.{rule_of}
+use Rattle.run_summary.specs.Asking.{Counted, asking, behind_rule, counted_by, row_asked}
+use Rattle.run_summary.specs.Bands.{InForce, enforced, loaded, stored, stood}
+use Rattle.run_summary.specs.Brought.{Brings, Command, File, Half, Load, Telemetry, Tick, brings}
+use Rattle.run_summary.specs.Fields.{all_seen, forgotten}
+use Rattle.run_summary.specs.Figures.{one_more, with_event, with_packet, with_record}
+use Rattle.run_summary.specs.Packets.{packets_of}
+use Rattle.run_summary.specs.Plans.{Planned, parts_by, planned_at}
+use Rattle.run_summary.specs.Samples.{Row, met_by_parts, row_with}
+use Rattle.run_summary.specs.Sent.{Requested, Said, Sending, requested_more, said_more}
+use Rattle.run_summary.specs.Standing.{stand_at}
+use Rattle.run_summary.specs.Texts.{items_in}
+
+-- all that is told of a run
+pub record Account : Type 0 where
+  -- the items of its texts, their rules, and how many lanes there are
+  pub texts : List (List Item)
+  pub plans : List (List Planned)
+  pub lanes : ℕ
+  -- what is known of each field
+  pub seen : List Seen
+  -- how each rule fails, and how it stood behind the record before
+  pub rows : List Row
+  pub before : List Stand
+  pub bands : InForce
+  pub sending : Sending
+  pub figures : Figures
+
+-- as it is held
+abbrev pub account_of : Held → Account
+account_of held = record {
+  texts = map items_in held.texts.items;
+  plans = held.plans.items;
+  lanes = held.lanes;
+  seen = held.seen.items;
+  rows = held.rows.items;
+  before = held.before.items;
+  bands = held.bands;
+  sending = held.sending;
+  figures = held.figures;
+}
+
+-- ---- a record comes
+
+-- what it brings is kept
+abbrev pub brought_by : Brings → Place → Account → Account
+brought_by (Telemetry packet) place a = record a { seen = all_seen packet place a.seen }
+brought_by Tick place a = a
+brought_by Command place a = a
+brought_by (Load name) place a = record a { bands = loaded name a.bands }
+brought_by (File name) place a = record a { bands = stored name None a.bands }
+brought_by (Half name text) place a = record a { bands = stored name (Some text) a.bands }
+
+-- and counted
+abbrev pub come_by : Brings → Place → Account → Account
+come_by brings place a = brought_by brings place (record a { figures = with_record brings a.figures })
+
+abbrev pub come : List ℕ → Place → Account → Account
+come bytes place a = come_by (brings bytes) place a
+
+-- ---- its samples
+
+-- how each rule stands, from this number on
+abbrev pub rows_with : Place → List Stand → List (List Planned) → Option ℕ → List Seen → ℕ → List Row → List Row
+rows_with place stands plans text seen rule [] = []
+rows_with place stands plans text seen rule (row ∷ rows) =
+    row_with place (stand_at rule stands) (met_by_parts (parts_by (planned_at plans text rule)) seen) row
+    ∷ rows_with place stands plans text seen (rule + 1) rows
+
+-- what counts of them, by the tables that were in force in front of what the record led to
+abbrev pub sampled : Place → List Stand → Account → Account
+sampled place stands a = record a { rows = rows_with place stands a.plans a.bands.text a.seen 0 a.rows }
+
+-- ---- what it led to
+
+-- the account while the packets of a record are read: the rule of the next request is looked for from this number on
+pub record Reading : Type 0 where
+  pub account : Account
+  pub from : ℕ
+
+-- the sequence count of a packet
+abbrev pub count_of : List ℕ → ℕ
+count_of packet = if nat_lt (length packet) 4 then 0 else u16_at packet 2 % count_end
+
+-- a request by this rule, of which this is told
+abbrev pub request_of : List ℕ → Place → ℕ → Option ℕ → Counted → Account → Requested
+request_of packet place sequence rule told a = record {
+  packet = a.figures.packets;
+  place = place;
+  rule = rule;
+  text = a.bands.text;
+  sequence = sequence;
+  count = count_of packet;
+  event = None;
+  counted = told.counted;
+  samples = told.samples;
+}
+
+abbrev pub requested_by : List ℕ → Place → ℕ → Option ℕ → Counted → Account → Account
+requested_by packet place sequence rule told a = record a {
+  figures = record a.figures { requests = one_more a.figures.requests };
+  sending = requested_more (request_of packet place sequence rule told a) told.sending;
+}
+
+-- a request for this sequence
+abbrev pub asked_by : Option ℕ → List ℕ → Place → ℕ → Reading → Reading
+asked_by rule packet place sequence r = record {
+  account = requested_by packet place sequence rule (counted_by (row_asked rule r.account.rows) r.account.bands.text r.account.sending) r.account;
+  from = behind_rule rule r.from;
+}
+
+abbrev pub rule_asking : List Stand → ℕ → Reading → Option ℕ
+rule_asking stands sequence r =
+    asking r.account.plans r.account.bands.text r.account.before stands r.account.lanes r.from sequence
+
+abbrev pub asked : List ℕ → Place → List Stand → ℕ → Reading → Reading
+asked packet place stands sequence r = asked_by (rule_asking stands sequence r) packet place sequence r
+
+-- tables come into force, or none are: what comparisons meet begins anew
+abbrev pub enforced_so : Place → How → Account → Account
+enforced_so place how a = record a { seen = map forgotten a.seen; bands = enforced place how a.bands }
+
+-- the text of event 1 of the Limit Checker where it started with tables
+abbrev pub started_with_tables : List ℕ
+started_with_tables = codes "started with tables"
+
+-- what an event of this sender with this number and text says of the tables in force
+abbrev pub in_force_by : List ℕ → ℕ → List ℕ → Place → Account → Account
+in_force_by sender id text place a =
+    if not (bytes_eq sender lc_name) then a
+    else if id == 2 then enforced_so place how.Adopted a
+    else if id == 1 then enforced_so place (if bytes_eq text started_with_tables then how.Started else how.None) a
+    else a
+
+-- an event
+abbrev pub event_of : Place → List ℕ → ℕ → EventKind → List ℕ → Account → Said
+event_of place sender id kind text a = record {
+  packet = a.figures.packets;
+  place = place;
+  rule = rule_of sender id text;
+  sender = sender;
+  id = id;
+  kind = kind;
+  text = text;
+}
+
+abbrev pub told_by : Place → List ℕ → ℕ → EventKind → List ℕ → Account → Account
+told_by place sender id kind text a = record a { sending = said_more (event_of place sender id kind text a) a.sending }
+
+abbrev pub said : Place → List ℕ → ℕ → EventKind → List ℕ → Account → Account
+said place sender id kind text a =
+    told_by place sender id kind text (in_force_by sender id text place (record a { figures = with_event kind a.figures }))
+
+-- what a packet says
+abbrev pub read_by : Option told.Told → List ℕ → Place → List Stand → Reading → Reading
+read_by (Some (told.Request sequence)) packet place stands r = asked packet place stands sequence r
+read_by (Some (told.Event moment sender id kind text)) packet place stands r = record r { account = said place sender id kind text r.account }
+read_by (Some (told.Housekeeping mode count rules)) packet place stands r =
+    record r { account = record r.account { figures = record r.account.figures { housekeeping = one_more r.account.figures.housekeeping } } }
+read_by None packet place stands r =
+    record r { account = record r.account { figures = record r.account.figures { other = one_more r.account.figures.other } } }
+
+-- a packet, which is counted
+abbrev pub read : List ℕ → Place → List Stand → Reading → Reading
+read packet place stands r =
+    read_by (told_in packet) packet place stands (record r { account = record r.account { figures = with_packet r.account.figures } })
+
+-- packets, one behind the other
+abbrev pub read_all : List (List ℕ) → Place → List Stand → Reading → Reading
+read_all [] place stands r = r
+read_all (packet ∷ packets) place stands r = read_all packets place stands (read packet place stands r)
+
+-- what a record led to
+abbrev pub written : List ℕ → Place → List Stand → Account → Account
+written bytes place stands a = (read_all (packets_of bytes) place stands (record { account = a; from = 0 })).account
+
+-- ---- how all stands behind it
+
+-- the rules, from this number on
+abbrev pub before_with : List Stand → ℕ → List Stand → List Stand
+before_with stands rule [] = []
+before_with stands rule (before ∷ more) = stand_at rule stands ∷ before_with stands (rule + 1) more
+
+abbrev pub stood_so : Place → Option LcMode → List Stand → Account → Account
+stood_so place mode stands a = record a { before = before_with stands 0 a.before; bands = stood place mode a.bands }
+
+-- where they stand as behind the record before, only the mode is new
+abbrev pub stood_again : Place → Option LcMode → Account → Account
+stood_again place mode a = record a { bands = stood place mode a.bands }
+
+-- ---- a run
+
+-- a record of a run: its place, its bytes, the packets that it led to, and how the Limit Checker stands behind it: its mode, where one
+-- runs, and its rules
+pub record Step : Type 0 where
+  pub place : Place
+  pub bytes : List ℕ
+  pub written : List ℕ
+  pub mode : Option LcMode
+  pub stands : List Stand
+
+-- the account behind a record more
+abbrev pub account_with : Step → Account → Account
+account_with step a =
+    stood_so step.place step.mode step.stands (written step.written step.place step.stands (sampled step.place step.stands (come step.bytes step.place a)))
+
+-- .. behind all records, by how it was before the first
+abbrev pub account_behind : Account → List Step → Account
+account_behind a [] = a
+account_behind a (step ∷ steps) = account_behind (account_with step a) steps

@@ -1,0 +1,96 @@
+-- What is known of the fields that rules compare. This project's own; a field's value is the rule language's (lc_model's Field).
+use Rattle.std.specs.Prelude.{◌≡◌, ℕ, ◌<◌, Bool, false, ◌&&◌, List, [], ◌∷◌, length, map, nat_lt, ◌==◌, if◌then◌else◌, Option, Some, None, ℤ, pos, slice_get, ⊤}
+use Rattle.std.specs.Ordering.{int_eq}
+use Rattle.lc_model.specs.declared.field.CmpOp.TheVariants.{Equal}
+use Rattle.lc_model.specs.declared.field.Term.{Term}
+use Rattle.lc_model.specs.Field.{value_of}
+use Rattle.lc_model.specs.Packet.{message_id}
+use Rattle.run_summary.specs.declared.place.Place.{Place}
+use Rattle.run_summary.specs.declared.seen.Met.{Met}
+use Rattle.run_summary.specs.declared.seen.Seen.{Seen}
+use Rattle.run_summary.specs.declared.texts.Field.{Field}
+use Rattle.run_summary.specs.Brought.{Brings, Telemetry}
+use Rattle.run_summary.specs.Figures.{one_more}
+
+-- a comparison with the field: the number that it is compared with says nothing of its value
+abbrev pub term_of : Field → Term
+term_of field = record { kind = field.kind; mid = field.mid; offset = field.at; mask = field.bits; stale = 0; op = Equal; value = pos 0 }
+
+-- what a packet says of the field; none where it ends before the field does
+abbrev pub value_in : Field → List ℕ → Option ℤ
+value_in field packet = value_of (term_of field) packet
+
+-- no packet came
+abbrev pub nothing : Met
+nothing = record { value = None; place = None }
+
+-- what a packet of this place says of the field
+abbrev pub met_in : Field → Place → List ℕ → Met
+met_in field place packet = record { value = value_in field packet; place = Some place }
+
+-- a packet of the field's message id came in this place
+abbrev pub seen_in : List ℕ → Place → Seen → Seen
+seen_in packet place seen = record seen {
+  packets = one_more seen.packets;
+  last = Some place;
+  met = met_in seen.field place packet;
+}
+
+-- a packet came: it is one of the field's by its message id
+abbrev pub seen_by : List ℕ → Place → Seen → Seen
+seen_by packet place seen = if seen.field.mid == message_id packet then seen_in packet place seen else seen
+
+-- .. for all fields; bytes that have no message id are of none
+abbrev pub all_seen : List ℕ → Place → List Seen → List Seen
+all_seen packet place all = if nat_lt (length packet) 2 then all else map (seen_by packet place) all
+
+-- what comparisons meet begins anew
+abbrev pub forgotten : Seen → Seen
+forgotten seen = record seen { met = nothing }
+
+-- nothing came of a field
+abbrev pub unseen : Field → Seen
+unseen field = record { field = field; packets = 0; last = None; met = nothing }
+
+-- what a comparison meets of the field with this number
+abbrev pub met_by : Option Seen → Met
+met_by None = nothing
+met_by (Some seen) = seen.met
+
+abbrev pub met_of : List Seen → ℕ → Met
+met_of all number = met_by (slice_get all number)
+
+-- ---- what a record brings of the fields
+
+-- the value of the field in the packet that a record of this place brings, where it is one of the field's message id
+abbrev pub brought_of : Field → Place → Brings → Option Met
+brought_of field place (Telemetry packet) =
+    if nat_lt (length packet) 2 then None else if field.mid == message_id packet then Some (met_in field place packet) else None
+brought_of field place other = None
+
+-- .. of all of them
+abbrev pub all_brought : List Field → Place → Brings → List (Option Met)
+all_brought fields place brings = map (λ (field : Field). brought_of field place brings) fields
+
+abbrev pub is_place : Place → Place → Bool
+is_place one other = one.«record» == other.«record» && int_eq one.time other.time
+
+abbrev pub is_at : Place → Option Place → Bool
+is_at place None = false
+is_at place (Some other) = is_place other place
+
+-- what comparisons meet, where a packet of this place brought it
+abbrev pub come_in : Place → Seen → Option Met
+come_in place seen = if is_at place seen.met.place then Some seen.met else None
+
+-- this place is of a record in front of the one with this number
+abbrev pub IsBefore : ℕ → Option Place → Type 0
+IsBefore number None = ⊤
+IsBefore number (Some place) = place.«record» < number
+
+-- this is known of these fields in front of the record with this number
+abbrev pub AreKnown : ℕ → List Field → List Seen → Type 0
+AreKnown number [] [] = ⊤
+AreKnown number [] (seen ∷ all) = ⊥
+AreKnown number (field ∷ fields) [] = ⊥
+AreKnown number (field ∷ fields) (seen ∷ all) = (seen.field ≡ field) × IsBefore number seen.met.place × AreKnown number fields all

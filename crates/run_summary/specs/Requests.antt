@@ -1,0 +1,173 @@
+-- All requests of a run, by its records and its packets: which rule made each, which text was in force, its event, and which samples
+-- counted. This project's own.
+use Rattle.std.specs.Prelude.{◌≡◌, ℕ, ◌+◌, ◌-◌, Bool, not, ◌&&◌, ◌||◌, List, [], ◌∷◌, ◌++◌, drop, filter_map, find, is_some, length, map, nat_le, nat_lt, slice_get, take, ◌==◌, if◌then◌else◌, Option, Some, None, option_map}
+use Rattle.std.specs.List.{take_while}
+use Rattle.packet_listing.specs.Told as told
+use Rattle.packet_listing.specs.Told.{told_in}
+use Rattle.run_summary.specs.declared.place.Place.{Place}
+use Rattle.run_summary.specs.declared.place.Stand.{Stand}
+use Rattle.run_summary.specs.Account.{Step, account_behind, count_of}
+use Rattle.run_summary.specs.Asking.{asking, behind_rule}
+use Rattle.run_summary.specs.Brought.{brings}
+use Rattle.run_summary.specs.Happened.{Came, Happened, Sent, behind_record, packets_led_to, seen_behind, text_in_force}
+use Rattle.run_summary.specs.Packets.{packets_of}
+use Rattle.run_summary.specs.Plans.{parts_by, planned_at}
+use Rattle.run_summary.specs.Run.{OfTexts, Packet, ends_of, event_in, is_request, last_of, nothing_told, number_behind, packets_from}
+use Rattle.run_summary.specs.Samples.{Sampled, met_by_parts}
+use Rattle.run_summary.specs.Sent.{Requested, Said, Sending, is_own, most_parts, parts_in, requests_kept}
+use Rattle.run_summary.specs.Standing.{stand_at}
+
+-- ---- records that came
+
+-- a record: its place, how the rules stand behind it, and what had happened once it came. Of records the newest stands in front.
+pub record Taken : Type 0 where
+  pub place : Place
+  pub stands : List Stand
+  pub happened : List Happened
+
+-- how the rules stand behind these, and how they stood in front of the newest; no rule is there in front of the first
+abbrev pub stands_behind : List Taken → List Stand
+stands_behind [] = []
+stands_behind (taken ∷ before) = taken.stands
+
+abbrev pub stands_before : List Taken → List Stand
+stands_before [] = []
+stands_before (taken ∷ before) = stands_behind before
+
+-- how often a rule failed in a row
+abbrev pub failures_behind : ℕ → List Taken → ℕ
+failures_behind rule records = (stand_at rule (stands_behind records)).fails
+
+-- ---- samples
+
+-- what the comparisons of a rule of the text in force meet in a record, by what packets brought up to then
+abbrev pub sample_of : OfTexts → ℕ → Taken → Sampled
+sample_of read rule taken = record {
+  place = taken.place;
+  met = met_by_parts (parts_by (planned_at read.plans (text_in_force taken.happened) rule)) (map (seen_behind taken.happened) read.fields);
+}
+
+-- The samples of the row of failures that the rule is in, in order: those in which it failed once more. A first failure begins a row,
+-- and so does one with fewer failures than there were; without a failure there is none.
+abbrev pub row_more : (now before : ℕ) → Sampled → List Sampled → List Sampled
+row_more now before sample row =
+    if now == before then row
+    else if now == 0 then []
+    else (if nat_lt now before || now == 1 then [] else row) ++ sample ∷ []
+
+abbrev pub row_of : OfTexts → ℕ → List Taken → List Sampled
+row_of read rule [] = []
+row_of read rule (taken ∷ before) =
+    row_more (stand_at rule taken.stands).fails (failures_behind rule before) (sample_of read rule taken) (row_of read rule before)
+
+-- the first three and the last three
+abbrev pub six_of : List Sampled → List Sampled
+six_of samples = take 3 samples ++ last_of 3 (drop 3 samples)
+
+-- how many samples of a rule counted, and those that may be told; none of a rule that isn't known
+abbrev pub counted_of : Option ℕ → List Taken → ℕ
+counted_of None records = 0
+counted_of (Some rule) records = failures_behind rule records
+
+abbrev pub samples_of : OfTexts → Option ℕ → List Taken → List Sampled
+samples_of read None records = []
+samples_of read (Some rule) records = six_of (row_of read rule records)
+
+-- ---- requests
+
+-- the event of a request among these packets: the first of its own in front of the next request
+abbrev pub is_no_request : Packet → Bool
+is_no_request packet = not (is_request (told_in packet.bytes))
+
+abbrev pub own_event : Requested → List Packet → Option ℕ
+own_event request packets =
+    option_map (λ (event : Said). event.packet)
+    (find (λ (event : Said). is_own event request) (filter_map event_in (take_while is_no_request packets)))
+
+-- a request without its event: by this packet of the newest of these records, for this sequence, by this rule, with this text in force
+abbrev pub request_by : OfTexts → List Taken → Packet → ℕ → (rule text : Option ℕ) → Requested
+request_by read records packet sequence rule text = record {
+  packet = packet.number;
+  place = packet.place;
+  rule = rule;
+  text = text;
+  sequence = sequence;
+  count = count_of packet.bytes;
+  event = None;
+  counted = counted_of rule records;
+  samples = samples_of read rule records;
+}
+
+-- with its event, which is among these packets behind it
+abbrev pub with_its_event : Requested → List Packet → Requested
+with_its_event request behind = record request { event = own_event request behind }
+
+-- the sequence that a packet requests, if it requests one
+abbrev pub sequence_by : Option told.Told → Option ℕ
+sequence_by (Some (told.Request sequence)) = Some sequence
+sequence_by (Some (told.Event moment sender id kind text)) = None
+sequence_by (Some (told.Housekeeping mode count rules)) = None
+sequence_by None = None
+
+-- the rule that requested it: the first from this one on that is of this sequence in the text in force, and became passive by a failure
+-- between how the rules stood in front of the newest record and how they stand behind it
+abbrev pub rule_by : OfTexts → List Taken → (text : Option ℕ) → (from : ℕ) → Option ℕ → Option ℕ
+rule_by read records text from None = None
+rule_by read records text from (Some sequence) = asking read.plans text (stands_before records) (stands_behind records) read.lanes from sequence
+
+-- the request of a packet, if it is one
+abbrev pub request_if : OfTexts → List Taken → Option ℕ → Packet → (rule text : Option ℕ) → List Packet → List Requested
+request_if read records None packet rule text behind = []
+request_if read records (Some sequence) packet rule text behind = with_its_event (request_by read records packet sequence rule text) behind ∷ []
+
+-- Those among the packets of the newest of these records. The rule of each is looked for behind that of the one before it. Behind these
+-- packets others follow.
+abbrev pub requests_in : OfTexts → List Taken → (others : List Packet) → (from : ℕ) → List Happened → List Packet → List Requested
+requests_in read records others from happened [] = []
+requests_in read records others from happened (packet ∷ packets) =
+    request_if read records (sequence_by (told_in packet.bytes)) packet
+    (rule_by read records (text_in_force happened) from (sequence_by (told_in packet.bytes))) (text_in_force happened) (packets ++ others)
+    ++ requests_in read records others (behind_rule (rule_by read records (text_in_force happened) from (sequence_by (told_in packet.bytes))) from)
+    (Sent packet ∷ happened) packets
+
+-- a record came
+abbrev pub taken_by : Step → List Happened → Taken
+taken_by step happened = record { place = step.place; stands = step.stands; happened = Came step.place (brings step.bytes) ∷ happened }
+
+-- those of these records, in front of which these came, this happened, and so many packets were sent
+abbrev pub requests_from : OfTexts → List Taken → List Happened → ℕ → List Step → List Requested
+requests_from read before happened number [] = []
+requests_from read before happened number (step ∷ steps) =
+    requests_in read (taken_by step happened ∷ before) (packets_from (number_behind number (packets_of step.written)) steps) 0
+    (Came step.place (brings step.bytes) ∷ happened) (packets_led_to number step)
+    ++ requests_from read (taken_by step happened ∷ before) (behind_record number step happened) (number_behind number (packets_of step.written)) steps
+
+-- a request with its samples, if they are told
+abbrev pub told_if : Bool → Requested → Requested
+told_if b request = record request { samples = if b then request.samples else [] }
+
+-- Those with the samples that are told: where the text in force is known, as long as what comparisons met in the samples of all requests
+-- up to this one isn't more than 3,072, behind so many.
+abbrev pub with_samples : ℕ → List Requested → List Requested
+with_samples parts [] = []
+with_samples parts (request ∷ requests) =
+    told_if (nat_le (parts + parts_in request.samples) most_parts && is_some request.text) request
+    ∷ with_samples (parts + parts_in request.samples) requests
+
+-- all requests of a run of these texts
+abbrev pub requests_of : OfTexts → List Step → List Requested
+requests_of read steps = with_samples 0 (requests_from read [] [] 0 steps)
+
+-- ---- what is kept of them
+
+-- the newest request is kept, and of all others the first 300 and the last 299, and how many are left out between them, of the records
+-- from one to another
+pub record KeepsRequests (requests : List Requested) (sending : Sending) : Type 0 where
+  pub newest : sending.newest ≡ slice_get requests (length requests - 1)
+  pub others : sending.requests
+      ≡ ends_of (λ (request : Requested). request.place.«record») requests_kept (requests_kept - 1) (take (length requests - 1) requests)
+
+-- the account of a run keeps its requests
+abbrev pub TellsRequests : Type 0
+TellsRequests = (texts : OfTexts) (steps : List Step) →
+    KeepsRequests (requests_of texts steps) (account_behind (nothing_told texts) steps).sending

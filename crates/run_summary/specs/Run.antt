@@ -1,0 +1,259 @@
+-- What the account of a whole run is, by all packets and records of the run. This project's own.
+use Rattle.std.specs.Prelude.{◌≡◌, ℕ, ◌+◌, ◌-◌, ◌^◌, Bool, true, false, List, [], ◌∷◌, ◌++◌, filter_map, is_none, length, map, min, replicate, take, drop, Option, Some, None, ⊤}
+use Rattle.std.specs.List.{filter}
+use Rattle.lc_model.specs.declared.mode.LcMode.{LcMode}
+use Rattle.lc_model.specs.declared.rule.EventKind.TheVariants as kind
+use Rattle.lc_model.specs.Text.Syntax.{Item}
+use Rattle.packet_listing.specs.Told as told
+use Rattle.packet_listing.specs.Told.{told_in}
+use Rattle.run_summary.specs.declared.ends.Left.{Left}
+use Rattle.run_summary.specs.declared.figures.Figures.{Figures}
+use Rattle.run_summary.specs.declared.place.Place.{Place}
+use Rattle.run_summary.specs.declared.place.Stand.{Stand}
+use Rattle.run_summary.specs.declared.texts.Field.{Field}
+use Rattle.run_summary.specs.About.{rule_of}
+use Rattle.run_summary.specs.Account.{Account, Step, account_behind, account_with, before_with, come, sampled, stood_again, stood_so, written}
+use Rattle.run_summary.specs.Bands.{nothing_in_force}
+use Rattle.run_summary.specs.Ends.{Ends, kept}
+use Rattle.run_summary.specs.Brought.{Brings, Command, File, Half, Load, Telemetry, Tick, brings}
+use Rattle.run_summary.specs.Fields.{AreKnown, all_brought, come_in, unseen}
+use Rattle.run_summary.specs.Figures.{none, one_more}
+use Rattle.run_summary.specs.Packets.{packets_of}
+use Rattle.run_summary.specs.Plans.{Planned}
+use Rattle.run_summary.specs.Samples.{Row, no_row}
+use Rattle.run_summary.specs.Sent.{Said, events_kept, nothing_sent}
+use Rattle.run_summary.specs.Standing.{absent, stand_at}
+use Rattle.run_summary.specs.Texts.{HaveItems, compared_of, fields_of, most_rules, texts_planned}
+
+-- what is read of the texts of a run: the items of each, its rules, the most that a text has, and the fields that rules compare
+pub record OfTexts : Type 0 where
+  pub texts : List (List Item)
+  pub plans : List (List Planned)
+  pub lanes : ℕ
+  pub fields : List Field
+
+-- all of it is what the items say
+pub record AreRead (read : OfTexts) : Type 0 where
+  pub fields : map compared_of read.fields ≡ fields_of read.texts
+  pub plans : read.plans ≡ texts_planned (fields_of read.texts) read.texts
+  pub lanes : read.lanes ≡ most_rules read.texts
+
+-- nothing is told yet of runs of these texts
+abbrev pub nothing_told : OfTexts → Account
+nothing_told read = record {
+  texts = read.texts;
+  plans = read.plans;
+  lanes = read.lanes;
+  seen = map unseen read.fields;
+  rows = replicate read.lanes no_row;
+  before = replicate read.lanes absent;
+  bands = nothing_in_force;
+  sending = nothing_sent;
+  figures = none;
+}
+
+-- nothing is told yet of runs of texts of these bytes
+pub record TellsNothing (sources : List (List ℕ)) (a : Account) : Type 0 where
+  pub read : OfTexts
+  pub items : HaveItems sources read.texts
+  pub are_read : AreRead read
+  pub is : a ≡ nothing_told read
+
+-- ---- all packets of a run
+
+-- a packet of a run: its number, the place of the record that led to it, and its bytes
+pub record Packet : Type 0 where
+  pub number : ℕ
+  pub place : Place
+  pub bytes : List ℕ
+
+-- the packets of one record, behind so many
+abbrev pub numbered : ℕ → Place → List (List ℕ) → List Packet
+numbered before place [] = []
+numbered before place (bytes ∷ more) = record { number = one_more before; place = place; bytes = bytes } ∷ numbered (one_more before) place more
+
+-- how many there are then
+abbrev pub number_behind : ℕ → List (List ℕ) → ℕ
+number_behind before [] = before
+number_behind before (bytes ∷ more) = number_behind (one_more before) more
+
+-- the packets of these records, behind so many
+abbrev pub packets_from : ℕ → List Step → List Packet
+packets_from before [] = []
+packets_from before (step ∷ steps) =
+    numbered before step.place (packets_of step.written) ++ packets_from (number_behind before (packets_of step.written)) steps
+
+-- all packets of a run, counted from 1
+abbrev pub packets_sent : List Step → List Packet
+packets_sent steps = packets_from 0 steps
+
+-- ---- all events of a run
+
+-- the event that a packet is, if it is one
+abbrev pub event_by : ℕ → Place → Option told.Told → Option Said
+event_by number place (Some (told.Event moment sender id kind text)) =
+    Some (record { packet = number; place = place; rule = rule_of sender id text; sender = sender; id = id; kind = kind; text = text })
+event_by number place (Some (told.Request sequence)) = None
+event_by number place (Some (told.Housekeeping mode count rules)) = None
+event_by number place None = None
+
+abbrev pub event_in : Packet → Option Said
+event_in packet = event_by packet.number packet.place (told_in packet.bytes)
+
+abbrev pub events_of : List Step → List Said
+events_of steps = filter_map event_in (packets_sent steps)
+
+-- ---- how many there are of what
+
+-- a count, which stops at the greatest number of 64 bits
+abbrev pub stopped : ℕ → ℕ
+stopped count = min count (2 ^ 64 - 1)
+
+-- of how many of these it is true
+abbrev pub counted : {T : Type 0} → (T → Bool) → List T → ℕ
+counted test items = stopped (length (filter test items))
+
+-- what a record brings
+abbrev pub is_telemetry : Brings → Bool
+is_telemetry (Telemetry packet) = true
+is_telemetry other = false
+
+abbrev pub is_command : Brings → Bool
+is_command Command = true
+is_command (Load name) = true
+is_command other = false
+
+abbrev pub is_tick : Brings → Bool
+is_tick Tick = true
+is_tick other = false
+
+abbrev pub is_file : Brings → Bool
+is_file (File name) = true
+is_file (Half name text) = true
+is_file other = false
+
+-- what a packet says
+abbrev pub is_request : Option told.Told → Bool
+is_request (Some (told.Request sequence)) = true
+is_request other = false
+
+abbrev pub is_housekeeping : Option told.Told → Bool
+is_housekeeping (Some (told.Housekeeping mode count rules)) = true
+is_housekeeping other = false
+
+abbrev pub is_critical : Option told.Told → Bool
+is_critical (Some (told.Event moment sender id kind.Critical text)) = true
+is_critical other = false
+
+abbrev pub is_error : Option told.Told → Bool
+is_error (Some (told.Event moment sender id kind.Error text)) = true
+is_error other = false
+
+abbrev pub is_information : Option told.Told → Bool
+is_information (Some (told.Event moment sender id kind.Information text)) = true
+is_information other = false
+
+abbrev pub is_debug : Option told.Told → Bool
+is_debug (Some (told.Event moment sender id kind.Debug text)) = true
+is_debug other = false
+
+-- of records that bring this, and of packets that say this
+abbrev pub figures_by : List Brings → List (Option told.Told) → Figures
+figures_by brought said = record {
+  records = stopped (length brought);
+  telemetry = counted is_telemetry brought;
+  commands = counted is_command brought;
+  ticks = counted is_tick brought;
+  files = counted is_file brought;
+  packets = stopped (length said);
+  requests = counted is_request said;
+  housekeeping = counted is_housekeeping said;
+  critical = counted is_critical said;
+  error = counted is_error said;
+  info = counted is_information said;
+  debug = counted is_debug said;
+  other = counted is_none said;
+}
+
+-- what the records of a run bring, and what its packets say
+abbrev pub brought_in : List Step → List Brings
+brought_in steps = map (λ (step : Step). brings step.bytes) steps
+
+abbrev pub said_in : List Step → List (Option told.Told)
+said_in steps = map (λ (packet : Packet). told_in packet.bytes) (packets_sent steps)
+
+-- ---- what is kept of a list
+
+-- each of these is added, one after the other
+abbrev pub all_kept : {T : Type 0} → (T → ℕ) → List T → Ends T → Ends T
+all_kept record_of [] e = e
+all_kept record_of (item ∷ items) e = all_kept record_of items (kept record_of item e)
+
+-- the last so many
+abbrev pub last_of : {T : Type 0} → ℕ → List T → List T
+last_of count items = drop (length items - count) items
+
+-- what is left out: how many, and from which record to which
+abbrev pub left_by : {T : Type 0} → (T → ℕ) → List T → Option Left → Option Left
+left_by record_of [] left = left
+left_by record_of (item ∷ items) None = left_by record_of items (Some (record { count = 1; from = record_of item; to = record_of item }))
+left_by record_of (item ∷ items) (Some left) =
+    left_by record_of items (Some (record { count = one_more left.count; from = left.from; to = record_of item }))
+
+-- those between the first and the last
+abbrev pub between : {T : Type 0} → (front back : ℕ) → List T → List T
+between front back items = take (length items - front - back) (drop front items)
+
+-- the first and the last of a list, and what is left out between them
+abbrev pub ends_of : {T : Type 0} → (T → ℕ) → (front back : ℕ) → List T → Ends T
+ends_of record_of front back items = record {
+  front = front;
+  back = back;
+  first = take front items;
+  last = last_of back (drop front items);
+  left = left_by record_of (between front back items) None;
+}
+
+-- ---- rules that stand as before
+
+-- each of these rows, from the rule of this number on, ends with so many failures as the rule has by these stands
+abbrev pub AreCounted : List Stand → ℕ → List Row → Type 0
+AreCounted stands rule [] = ⊤
+AreCounted stands rule (row ∷ rows) = (row.fails ≡ (stand_at rule stands).fails) × AreCounted stands (rule + 1) rows
+
+-- behind the last record the rules stood so
+pub record StoodLast (stands : List Stand) (a : Account) : Type 0 where
+  pub rows : AreCounted stands 0 a.rows
+  pub before : before_with stands 0 a.before ≡ a.before
+
+-- ---- the laws
+
+-- behind a record the rules stood as they stood there, also once the next one came. Where they stand so behind that one, too, no sample
+-- of it counts, and only the mode is new
+pub record StandAgain : Type 0 where
+  pub behind : (step : Step) (a : Account) → StoodLast step.stands (account_with step a)
+  pub comes : (stands : List Stand) (bytes : List ℕ) (place : Place) (a : Account) → StoodLast stands a → StoodLast stands (come bytes place a)
+  pub again : (stands : List Stand) (bytes : List ℕ) (place : Place) (mode : Option LcMode) (a : Account) → StoodLast stands a →
+      stood_so place mode stands (written bytes place stands (sampled place stands a)) ≡ stood_again place mode (written bytes place stands a)
+
+-- of each field its account knows, behind each record that came, what that record brought of it: a value that a packet of the record's
+-- own place brought is that of the record, since what was known before is of records in front of it
+pub record FieldsCome : Type 0 where
+  pub begin : (texts : OfTexts) → AreKnown 1 texts.fields (nothing_told texts).seen
+  pub come : (fields : List Field) (bytes : List ℕ) (place : Place) (a : Account) → AreKnown place.«record» fields a.seen →
+      map (come_in place) (come bytes place a).seen ≡ all_brought fields place (brings bytes)
+  pub go_on : (fields : List Field) (step : Step) (a : Account) → AreKnown step.place.«record» fields a.seen →
+      AreKnown (step.place.«record» + 1) fields (account_with step a).seen
+
+-- the account of a run has the first 1,000 of all its events, and the last 1,000, and how many are left out between them, of the
+-- records from one to another
+abbrev pub TellsEvents : Type 0
+TellsEvents = (texts : OfTexts) (steps : List Step) →
+    (account_behind (nothing_told texts) steps).sending.events
+    ≡ ends_of (λ (event : Said). event.place.«record») events_kept events_kept (events_of steps)
+
+-- its figures are how many records the run has, and how many of them bring this and that; and how many packets, and how many of them
+-- say this and that
+abbrev pub TellsFigures : Type 0
+TellsFigures = (texts : OfTexts) (steps : List Step) →
+    (account_behind (nothing_told texts) steps).figures ≡ figures_by (brought_in steps) (said_in steps)

@@ -1,0 +1,122 @@
+//! The first and the last so many of a list.
+
+ghost use Rattle.std.specs.Prelude.{◌≡◌, ◌++◌, IfOk};
+ghost use Rattle.run_summary.specs.Ends.{added, gone, left_with, leaves, no_items};
+
+use std::alloc::{AllocError, Global};
+use std::collections::VecDeque;
+use std::marker::Model;
+
+/// What is between the first and the last: how many, and from which record to which. The count stops at the greatest number of 64
+/// bits.
+#[derive(Clone, Copy)]
+pub struct Left {
+    pub count: u64,
+    pub from: u64,
+    pub to: u64,
+}
+
+/// The first and the last so many of a list, and what is left out between them. Contracts see all (`Ends`).
+#[derive(Drop)]
+pub struct Ends<T: Drop> {
+    front: usize,
+    back: usize,
+    first: Vec<T>,
+    last: VecDeque<T>,
+    left: Option<Left>,
+}
+
+impl<T: Drop> Model for Ends<T> {
+    ghost use Rattle.run_summary.specs.Ends.{Ends};
+
+    ghost Value = { Ends T };
+
+    ghost view = { λ e. record {
+      front = e.front;
+      back = e.back;
+      first = e.first.items;
+      last = e.last.items;
+      left = e.left;
+    } };
+}
+
+/// One more that is left out, of this record.
+fn left_with(left: Option<Left>, number: u64) -> Left
+    ensures { result ≡ left_with left number }
+{
+    match left {
+        Some(left) => Left {
+            count: left.count.saturating_add(1),
+            from: left.from,
+            to: number,
+        },
+        None => Left {
+            count: 1,
+            from: number,
+            to: number,
+        },
+    }
+}
+
+impl<T: Drop> Ends<T> {
+    /// Of nothing: at most so many are kept of the first, and so many of the last.
+    pub(crate) fn new(alloc: Global, front: usize, back: usize) -> Ends<T>
+        ensures { result ≡ no_items front back }
+    {
+        Ends {
+            front,
+            back,
+            first: Vec::new(alloc),
+            last: VecDeque::new(alloc),
+            left: None,
+        }
+    }
+
+    /// The first ones, in order.
+    pub fn first(&self) -> &[T]
+        ensures { result.now ≡ self.now.first }
+    {
+        self.first.as_slice()
+    }
+
+    /// The last ones, in order: those of the first slice, and then those of the second.
+    pub fn last(&self) -> (&[T], &[T])
+        ensures { result.0.now ++ result.1.now ≡ self.now.last }
+    {
+        self.last.as_slices()
+    }
+
+    /// What is left out between them.
+    pub fn omission(&self) -> Option<Left>
+        ensures { result ≡ self.now.left }
+    {
+        self.left
+    }
+
+    /// Adds one, and gives back the one that goes for it. Out of memory is the only error.
+    pub(crate) fn add(&mut self, item: T) -> Result<Option<T>, AllocError>
+        ensures goes { IfOk result (λ gone_now. gone_now ≡ gone self.old) }
+        ensures added { IfOk result (λ _. self.new ≡ added item self.old) }
+    {
+        if self.first.len() < self.front {
+            self.first.push(item)?;
+            return Ok(None);
+        }
+        if self.last.len() < self.back {
+            self.last.push_back(item)?;
+            return Ok(None);
+        }
+        let gone = self.last.pop_front();
+        self.last.push_back(item)?;
+        Ok(gone)
+    }
+
+    /// One of this record is left out, if there is one.
+    pub(crate) fn leave(&mut self, number: Option<u64>)
+        ensures { self.new ≡ leaves number self.old }
+    {
+        if let Some(number) = number {
+            self.left = Some(left_with(self.left, number));
+        }
+    }
+}

@@ -1,0 +1,32 @@
+//! The account of a run: what it brought and sent, record by record, in memory that the run's length doesn't change. Whoever runs it
+//! says how rules stand behind each record, as plain numbers.
+#![tactic(auto)]
+
+mod about;
+mod account;
+mod asking;
+mod bands;
+mod brought;
+mod ends;
+mod figures;
+pub mod laws;
+mod packets;
+mod place;
+mod plans;
+mod samples;
+mod seen;
+mod sent;
+mod texts;
+mod values;
+
+pub use account::Account;
+pub use bands::{Bands, How, ModeFrom, TablesFrom};
+pub use ends::{Ends, Left};
+pub use figures::Figures;
+pub use place::{ABSENT, Place, Stand, result_bit, stand_in, state_bit};
+pub use plans::Part;
+pub use samples::{Sample, verdict};
+pub use seen::{Met, Seen};
+pub use sent::{Request, SeenEvent, Sending};
+pub use texts::{Field, Text};
+pub use values::type_word;

@@ -1,0 +1,208 @@
+//! The packets that a record led to, as the account has them.
+
+ghost use Rattle.std.specs.Prelude.{◌≡◌, IfOk, OnOk, Some};
+ghost use Rattle.packet_listing.specs.Told.{told_of};
+ghost use Rattle.run_summary.specs.Account.{account_of, asked, count_of, enforced_so, in_force_by, read, read_by, rule_asking, said, told_by, written};
+
+use crate::about::{is, rule_of};
+use crate::account::Account;
+use crate::asking::{Around, asking, behind_rule, count_samples, row_asked};
+use crate::bands::How;
+use crate::figures::count;
+use crate::place::{Place, Stand};
+use crate::seen::forget_all;
+use crate::sent::{Request, SeenEvent};
+use lc_model::packet::{COUNT_END, first_packet};
+use lc_model::u16_at;
+use packet_listing::{Event, Sent, read_packet};
+use std::alloc::AllocError;
+
+/// The sequence count of a packet.
+fn count_of(packet: &[u8]) -> u16
+    ensures { result ≡ count_of packet.now }
+{
+    if packet.len() < 4 {
+        return 0;
+    }
+    u16_at(packet, 2) % COUNT_END
+}
+
+impl<'a> Account<'a> {
+    /// The rule that requests this sequence: the first from one on that is of this sequence, as far as the text in force is
+    /// known, and in this record became passive by a failure.
+    fn rule_asking(&self, from: usize, sequence: u16, stands: &[Stand]) -> Option<usize>
+        ensures { result ≡ rule_asking stands.now sequence
+            (record { account = account_of self.now; from = from }) }
+    {
+        let around = Around {
+            plans: self.plans.as_slice(),
+            text: self.bands.text(),
+            before: self.before.as_slice(),
+            stands,
+        };
+        asking(around, self.lanes, from, sequence)
+    }
+
+    /// A request. Answers from which rule on that of the next one is looked for. Out of memory is the only error.
+    fn request(
+        &mut self,
+        packet: &[u8],
+        place: Place,
+        from: usize,
+        sequence: u16,
+        stands: &[Stand],
+    ) -> Result<usize, AllocError>
+        ensures { IfOk result (λ next. record { account = account_of self.new; from = next } ≡
+            asked packet.now place stands.now sequence
+            (record { account = account_of self.old; from = from })) }
+    {
+        let rule = self.rule_asking(from, sequence, stands);
+        let text = self.bands.text();
+        let row = row_asked(self.rows.as_slice(), rule);
+        let (counted, samples) = count_samples(self.alloc, row, text, &mut self.sending)?;
+        count(&mut self.figures.requests);
+        self.sending.request(Request {
+            packet: self.figures.packets,
+            place,
+            rule,
+            text,
+            sequence,
+            count: count_of(packet),
+            event: None,
+            counted,
+            samples,
+        })?;
+        Ok(behind_rule(rule, from))
+    }
+
+    /// Tables came into force: what comparisons meet begins anew.
+    fn enforce(&mut self, place: Place, how: How) -> Result<(), AllocError>
+        ensures { OnOk result (account_of self.new ≡
+            enforced_so place how (account_of self.old)) }
+    {
+        forget_all(&mut self.seen);
+        self.bands.enforce(place, how)
+    }
+
+    /// What an event of this sender with this number and text says of the tables in force.
+    fn take_in_force(
+        &mut self,
+        sender: &[u8],
+        id: u16,
+        text: &[u8],
+        place: Place,
+    ) -> Result<(), AllocError>
+        ensures { OnOk result (account_of self.new ≡
+            in_force_by sender.now id text.now place (account_of self.old)) }
+    {
+        if !is(sender, b"LC") {
+            return Ok(());
+        }
+        if id == 2 {
+            return self.enforce(place, How::Adopted);
+        }
+        if id == 1 {
+            if is(text, b"started with tables") {
+                return self.enforce(place, How::Started);
+            }
+            return self.enforce(place, How::None);
+        }
+        Ok(())
+    }
+
+    /// An event is told.
+    fn tell_event(&mut self, place: Place, event: Event<'_>) -> Result<(), AllocError>
+        ensures { OnOk result (account_of self.new ≡ told_by place event.entry.sender.now
+            event.entry.id event.entry.kind event.entry.text.now (account_of self.old)) }
+    {
+        let number = self.figures.packets;
+        let sender = Vec::from_slice(self.alloc, event.sender)?;
+        let text = Vec::from_slice(self.alloc, event.text)?;
+        self.sending.event(SeenEvent {
+            packet: number,
+            place,
+            rule: rule_of(event.sender, event.id, event.text),
+            sender,
+            id: event.id,
+            kind: event.kind,
+            text,
+        })
+    }
+
+    /// An event. Out of memory is the only error.
+    fn event(&mut self, place: Place, event: Event<'_>) -> Result<(), AllocError>
+        ensures { OnOk result (account_of self.new ≡ said place event.entry.sender.now
+            event.entry.id event.entry.kind event.entry.text.now (account_of self.old)) }
+    {
+        self.figures.take_event(event.kind);
+        self.take_in_force(event.sender, event.id, event.text, place)?;
+        self.tell_event(place, event)
+    }
+
+    /// What a packet says.
+    fn add_sent(
+        &mut self,
+        sent: Sent<'_>,
+        packet: &[u8],
+        place: Place,
+        from: usize,
+        stands: &[Stand],
+    ) -> Result<usize, AllocError>
+        ensures { IfOk result (λ next. record { account = account_of self.new; from = next } ≡
+            read_by (Some (told_of sent.entry)) packet.now place stands.now
+            (record { account = account_of self.old; from = from })) }
+    {
+        match sent {
+            Sent::Request(sequence) => self.request(packet, place, from, sequence, stands),
+            Sent::Event(event) => {
+                self.event(place, event)?;
+                Ok(from)
+            }
+            Sent::Housekeeping { .. } => {
+                count(&mut self.figures.housekeeping);
+                Ok(from)
+            }
+        }
+    }
+
+    /// A packet. Answers from which rule on that of the next request is looked for. Out of memory is the only error.
+    fn read(
+        &mut self,
+        packet: &[u8],
+        place: Place,
+        from: usize,
+        stands: &[Stand],
+    ) -> Result<usize, AllocError>
+        ensures { IfOk result (λ next. record { account = account_of self.new; from = next } ≡
+            read packet.now place stands.now
+            (record { account = account_of self.old; from = from })) }
+    {
+        count(&mut self.figures.packets);
+        match read_packet(packet) {
+            Some(sent) => self.add_sent(sent, packet, place, from, stands),
+            None => {
+                count(&mut self.figures.other);
+                Ok(from)
+            }
+        }
+    }
+
+    /// All packets that a record led to. Out of memory is the only error.
+    pub fn write(
+        &mut self,
+        packets: &[u8],
+        place: Place,
+        stands: &[Stand],
+    ) -> Result<(), AllocError>
+        ensures { OnOk result (account_of self.new ≡
+            written packets.now place stands.now (account_of self.old)) }
+    {
+        let mut rest = packets;
+        let mut from = 0usize;
+        while let Some((packet, behind)) = first_packet(rest) {
+            from = self.read(packet, place, from, stands)?;
+            rest = behind;
+        }
+        Ok(())
+    }
+}

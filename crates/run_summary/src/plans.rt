@@ -1,0 +1,209 @@
+//! The rules of texts, as far as requests and samples need them.
+
+ghost use Rattle.std.specs.Prelude.{◌≡◌, IfOk, Some, filter_map, map, option_map, slice_get};
+ghost use Rattle.rule_parser.specs.Syntax.{rule_of};
+ghost use Rattle.run_summary.specs.Plans.{may_by, parts_by, planned_at};
+ghost use Rattle.run_summary.specs.Texts.{compared_of, comparison_of, items_in, part_in, planned_of, text_planned, texts_planned};
+
+use crate::texts::{Field, Text, comparisons_of, place_of};
+use lc_model::CmpOp;
+use rule_parser::{Comparison, Item, RuleItem};
+use std::alloc::{AllocError, Global};
+use std::marker::Model;
+
+/// A comparison of a rule, by the number of its field.
+#[derive(Clone, Copy)]
+pub struct Part {
+    pub field: usize,
+    pub op: CmpOp,
+    /// The number, and the byte of the text at which it stands.
+    pub number: i64,
+    pub at: usize,
+}
+
+/// A rule: the sequence that it requests, and its comparisons, from the left.
+#[derive(Drop)]
+pub(crate) struct RulePlan {
+    sequence: i64,
+    parts: Vec<Part>,
+}
+
+impl Model for RulePlan {
+    ghost use Rattle.run_summary.specs.Plans.{Planned};
+
+    ghost Value = { Planned };
+
+    ghost view = { λ p. record { sequence = p.sequence; parts = p.parts.items } };
+}
+
+/// The rules of a text.
+#[derive(Drop)]
+pub(crate) struct RulePlans {
+    rules: Vec<RulePlan>,
+}
+
+impl Model for RulePlans {
+    ghost use Rattle.std.specs.Prelude.{List};
+    ghost use Rattle.run_summary.specs.Plans.{Planned};
+
+    ghost Value = { List Planned };
+
+    ghost view = { λ p. p.rules.items };
+}
+
+impl RulePlan {
+    fn parts(&self) -> &[Part]
+        ensures { result.now ≡ self.now.parts }
+    {
+        self.parts.as_slice()
+    }
+
+    /// Whether the rule requests this sequence.
+    fn requests(&self, sequence: u16) -> bool
+        ensures { result ≡ may_by sequence (Some self.now) }
+    {
+        self.sequence == i64::from(sequence)
+    }
+}
+
+impl RulePlans {
+    /// The rule of this number.
+    fn rule(&self, number: usize) -> Option<&RulePlan>
+        ensures { option_map (λ rule. rule.now) result ≡ slice_get self.now number }
+    {
+        self.rules.get(number)
+    }
+}
+
+/// The rule of this number in the text of this number.
+fn planned_at(plans: &[RulePlans], text: Option<u16>, rule: usize) -> Option<&RulePlan>
+    ensures { option_map (λ rule. rule.now) result ≡ planned_at plans.now text rule }
+{
+    match text {
+        None => None,
+        Some(text) => match plans.get(usize::from(text)) {
+            None => None,
+            Some(plan) => plan.rule(rule),
+        },
+    }
+}
+
+/// The comparisons of the rule of this number in the text of this number.
+pub(crate) fn parts_at(plans: &[RulePlans], text: Option<u16>, rule: usize) -> &[Part]
+    ensures { result.now ≡ parts_by (planned_at plans.now text rule) }
+{
+    match planned_at(plans, text, rule) {
+        None => &[],
+        Some(rule) => rule.parts(),
+    }
+}
+
+/// Whether the rule of this number in the text of this number may have requested a sequence: one that isn't known may.
+pub(crate) fn may_request(
+    plans: &[RulePlans],
+    text: Option<u16>,
+    rule: usize,
+    sequence: u16,
+) -> bool
+    ensures { result ≡ may_by sequence (planned_at plans.now text rule) }
+{
+    match planned_at(plans, text, rule) {
+        None => true,
+        Some(rule) => rule.requests(sequence),
+    }
+}
+
+/// A comparison by the number of its field among these, if it names one.
+fn part_of(text: &Text<'_>, comparison: &Comparison<'_>, fields: &[Field<'_>]) -> Option<Part>
+    ensures { result ≡ part_in (items_in text.now) (map compared_of fields.now)
+        (comparison_of comparison.now) }
+{
+    match text.field(comparison.field) {
+        Some(field) => Some(Part {
+            field: place_of(fields, &field).unwrap_or(0),
+            op: comparison.op,
+            number: comparison.value.value,
+            at: comparison.value.at,
+        }),
+        None => None,
+    }
+}
+
+/// These comparisons by the numbers of their fields. Out of memory is the only error.
+fn parts_among(
+    alloc: Global,
+    text: &Text<'_>,
+    comparisons: &[Comparison<'_>],
+    fields: &[Field<'_>],
+) -> Result<Vec<Part>, AllocError>
+    ensures { IfOk result (λ parts. parts.items ≡ filter_map (part_in (items_in text.now)
+        (map compared_of fields.now)) (map comparison_of comparisons.now)) }
+{
+    let mut parts = Vec::new(alloc);
+    for comparison in comparisons {
+        if let Some(part) = part_of(text, comparison, fields) {
+            parts.push(part)?;
+        }
+    }
+    Ok(parts)
+}
+
+/// The comparisons of a rule, from the left. Out of memory is the only error.
+fn parts_of(
+    alloc: Global,
+    text: &Text<'_>,
+    rule: &RuleItem<'_>,
+    fields: &[Field<'_>],
+) -> Result<Vec<Part>, AllocError>
+    ensures { IfOk result (λ parts. parts.items ≡
+        (planned_of (items_in text.now) (map compared_of fields.now) (rule_of rule.now)).parts) }
+{
+    let comparisons = comparisons_of(alloc, rule)?;
+    parts_among(alloc, text, comparisons.as_slice(), fields)
+}
+
+/// A rule of a text. Out of memory is the only error.
+fn rule_plan(
+    alloc: Global,
+    text: &Text<'_>,
+    rule: &RuleItem<'_>,
+    fields: &[Field<'_>],
+) -> Result<RulePlan, AllocError>
+    ensures { IfOk result (λ plan. plan ≡
+        planned_of (items_in text.now) (map compared_of fields.now) (rule_of rule.now)) }
+{
+    Ok(RulePlan {
+        sequence: rule.sequence.value,
+        parts: parts_of(alloc, text, rule, fields)?,
+    })
+}
+
+/// The rules of a text, which compares these fields. Out of memory is the only error.
+fn plan_of(alloc: Global, text: &Text<'_>, fields: &[Field<'_>]) -> Result<RulePlans, AllocError>
+    ensures { IfOk result (λ plan. plan ≡
+        text_planned (map compared_of fields.now) (items_in text.now)) }
+{
+    let mut rules = Vec::new(alloc);
+    for item in &text.file.items {
+        if let Item::Rule(rule) = item {
+            rules.push(rule_plan(alloc, text, rule, fields)?)?;
+        }
+    }
+    Ok(RulePlans { rules })
+}
+
+/// The rules of texts, which compare these fields. Out of memory is the only error.
+pub(crate) fn plans_of(
+    alloc: Global,
+    texts: &[Text<'_>],
+    fields: &[Field<'_>],
+) -> Result<Vec<RulePlans>, AllocError>
+    ensures { IfOk result (λ plans. plans.items ≡
+        texts_planned (map compared_of fields.now) (map items_in texts.now)) }
+{
+    let mut plans = Vec::new(alloc);
+    for text in texts {
+        plans.push(plan_of(alloc, text, fields)?)?;
+    }
+    Ok(plans)
+}

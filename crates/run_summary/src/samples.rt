@@ -1,0 +1,215 @@
+//! The samples that count for a request: those in which a rule failed in a row.
+
+ghost use Rattle.std.specs.Prelude.{◌≡◌, ◌++◌, ◌∷◌, [], length, IfOk, OnOk};
+ghost use Rattle.lc_model.specs.Field.{compares};
+ghost use Rattle.run_summary.specs.Samples.{in_row, met_by_parts, no_row, row_with, sampled_more, with_room};
+ghost use Rattle.run_summary.specs.Verdicts.{verdict_of};
+
+use crate::place::{Place, Stand};
+use crate::plans::Part;
+use crate::seen::{Met, Seen, met_of};
+use lc_model::CmpOp;
+use std::alloc::{AllocError, Global};
+use std::marker::Model;
+
+/// What a rule's comparisons met in a sample in which it failed. Contracts see all (`Sampled`).
+#[derive(Drop)]
+pub struct Sample {
+    place: Place,
+    met: Vec<Met>,
+}
+
+impl Model for Sample {
+    ghost use Rattle.run_summary.specs.Samples.{Sampled};
+
+    ghost Value = { Sampled };
+
+    ghost view = { λ s. record { place = s.place; met = s.met.items } };
+}
+
+impl Sample {
+    /// Where the sample was.
+    pub fn place(&self) -> Place
+        ensures { result ≡ self.now.place }
+    {
+        self.place
+    }
+
+    /// What the rule's comparisons met, from the left.
+    pub fn comparisons(&self) -> &[Met]
+        ensures { result.now ≡ self.now.met }
+    {
+        self.met.as_slice()
+    }
+
+    /// The same sample. Out of memory is the only error.
+    pub(crate) fn same(&self, alloc: Global) -> Result<Sample, AllocError>
+        ensures { IfOk result (λ sample. sample ≡ self.now) }
+    {
+        let met = Vec::from_slice(alloc, self.met.as_slice())?;
+        Ok(Sample {
+            place: self.place,
+            met,
+        })
+    }
+
+    /// Its room for what is met.
+    fn into_room(self) -> Vec<Met>
+        ensures { result.items ≡ [] }
+    {
+        let mut met = self.met;
+        met.clear();
+        met
+    }
+}
+
+/// How often a rule failed in a row, and the first three and the last three samples in which it did. Contracts see all (`Row`).
+#[derive(Drop)]
+pub(crate) struct FailRun {
+    fails: u16,
+    samples: Vec<Sample>,
+}
+
+impl Model for FailRun {
+    ghost use Rattle.run_summary.specs.Samples.{Row};
+
+    ghost Value = { Row };
+
+    ghost view = { λ r. record { fails = r.fails; samples = r.samples.items } };
+}
+
+/// How many of a row's samples are kept at its front, and at all.
+const FRONT: usize = 3;
+
+const ALL: usize = 6;
+
+/// What these comparisons meet. Out of memory is the only error.
+fn meet(room: Vec<Met>, parts: &[Part], all: &[Seen<'_>]) -> Result<Vec<Met>, AllocError>
+    requires { room.items ≡ [] }
+    ensures { IfOk result (λ met. met.items ≡ met_by_parts parts.now all.now) }
+{
+    let mut met = room;
+    for part in parts {
+        met.push(met_of(all, part.field))?;
+    }
+    Ok(met)
+}
+
+/// Makes room for one more, and answers room for what it meets.
+fn make_room(alloc: Global, samples: &mut Vec<Sample>) -> Vec<Met>
+    ensures room { result.items ≡ [] }
+    ensures samples { samples.new.items ≡ with_room samples.old.items }
+{
+    if samples.len() < ALL {
+        return Vec::new(alloc);
+    }
+    samples.remove(FRONT).into_room()
+}
+
+/// One more sample, in which these comparisons meet what is known of fields. Out of memory is the only error.
+fn add_sample(
+    alloc: Global,
+    samples: &mut Vec<Sample>,
+    place: Place,
+    parts: &[Part],
+    all: &[Seen<'_>],
+) -> Result<(), AllocError>
+    ensures { OnOk result (samples.new.items ≡
+        sampled_more place (met_by_parts parts.now all.now) samples.old.items) }
+{
+    let room = make_room(alloc, samples);
+    let met = meet(room, parts, all)?;
+    samples.push(Sample { place, met })?;
+    Ok(())
+}
+
+/// The samples of the row that the last one is of: a first failure begins one.
+fn begin_row(samples: &mut Vec<Sample>, fails: u16, before: u16)
+    ensures { samples.new.items ≡
+        in_row fails (record { fails = before; samples = samples.old.items }) }
+{
+    if fails < before || fails == 1 {
+        samples.clear();
+    }
+}
+
+impl FailRun {
+    pub(crate) fn new(alloc: Global) -> FailRun
+        ensures { result ≡ no_row }
+    {
+        FailRun {
+            fails: 0,
+            samples: Vec::new(alloc),
+        }
+    }
+
+    /// How often the rule failed in a row.
+    pub(crate) fn fails(&self) -> u16
+        ensures { result ≡ self.now.fails }
+    {
+        self.fails
+    }
+
+    pub(crate) fn samples(&self) -> &[Sample]
+        ensures { result.now ≡ self.now.samples }
+    {
+        self.samples.as_slice()
+    }
+
+    /// How the rule stands behind a record: where it failed once more, what its comparisons met is kept. Out of memory is the only
+    /// error.
+    pub(crate) fn take(
+        &mut self,
+        alloc: Global,
+        place: Place,
+        stand: Stand,
+        parts: &[Part],
+        all: &[Seen<'_>],
+    ) -> Result<(), AllocError>
+        ensures { OnOk result (self.new ≡
+            row_with place stand (met_by_parts parts.now all.now) self.old) }
+    {
+        if stand.fails == self.fails {
+            return Ok(());
+        }
+        if stand.fails == 0 {
+            self.fails = 0;
+            self.samples.clear();
+            return Ok(());
+        }
+        begin_row(&mut self.samples, stand.fails, self.fails);
+        self.fails = stand.fails;
+        add_sample(alloc, &mut self.samples, place, parts, all)
+    }
+}
+
+/// What a comparison makes of a value.
+fn holds(op: CmpOp, value: i64, number: i64) -> bool
+    ensures { result ≡ compares op value number }
+{
+    match op {
+        CmpOp::Less => value < number,
+        CmpOp::LessOrEqual => value <= number,
+        CmpOp::NotEqual => value != number,
+        CmpOp::Equal => value == number,
+        CmpOp::GreaterOrEqual => value >= number,
+        CmpOp::Greater => value > number,
+    }
+}
+
+/// What a comparison makes of what it met: stale where no packet came, an error where it ended before the field, else whether it holds.
+pub fn verdict(part: Part, met: Met) -> &'static str
+    ensures { result.now ≡ verdict_of part met }
+{
+    match met.place {
+        None => "stale",
+        Some(_) => match met.value {
+            None => "error",
+            Some(value) => if holds(part.op, value, part.number) {
+                "true"
+            } else {
+                "false"
+            },
+        },
+    }
+}

@@ -1,0 +1,274 @@
+//! What a run sent: the first and the last of its requests and events.
+
+ghost use Rattle.std.specs.Prelude.{◌≡◌, ◌+◌, ◌-◌, ◌^◌, IfOk, OnOk, Some, length, map, min, nat_le, option_map};
+ghost use Rattle.run_summary.specs.Ends.{kept};
+ghost use Rattle.run_summary.specs.Samples.{Sampled};
+ghost use Rattle.run_summary.specs.Sent.{Requested, Said, before_newest, hears, is_own, is_rule, most_parts, nothing_sent, parts_in, parts_with, requested_more, said_more};
+
+use crate::ends::Ends;
+use crate::place::{Place, is_place};
+use crate::samples::Sample;
+use lc_model::EventKind;
+use std::alloc::{AllocError, Global};
+use std::marker::Model;
+
+/// How many requests and events are kept of the first, and of the last.
+const REQUESTS: usize = 300;
+
+const EVENTS: usize = 1_000;
+
+/// The most that comparisons met in all samples that are told.
+const PARTS: usize = 3_072;
+
+/// The least number of a rule's own event.
+const FIRST_RULE_EVENT: u16 = 1_000;
+
+/// A request for a command sequence, with the rule that made it, where that is known. Contracts see all (`Requested`).
+#[derive(Drop)]
+pub struct Request {
+    pub packet: u64,
+    pub place: Place,
+    pub rule: Option<usize>,
+    pub text: Option<u16>,
+    pub sequence: u16,
+    pub count: u16,
+    pub event: Option<u64>,
+    pub counted: u16,
+    pub samples: Vec<Sample>,
+}
+
+impl Model for Request {
+    ghost use Rattle.run_summary.specs.Sent.{Requested};
+
+    ghost Value = { Requested };
+
+    ghost view = { λ r. record {
+      packet = r.packet;
+      place = r.place;
+      rule = r.rule;
+      text = r.text;
+      sequence = r.sequence;
+      count = r.count;
+      event = r.event;
+      counted = r.counted;
+      samples = r.samples.items;
+    } };
+}
+
+/// An event, with the rule that it is about. Contracts see all (`Said`).
+#[derive(Drop)]
+pub struct SeenEvent {
+    pub packet: u64,
+    pub place: Place,
+    pub rule: Option<usize>,
+    pub sender: Vec<u8>,
+    pub id: u16,
+    pub kind: EventKind,
+    pub text: Vec<u8>,
+}
+
+impl Model for SeenEvent {
+    ghost use Rattle.run_summary.specs.Sent.{Said};
+
+    ghost Value = { Said };
+
+    ghost view = { λ t. record {
+      packet = t.packet;
+      place = t.place;
+      rule = t.rule;
+      sender = t.sender.items;
+      id = t.id;
+      kind = t.kind;
+      text = t.text.items;
+    } };
+}
+
+/// Whether two rules are one, or both are unknown.
+fn is_rule(one: Option<usize>, other: Option<usize>) -> bool
+    ensures { result ≡ is_rule one other }
+{
+    match one {
+        None => other.is_none(),
+        Some(one) => match other {
+            None => false,
+            Some(other) => one == other,
+        },
+    }
+}
+
+impl Request {
+    /// Whether an event is the request's own.
+    fn is_own(&self, event: &SeenEvent) -> bool
+        ensures { result ≡ is_own event.now self.now }
+    {
+        event.id >= FIRST_RULE_EVENT
+            && is_place(self.place, event.place)
+            && self.event.is_none()
+            && is_rule(self.rule, event.rule)
+    }
+
+    /// The request once this event came.
+    fn with_event(self, event: &SeenEvent) -> Request
+        ensures { result ≡ hears event.now self }
+    {
+        let mut request = self;
+        if request.is_own(event) {
+            request.event = Some(event.packet);
+        }
+        request
+    }
+
+    fn record(&self) -> u64
+        ensures { result ≡ self.now.place.«record» }
+    {
+        self.place.record
+    }
+}
+
+impl SeenEvent {
+    fn record(&self) -> u64
+        ensures { result ≡ self.now.place.«record» }
+    {
+        self.place.record
+    }
+}
+
+/// The newest request once this event came.
+fn newest_with_event(newest: Option<Request>, event: &SeenEvent) -> Option<Request>
+    ensures { result ≡ option_map (hears event.now) newest }
+{
+    match newest {
+        None => None,
+        Some(request) => Some(request.with_event(event)),
+    }
+}
+
+/// One request more. Out of memory is the only error.
+fn keep_request(requests: &mut Ends<Request>, request: Request) -> Result<(), AllocError>
+    ensures { OnOk result (requests.new ≡
+        kept (λ (request : Requested). request.place.«record») request requests.old) }
+{
+    let number = match requests.add(request)? {
+        None => None,
+        Some(gone) => Some(gone.record()),
+    };
+    requests.leave(number);
+    Ok(())
+}
+
+/// One event more. Out of memory is the only error.
+fn keep_event(events: &mut Ends<SeenEvent>, event: SeenEvent) -> Result<(), AllocError>
+    ensures { OnOk result (events.new ≡
+        kept (λ (event : Said). event.place.«record») event events.old) }
+{
+    let number = match events.add(event)? {
+        None => None,
+        Some(gone) => Some(gone.record()),
+    };
+    events.leave(number);
+    Ok(())
+}
+
+/// The request in front of the newest, if there is one. Out of memory is the only error.
+fn keep_before(requests: &mut Ends<Request>, request: Option<Request>) -> Result<(), AllocError>
+    ensures { OnOk result (requests.new ≡ before_newest request requests.old) }
+{
+    match request {
+        None => Ok(()),
+        Some(request) => keep_request(requests, request),
+    }
+}
+
+/// What comparisons met in samples, at most the greatest number of 64 bits.
+pub(crate) fn parts_in(samples: &[Sample]) -> usize
+    ensures { result ≡ min (parts_in samples.now) (2 ^ 64 - 1) }
+{
+    let mut parts = 0usize;
+    for sample in samples {
+        parts = parts.saturating_add(sample.comparisons().len());
+    }
+    parts
+}
+
+/// All that is kept of what was sent. Contracts see all (`Sending`).
+#[derive(Drop)]
+pub struct Sending {
+    requests: Ends<Request>,
+    newest: Option<Request>,
+    events: Ends<SeenEvent>,
+    parts: usize,
+}
+
+impl Model for Sending {
+    ghost use Rattle.run_summary.specs.Sent.{Sending};
+
+    ghost Value = { Sending };
+
+    ghost view = { λ s. record {
+      requests = s.requests;
+      newest = s.newest;
+      events = s.events;
+      parts = s.parts;
+    } };
+}
+
+impl Sending {
+    pub(crate) fn new(alloc: Global) -> Sending
+        ensures { result ≡ nothing_sent }
+    {
+        Sending {
+            requests: Ends::new(alloc, REQUESTS, REQUESTS - 1),
+            newest: None,
+            events: Ends::new(alloc, EVENTS, EVENTS),
+            parts: 0,
+        }
+    }
+
+    /// The requests but for the newest.
+    pub fn requests(&self) -> &Ends<Request>
+        ensures { result.now ≡ self.now.requests }
+    {
+        &self.requests
+    }
+
+    /// The newest request.
+    pub fn newest(&self) -> Option<&Request>
+        ensures { option_map (λ request. request.now) result ≡ self.now.newest }
+    {
+        self.newest.as_ref()
+    }
+
+    /// The events.
+    pub fn events(&self) -> &Ends<SeenEvent>
+        ensures { result.now ≡ self.now.events }
+    {
+        &self.events
+    }
+
+    /// Whether what comparisons met in these samples may be told, too. Where there was no room once there will be none.
+    pub(crate) fn take_parts(&mut self, samples: &[Sample]) -> bool
+        ensures room { result ≡
+            nat_le (parts_with (parts_in samples.now) self.old.parts) most_parts }
+        ensures parts { self.new ≡
+            record self.old { parts = parts_with (parts_in samples.now) self.old.parts } }
+    {
+        self.parts = self.parts.saturating_add(parts_in(samples)).min(PARTS + 1);
+        self.parts <= PARTS
+    }
+
+    /// A request. Out of memory is the only error.
+    pub(crate) fn request(&mut self, request: Request) -> Result<(), AllocError>
+        ensures { OnOk result (self.new ≡ requested_more request self.old) }
+    {
+        let before = self.newest.replace(request);
+        keep_before(&mut self.requests, before)
+    }
+
+    /// An event: the first of the rule that just requested is the request's. Out of memory is the only error.
+    pub(crate) fn event(&mut self, event: SeenEvent) -> Result<(), AllocError>
+        ensures { OnOk result (self.new ≡ said_more event self.old) }
+    {
+        self.newest = newest_with_event(self.newest.take(), &event);
+        keep_event(&mut self.events, event)
+    }
+}

@@ -1,0 +1,340 @@
+//! Rule texts as a page has them: their rules, and the fields that these compare.
+
+ghost use Rattle.std.specs.Prelude.{◌≡◌, ◌++◌, IfOk, OnOk, filter_map, length, map, nat_abs, option_map, slice_get};
+ghost use Rattle.std.specs.Option.{option_map_or};
+ghost use Rattle.lc_model.specs.Codes.{type_code};
+ghost use Rattle.lc_model.specs.Field.{full_mask};
+ghost use Rattle.lc_model.specs.Text.Meaning.{field_named};
+ghost use Rattle.rule_parser.specs.Syntax.{expression_of, field_of, name_of, rule_of};
+ghost use Rattle.run_summary.specs.Texts.{HasItems, added, all_added, compared_by, compared_in, compared_in_text, compared_of, comparison_of, comparisons_in, field_compared, fields_of, is_mask, is_same, items_in, mid_named, place_of, rules_of};
+
+use lc_model::FieldType;
+use rule_lexer::{Token, TokenKind, lex};
+use rule_parser::{
+    Comparison, Expression, FieldItem, Item, Name, Number, RuleFile, RuleItem, parse,
+};
+use std::alloc::{AllocError, Global};
+
+/// A rule text that compiles.
+#[derive(Drop)]
+pub struct Text<'a> {
+    pub source: &'a [u8],
+    pub tokens: Vec<Token<'a>>,
+    pub file: RuleFile<'a>,
+}
+
+/// A field that a rule compares. Two are one where all of this is equal.
+#[derive(Clone, Copy)]
+pub struct Field<'a> {
+    pub name: &'a [u8],
+    pub packet: &'a [u8],
+    pub mid: u32,
+    pub kind: FieldType,
+    pub at: u32,
+    /// The mask as the text has it, where it writes one.
+    pub mask: Option<i64>,
+    /// The bits that count: all of the type where there is no mask.
+    pub bits: u32,
+    pub stale: i64,
+}
+
+/// A number's magnitude, in 32 bits.
+fn magnitude(number: Number) -> u32
+    ensures { result ≡ nat_abs number.value }
+{
+    number.value.unsigned_abs() as u32
+}
+
+/// The bits of a field that count.
+fn bits_of(field: FieldItem<'_>) -> u32
+    ensures { result ≡
+        option_map_or (λ mask. nat_abs mask.value) field.entry.mask (full_mask field.entry.kind) }
+{
+    field.mask.map_or(field.kind.full_mask(), magnitude)
+}
+
+/// Reads a text that compiles. Out of memory is the only error then.
+pub fn read_text<'a>(alloc: Global, source: &'a [u8]) -> Result<Text<'a>, AllocError>
+    ensures { IfOk result (λ text. HasItems source.now (items_in text)) }
+{
+    let Ok(tokens) = lex(alloc, source) else {
+        return Err(AllocError);
+    };
+    let Ok(file) = parse(alloc, source, tokens.as_slice()) else {
+        return Err(AllocError);
+    };
+    Ok(Text {
+        source,
+        tokens,
+        file,
+    })
+}
+
+impl<'a> Text<'a> {
+    /// How many rules there are.
+    pub fn rule_count(&self) -> usize
+        ensures { result ≡ length (rules_of (items_in self.now)) }
+    {
+        let mut count = 0usize;
+        for item in &self.file.items {
+            if let Item::Rule(_) = item {
+                count += 1;
+            }
+        }
+        count
+    }
+
+    /// The rule with this number.
+    pub fn rule(&self, number: usize) -> Option<&RuleItem<'a>>
+        ensures { option_map (λ rule. rule_of rule.now) result ≡
+            slice_get (rules_of (items_in self.now)) number }
+    {
+        let mut left = number;
+        for item in &self.file.items {
+            if let Item::Rule(rule) = item {
+                if left == 0 {
+                    return Some(rule);
+                }
+                left -= 1;
+            }
+        }
+        None
+    }
+
+    /// The message id of the packet of this name; 0 where there is none.
+    fn mid_of(&self, name: Name<'_>) -> u32
+        ensures { result ≡ mid_named (items_in self.now) (name_of name.entry) }
+    {
+        for item in &self.file.items {
+            if let Item::Packet(packet) = item {
+                if packet.name.text == name.text {
+                    return magnitude(packet.mid);
+                }
+            }
+        }
+        0
+    }
+
+    /// The field of this name.
+    pub(crate) fn field(&self, name: Name<'_>) -> Option<Field<'a>>
+        ensures { option_map compared_of result ≡ option_map (compared_in (items_in self.now))
+            (field_named (items_in self.now) (name_of name.entry)) }
+    {
+        for item in &self.file.items {
+            if let Item::Field(field) = item {
+                if field.name.text == name.text {
+                    return Some(self.field_of(*field));
+                }
+            }
+        }
+        None
+    }
+
+    fn field_of(&self, field: FieldItem<'a>) -> Field<'a>
+        ensures { compared_of result ≡ compared_in (items_in self.now) (field_of field.entry) }
+    {
+        Field {
+            name: field.name.text,
+            packet: field.packet.text,
+            mid: self.mid_of(field.packet),
+            kind: field.kind,
+            at: magnitude(field.offset),
+            mask: field.mask.map(|mask| mask.value),
+            bits: bits_of(field),
+            stale: field.stale.map_or(0, |stale| stale.value),
+        }
+    }
+
+    /// The bytes of the token at this byte of the text.
+    pub fn token_bytes(&self, at: usize) -> &'a [u8] {
+        for token in &self.tokens {
+            if token.at == at {
+                return token.text;
+            }
+        }
+        b""
+    }
+
+    /// The first of the tokens of the condition of the rule whose name stands at this byte, and the one behind them.
+    pub fn condition(&self, at: usize) -> (usize, usize) {
+        let name = self.tokens.iter().take_while(|token| token.at < at).count();
+        let when = self.next(name, TokenKind::When);
+        (
+            when.saturating_add(1),
+            self.next(when, TokenKind::Semicolon),
+        )
+    }
+
+    /// The number of the first token of this kind, from one on.
+    fn next(&self, from: usize, kind: TokenKind) -> usize {
+        for (number, token) in self.tokens.iter().enumerate() {
+            if number >= from && token.kind == kind {
+                return number;
+            }
+        }
+        self.tokens.len()
+    }
+}
+
+/// Adds the comparisons of a condition, from the left. Out of memory is the only error.
+fn compare<'a>(
+    condition: &Expression<'a>,
+    found: &mut Vec<Comparison<'a>>,
+) -> Result<(), AllocError>
+    ensures { OnOk result (map comparison_of found.new.items ≡
+        map comparison_of found.old.items ++ comparisons_in (expression_of condition.now)) }
+{
+    match condition {
+        Expression::Compare(comparison) => {
+            found.push(*comparison)?;
+            Ok(())
+        }
+        Expression::Not(operand) => compare(operand, found),
+        Expression::And(operands) | Expression::Or(operands) | Expression::Xor(operands) => {
+            compare(&operands.0, found)?;
+            compare(&operands.1, found)
+        }
+    }
+}
+
+/// The comparisons of a rule, from the left. Out of memory is the only error.
+pub(crate) fn comparisons_of<'a>(
+    alloc: Global,
+    rule: &RuleItem<'a>,
+) -> Result<Vec<Comparison<'a>>, AllocError>
+    ensures { IfOk result (λ found. map comparison_of found.items ≡
+        comparisons_in (rule_of rule.now).condition) }
+{
+    let mut comparisons = Vec::new(alloc);
+    compare(&rule.condition, &mut comparisons)?;
+    Ok(comparisons)
+}
+
+/// The number of a type (the Limit Checker's tables).
+fn kind_number(kind: FieldType) -> u8
+    ensures { result ≡ type_code kind }
+{
+    match kind {
+        FieldType::U8 => 1,
+        FieldType::I8 => 2,
+        FieldType::U16Be => 3,
+        FieldType::U16Le => 4,
+        FieldType::I16Be => 5,
+        FieldType::I16Le => 6,
+        FieldType::U32Be => 7,
+        FieldType::U32Le => 8,
+        FieldType::I32Be => 9,
+        FieldType::I32Le => 10,
+    }
+}
+
+/// Whether two masks are one, or none is written.
+fn is_mask(one: Option<i64>, other: Option<i64>) -> bool
+    ensures { result ≡ is_mask one other }
+{
+    match one {
+        None => other.is_none(),
+        Some(one) => match other {
+            None => false,
+            Some(other) => one == other,
+        },
+    }
+}
+
+/// Whether two fields are one.
+fn is_same(one: &Field<'_>, other: &Field<'_>) -> bool
+    ensures { result ≡ is_same (compared_of one.now) (compared_of other.now) }
+{
+    one.name == other.name
+        && one.packet == other.packet
+        && one.mid == other.mid
+        && kind_number(one.kind) == kind_number(other.kind)
+        && one.at == other.at
+        && is_mask(one.mask, other.mask)
+        && one.stale == other.stale
+}
+
+/// The place of a field among others, if it is there.
+pub(crate) fn place_of(fields: &[Field<'_>], field: &Field<'_>) -> Option<usize>
+    ensures { result ≡ place_of (compared_of field.now) (map compared_of fields.now) }
+{
+    for (place, other) in fields.iter().enumerate() {
+        if is_same(other, field) {
+            return Some(place);
+        }
+    }
+    None
+}
+
+/// Adds a field, unless it is there. Out of memory is the only error.
+fn add_field<'a>(fields: &mut Vec<Field<'a>>, field: Field<'a>) -> Result<(), AllocError>
+    ensures { OnOk result (map compared_of fields.new.items ≡
+        added (map compared_of fields.old.items) (compared_of field.entry)) }
+{
+    if place_of(fields.as_slice(), &field).is_none() {
+        fields.push(field)?;
+    }
+    Ok(())
+}
+
+/// Adds the fields that these comparisons name, each once. Out of memory is the only error.
+fn add_fields<'a>(
+    text: &Text<'a>,
+    comparisons: &[Comparison<'a>],
+    fields: &mut Vec<Field<'a>>,
+) -> Result<(), AllocError>
+    ensures { OnOk result (map compared_of fields.new.items ≡
+        all_added (map compared_of fields.old.items) (filter_map
+        (field_compared (items_in text.now)) (map comparison_of comparisons.now))) }
+{
+    for comparison in comparisons {
+        if let Some(field) = text.field(comparison.field) {
+            add_field(fields, field)?;
+        }
+    }
+    Ok(())
+}
+
+/// Adds the fields that a rule compares, each once. Out of memory is the only error.
+fn add_rule<'a>(
+    alloc: Global,
+    text: &Text<'a>,
+    rule: &RuleItem<'a>,
+    fields: &mut Vec<Field<'a>>,
+) -> Result<(), AllocError>
+    ensures { OnOk result (map compared_of fields.new.items ≡
+        all_added (map compared_of fields.old.items)
+        (compared_by (items_in text.now) (rule_of rule.now))) }
+{
+    let comparisons = comparisons_of(alloc, rule)?;
+    add_fields(text, comparisons.as_slice(), fields)
+}
+
+/// Adds the fields that the rules of a text compare, each once. Out of memory is the only error.
+fn add_text<'a>(
+    alloc: Global,
+    text: &Text<'a>,
+    fields: &mut Vec<Field<'a>>,
+) -> Result<(), AllocError>
+    ensures { OnOk result (map compared_of fields.new.items ≡
+        all_added (map compared_of fields.old.items) (compared_in_text (items_in text.now))) }
+{
+    for item in &text.file.items {
+        if let Item::Rule(rule) = item {
+            add_rule(alloc, text, rule, fields)?;
+        }
+    }
+    Ok(())
+}
+
+/// The fields that the rules of all texts compare, in the order of their first comparison. Out of memory is the only error.
+pub(crate) fn fields_of<'a>(alloc: Global, texts: &[Text<'a>]) -> Result<Vec<Field<'a>>, AllocError>
+    ensures { IfOk result (λ fields. map compared_of fields.items ≡
+        fields_of (map items_in texts.now)) }
+{
+    let mut fields = Vec::new(alloc);
+    for text in texts {
+        add_text(alloc, text, &mut fields)?;
+    }
+    Ok(fields)
+}

@@ -1,0 +1,109 @@
+//! Why a script isn't tried.
+
+ghost use Rattle.std.specs.Prelude.{◌≡◌};
+ghost use Rattle.scenario_trial.specs.Untried.{IsOwn, of_course, of_reading, of_scenario, of_script};
+ghost use Rattle.scenario_trial.specs.declared.error.TrialError.TheVariants.{Memory};
+
+use crate::expectation_lines::ReadError;
+use rpn_compiler::CompileError;
+use run_stepper::CourseError;
+use scenarios::ScenarioError;
+use std::alloc::{AllocError, AllocFailed};
+use std::io::{self, ErrorKind};
+use stream_script::ScriptError;
+use thiserror::Error;
+
+/// Why a script isn't tried, or what comes of it not wholly written.
+#[derive(Clone, Copy, Debug, PartialEq, Eq, Error)]
+pub enum TrialError {
+    /// A line, counted from 1, says no line of a script.
+    #[error("{error}")]
+    Scenario { error: ScenarioError },
+    /// A line, counted from 1, says no expectation.
+    #[error("{error}")]
+    Expectation { error: ReadError },
+    /// The script says no stream.
+    #[error("{error}")]
+    Script { error: ScriptError },
+    /// A rule text doesn't compile. Texts count from 0.
+    #[error("text {text}: {error}")]
+    Rules { text: usize, error: CompileError },
+    /// Out of memory.
+    #[error("out of memory")]
+    Memory,
+    /// What is found can't be written.
+    #[error("a write failed")]
+    Write,
+}
+
+impl From<ScenarioError> for TrialError {
+    ghost from_gives = { λ error e. e ≡ of_scenario error };
+
+    fn from(error: ScenarioError) -> TrialError {
+        match error {
+            ScenarioError::Memory => TrialError::Memory,
+            error => TrialError::Scenario { error },
+        }
+    }
+}
+
+impl From<ReadError> for TrialError {
+    ghost from_gives = { λ error e. e ≡ of_reading error };
+
+    fn from(error: ReadError) -> TrialError {
+        match error {
+            ReadError::Memory => TrialError::Memory,
+            error => TrialError::Expectation { error },
+        }
+    }
+}
+
+impl From<ScriptError> for TrialError {
+    ghost from_gives = { λ error e. e ≡ of_script error };
+
+    fn from(error: ScriptError) -> TrialError {
+        match error {
+            ScriptError::Memory => TrialError::Memory,
+            error => TrialError::Script { error },
+        }
+    }
+}
+
+impl From<CourseError> for TrialError {
+    ghost from_gives = { λ error e. e ≡ of_course error };
+
+    fn from(error: CourseError) -> TrialError {
+        match error {
+            CourseError::Memory => TrialError::Memory,
+            CourseError::Rules { text, error } => TrialError::Rules { text, error },
+        }
+    }
+}
+
+impl From<AllocError> for TrialError {
+    ghost from_gives = { λ _ e. e ≡ Memory };
+
+    fn from(_error: AllocError) -> TrialError {
+        TrialError::Memory
+    }
+}
+
+impl<T: Drop> From<AllocFailed<T>> for TrialError {
+    ghost from_gives = { λ _ e. e ≡ Memory };
+
+    fn from(_error: AllocFailed<T>) -> TrialError {
+        TrialError::Memory
+    }
+}
+
+impl From<io::Error> for TrialError {
+    ghost from_gives = { λ _ e. IsOwn e };
+
+    fn from(error: io::Error) -> TrialError {
+        if error.kind() == ErrorKind::OutOfMemory {
+            TrialError::Memory
+        } else {
+            TrialError::Write
+        }
+    }
+}

@@ -1,0 +1,89 @@
+//! What is expected of a run.
+
+ghost use Rattle.std.specs.Prelude.{◌≡◌};
+ghost use Rattle.scenario_trial.specs.Judged.{has_come, is_number, is_what, is_within};
+
+use lc_model::{ApMode, ApResult};
+
+/// What may come.
+#[derive(Clone, Copy, Debug, PartialEq, Eq)]
+pub enum What {
+    /// A request for the command sequence of this number, or for any.
+    Sequence(Option<u16>),
+    /// An event of the Limit Checker with this number, or any.
+    Event(Option<u16>),
+}
+
+/// Seconds of the stream, from the first to the last; none where that lies before the first.
+#[derive(Clone, Copy, Debug, PartialEq, Eq)]
+pub struct Span {
+    pub first: u32,
+    pub last: u32,
+}
+
+/// Something that may come, and within which seconds.
+#[derive(Clone, Copy, Debug, PartialEq, Eq)]
+pub struct Coming {
+    pub what: What,
+    pub span: Span,
+}
+
+/// What is said to come, or how a rule is said to stand.
+#[derive(Clone, Copy, Debug, PartialEq, Eq)]
+pub enum Expectation<'a> {
+    /// Something comes within these seconds.
+    Comes(Coming),
+    /// Nothing of it comes within them.
+    Absent(Coming),
+    /// A rule is in this state, where the expectation stands in the script.
+    State(&'a [u8], ApMode),
+    /// A rule's last result is this one there.
+    Result(&'a [u8], Option<ApResult>),
+}
+
+/// A request or an event that came, by its number, and the second of its record.
+#[derive(Clone, Copy, Debug, PartialEq, Eq)]
+pub struct Arrival {
+    pub second: u32,
+    pub is_event: bool,
+    pub number: u16,
+}
+
+/// Whether a number is the one that is asked for, where one is.
+fn is_number(asked: Option<u16>, number: u16) -> bool
+    ensures { result ≡ is_number asked number }
+{
+    match asked {
+        Some(asked) => asked == number,
+        None => true,
+    }
+}
+
+impl What {
+    /// Whether it is this that came.
+    pub fn is(self, came: Arrival) -> bool
+        ensures { result ≡ is_what self came }
+    {
+        match self {
+            What::Sequence(asked) => !came.is_event && is_number(asked, came.number),
+            What::Event(asked) => came.is_event && is_number(asked, came.number),
+        }
+    }
+}
+
+impl Span {
+    /// Whether a second is one of these.
+    pub fn holds(self, second: u32) -> bool
+        ensures { result ≡ is_within self second }
+    {
+        self.first <= second && second <= self.last
+    }
+}
+
+/// Whether some of this came within these seconds.
+pub fn has_come(what: What, span: Span, came: &[Arrival]) -> bool
+    ensures { result ≡ has_come what span came.now }
+{
+    came.iter()
+        .any(|one| what.is(*one) && span.holds(one.second))
+}

@@ -1,0 +1,284 @@
+//! The expectations of a script.
+//!
+//! A line whose first word is `expect` says nothing of the stream. For whoever reads the stream it is made a comment, byte for
+//! byte in its place, so that every line keeps its number.
+
+ghost use Rattle.std.specs.Prelude.{◌≡◌, ◌≤◌, ◌+◌, ◌++◌, ◌∷◌, ℕ, List, drop, length, map, option_map, Ok, Err, IfOk, IfErr, IsErr};
+ghost use Rattle.std.specs.List.{prefix_len};
+ghost use Rattle.stream_script.specs.Part.{is_blank, texts_of, words_of};
+ghost use Rattle.scenario_trial.specs.Expected.{expected_of};
+ghost use Rattle.scenario_trial.specs.Reading.{IsReadError, IsRefused, PlacedExpected, ReadFault, commented, expectations_in, is_expectation, line_expected, lines_expected, placed_of, silenced_in, silenced_line, with_expected};
+ghost use Rattle.scenario_trial.specs.Untried.{read_error_at};
+ghost use Rattle.scenario_trial.specs.declared.expectation_lines.LineFault.TheVariants as line;
+ghost use Rattle.scenario_trial.specs.declared.expectation_lines.ReadError.TheVariants as error;
+
+use crate::expectation::Expectation;
+use crate::expectation_words::{expectation, is};
+use crate::fault::ExpectationFault;
+use scenarios::Plain;
+use std::alloc::{AllocError, Global};
+use stream_script::{first_line, words};
+use thiserror::Error;
+
+/// Why the expectations of a script can't be read.
+#[derive(Clone, Copy, Debug, PartialEq, Eq, Error)]
+pub enum ReadError {
+    /// A line, counted from 1, says no expectation.
+    #[error("line {n}: {fault}")]
+    Line { n: usize, fault: ExpectationFault },
+    /// Out of memory.
+    #[error("out of memory")]
+    Memory,
+}
+
+impl ReadError {
+    /// The error at the line of the scenario that says the plain script's line.
+    pub fn at(self, plain: &Plain) -> ReadError
+        ensures { result ≡ read_error_at plain.now.lines.items self }
+    {
+        match self {
+            ReadError::Line { n, fault } => ReadError::Line {
+                n: plain.line(n),
+                fault,
+            },
+            ReadError::Memory => ReadError::Memory,
+        }
+    }
+}
+
+impl From<AllocError> for ReadError {
+    ghost from_gives = { λ _ e. e ≡ error.Memory };
+
+    fn from(_error: AllocError) -> ReadError {
+        ReadError::Memory
+    }
+}
+
+/// An expectation, with the line that says it.
+#[derive(Clone, Copy)]
+pub struct Placed<'a> {
+    /// The line's number, from 1.
+    pub n: usize,
+    /// How many bytes of the script come before the line.
+    pub at: usize,
+    /// The line, without blanks around it.
+    pub line: &'a [u8],
+    pub expectation: Expectation<'a>,
+}
+
+/// Why a line adds nothing to the expectations.
+#[derive(Clone, Copy)]
+pub(crate) enum LineFault {
+    Says(ExpectationFault),
+    Memory,
+}
+
+impl From<AllocError> for LineFault {
+    ghost from_gives = { λ _ e. e ≡ line.Memory };
+
+    fn from(_error: AllocError) -> LineFault {
+        LineFault::Memory
+    }
+}
+
+impl From<ExpectationFault> for LineFault {
+    ghost from_gives = { λ fault e. e ≡ line.Says fault };
+
+    fn from(fault: ExpectationFault) -> LineFault {
+        LineFault::Says(fault)
+    }
+}
+
+/// Whether a line with these words is an expectation.
+fn is_expectation(words: &[&[u8]]) -> bool
+    ensures { result ≡ is_expectation (texts_of words.now) }
+{
+    match words {
+        [] => false,
+        [word, ..] => is(word, b"expect"),
+    }
+}
+
+/// What a line with these words expects, where its first word is `expect`.
+fn words_expected<'a>(words: &[&'a [u8]]) -> Result<Option<Expectation<'a>>, ExpectationFault>
+    ensures said { IfOk result (λ found. line_expected (texts_of words.now) ≡
+        Ok (option_map expected_of found)) }
+    ensures refused { IfErr result (λ fault. line_expected (texts_of words.now) ≡ Err fault) }
+{
+    match words {
+        [] => Ok(None),
+        [word, others @ ..] => {
+            if !is(word, b"expect") {
+                return Ok(None);
+            }
+            let expectation = expectation(others)?;
+            Ok(Some(expectation))
+        }
+    }
+}
+
+/// What a line expects, where its first word is `expect`.
+fn line_expected<'a>(alloc: Global, line: &'a [u8]) -> Result<Option<Expectation<'a>>, LineFault>
+    ensures said { IfOk result (λ found. line_expected (words_of line.now) ≡
+        Ok (option_map expected_of found)) }
+    ensures refused { IfErr result (IsRefused (line_expected (words_of line.now))) }
+{
+    let words = words(alloc, line)?;
+    Ok(words_expected(words.as_slice())?)
+}
+
+/// Those so far, and that of a line with this number, where there is one.
+fn with_expected<'a>(
+    found: Vec<Placed<'a>>,
+    n: usize,
+    at: usize,
+    line: &'a [u8],
+    expectation: Option<Expectation<'a>>,
+) -> Result<Vec<Placed<'a>>, AllocError>
+    ensures { IfOk result (λ after. map placed_of after.items ≡
+        with_expected (map placed_of found.entry.items) n at
+        (option_map expected_of expectation.entry)) }
+{
+    let mut found = found;
+    match expectation {
+        None => {}
+        Some(expectation) => found.push(Placed {
+            n,
+            at,
+            line: line.trim_ascii(),
+            expectation,
+        })?,
+    }
+    Ok(found)
+}
+
+/// Those so far with what a line adds, or its fault with the line's number.
+fn read_line<'a>(
+    alloc: Global,
+    found: Vec<Placed<'a>>,
+    n: usize,
+    at: usize,
+    line: &'a [u8],
+) -> Result<Vec<Placed<'a>>, ReadError>
+    ensures said { IfOk result (λ after. (lines : List (List ℕ)) →
+        lines_expected (map placed_of found.entry.items) n at (line.now ∷ lines) ≡
+        lines_expected (map placed_of after.items) (n + 1) (at + length line.now + 1) lines) }
+    ensures refused { IfErr result (λ error. (lines : List (List ℕ)) →
+        IsReadError (lines_expected (map placed_of found.entry.items) n at (line.now ∷ lines))
+        error) }
+{
+    match line_expected(alloc, line) {
+        Ok(expectation) => Ok(with_expected(found, n, at, line, expectation)?),
+        Err(LineFault::Says(fault)) => Err(ReadError::Line { n, fault }),
+        Err(LineFault::Memory) => Err(ReadError::Memory),
+    }
+}
+
+/// What all lines expect.
+fn read_lines(alloc: Global, script: &[u8]) -> Result<Vec<Placed<'_>>, ReadError>
+    ensures said { IfOk result
+        (λ found. expectations_in script.now ≡ Ok (map placed_of found.items)) }
+    ensures refused { IfErr result (IsReadError (expectations_in script.now)) }
+{
+    let mut found = Vec::new(alloc);
+    let mut left = Some(script);
+    let mut n = 0;
+    let mut at = 0;
+    while let Some(text) = left {
+        let (line, rest) = first_line(text);
+        n += 1;
+        match read_line(alloc, found, n, at, line) {
+            Ok(after) => found = after,
+            Err(error) => return Err(error),
+        }
+        at += line.len() + 1;
+        left = rest;
+    }
+    Ok(found)
+}
+
+/// The expectations of a script, in order.
+///
+/// Errors, of which the least line's is answered: `Line` with what is wrong; `Memory` only where they find no room.
+pub fn read_expectations<'a>(alloc: Global, script: &'a [u8]) -> Result<Vec<Placed<'a>>, ReadError>
+    ensures said { IfOk result
+        (λ found. expectations_in script.now ≡ Ok (map placed_of found.items)) }
+    ensures refused { IfErr result (IsReadError (expectations_in script.now)) }
+    ensures accepts { (found : List PlacedExpected) → expectations_in script.now ≡ Ok found →
+        IfErr result (λ e. e ≡ error.Memory) }
+    ensures refuses { (fault : ReadFault) → expectations_in script.now ≡ Err fault →
+        IsErr result }
+{
+    match read_lines(alloc, script) {
+        Ok(found) => Ok(found),
+        Err(error) => Err(error),
+    }
+}
+
+/// How many blanks stand in front of a line.
+fn indent(line: &[u8]) -> usize
+    ensures place { result ≡ prefix_len is_blank line.now }
+    ensures inside { result ≤ length line.now }
+{
+    line.iter().take_while(|byte| is_blank(**byte)).count()
+}
+
+/// Space, tab and carriage return part words.
+fn is_blank(byte: u8) -> bool
+    ensures { result ≡ is_blank byte }
+{
+    byte == b' ' || byte == b'\t' || byte == b'\r'
+}
+
+/// What stands behind the first byte.
+fn behind_first(bytes: &[u8]) -> &[u8]
+    ensures { result.now ≡ drop 1 bytes.now }
+{
+    match bytes {
+        [] => bytes,
+        [_, behind @ ..] => behind,
+    }
+}
+
+/// A text with a line behind it, as a comment.
+fn with_comment(text: Vec<u8>, line: &[u8]) -> Result<Vec<u8>, AllocError>
+    ensures { IfOk result (λ after. after.items ≡ text.items ++ commented line.now) }
+{
+    let mut text = text;
+    let (blanks, rest) = line.split_at(indent(line));
+    text.extend_from_slice(blanks)?;
+    text.push(b'#')?;
+    text.extend_from_slice(behind_first(rest))?;
+    Ok(text)
+}
+
+/// A text with a line behind it, which is a comment where it is an expectation.
+fn with_line(alloc: Global, text: Vec<u8>, line: &[u8]) -> Result<Vec<u8>, AllocError>
+    ensures { IfOk result (λ after. after.items ≡ text.items ++ silenced_line line.now) }
+{
+    let words = words(alloc, line)?;
+    if is_expectation(words.as_slice()) {
+        return with_comment(text, line);
+    }
+    let mut text = text;
+    text.extend_from_slice(line)?;
+    Ok(text)
+}
+
+/// A script whose expectations are comments: of each the first letter is `#`. All else stays. Out of memory is the only error.
+pub fn silence(alloc: Global, script: &[u8]) -> Result<Vec<u8>, AllocError>
+    ensures { IfOk result (λ quiet. quiet.items ≡ silenced_in script.now) }
+{
+    let mut quiet = Vec::new(alloc);
+    let mut left = Some(script);
+    while let Some(text) = left {
+        let (line, rest) = first_line(text);
+        quiet = with_line(alloc, quiet, line)?;
+        if rest.is_none() {
+            return Ok(quiet);
+        }
+        quiet.push(b'\n')?;
+        left = rest;
+    }
+    Ok(quiet)
+}

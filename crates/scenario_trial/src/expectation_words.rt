@@ -1,0 +1,289 @@
+//! Expectations from the words behind `expect`.
+
+ghost use Rattle.std.specs.Prelude.{◌≡◌, bytes_eq, Ok, Err, IfOk, IfErr};
+ghost use Rattle.stream_script.specs.Part.{texts_of};
+ghost use Rattle.scenario_trial.specs.Expected.{coming_in, coming_of, expected_in, expected_of, is_numeral, narrowed, narrowed_to, number_in, numbered, result_in, result_named, some_number, span_in, state_in, state_named, until, what_of, within};
+
+use crate::expectation::{Coming, Expectation, Span, What};
+use crate::fault::ExpectationFault;
+use lc_model::{ApMode, ApResult};
+use stream_script::decimal_number;
+
+/// The number that a word's decimal digits write, up to the most.
+fn number_in(most: u32, word: &[u8]) -> Option<u32>
+    ensures { result ≡ number_in most word.now }
+{
+    match decimal_number(word) {
+        Some(number) if number <= u64::from(most) => Some(number as u32),
+        _ => None,
+    }
+}
+
+/// Whether a word is this one.
+pub(crate) fn is(word: &[u8], other: &[u8]) -> bool
+    ensures { result ≡ bytes_eq word.now other.now }
+{
+    word == other
+}
+
+/// Whether a word begins as a number does.
+fn is_numeral(word: &[u8]) -> bool
+    ensures { result ≡ is_numeral word.now }
+{
+    match word {
+        [first, ..] => first.is_ascii_digit(),
+        [] => false,
+    }
+}
+
+/// The seconds before one, which isn't 0.
+fn until(span: Span, second: u32) -> Result<Span, ExpectationFault>
+    ensures { result ≡ until span second }
+{
+    if second == 0 {
+        return Err(ExpectationFault::BadSecond);
+    }
+    Ok(Span {
+        first: span.first,
+        last: second - 1,
+    })
+}
+
+/// Seconds that a word narrows.
+fn narrowed_to(span: Span, word: &[u8], second: u32) -> Result<Span, ExpectationFault>
+    ensures { result ≡ narrowed_to span word.now second }
+{
+    if is(word, b"from") {
+        return Ok(Span {
+            first: second,
+            last: span.last,
+        });
+    }
+    if is(word, b"at") {
+        return Ok(Span {
+            first: second,
+            last: second,
+        });
+    }
+    if is(word, b"by") {
+        return Ok(Span {
+            first: span.first,
+            last: second,
+        });
+    }
+    if is(word, b"until") {
+        return until(span, second);
+    }
+    Err(ExpectationFault::NoSpan)
+}
+
+/// Seconds with what two words more say of them.
+fn narrow_by(span: Span, word: &[u8], second: &[u8]) -> Result<Span, ExpectationFault>
+    ensures { result ≡ narrowed span word.now second.now }
+{
+    match number_in(u32::MAX, second) {
+        Some(second) => narrowed_to(span, word, second),
+        None => Err(ExpectationFault::BadSecond),
+    }
+}
+
+/// The seconds that are left of some, as words tell them.
+fn span_in(all: Span, words: &[&[u8]]) -> Result<Span, ExpectationFault>
+    ensures set { IfOk result (λ span. span_in all (texts_of words.now) ≡ Ok span) }
+    ensures refused { IfErr result (λ fault. span_in all (texts_of words.now) ≡ Err fault) }
+{
+    let mut span = all;
+    let mut left = words;
+    while let [word, second, others @ ..] = left {
+        span = narrow_by(span, word, second)?;
+        left = others;
+    }
+    if !left.is_empty() {
+        return Err(ExpectationFault::NoSpan);
+    }
+    Ok(span)
+}
+
+/// A request for a sequence or an event, by its number, or any.
+fn what_of(is_sequence: bool, number: Option<u16>) -> What
+    ensures { result ≡ what_of is_sequence number }
+{
+    if is_sequence {
+        What::Sequence(number)
+    } else {
+        What::Event(number)
+    }
+}
+
+/// This, within the seconds that words tell.
+fn within(what: What, words: &[&[u8]]) -> Result<Coming, ExpectationFault>
+    ensures said { IfOk result (λ coming. within what (texts_of words.now) ≡ Ok coming) }
+    ensures refused { IfErr result (λ fault. within what (texts_of words.now) ≡ Err fault) }
+{
+    let all = Span {
+        first: 0,
+        last: u32::MAX,
+    };
+    let span = span_in(all, words)?;
+    Ok(Coming { what, span })
+}
+
+/// The number of a request or of an event.
+fn number_of(word: &[u8]) -> Result<u16, ExpectationFault>
+    ensures { result ≡ some_number (number_in 65535 word.now) }
+{
+    match number_in(65_535, word) {
+        Some(number) => Ok(number as u16),
+        None => Err(ExpectationFault::BadNumber),
+    }
+}
+
+/// A request or an event of this number, within the seconds that words tell.
+fn coming_numbered(
+    is_sequence: bool,
+    number: &[u8],
+    words: &[&[u8]],
+) -> Result<Coming, ExpectationFault>
+    ensures said { IfOk result
+        (λ coming. numbered is_sequence number.now (texts_of words.now) ≡ Ok coming) }
+    ensures refused { IfErr result
+        (λ fault. numbered is_sequence number.now (texts_of words.now) ≡ Err fault) }
+{
+    let number = number_of(number)?;
+    within(what_of(is_sequence, Some(number)), words)
+}
+
+/// The same, where a number may stand in front.
+fn coming_of(is_sequence: bool, words: &[&[u8]]) -> Result<Coming, ExpectationFault>
+    ensures said { IfOk result
+        (λ coming. coming_of is_sequence (texts_of words.now) ≡ Ok coming) }
+    ensures refused { IfErr result
+        (λ fault. coming_of is_sequence (texts_of words.now) ≡ Err fault) }
+{
+    match words {
+        [] => within(what_of(is_sequence, None), words),
+        [word, others @ ..] => {
+            if is_numeral(word) {
+                return coming_numbered(is_sequence, word, others);
+            }
+            within(what_of(is_sequence, None), words)
+        }
+    }
+}
+
+/// What may come, and within which seconds.
+fn coming_in(words: &[&[u8]]) -> Result<Coming, ExpectationFault>
+    ensures said { IfOk result (λ coming. coming_in (texts_of words.now) ≡ Ok coming) }
+    ensures refused { IfErr result (λ fault. coming_in (texts_of words.now) ≡ Err fault) }
+{
+    match words {
+        [] => Err(ExpectationFault::NoWhat),
+        [word, others @ ..] => {
+            if is(word, b"sequence") {
+                return coming_of(true, others);
+            }
+            if is(word, b"event") {
+                return coming_of(false, others);
+            }
+            Err(ExpectationFault::NoWhat)
+        }
+    }
+}
+
+/// The state that a word names.
+fn state_named(word: &[u8]) -> Option<ApMode>
+    ensures { result ≡ state_named word.now }
+{
+    if is(word, b"active") {
+        return Some(ApMode::Active);
+    }
+    if is(word, b"passive") {
+        return Some(ApMode::Passive);
+    }
+    if is(word, b"disabled") {
+        return Some(ApMode::Disabled);
+    }
+    if is(word, b"off") {
+        return Some(ApMode::PermOff);
+    }
+    None
+}
+
+/// The result that a word names: none before the first sample.
+fn result_named(word: &[u8]) -> Option<Option<ApResult>>
+    ensures { result ≡ result_named word.now }
+{
+    if is(word, b"none") {
+        return Some(None);
+    }
+    if is(word, b"pass") {
+        return Some(Some(ApResult::Pass));
+    }
+    if is(word, b"fail") {
+        return Some(Some(ApResult::Fail));
+    }
+    if is(word, b"stale") {
+        return Some(Some(ApResult::Stale));
+    }
+    if is(word, b"error") {
+        return Some(Some(ApResult::Error));
+    }
+    None
+}
+
+/// A rule's state.
+fn state_in<'a>(words: &[&'a [u8]]) -> Result<Expectation<'a>, ExpectationFault>
+    ensures said { IfOk result
+        (λ expectation. state_in (texts_of words.now) ≡ Ok (expected_of expectation)) }
+    ensures refused { IfErr result (λ fault. state_in (texts_of words.now) ≡ Err fault) }
+{
+    match words {
+        [rule, word] => match state_named(word) {
+            Some(state) => Ok(Expectation::State(rule, state)),
+            None => Err(ExpectationFault::NoState),
+        },
+        [] | [_] => Err(ExpectationFault::NoState),
+        [_, _, _, ..] => Err(ExpectationFault::NoState),
+    }
+}
+
+/// A rule's last result.
+fn result_in<'a>(words: &[&'a [u8]]) -> Result<Expectation<'a>, ExpectationFault>
+    ensures said { IfOk result
+        (λ expectation. result_in (texts_of words.now) ≡ Ok (expected_of expectation)) }
+    ensures refused { IfErr result (λ fault. result_in (texts_of words.now) ≡ Err fault) }
+{
+    match words {
+        [rule, word] => match result_named(word) {
+            Some(last) => Ok(Expectation::Result(rule, last)),
+            None => Err(ExpectationFault::NoResult),
+        },
+        [] | [_] => Err(ExpectationFault::NoResult),
+        [_, _, _, ..] => Err(ExpectationFault::NoResult),
+    }
+}
+
+/// What the words behind `expect` say.
+pub(crate) fn expectation<'a>(words: &[&'a [u8]]) -> Result<Expectation<'a>, ExpectationFault>
+    ensures said { IfOk result
+        (λ expectation. expected_in (texts_of words.now) ≡ Ok (expected_of expectation)) }
+    ensures refused { IfErr result (λ fault. expected_in (texts_of words.now) ≡ Err fault) }
+{
+    match words {
+        [] => Err(ExpectationFault::NoWhat),
+        [word, others @ ..] => {
+            if is(word, b"state") {
+                return state_in(others);
+            }
+            if is(word, b"result") {
+                return result_in(others);
+            }
+            if is(word, b"no") {
+                let coming = coming_in(others)?;
+                return Ok(Expectation::Absent(coming));
+            }
+            let coming = coming_in(words)?;
+            Ok(Expectation::Comes(coming))
+        }
+    }
+}

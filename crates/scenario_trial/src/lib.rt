@@ -1,0 +1,19 @@
+//! A run as a test: what a script expects to come, and whether it has.
+#![tactic(auto)]
+
+mod error;
+mod expectation;
+mod expectation_lines;
+mod expectation_words;
+mod fault;
+pub mod laws;
+mod telling;
+mod trial;
+mod verdict;
+
+pub use error::TrialError;
+pub use expectation::{Arrival, Coming, Expectation, Span, What, has_come};
+pub use expectation_lines::{Placed, ReadError, read_expectations, silence};
+pub use fault::ExpectationFault;
+pub use trial::{Tried, script_error_at, try_scenario};
+pub use verdict::{Judged, unmet_of};

@@ -1,0 +1,166 @@
+//! Why an expectation isn't met: what came in its place.
+
+ghost use Rattle.std.specs.Prelude.{◌≡◌};
+ghost use Rattle.scenario_trial.specs.Telling as model;
+
+use crate::expectation::{Arrival, Span, What};
+use lc_model::ApResult;
+use run_stepper::RuleStanding;
+use std::fmt::{self, Display, Formatter, Write};
+use table_listing::state_word;
+
+/// Of what came so many are told, at most.
+const TOLD: usize = 3;
+
+/// Why an expectation isn't met.
+#[derive(Clone, Copy)]
+pub enum Unmet<'a> {
+    /// Nothing of this came within these seconds, among all that came.
+    Missing {
+        what: What,
+        span: Span,
+        arrivals: &'a [Arrival],
+    },
+    /// Some of this came within these seconds.
+    Came {
+        what: What,
+        span: Span,
+        arrivals: &'a [Arrival],
+    },
+    /// The rule is in another state.
+    State(RuleStanding),
+    /// The rule has another result.
+    Result(RuleStanding),
+}
+
+impl Display for Arrival {
+    fn fmt<W: Write>(&self, f: &mut Formatter<W>) -> fmt::Result {
+        let word = if self.is_event { "event" } else { "sequence" };
+        write!(f, "{word} {} in second {}", self.number, self.second)
+    }
+}
+
+/// Which of what came are told of: of this alone, where it is named, and within these seconds, or else outside of them.
+#[derive(Clone, Copy)]
+struct Selection {
+    what: Option<What>,
+    span: Span,
+    is_within: bool,
+}
+
+impl Selection {
+    /// Whether this is told of.
+    fn takes(self, one: Arrival) -> bool {
+        let is_asked = match self.what {
+            Some(what) => what.is(one),
+            None => true,
+        };
+        is_asked && self.span.holds(one.second) == self.is_within
+    }
+}
+
+/// Says the first few of these behind some words, and answers whether there is one.
+fn say_those<W: Write>(
+    words: &str,
+    which: Selection,
+    arrivals: &[Arrival],
+    f: &mut Formatter<W>,
+) -> Result<bool, fmt::Error> {
+    let mut count = 0usize;
+    for one in arrivals {
+        if which.takes(*one) {
+            if count == TOLD {
+                write!(f, " ..")?;
+                return Ok(true);
+            }
+            let sign = if count == 0 { words } else { ", " };
+            write!(f, "{sign}{one}")?;
+            count = count.saturating_add(1);
+        }
+    }
+    Ok(count > 0)
+}
+
+/// Says what came in the place of something that didn't: the same at other times, or else what came at its time.
+fn say_missing<W: Write>(
+    what: What,
+    span: Span,
+    arrivals: &[Arrival],
+    f: &mut Formatter<W>,
+) -> fmt::Result {
+    let elsewhere = Selection {
+        what: Some(what),
+        span,
+        is_within: false,
+    };
+    if say_those("there came ", elsewhere, arrivals, f)? {
+        return Ok(());
+    }
+    let others = Selection {
+        what: None,
+        span,
+        is_within: true,
+    };
+    if say_those("there came ", others, arrivals, f)? {
+        return Ok(());
+    }
+    write!(f, "nothing came")
+}
+
+/// The words for a rule's last result.
+fn result_word(last: Option<ApResult>) -> &'static str
+    ensures { result.now ≡ model.result_word last }
+{
+    match last {
+        None => "no result",
+        Some(ApResult::Pass) => "pass",
+        Some(ApResult::Fail) => "fail",
+        Some(ApResult::Stale) => "stale",
+        Some(ApResult::Error) => "error",
+    }
+}
+
+/// Says how a rule isn't found.
+fn say_not_found<W: Write>(found: RuleStanding, f: &mut Formatter<W>) -> fmt::Result {
+    match found {
+        RuleStanding::NoRule => write!(f, "there is no such rule"),
+        RuleStanding::Stopped => write!(f, "the Limit Checker doesn't run"),
+        RuleStanding::Stands { .. } => Ok(()),
+    }
+}
+
+impl Display for Unmet<'_> {
+    fn fmt<W: Write>(&self, f: &mut Formatter<W>) -> fmt::Result {
+        match *self {
+            Unmet::Missing {
+                what,
+                span,
+                arrivals,
+            } => say_missing(what, span, arrivals, f),
+            Unmet::Came {
+                what,
+                span,
+                arrivals,
+            } => {
+                let those = Selection {
+                    what: Some(what),
+                    span,
+                    is_within: true,
+                };
+                let _is_told = say_those("there came ", those, arrivals, f)?;
+                Ok(())
+            }
+            Unmet::State(RuleStanding::Stands { state, .. }) => write!(
+                f,
+                "it is {}",
+                state_word(state)
+            ),
+            Unmet::Result(RuleStanding::Stands { last, .. }) => write!(
+                f,
+                "its last result is {}",
+                result_word(last)
+            ),
+            Unmet::State(found) | Unmet::Result(found) => say_not_found(found, f),
+        }
+    }
+}

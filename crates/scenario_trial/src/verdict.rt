@@ -1,0 +1,106 @@
+//! Which expectations are met.
+
+ghost use Rattle.std.specs.Prelude.{◌≡◌, IfOk};
+ghost use Rattle.lc_model.specs.Codes.{result_code, state_code};
+ghost use Rattle.scenario_trial.specs.Expected.{expected_of};
+ghost use Rattle.scenario_trial.specs.Judged.{has_result, is_in_state, is_met, is_unmet, unmet_of};
+
+use crate::expectation::{Arrival, Expectation, has_come};
+use crate::expectation_lines::Placed;
+use lc_model::{ApMode, ApResult};
+use run_stepper::RuleStanding;
+use std::alloc::{AllocError, Global};
+
+/// An expectation, and how its rule stands: `NoRule` where it names none, or none that there is.
+#[derive(Clone, Copy)]
+pub struct Judged<'a> {
+    pub placed: Placed<'a>,
+    pub found: RuleStanding,
+}
+
+/// The number of a state in housekeeping.
+fn state_code(state: ApMode) -> u8
+    ensures { result ≡ state_code state }
+{
+    match state {
+        ApMode::Active => 1,
+        ApMode::Passive => 2,
+        ApMode::Disabled => 3,
+        ApMode::PermOff => 4,
+    }
+}
+
+/// The number of a last result there.
+fn result_code(last: Option<ApResult>) -> u8
+    ensures { result ≡ result_code last }
+{
+    match last {
+        None => 0,
+        Some(ApResult::Pass) => 1,
+        Some(ApResult::Fail) => 2,
+        Some(ApResult::Stale) => 3,
+        Some(ApResult::Error) => 4,
+    }
+}
+
+/// Whether a rule is in this state.
+fn is_in_state(state: ApMode, found: RuleStanding) -> bool
+    ensures { result ≡ is_in_state state found }
+{
+    match found {
+        RuleStanding::Stands {
+            state: there,
+            last: _,
+        } => state_code(there) == state_code(state),
+        _ => false,
+    }
+}
+
+/// Whether a rule's last result is this one.
+fn has_result(last: Option<ApResult>, found: RuleStanding) -> bool
+    ensures { result ≡ has_result last found }
+{
+    match found {
+        RuleStanding::Stands {
+            state: _,
+            last: there,
+        } => result_code(there) == result_code(last),
+        _ => false,
+    }
+}
+
+/// Whether an expectation is met, by what came and what was found of its rule.
+fn is_met(came: &[Arrival], found: RuleStanding, expectation: Expectation<'_>) -> bool
+    ensures { result ≡ is_met came.now found (expected_of expectation.entry) }
+{
+    match expectation {
+        Expectation::Comes(coming) => has_come(coming.what, coming.span, came),
+        Expectation::Absent(coming) => !has_come(coming.what, coming.span, came),
+        Expectation::State(_, state) => is_in_state(state, found),
+        Expectation::Result(_, last) => has_result(last, found),
+    }
+}
+
+/// Whether it isn't met.
+fn is_unmet(came: &[Arrival], judged: &Judged<'_>) -> bool
+    ensures { result ≡ is_unmet came.now judged.now }
+{
+    !is_met(came, judged.found, judged.placed.expectation)
+}
+
+/// The expectations that aren't met, in order. Out of memory is the only error.
+pub fn unmet_of<'a>(
+    alloc: Global,
+    came: &[Arrival],
+    judged: &[Judged<'a>],
+) -> Result<Vec<Judged<'a>>, AllocError>
+    ensures { IfOk result (λ unmet. unmet.items ≡ unmet_of came.now judged.now) }
+{
+    let mut unmet = Vec::new(alloc);
+    for one in judged {
+        if is_unmet(came, one) {
+            unmet.push(*one)?;
+        }
+    }
+    Ok(unmet)
+}

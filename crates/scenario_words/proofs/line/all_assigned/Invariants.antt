@@ -1,9 +1,0 @@
--- What is left says what all words say.
-use Rattle.std.proofs.Common.{◌≡◌, drop}
-use Rattle.stream_script.specs.Part.{texts_of}
-use Rattle.scenario_words.specs.Line.{all_assigned}
-use Rattle.scenario_words.proofs.line.all_assigned.Given as goal
-
-abbrev pub invariant-loop-word : goal.invariant-loop-word
-invariant-loop-word l =
-    all_assigned l.packet (texts_of (drop l.word-index l.words)) l.said ≡ all_assigned l.packet (texts_of l.words) l.fn.start

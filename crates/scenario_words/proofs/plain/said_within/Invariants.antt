@@ -1,8 +1,0 @@
--- What is left to say says what all of it says.
-use Rattle.stream_script.specs.Part.{texts_of}
-use Rattle.scenario_words.specs.Plain.{most_steps, said_within}
-use Rattle.scenario_words.proofs.Steps.{Stepping}
-use Rattle.scenario_words.proofs.plain.said_within.Given as goal
-
-abbrev pub invariant-loop : goal.invariant-loop
-invariant-loop l = Stepping l.rules (texts_of l.lines) (said_within most_steps l.rules (texts_of l.lines) l.fn.start) l.counter most_steps l.going

@@ -1,0 +1,113 @@
+//! Why a scenario says no script.
+
+ghost use Rattle.std.specs.Prelude.{◌≡◌};
+ghost use Rattle.scenarios.specs.declared.error.LineRefusal.TheVariants as fault;
+ghost use Rattle.scenarios.specs.declared.error.ScenarioError.TheVariants as error;
+
+use std::alloc::{AllocError, AllocFailed};
+use thiserror::Error;
+
+/// What is wrong with a line of a scenario.
+#[derive(Clone, Copy, Debug, PartialEq, Eq, Error)]
+pub enum Reason {
+    /// Behind a packet's name stands a word that isn't `FIELD=VALUE`.
+    #[error("behind a packet's name stand its fields as `FIELD=VALUE`")]
+    NoField,
+    /// The packet has no field of that name.
+    #[error("the packet has no field of that name")]
+    OtherField,
+    /// No rule text declares that field.
+    #[error("no rule text declares that field")]
+    UnknownField,
+    /// No rule text has a rule of that name.
+    #[error("no rule text has a rule of that name")]
+    UnknownRule,
+    /// A word that has to be a number isn't one, or is out of its range.
+    #[error("a number is missing or out of range")]
+    BadNumber,
+    /// A value isn't one of its field's type.
+    #[error("the value is outside the type of the field")]
+    OutsideType,
+    /// A ramp isn't written so.
+    #[error("a ramp is `ramp FIELD FROM TO by STEP each SECONDS`, with `tick` behind it where ticks are wanted")]
+    NoRamp,
+    /// The Limit Checker has no such mode.
+    #[error("a mode is `active`, `passive` or `disabled`")]
+    NoMode,
+    /// A rule has no such state.
+    #[error("a state is `active`, `passive`, `disabled` or `off`, behind a rule's name or `all`, which can't be off")]
+    NoState,
+    /// A filter isn't written so.
+    #[error("a filter is `filter APPLICATION EVENT MASK`")]
+    NoFilter,
+    /// A repetition isn't written so.
+    #[error("lines are repeated by `repeat NUMBER {{` before them and `}}` behind them")]
+    NoRepeat,
+    /// A repetition has no end.
+    #[error("`repeat` has no `}}`")]
+    Unended,
+    /// A repetition that is no repetition's end.
+    #[error("`}}` ends no `repeat`")]
+    Unbegun,
+    /// A script of too many lines.
+    #[error("the script has over 1000000 lines")]
+    TooLong,
+}
+
+/// Why a scenario says no script, at the line that is at fault. Lines count from 1.
+#[derive(Clone, Copy, Debug, PartialEq, Eq, Error)]
+pub enum ScenarioError {
+    /// The line says nothing, for this reason.
+    #[error("line {n}: {reason}")]
+    Line { n: usize, reason: Reason },
+    /// Out of memory.
+    #[error("out of memory")]
+    Memory,
+}
+
+/// Why a line says no lines of a script.
+#[derive(Clone, Copy)]
+pub(crate) enum LineRefusal {
+    Line(Reason),
+    Memory,
+}
+
+impl From<Reason> for LineRefusal {
+    ghost from_gives = { λ reason e. e ≡ fault.Line reason };
+
+    fn from(reason: Reason) -> LineRefusal {
+        LineRefusal::Line(reason)
+    }
+}
+
+impl From<AllocError> for LineRefusal {
+    ghost from_gives = { λ _ e. e ≡ fault.Memory };
+
+    fn from(_error: AllocError) -> LineRefusal {
+        LineRefusal::Memory
+    }
+}
+
+impl<T: Drop> From<AllocFailed<T>> for LineRefusal {
+    ghost from_gives = { λ _ e. e ≡ fault.Memory };
+
+    fn from(_error: AllocFailed<T>) -> LineRefusal {
+        LineRefusal::Memory
+    }
+}
+
+impl From<AllocError> for ScenarioError {
+    ghost from_gives = { λ _ e. e ≡ error.Memory };
+
+    fn from(_error: AllocError) -> ScenarioError {
+        ScenarioError::Memory
+    }
+}
+
+impl<T: Drop> From<AllocFailed<T>> for ScenarioError {
+    ghost from_gives = { λ _ e. e ≡ error.Memory };
+
+    fn from(_error: AllocFailed<T>) -> ScenarioError {
+        ScenarioError::Memory
+    }
+}

@@ -1,0 +1,160 @@
+//! Commands in words: the Limit Checker's mode, the state of its rules, and filters of events.
+
+ghost use Rattle.std.specs.Prelude.{◌≡◌, IfOk, IfErr, Ok, Some};
+ghost use Rattle.stream_script.specs.Part.{texts_of};
+ghost use Rattle.scenarios.specs.Error.{IsRefused};
+ghost use Rattle.scenarios.specs.Orders.{command_line, filter_line, filter_of, is_all, is_off, mode_line, rule_number, some_name, standing_number, state_line, state_of};
+
+use crate::error::{LineRefusal, Reason};
+use crate::named::{Rule, number_of_rule};
+use crate::number::number_in;
+use crate::word::is;
+use lc_model::mids;
+use std::alloc::{AllocError, Global};
+use table_listing::InHex;
+
+/// All rules, in the place of a rule's number.
+const ALL: u16 = 0xFFFF;
+
+/// The line of a command.
+fn command_line(alloc: Global, mid: u16, code: u8, payload: &[u8]) -> Result<Vec<u8>, AllocError>
+    ensures { IfOk result (λ line. line.items ≡ command_line mid code payload.now) }
+{
+    let mid = mid.to_be_bytes();
+    let (mid, payload) = (InHex(&mid), InHex(payload));
+    let line = format!(in alloc; "command {mid} {code} {payload}")?;
+    Ok(line.into_bytes())
+}
+
+/// The number of a mode or a state that a command sets.
+fn standing_number(word: &[u8]) -> Option<u16>
+    ensures { result ≡ standing_number word.now }
+{
+    if is(word, b"active") {
+        return Some(1);
+    }
+    if is(word, b"passive") {
+        return Some(2);
+    }
+    if is(word, b"disabled") {
+        return Some(3);
+    }
+    None
+}
+
+/// `mode MODE`: the Limit Checker's command 2.
+pub(crate) fn mode_line(alloc: Global, words: &[&[u8]]) -> Result<Vec<u8>, LineRefusal>
+    ensures said { IfOk result (λ line. mode_line (texts_of words.now) ≡ Ok line.items) }
+    ensures refused { IfErr result (IsRefused (mode_line (texts_of words.now))) }
+{
+    let [mode] = words else {
+        return Err(LineRefusal::Line(Reason::NoMode));
+    };
+    match standing_number(mode) {
+        Some(number) => {
+            let [a, b] = number.to_be_bytes();
+            Ok(command_line(alloc, mids::LC_COMMAND, 2, &[a, b, 0, 0])?)
+        }
+        None => Err(LineRefusal::Line(Reason::NoMode)),
+    }
+}
+
+/// Whether a word names all rules.
+fn is_all(word: &[u8]) -> bool
+    ensures { result ≡ is_all word.now }
+{
+    is(word, b"all")
+}
+
+/// Whether a rule is off from then on, which all rules can't be.
+fn is_off(name: &[u8], state: &[u8]) -> bool
+    ensures { result ≡ is_off name.now state.now }
+{
+    is(state, b"off") && !is_all(name)
+}
+
+/// The number of the first rule of a name, or of all.
+fn rule_number(rules: &[Rule<'_>], word: &[u8]) -> Result<u16, Reason>
+    ensures { result ≡ rule_number word.now rules.now }
+{
+    if is_all(word) {
+        return Ok(ALL);
+    }
+    match number_of_rule(rules, word) {
+        Some(number) => Ok(number),
+        None => Err(Reason::UnknownRule),
+    }
+}
+
+/// The command that puts a rule into a state.
+fn state_of(alloc: Global, name: &[u8], state: &[u8], rule: u16) -> Result<Vec<u8>, LineRefusal>
+    ensures said { IfOk result (λ line. state_of name.now state.now rule ≡ Ok line.items) }
+    ensures refused { IfErr result (IsRefused (state_of name.now state.now rule)) }
+{
+    let [a, b] = rule.to_be_bytes();
+    if is_off(name, state) {
+        return Ok(command_line(alloc, mids::LC_COMMAND, 4, &[a, b, 0, 0])?);
+    }
+    match standing_number(state) {
+        Some(number) => {
+            let [c, d] = number.to_be_bytes();
+            Ok(command_line(alloc, mids::LC_COMMAND, 3, &[a, b, c, d])?)
+        }
+        None => Err(LineRefusal::Line(Reason::NoState)),
+    }
+}
+
+/// `state RULE STATE`: the Limit Checker's command 3, or 4 where the rule is off from then on.
+pub(crate) fn state_line(
+    alloc: Global,
+    rules: &[Rule<'_>],
+    words: &[&[u8]],
+) -> Result<Vec<u8>, LineRefusal>
+    ensures said { IfOk result
+        (λ line. state_line rules.now (texts_of words.now) ≡ Ok line.items) }
+    ensures refused { IfErr result (IsRefused (state_line rules.now (texts_of words.now))) }
+{
+    let [name, state] = words else {
+        return Err(LineRefusal::Line(Reason::NoState));
+    };
+    let rule = rule_number(rules, name)?;
+    state_of(alloc, name, state, rule)
+}
+
+/// An application's name in its field of 20 bytes, with zeros behind it.
+fn some_name(name: &[u8]) -> Result<[u8; 20], Reason>
+    ensures { result ≡ some_name name.now }
+{
+    if name.len() > 20 {
+        return Err(Reason::NoFilter);
+    }
+    let mut field = [0; 20];
+    field[..name.len()].copy_from_slice(name);
+    Ok(field)
+}
+
+/// The command that sets a filter.
+fn filter_of(alloc: Global, name: &[u8], event: &[u8], mask: &[u8]) -> Result<Vec<u8>, LineRefusal>
+    ensures said { IfOk result (λ line. filter_of name.now event.now mask.now ≡ Ok line.items) }
+    ensures refused { IfErr result (IsRefused (filter_of name.now event.now mask.now)) }
+{
+    let field = some_name(name)?;
+    let event = number_in(65_535, event)?;
+    let mask = number_in(65_535, mask)?;
+    let [a, b] = (event as u16).to_be_bytes();
+    let [c, d] = (mask as u16).to_be_bytes();
+    let mut payload = Vec::from_slice(alloc, &field)?;
+    payload.extend_from_slice(&[a, b, c, d])?;
+    Ok(command_line(alloc, mids::EVENT_SERVICES, 1, payload.as_slice())?)
+}
+
+/// `filter APPLICATION EVENT MASK`: the event services' command 1.
+pub(crate) fn filter_line(alloc: Global, words: &[&[u8]]) -> Result<Vec<u8>, LineRefusal>
+    ensures said { IfOk result (λ line. filter_line (texts_of words.now) ≡ Ok line.items) }
+    ensures refused { IfErr result (IsRefused (filter_line (texts_of words.now))) }
+{
+    let [name, event, mask] = words else {
+        return Err(LineRefusal::Line(Reason::NoFilter));
+    };
+    filter_of(alloc, name, event, mask)
+}

@@ -1,0 +1,89 @@
+//! Repeated lines: `repeat NUMBER {` before them, and `}` behind them.
+
+ghost use Rattle.std.specs.Prelude.{◌≡◌, ◌<◌, ◌≤◌, ◌+◌, ◌^◌, drop, IfOk, IfSome};
+ghost use Rattle.stream_script.specs.Part.{texts_of};
+ghost use Rattle.scenarios.specs.Plain.{behind_end, depth_behind, is_end, is_repeat, times_in};
+
+use crate::error::Reason;
+use crate::number::number_in;
+use crate::word::{is, words_in};
+use std::alloc::{AllocError, Global};
+
+/// A repetition that is being said: where its first line is, and how often it comes again.
+#[derive(Clone, Copy)]
+pub(crate) struct Repetition {
+    pub(crate) first: usize,
+    pub(crate) left: u32,
+}
+
+/// Whether a line with these words begins a repetition.
+pub(crate) fn is_repeat(words: &[&[u8]]) -> bool
+    ensures { result ≡ is_repeat (texts_of words.now) }
+{
+    match words {
+        [] => false,
+        [verb, ..] => is(verb, b"repeat"),
+    }
+}
+
+/// Whether a line with these words ends one.
+pub(crate) fn is_end(words: &[&[u8]]) -> bool
+    ensures { result ≡ is_end (texts_of words.now) }
+{
+    match words {
+        [verb] => is(verb, b"}"),
+        [] | [_, _, ..] => false,
+    }
+}
+
+/// How often the lines behind a line with these words are said: `repeat NUMBER {`.
+pub(crate) fn times_in(words: &[&[u8]]) -> Result<u32, Reason>
+    ensures { result ≡ times_in (texts_of words.now) }
+{
+    let [_, number, open] = words else {
+        return Err(Reason::NoRepeat);
+    };
+    if !is(open, b"{") {
+        return Err(Reason::NoRepeat);
+    }
+    number_in(1_000_000, number)
+}
+
+/// How many repetitions have begun and not ended behind a line with these words, among the lines of another; none where that one
+/// ends.
+fn depth_behind(words: &[&[u8]], depth: usize) -> Option<usize>
+    requires { depth < 2 ^ 63 }
+    ensures depth { result ≡ depth_behind (texts_of words.now) depth }
+    ensures one_more { IfSome result (λ inner. inner ≤ depth + 1) }
+{
+    if is_repeat(words) {
+        return Some(depth + 1);
+    }
+    if !is_end(words) {
+        return Some(depth);
+    }
+    if depth == 0 {
+        return None;
+    }
+    Some(depth - 1)
+}
+
+/// The place behind the end of a repetition whose first line is at this place. Out of memory is the only error.
+pub(crate) fn behind_end(
+    alloc: Global,
+    lines: &[&[u8]],
+    first: usize,
+) -> Result<Option<usize>, AllocError>
+    ensures { IfOk result
+        (λ end. end ≡ behind_end 0 first (drop first (texts_of lines.now))) }
+{
+    let mut depth = 0;
+    for place in first..lines.len() {
+        let words = words_in(alloc, lines[place])?;
+        match depth_behind(words.as_slice(), depth) {
+            Some(inner) => depth = inner,
+            None => return Ok(Some(place + 1)),
+        }
+    }
+    Ok(None)
+}

@@ -1,0 +1,168 @@
+//! What is said of a word of a statement that isn't what it has to be.
+
+use crate::said::{LineMessage, advise, expect_word, expected_word, said_of};
+use crate::statement::{Wanted, WordShape};
+use crate::word::{Word, are_digits, number_in};
+use diagnostics::{front_character, quote};
+use std::alloc::{AllocError, Global};
+
+/// The most digits of a number in a script.
+pub const MOST_DIGITS: usize = 10;
+
+/// The digits of a message id.
+const ID_DIGITS: usize = 4;
+
+/// How bytes are written.
+const BYTES_ADVICE: &str = "bytes have two digits each, of 0 to 9 and A to F";
+
+/// Whether a word is a number between these.
+fn is_number(word: &[u8], least: u64, most: u64) -> bool {
+    number_in(word, MOST_DIGITS).is_some_and(|number| (least..=most).contains(&number))
+}
+
+/// How many hexadecimal digits stand in front.
+fn hex_digits(word: &[u8]) -> usize {
+    word.iter()
+        .take_while(|byte| byte.is_ascii_hexdigit())
+        .count()
+}
+
+/// Whether a word has hexadecimal digits alone, so many.
+fn is_message_id(word: &[u8]) -> bool {
+    word.len() == ID_DIGITS && hex_digits(word) == ID_DIGITS
+}
+
+/// Whether a word writes bytes.
+fn are_bytes(word: &[u8]) -> bool {
+    matches!(word, b"-") || hex_digits(word) == word.len() && word.len() % 2 == 0
+}
+
+/// Whether a word is what it has to be.
+pub fn is_right(wanted: Wanted, word: Word<'_>) -> bool {
+    let text = word.text;
+    if word.is_end() {
+        return false;
+    }
+    match wanted.shape {
+        WordShape::Number(least, most) => is_number(text, least, most),
+        WordShape::MessageId => is_message_id(text),
+        WordShape::Bytes => are_bytes(text),
+        WordShape::Name(most) => text.len() <= most,
+        WordShape::OneOf(words) => words.iter().any(|other| *other == text),
+    }
+}
+
+/// What is said of a word that is no number between these.
+fn number_said(
+    alloc: Global,
+    wanted: Wanted,
+    word: Word<'_>,
+    least: u64,
+) -> Result<LineMessage, AllocError> {
+    if !are_digits(word.text) {
+        return expect_word(alloc, word, wanted.what, wanted.advice);
+    }
+    let shown = word.quote(alloc)?;
+    let is_small = number_in(word.text, MOST_DIGITS).is_some_and(|number| number < least);
+    let head = if is_small {
+        format!(in alloc; "{shown} is too small")?
+    } else {
+        format!(in alloc; "{shown} is too large")?
+    };
+    advise(alloc, word, head, wanted.advice)
+}
+
+/// What is behind `0x`.
+fn behind_prefix(word: &[u8]) -> Option<&[u8]> {
+    match word {
+        [b'0', b'x' | b'X', digits @ ..] => Some(digits),
+        _ => None,
+    }
+}
+
+/// The message id that was meant, where it is known: what is written without `0x`.
+fn meant_id(word: &[u8]) -> Option<&[u8]> {
+    behind_prefix(word).filter(|digits| is_message_id(*digits))
+}
+
+/// What is said of digits of which there aren't four.
+fn digits_said(alloc: Global, word: Word<'_>) -> Result<LineMessage, AllocError> {
+    let shown = word.quote(alloc)?;
+    let count = word.text.len();
+    let head = format!(in alloc; "a message id has 4 digits, and {shown} has {count}")?;
+    if count != 3 {
+        return advise(alloc, word, head, "write four hexadecimal digits");
+    }
+    let mut meant = Vec::from_slice(alloc, b"0")?;
+    meant.extend_from_slice(word.text)?;
+    let meant = quote(alloc, meant.as_slice())?;
+    let label = format!(in alloc; "did you mean {meant}?")?;
+    Ok(said_of(word, head, label))
+}
+
+/// What is said of a word that is no message id.
+fn id_said(alloc: Global, wanted: Wanted, word: Word<'_>) -> Result<LineMessage, AllocError> {
+    if hex_digits(word.text) == word.text.len() {
+        return digits_said(alloc, word);
+    }
+    let Some(meant) = meant_id(word.text) else {
+        return expect_word(alloc, word, wanted.what, wanted.advice);
+    };
+    let meant = quote(alloc, meant)?;
+    let label = format!(in alloc; "did you mean {meant}?")?;
+    expect_word(alloc, word, wanted.what, label.as_str())
+}
+
+/// What is said of the character behind so many digits, which is none.
+fn character_said(alloc: Global, word: Word<'_>, digits: usize) -> Result<LineMessage, AllocError> {
+    let rest = word.text.split_at(digits.min(word.text.len())).1;
+    let size = if rest.is_empty() {
+        0
+    } else {
+        front_character(rest).1
+    };
+    let character = Word {
+        at: word.at.saturating_add(digits),
+        text: rest.split_at(size.min(rest.len())).0,
+    };
+    let shown = character.quote(alloc)?;
+    let head = format!(in alloc; "{shown} is no hexadecimal digit")?;
+    advise(alloc, character, head, BYTES_ADVICE)
+}
+
+/// What is said of a word that writes no bytes.
+fn bytes_said(alloc: Global, wanted: Wanted, word: Word<'_>) -> Result<LineMessage, AllocError> {
+    if behind_prefix(word.text).is_some() {
+        return expect_word(alloc, word, wanted.what, "leave out `0x`");
+    }
+    let digits = hex_digits(word.text);
+    if digits < word.text.len() {
+        return character_said(alloc, word, digits);
+    }
+    let shown = word.quote(alloc)?;
+    let head = format!(in alloc; "{shown} has an odd number of digits, {digits}")?;
+    advise(alloc, word, head, wanted.advice)
+}
+
+/// What is said of a name that is too long.
+fn name_said(alloc: Global, word: Word<'_>, most: usize) -> Result<LineMessage, AllocError> {
+    let count = word.text.len();
+    let over = count.saturating_sub(most);
+    let head = format!(in alloc; "the name has {count} bytes, at most {most} are allowed")?;
+    let label = format!(in alloc; "shorten it by {over}")?;
+    Ok(said_of(word, head, label))
+}
+
+/// What is said of a word that isn't what it has to be.
+pub fn word_said(alloc: Global, wanted: Wanted, word: Word<'_>) -> Result<LineMessage, AllocError> {
+    if word.is_end() {
+        return expect_word(alloc, word, wanted.what, wanted.advice);
+    }
+    match wanted.shape {
+        WordShape::Number(least, _) => number_said(alloc, wanted, word, least),
+        WordShape::MessageId => id_said(alloc, wanted, word),
+        WordShape::Bytes => bytes_said(alloc, wanted, word),
+        WordShape::Name(most) => name_said(alloc, word, most),
+        WordShape::OneOf(words) => expected_word(alloc, word, words, wanted.what, wanted.advice),
+    }
+}

@@ -1,0 +1,68 @@
+//! What is said of a line whose words are right, one by one, and whose record can't be.
+
+use crate::said::{LineMessage, advise, said_of};
+use crate::word::{Word, nth_word};
+use diagnostics::Grouped;
+use std::alloc::{AllocError, Global};
+
+/// How many bytes a word writes.
+fn byte_count(word: Word<'_>) -> usize {
+    match word.text {
+        b"-" => 0,
+        digits => digits.len() / 2,
+    }
+}
+
+/// What is said of a packet or a record that has these bytes behind so many others, where it may have at most so many in all.
+fn too_long(
+    alloc: Global,
+    what: &str,
+    bytes: Word<'_>,
+    before: usize,
+    most: usize,
+) -> Result<LineMessage, AllocError> {
+    let count = byte_count(bytes).saturating_add(before);
+    let over = Grouped(count.saturating_sub(most) as u64);
+    let (count, most) = (Grouped(count as u64), Grouped(most as u64));
+    let head = format!(in alloc; "the {what} has {count} bytes, at most {most} are allowed")?;
+    let label = format!(in alloc; "shorten it by {over}")?;
+    Ok(said_of(bytes, head, label))
+}
+
+/// What is said of a record whose kind can't have its bytes.
+fn record_said(alloc: Global, kind: Word<'_>, bytes: Word<'_>) -> Result<LineMessage, AllocError> {
+    let (head, advice) = match kind.text {
+        b"tick" => ("a tick has no bytes", "write `-`"),
+        b"half" => (
+            "these are no half of a rule text",
+            "write 43 bytes: a name in 40, 01 or 02, and the number of a text in 2",
+        ),
+        b"file" if byte_count(bytes) < 40 => (
+            "a file begins with its name, in 40 bytes",
+            "write 00 in the place of each byte that the name doesn't have",
+        ),
+        _ => return too_long(alloc, "record", bytes, 0, 65_536),
+    };
+    advise(alloc, bytes, String::from_str(alloc, head)?, advice)
+}
+
+/// What is said of a line whose words are right one by one: together they are no record.
+pub fn body_said(alloc: Global, line: &[u8]) -> Result<LineMessage, AllocError> {
+    let verb = nth_word(line, 0);
+    match verb.text {
+        b"packet" => too_long(alloc, "packet", nth_word(line, 1), 0, 65_536),
+        b"file" => too_long(alloc, "record", nth_word(line, 2), 40, 65_536),
+        b"telemetry" => too_long(alloc, "packet", nth_word(line, 3), 12, 2_048),
+        b"command" => too_long(alloc, "packet", nth_word(line, 3), 8, 2_048),
+        b"after" => {
+            let head = String::from_str(alloc, "moments end at second 4,294,967,295")?;
+            advise(
+                alloc,
+                nth_word(line, 1),
+                head,
+                "this goes on behind it: write less",
+            )
+        }
+        _ => record_said(alloc, nth_word(line, 3), nth_word(line, 4)),
+    }
+}

@@ -1,0 +1,171 @@
+//! What is said of the fields of a packet.
+
+use crate::argument::{MOST_DIGITS, is_right, word_said};
+use crate::said::{LineMessage, advise, expect_word, mark_word};
+use crate::statement::{OFFSET, TYPE};
+use crate::word::{Word, are_digits, nth_word, number_in, word_behind};
+use lc_model::FieldType;
+use std::alloc::{AllocError, Global};
+
+/// The bytes of telemetry's headers.
+const HEADERS: u64 = 12;
+
+/// The number of the word with the packet's length.
+const LENGTH: usize = 3;
+
+/// The numbers of a type.
+fn range_of(kind: FieldType) -> &'static str {
+    match kind {
+        FieldType::U8 => "write 0 to 255",
+        FieldType::I8 => "write -128 to 127",
+        FieldType::U16Be | FieldType::U16Le => "write 0 to 65,535",
+        FieldType::I16Be | FieldType::I16Le => "write -32,768 to 32,767",
+        FieldType::U32Be | FieldType::U32Le => "write 0 to 4,294,967,295",
+        FieldType::I32Be | FieldType::I32Le => "write -2,147,483,648 to 2,147,483,647",
+    }
+}
+
+/// The word without the `-` in front.
+fn without_sign(word: &[u8]) -> &[u8] {
+    match word {
+        [b'-', digits @ ..] => digits,
+        _ => word,
+    }
+}
+
+/// The number that a word writes, with `-` in front of a negative one.
+fn value_in(word: &[u8]) -> Option<i64> {
+    let number = number_in(without_sign(word), MOST_DIGITS)?;
+    let value = i64::try_from(number).ok()?;
+    Some(if word.starts_with(b"-") {
+        value.saturating_neg()
+    } else {
+        value
+    })
+}
+
+/// Whether a word writes a number of this type.
+fn is_value(kind: FieldType, word: &[u8]) -> bool {
+    value_in(word).is_some_and(|value| kind.has(value))
+}
+
+/// What is said of a word that writes none.
+fn value_said(alloc: Global, kind: FieldType, value: Word<'_>) -> Result<LineMessage, AllocError> {
+    let advice = range_of(kind);
+    if !are_digits(without_sign(value.text)) {
+        return expect_word(alloc, value, "the value of the field", advice);
+    }
+    let shown = value.quote(alloc)?;
+    let head = format!(in alloc; "the number {shown} is outside the type of the field")?;
+    advise(alloc, value, head, advice)
+}
+
+/// Whether a field of so many bytes at a place lies between the headers of a packet of this size and its end.
+fn is_inside(width: u64, place: u64, size: u64) -> bool {
+    place >= HEADERS && place.saturating_add(width) <= size
+}
+
+/// The size of the packet, as the line says it.
+fn size_of(line: &[u8]) -> u64 {
+    number_in(nth_word(line, LENGTH).text, MOST_DIGITS).unwrap_or(0)
+}
+
+/// So many bytes, in words.
+fn bytes_of(alloc: Global, width: u64) -> Result<String, AllocError> {
+    if width == 1 {
+        String::from_str(alloc, "1 byte")
+    } else {
+        format!(in alloc; "{width} bytes")
+    }
+}
+
+/// What to do about a field of so many bytes that isn't inside a packet of this size.
+fn inside_advice(alloc: Global, width: u64, size: u64) -> Result<String, AllocError> {
+    let bytes = bytes_of(alloc, width)?;
+    let last = size.saturating_sub(width);
+    if last < HEADERS {
+        format!(in alloc; "the packet has no room for {bytes} behind its headers")
+    } else if last == HEADERS {
+        format!(in alloc; "write 12: it has {bytes}")
+    } else {
+        format!(in alloc; "write 12 to {last}: it has {bytes}")
+    }
+}
+
+/// What is said of a field that isn't inside its packet.
+fn outside_said(
+    alloc: Global,
+    line: &[u8],
+    kind: FieldType,
+    offset: Word<'_>,
+) -> Result<LineMessage, AllocError> {
+    let (place, width) = (number_in(offset.text, MOST_DIGITS), kind.width() as u64);
+    let size = size_of(line);
+    let head = if place.is_some_and(|place| place < HEADERS) {
+        "the field begins in the headers of its packet"
+    } else {
+        "the field ends behind its packet"
+    };
+    let head = String::from_str(alloc, head)?;
+    let label = inside_advice(alloc, width, size)?;
+    let length = format!(in alloc; "the packet has {size} bytes")?;
+    Ok(LineMessage {
+        head,
+        first: mark_word(offset, label),
+        other: Some(mark_word(nth_word(line, LENGTH), length)),
+    })
+}
+
+/// What is said of a field of this type, if it isn't inside its packet or its value isn't one of the type.
+fn placed_said(
+    alloc: Global,
+    line: &[u8],
+    kind: FieldType,
+    offset: Word<'_>,
+    value: Word<'_>,
+) -> Result<Option<LineMessage>, AllocError> {
+    let place = number_in(offset.text, MOST_DIGITS).unwrap_or(0);
+    if !is_inside(kind.width() as u64, place, size_of(line)) {
+        return Ok(Some(outside_said(alloc, line, kind, offset)?));
+    }
+    if !is_value(kind, value.text) {
+        return Ok(Some(value_said(alloc, kind, value)?));
+    }
+    Ok(None)
+}
+
+/// What is said of a field with these three words, if something is wrong with it.
+fn field_said(
+    alloc: Global,
+    line: &[u8],
+    kind: Word<'_>,
+    offset: Word<'_>,
+    value: Word<'_>,
+) -> Result<Option<LineMessage>, AllocError> {
+    let Some(named) = FieldType::from_word(kind.text) else {
+        return Ok(Some(word_said(alloc, TYPE, kind)?));
+    };
+    if !is_right(OFFSET, offset) {
+        return Ok(Some(word_said(alloc, OFFSET, offset)?));
+    }
+    placed_said(alloc, line, named, offset, value)
+}
+
+/// What is said of the first field of the line that something is wrong with.
+pub fn fields_said(alloc: Global, line: &[u8]) -> Result<Option<LineMessage>, AllocError> {
+    let mut from = nth_word(line, LENGTH).end();
+    for _ in 0..line.len() {
+        let kind = word_behind(line, from);
+        if kind.is_end() {
+            return Ok(None);
+        }
+        let offset = word_behind(line, kind.end());
+        let value = word_behind(line, offset.end());
+        let found = field_said(alloc, line, kind, offset, value)?;
+        if found.is_some() {
+            return Ok(found);
+        }
+        from = value.end();
+    }
+    Ok(None)
+}

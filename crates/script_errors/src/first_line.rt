@@ -1,0 +1,45 @@
+//! What is said of a line that should be `slots N`.
+
+use crate::said::{LineMessage, advise, expect_word, expected_word, too_many};
+use crate::word::{are_digits, nth_word, number_in};
+use std::alloc::{AllocError, Global};
+
+/// The first word.
+const SLOTS: &[&[u8]] = &[b"slots"];
+
+/// How many slots there may be.
+const RANGE: &str = "write 1 to 64";
+
+/// The most digits of a number in a schedule.
+pub const MOST_DIGITS: usize = 5;
+
+/// The number of slots that the first line with words asks for.
+pub fn slots_in(line: &[u8]) -> u64 {
+    number_in(nth_word(line, 1).text, MOST_DIGITS).unwrap_or(0)
+}
+
+/// What is wrong with the number of slots.
+fn number_said(alloc: Global, line: &[u8]) -> Result<LineMessage, AllocError> {
+    let number = nth_word(line, 1);
+    if !are_digits(number.text) {
+        return expect_word(alloc, number, "the number of slots", RANGE);
+    }
+    let shown = number.quote(alloc)?;
+    let head = format!(in alloc; "a schedule has 1 to 64 slots, and not {shown}")?;
+    advise(alloc, number, head, RANGE)
+}
+
+/// What is said of the first line with words.
+pub fn first_said(alloc: Global, line: &[u8]) -> Result<LineMessage, AllocError> {
+    let first = nth_word(line, 0);
+    let is_slots = matches!(first.text, b"slots");
+    if !is_slots {
+        let advice = "a schedule begins with `slots` and their number";
+        return expected_word(alloc, first, SLOTS, "`slots`", advice);
+    }
+    let behind = nth_word(line, 2);
+    if (1..=64).contains(&slots_in(line)) && !behind.is_end() {
+        return too_many(alloc, behind);
+    }
+    number_said(alloc, line)
+}

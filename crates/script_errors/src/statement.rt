@@ -1,0 +1,292 @@
+//! The statements of scripts, and the words that each has.
+
+use crate::entry::{AGES, AGES_ADVICE, RULES_ADVICE};
+
+/// What a word has to be.
+#[derive(Clone, Copy)]
+pub enum WordShape {
+    /// A number in decimal digits, of at least and at most so much.
+    Number(u64, u64),
+    /// Four hexadecimal digits.
+    MessageId,
+    /// `-`, or two hexadecimal digits for each byte.
+    Bytes,
+    /// A name of so many bytes at most.
+    Name(usize),
+    /// One of these words.
+    OneOf(&'static [&'static [u8]]),
+}
+
+/// What a word has to be, for who writes it.
+#[derive(Clone, Copy)]
+pub struct Wanted {
+    /// What it is.
+    pub what: &'static str,
+    /// What to write.
+    pub advice: &'static str,
+    pub shape: WordShape,
+}
+
+/// A statement.
+#[derive(Clone, Copy)]
+pub struct Statement {
+    /// Its first word.
+    pub verb: &'static [u8],
+    /// The words behind that.
+    pub wanted: &'static [Wanted],
+    /// Whether fields follow, of three words each.
+    pub has_fields: bool,
+}
+
+const KINDS: &[&[u8]] = &[b"packet", b"tick", b"file", b"half"];
+
+const SECONDS: Wanted = Wanted {
+    what: "the seconds",
+    advice: "write 0 to 4,294,967,295",
+    shape: WordShape::Number(0, 4_294_967_295),
+};
+
+const PART: Wanted = Wanted {
+    what: "the part of a second",
+    advice: "write 0 to 65,535, which are 65,536ths of a second",
+    shape: WordShape::Number(0, 65_535),
+};
+
+const MESSAGE_ID: Wanted = Wanted {
+    what: "a message id",
+    advice: "write four hexadecimal digits",
+    shape: WordShape::MessageId,
+};
+
+const COUNT: Wanted = Wanted {
+    what: "the sequence count",
+    advice: "write 0 to 16,383",
+    shape: WordShape::Number(0, 16_383),
+};
+
+const LENGTH: Wanted = Wanted {
+    what: "the packet's length",
+    advice: "write 12 to 2,048",
+    shape: WordShape::Number(12, 2_048),
+};
+
+const CODE: Wanted = Wanted {
+    what: "the command's code",
+    advice: "write 0 to 127",
+    shape: WordShape::Number(0, 127),
+};
+
+const BYTES: Wanted = Wanted {
+    what: "the bytes",
+    advice: "write two hexadecimal digits for each byte, or `-` for none",
+    shape: WordShape::Bytes,
+};
+
+const FIRST: Wanted = Wanted {
+    what: "the first rule's number",
+    advice: RULES_ADVICE,
+    shape: WordShape::Number(0, 65_535),
+};
+
+const LAST: Wanted = Wanted {
+    what: "the last rule's number",
+    advice: RULES_ADVICE,
+    shape: WordShape::Number(0, 65_535),
+};
+
+const AGE: Wanted = Wanted {
+    what: "`age` or `keep`",
+    advice: AGES_ADVICE,
+    shape: WordShape::OneOf(AGES),
+};
+
+const APPLICATION: Wanted = Wanted {
+    what: "the name of an application",
+    advice: "write `LC`, `SCH` or `COUNTER`",
+    shape: WordShape::Name(20),
+};
+
+const FILE: Wanted = Wanted {
+    what: "the name of a file",
+    advice: "write at most 40 bytes",
+    shape: WordShape::Name(40),
+};
+
+const TABLE: Wanted = Wanted {
+    what: "the name of a table",
+    advice: "write `LC.LC_WDT` or `LC.LC_ADT`",
+    shape: WordShape::Name(40),
+};
+
+const TEXT: Wanted = Wanted {
+    what: "the number of a rule text",
+    advice: "write 0 to 65,535",
+    shape: WordShape::Number(0, 65_535),
+};
+
+const KIND: Wanted = Wanted {
+    what: "a kind of record",
+    advice: "write `packet`, `tick`, `file` or `half`",
+    shape: WordShape::OneOf(KINDS),
+};
+
+/// The types of fields.
+const TYPES: &[&[u8]] = &[
+    b"u8", b"i8", b"u16be", b"u16le", b"i16be", b"i16le", b"u32be", b"u32le", b"i32be", b"i32le",
+];
+
+/// The first word of a field.
+pub const TYPE: Wanted = Wanted {
+    what: "the type of a field",
+    advice: "write u8, i8, u16be, u16le, i16be, i16le, u32be, u32le, i32be or i32le",
+    shape: WordShape::OneOf(TYPES),
+};
+
+/// The second word of a field.
+pub const OFFSET: Wanted = Wanted {
+    what: "the place of the field",
+    advice: "write how many bytes of the packet stand before it",
+    shape: WordShape::Number(0, 4_294_967_295),
+};
+
+/// All statements, in the order of the documents.
+const STATEMENTS: &[Statement] = &[
+    Statement {
+        verb: b"at",
+        wanted: &[SECONDS, PART],
+        has_fields: false,
+    },
+    Statement {
+        verb: b"after",
+        wanted: &[SECONDS],
+        has_fields: false,
+    },
+    Statement {
+        verb: b"fields",
+        wanted: &[MESSAGE_ID, COUNT, LENGTH],
+        has_fields: true,
+    },
+    Statement {
+        verb: b"telemetry",
+        wanted: &[MESSAGE_ID, COUNT, BYTES],
+        has_fields: false,
+    },
+    Statement {
+        verb: b"command",
+        wanted: &[MESSAGE_ID, CODE, BYTES],
+        has_fields: false,
+    },
+    Statement {
+        verb: b"tick",
+        wanted: &[],
+        has_fields: false,
+    },
+    Statement {
+        verb: b"sample",
+        wanted: &[FIRST, LAST, AGE],
+        has_fields: false,
+    },
+    Statement {
+        verb: b"housekeeping",
+        wanted: &[],
+        has_fields: false,
+    },
+    Statement {
+        verb: b"start",
+        wanted: &[APPLICATION],
+        has_fields: false,
+    },
+    Statement {
+        verb: b"stop",
+        wanted: &[APPLICATION],
+        has_fields: false,
+    },
+    Statement {
+        verb: b"restart",
+        wanted: &[APPLICATION],
+        has_fields: false,
+    },
+    Statement {
+        verb: b"reload",
+        wanted: &[APPLICATION],
+        has_fields: false,
+    },
+    Statement {
+        verb: b"load",
+        wanted: &[FILE],
+        has_fields: false,
+    },
+    Statement {
+        verb: b"validate",
+        wanted: &[TABLE],
+        has_fields: false,
+    },
+    Statement {
+        verb: b"activate",
+        wanted: &[TABLE],
+        has_fields: false,
+    },
+    Statement {
+        verb: b"abort",
+        wanted: &[TABLE],
+        has_fields: false,
+    },
+    Statement {
+        verb: b"wdt",
+        wanted: &[TEXT, FILE],
+        has_fields: false,
+    },
+    Statement {
+        verb: b"adt",
+        wanted: &[TEXT, FILE],
+        has_fields: false,
+    },
+    Statement {
+        verb: b"file",
+        wanted: &[FILE, BYTES],
+        has_fields: false,
+    },
+    Statement {
+        verb: b"packet",
+        wanted: &[BYTES],
+        has_fields: false,
+    },
+    Statement {
+        verb: b"record",
+        wanted: &[SECONDS, PART, KIND, BYTES],
+        has_fields: false,
+    },
+];
+
+/// The first words of all statements.
+pub const VERBS: &[&[u8]] = &[
+    b"at",
+    b"after",
+    b"fields",
+    b"telemetry",
+    b"command",
+    b"tick",
+    b"sample",
+    b"housekeeping",
+    b"start",
+    b"stop",
+    b"restart",
+    b"reload",
+    b"load",
+    b"validate",
+    b"activate",
+    b"abort",
+    b"wdt",
+    b"adt",
+    b"file",
+    b"packet",
+    b"record",
+];
+
+/// The statement that begins with this word.
+pub fn statement_of(verb: &[u8]) -> Option<Statement> {
+    STATEMENTS
+        .iter()
+        .find(|statement| statement.verb == verb)
+        .copied()
+}

@@ -1,0 +1,84 @@
+//! What a script may say and hardly means.
+
+use crate::word::nth_word;
+use diagnostics::{Mark, Message, quote};
+use std::alloc::{AllocError, Global};
+use std::str;
+
+/// The most warnings that are told of a script.
+const MOST: usize = 100;
+
+/// The name of a warning of a message id.
+const NAME: &str = "message-id";
+
+/// The digits of a message id.
+const ID_DIGITS: usize = 4;
+
+/// The message id that a word writes.
+fn id_in(word: &[u8]) -> Option<u32> {
+    if word.len() != ID_DIGITS {
+        return None;
+    }
+    let digits = str::from_utf8(word).ok()?;
+    u32::from_str_radix(digits, 16).ok()
+}
+
+fn is_telemetry(id: u32) -> bool {
+    (0x0800..=0x0FFF).contains(&id)
+}
+
+fn is_command(id: u32) -> bool {
+    (0x1800..=0x1FFF).contains(&id)
+}
+
+/// What the message id isn't, and which there are, where it isn't one of those that go with this statement.
+fn not_fitting(verb: &[u8], id: u32) -> Option<(&'static str, &'static str)> {
+    match verb {
+        b"fields" | b"telemetry" if !is_telemetry(id) => {
+            Some(("not one of telemetry", "telemetry has 0800 to 0FFF"))
+        }
+        b"command" if !is_command(id) => Some((
+            "not one of a command",
+            "commands have 1800 to 1FFF",
+        )),
+        _ => None,
+    }
+}
+
+/// What is said of a line behind so many bytes, if it names such a message id.
+fn line_warning(alloc: Global, line: &[u8], begin: usize) -> Result<Option<Message>, AllocError> {
+    let (verb, word) = (nth_word(line, 0), nth_word(line, 1));
+    let Some(id) = id_in(word.text) else {
+        return Ok(None);
+    };
+    let Some((what, label)) = not_fitting(verb.text, id) else {
+        return Ok(None);
+    };
+    let shown = quote(alloc, word.text)?;
+    let head = format!(in alloc; "the message id {shown} is {what}")?;
+    let mark = Mark {
+        at: begin.saturating_add(word.at),
+        size: word.text.len(),
+        label: String::from_str(alloc, label)?,
+    };
+    Ok(Some(Message::warning(alloc, NAME, head, mark)))
+}
+
+/// What is to be looked at in a script that says a stream: telemetry whose message id isn't one of telemetry, and commands whose isn't
+/// one of a command. Of more than a hundred such lines the first hundred are told.
+///
+/// Errors: there is no memory for what is said.
+pub fn script_warnings(alloc: Global, text: &[u8]) -> Result<Vec<Message>, AllocError> {
+    let mut told = Vec::new(alloc);
+    let mut begin = 0usize;
+    for line in text.split(|byte| *byte == b'\n') {
+        if told.len() >= MOST {
+            break;
+        }
+        if let Some(warning) = line_warning(alloc, line, begin)? {
+            told.push(warning)?;
+        }
+        begin = begin.saturating_add(line.len()).saturating_add(1);
+    }
+    Ok(told)
+}

@@ -1,0 +1,121 @@
+//! Words of a line.
+
+ghost use Rattle.std.specs.Prelude.{◌≤◌, ◌+◌, length, IfSome};
+
+use diagnostics::quote;
+use std::alloc::{AllocError, Global};
+
+/// The most bytes of a word that a sentence shows.
+const MOST_SHOWN: usize = 40;
+
+/// The bytes shown of a longer one, before the dots.
+const SHOWN: usize = 37;
+
+const DOTS: &[u8] = b"...";
+
+/// A word, or the line's end, which has no bytes.
+#[derive(Clone, Copy)]
+pub struct Word<'a> {
+    /// Bytes of the line before it.
+    pub at: usize,
+    pub text: &'a [u8],
+}
+
+/// Space, tab and carriage return part words.
+fn is_blank(byte: u8) -> bool {
+    byte == b' ' || byte == b'\t' || byte == b'\r'
+}
+
+/// How many blanks stand in front.
+fn blank_count(bytes: &[u8]) -> usize
+    ensures { result ≤ length bytes.now }
+{
+    bytes.iter().take_while(|byte| is_blank(**byte)).count()
+}
+
+/// How many other bytes stand in front.
+fn word_size(bytes: &[u8]) -> usize
+    ensures { result ≤ length bytes.now }
+{
+    bytes.iter().take_while(|byte| !is_blank(**byte)).count()
+}
+
+/// The place behind the line's last word.
+fn line_end(line: &[u8]) -> usize {
+    let blanks = line
+        .iter()
+        .rev()
+        .take_while(|byte| is_blank(**byte))
+        .count();
+    line.len().saturating_sub(blanks)
+}
+
+impl<'a> Word<'a> {
+    /// Whether the line has no such word.
+    pub fn is_end(self) -> bool {
+        self.text.is_empty()
+    }
+
+    /// The bytes of the line up to the word's end.
+    pub fn end(self) -> usize {
+        self.at.saturating_add(self.text.len())
+    }
+
+    /// The word as a sentence shows it.
+    pub fn quote(self, alloc: Global) -> Result<String, AllocError> {
+        if self.is_end() {
+            return String::from_str(alloc, "the end of the line");
+        }
+        if self.text.len() <= MOST_SHOWN {
+            return quote(alloc, self.text);
+        }
+        let mut cut = Vec::from_slice(alloc, self.text.split_at(SHOWN).0)?;
+        cut.extend_from_slice(DOTS)?;
+        quote(alloc, cut.as_slice())
+    }
+}
+
+/// The first word behind so many bytes of the line.
+pub fn word_behind(line: &[u8], from: usize) -> Word<'_> {
+    let rest = line.split_at(from.min(line.len())).1;
+    let rest = rest.split_at(blank_count(rest)).1;
+    let (text, _) = rest.split_at(word_size(rest));
+    if text.is_empty() {
+        return Word {
+            at: line_end(line),
+            text,
+        };
+    }
+    Word {
+        at: line.len().saturating_sub(rest.len()),
+        text,
+    }
+}
+
+/// The word with this number, from 0.
+pub fn nth_word(line: &[u8], number: usize) -> Word<'_> {
+    let mut from = 0;
+    for _ in 0..number {
+        from = word_behind(line, from).end();
+    }
+    word_behind(line, from)
+}
+
+/// Whether all bytes are digits, one at least.
+pub fn are_digits(word: &[u8]) -> bool {
+    !word.is_empty() && word.iter().all(|byte| byte.is_ascii_digit())
+}
+
+/// The number that digits write, so many at most.
+pub fn number_in(word: &[u8], most_digits: usize) -> Option<u64> {
+    if !are_digits(word) || word.len() > most_digits {
+        return None;
+    }
+    let mut number = 0u64;
+    for byte in word {
+        number = number
+            .saturating_mul(10)
+            .saturating_add(u64::from(byte.saturating_sub(b'0')));
+    }
+    Some(number)
+}

@@ -1,0 +1,78 @@
+//! From a script to its stream, line by line.
+
+ghost use Rattle.std.specs.Prelude.{◌≡◌, ◌+◌, ◌∷◌, ℕ, List, Ok, Err, IfOk, IfErr, IsErr};
+ghost use Rattle.stream_script.specs.Error.{IsRefused, IsScriptError, ScriptFault};
+ghost use Rattle.stream_script.specs.Part.{lines_of, words_of};
+ghost use Rattle.stream_script.specs.Script.{line_said, lines_said, nothing_said, script_in};
+ghost use Rattle.stream_script.specs.declared.error.ScriptError.TheVariants.{Memory};
+
+use crate::error::{ScriptError, StatementFault};
+use crate::part::{first_line, is_silent, words};
+use crate::script::Script;
+use crate::statement::statement;
+use std::alloc::Global;
+
+/// What is said behind this line.
+fn line_said(alloc: Global, script: Script, line: &[u8]) -> Result<Script, StatementFault>
+    ensures said { IfOk result (λ after. line_said script (words_of line.now) ≡ Ok after) }
+    ensures refused { IfErr result (IsRefused (line_said script (words_of line.now))) }
+{
+    let words = words(alloc, line)?;
+    if is_silent(words.as_slice()) {
+        return Ok(script);
+    }
+    statement(alloc, script, words.as_slice())
+}
+
+/// What a line adds to the script, or its fault with the line's number.
+fn read_line(alloc: Global, script: Script, line: &[u8], n: usize) -> Result<Script, ScriptError>
+    ensures said { IfOk result (λ after. (lines : List (List ℕ)) →
+        lines_said script n (line.now ∷ lines) ≡ lines_said after (n + 1) lines) }
+    ensures refused { IfErr result (λ error. (lines : List (List ℕ)) →
+        IsScriptError (lines_said script n (line.now ∷ lines)) error) }
+{
+    match line_said(alloc, script, line) {
+        Ok(after) => Ok(after),
+        Err(StatementFault::Line(reason)) => Err(ScriptError::Line { n, reason }),
+        Err(StatementFault::Memory) => Err(ScriptError::Memory),
+    }
+}
+
+/// What all lines say.
+fn read_lines(alloc: Global, script: &[u8]) -> Result<Script, ScriptError>
+    ensures said { IfOk result (λ said. lines_said nothing_said 1 (lines_of script.now) ≡ Ok said) }
+    ensures refused { IfErr result
+        (IsScriptError (lines_said nothing_said 1 (lines_of script.now))) }
+{
+    let mut said = Script::new(alloc);
+    let mut left = Some(script);
+    let mut n = 0;
+    while let Some(text) = left {
+        let (line, rest) = first_line(text);
+        n += 1;
+        match read_line(alloc, said, line, n) {
+            Ok(after) => said = after,
+            Err(error) => return Err(error),
+        }
+        left = rest;
+    }
+    Ok(said)
+}
+
+/// The stream that a script says. Lines end at a line feed or at the end of the text, and words are parted by spaces, tabs and
+/// carriage returns; a line without words, or whose first word begins with `#`, says nothing.
+///
+/// Errors, of which the least line's is answered: `Line` with the line's number from 1 and what is wrong with it; `Memory` only
+/// where the stream or a line finds no room.
+pub fn read_script(alloc: Global, script: &[u8]) -> Result<Vec<u8>, ScriptError>
+    ensures said { IfOk result (λ stream. script_in script.now ≡ Ok stream.items) }
+    ensures refused { IfErr result (IsScriptError (script_in script.now)) }
+    ensures accepts { (stream : List ℕ) → script_in script.now ≡ Ok stream →
+        IfErr result (λ error. error ≡ Memory) }
+    ensures refuses { (fault : ScriptFault) → script_in script.now ≡ Err fault → IsErr result }
+{
+    match read_lines(alloc, script) {
+        Ok(said) => Ok(said.into_bytes()),
+        Err(error) => Err(error),
+    }
+}
