@@ -8,7 +8,7 @@ use crate::error::LexError;
 use crate::keyword::word_kind;
 use crate::number::{begins_numeral, number_value, numeral_length};
 use crate::sign::sign;
-use crate::strings::{begins_string, string_length};
+use crate::string_literals::{begins_string, string_length};
 use crate::token::TokenKind;
 use crate::word::{begins_word, word_length};
 

@@ -13,7 +13,7 @@ mod number;
 mod reason;
 mod scanner;
 mod sign;
-mod strings;
+mod string_literals;
 mod token;
 mod word;
 

@@ -9,7 +9,7 @@ ghost use Rattle.rule_lexer.specs.Reason.{number_reason, reason_of, string_reaso
 use crate::bytes::{LINE_FEED, QUOTE};
 use crate::error::LexError;
 use crate::number::without_sign;
-use crate::strings::inner_length;
+use crate::string_literals::inner_length;
 use crate::word::run_length;
 use thiserror::Error;
 

@@ -1,7 +1,7 @@
 use Rattle.std.proofs.Common.{sym, ◌∙◌, arith}
 use Rattle.rule_lexer.proofs.Strings.{string_by_parts, no_string_by_parts}
-use Rattle.rule_lexer.proofs.strings.string_length.Goals as goal
-use Rattle.rule_lexer.proofs.strings.string_length.Goals.{else-count-le-LONGEST_STRING-via-then-count-le-LONGEST_STRING+else-begins_string, else-count-le-LONGEST_STRING-via-else-count-le-LONGEST_STRING}
+use Rattle.rule_lexer.proofs.string_literals.string_length.Goals as goal
+use Rattle.rule_lexer.proofs.string_literals.string_length.Goals.{else-count-le-LONGEST_STRING-via-then-count-le-LONGEST_STRING+else-begins_string, else-count-le-LONGEST_STRING-via-else-count-le-LONGEST_STRING}
 
 pub returns-then-begins_string : goal.returns-then-begins_string
 returns-then-begins_string c =
