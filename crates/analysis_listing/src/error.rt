@@ -1,8 +1,5 @@
-//! Why a rule text, or a pair of tables, has no listing.
+//! Why a rule text, or a pair of tables, has no listing, or not a whole one.
 
-use field_checker::CheckError;
-use rule_lexer::LexError;
-use rule_parser::ParseError;
 use std::alloc::{AllocError, AllocFailed};
 use std::io;
 use table_file::FileError;
@@ -15,15 +12,6 @@ pub enum ListingError {
     /// No memory.
     #[error("out of memory")]
     Memory,
-    /// The text has no tokens.
-    #[error("{0}")]
-    Lex(LexError),
-    /// Its tokens are no items.
-    #[error("{0}")]
-    Parse(ParseError),
-    /// Its items mean no rules.
-    #[error("{0}")]
-    Check(CheckError),
     /// A table file's headers have a fault.
     #[error("{0}")]
     File(FileError),
@@ -47,24 +35,6 @@ impl From<AllocError> for ListingError {
 impl<T: Drop> From<AllocFailed<T>> for ListingError {
     fn from(_refused: AllocFailed<T>) -> ListingError {
         ListingError::Memory
-    }
-}
-
-impl From<LexError> for ListingError {
-    fn from(error: LexError) -> ListingError {
-        ListingError::Lex(error)
-    }
-}
-
-impl From<ParseError> for ListingError {
-    fn from(error: ParseError) -> ListingError {
-        ListingError::Parse(error)
-    }
-}
-
-impl From<CheckError> for ListingError {
-    fn from(error: CheckError) -> ListingError {
-        ListingError::Check(error)
     }
 }
 

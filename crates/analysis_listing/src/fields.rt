@@ -4,8 +4,9 @@ ghost use Rattle.std.specs.Prelude.{◌≡◌, None};
 ghost use Rattle.lc_model.specs.Field.{full_mask};
 
 use lc_model::Term;
+use rpn_compiler::RuleText;
 use rule_analysis::{Field, field_of};
-use rule_parser::{FieldItem, Item, RuleFile};
+use rule_parser::{FieldItem, Item};
 use std::alloc::{AllocError, Global};
 
 /// A field that a text names.
@@ -28,13 +29,13 @@ pub struct NamedPacket<'a> {
     pub mid: u16,
 }
 
-/// The packets of a text that compiles.
+/// The packets of a text.
 pub fn packets_of<'a>(
     alloc: Global,
-    file: &RuleFile<'a>,
+    text: &RuleText<'a>,
 ) -> Result<Vec<NamedPacket<'a>>, AllocError> {
     let mut packets = Vec::new(alloc);
-    for item in &file.items {
+    for item in &text.file.items {
         if let Item::Packet(packet) = item {
             packets.push(NamedPacket {
                 name: packet.name.text,
@@ -46,8 +47,8 @@ pub fn packets_of<'a>(
 }
 
 /// The message id of the packet of this name; 0 where there is none.
-fn mid_of(file: &RuleFile<'_>, name: &[u8]) -> u16 {
-    for item in &file.items {
+fn mid_of(items: &[Item<'_>], name: &[u8]) -> u16 {
+    for item in items {
         if let Item::Packet(packet) = item {
             if packet.name.text == name {
                 return u16::try_from(packet.mid.value).unwrap_or(0);
@@ -68,12 +69,12 @@ fn mask_of(item: &FieldItem<'_>) -> u32
 }
 
 /// What a text names by this item.
-fn named_field<'a>(file: &RuleFile<'a>, item: &FieldItem<'a>) -> NamedField<'a> {
+fn named_field<'a>(items: &[Item<'a>], item: &FieldItem<'a>) -> NamedField<'a> {
     NamedField {
         name: item.name.text,
         field: Field {
             kind: item.kind,
-            mid: mid_of(file, item.packet.text),
+            mid: mid_of(items, item.packet.text),
             offset: u32::try_from(item.offset.value).unwrap_or(0),
             mask: mask_of(item),
         },
@@ -81,12 +82,13 @@ fn named_field<'a>(file: &RuleFile<'a>, item: &FieldItem<'a>) -> NamedField<'a> 
 }
 
 impl<'a> FieldNames<'a> {
-    /// The fields of a text that compiles.
-    pub fn of(alloc: Global, file: &RuleFile<'a>) -> Result<FieldNames<'a>, AllocError> {
+    /// The fields of a text.
+    pub fn of(alloc: Global, text: &RuleText<'a>) -> Result<FieldNames<'a>, AllocError> {
+        let items = text.file.items.as_slice();
         let mut fields = Vec::new(alloc);
-        for item in &file.items {
+        for item in items {
             if let Item::Field(item) = item {
-                fields.push(named_field(file, item))?;
+                fields.push(named_field(items, item))?;
             }
         }
         Ok(FieldNames { fields })

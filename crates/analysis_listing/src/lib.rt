@@ -7,7 +7,6 @@ mod fields;
 mod lines;
 mod listing;
 mod marking;
-mod rule_text;
 mod said;
 mod schedule;
 mod tables;

@@ -1,7 +1,7 @@
 //! The parts of lines.
 
 use crate::fields::FieldNames;
-use lc_model::{CmpOp, Term};
+use lc_model::Term;
 use rule_analysis::{Field, field_of, value_with};
 use std::fmt::{self, Display, Formatter, Write};
 
@@ -94,18 +94,6 @@ fn first_reader(watchpoints: &[Term], term: &Term) -> usize {
     watchpoints.len()
 }
 
-/// The sign of a comparison.
-fn sign(op: CmpOp) -> &'static str {
-    match op {
-        CmpOp::Less => "<",
-        CmpOp::LessOrEqual => "<=",
-        CmpOp::NotEqual => "!=",
-        CmpOp::Equal => "==",
-        CmpOp::GreaterOrEqual => ">=",
-        CmpOp::Greater => ">",
-    }
-}
-
 /// A comparison, as `VOLTS < 2400`.
 #[derive(Clone, Copy)]
 pub struct ShownTerm<'a> {
@@ -115,7 +103,7 @@ pub struct ShownTerm<'a> {
 
 impl Display for ShownTerm<'_> {
     fn fmt<W: Write>(&self, f: &mut Formatter<W>) -> fmt::Result {
-        let (name, sign, value) = (self.name, sign(self.term.op), self.term.value);
+        let (name, sign, value) = (self.name, self.term.op.sign(), self.term.value);
         write!(f, "{name} {sign} {value}")
     }
 }

@@ -4,11 +4,11 @@ ghost use Rattle.std.specs.Prelude.{◌≡◌, ◌&&◌, not};
 ghost use Rattle.analysis_listing.specs.Said.{is_never};
 
 use crate::error::ListingError;
-use crate::fields::FieldNames;
+use crate::fields::{FieldNames, packets_of};
 use crate::lines::{NameSource, Shown, ShownTerm, Title, Values};
-use crate::rule_text::RuleText;
 use crate::said::{RuleFindings, said_of};
 use lc_model::{Rule, Term};
+use rpn_compiler::RuleText;
 use rule_analysis::{
     ComparisonJudgement, Constancy, Finding, Judgement, PairJudgement, Relation, RuleJudgement,
     SpareComparison, UnknownReason, judge, judge_pairs, never_read, spare_comparisons,
@@ -204,6 +204,7 @@ fn write_pair<W: Write>(
 /// Writes of a comparison that its rule can do without. One that says the same of all numbers is told of already.
 fn write_spare<W: Write>(
     text: &RuleText<'_>,
+    names: &FieldNames<'_>,
     judgement: &Judgement,
     spare: &SpareComparison,
     out: &mut W,
@@ -219,7 +220,7 @@ fn write_spare<W: Write>(
     }
     let name = Shown(rule.name.as_slice());
     let term = ShownTerm {
-        name: NameSource::Text(&text.names).name(&spare.term),
+        name: NameSource::Text(names).name(&spare.term),
         term: spare.term,
     };
     let value = spare.taken_as;
@@ -236,12 +237,13 @@ fn write_unread<W: Write>(
     text: &RuleText<'_>,
     out: &mut W,
 ) -> Result<(), ListingError> {
+    let packets = packets_of(alloc, text)?;
     let mut mids = Vec::new(alloc);
-    for packet in &text.packets {
+    for packet in &packets {
         mids.push(packet.mid)?;
     }
     let unread = never_read(alloc, &text.rules.rules, &mids)?;
-    for packet in &text.packets {
+    for packet in &packets {
         if unread.contains(&packet.mid) {
             let (name, mid) = (Shown(packet.name), packet.mid);
             writeln!(out, "warning: {name}: no rule needs packets of 0x{mid:04X}")?;
@@ -254,28 +256,28 @@ fn write_unread<W: Write>(
 /// its fields, of comparisons that say the same of all numbers or that
 /// their rule can do without, of rules of which one fails wherever the other does, and of packets that no rule needs.
 ///
-/// Errors: the text's first fault, where it doesn't compile; `Memory`; `Write`, where the writer refuses bytes.
+/// Errors: `Memory`; `Write`, where the writer refuses bytes.
 pub fn list_judgement<W: Write>(
     alloc: Global,
-    source: &[u8],
+    text: &RuleText<'_>,
     which: LineChoice,
     out: &mut W,
 ) -> Result<(), ListingError> {
-    let text = RuleText::read(alloc, source)?;
+    let names = FieldNames::of(alloc, text)?;
     let judgement = judge(alloc, &text.rules.rules)?;
     let pairs = judge_pairs(alloc, &text.rules.rules)?;
     let spare = spare_comparisons(alloc, &text.rules.rules)?;
     let rules = text.rules.rules.as_slice();
     for (rule, judged) in rules.iter().zip(&judgement.rules) {
-        write_judged(alloc, &text.names, rule, judged, which, out)?;
+        write_judged(alloc, &names, rule, judged, which, out)?;
     }
     for pair in &pairs {
         write_pair(rules, &judgement, pair, out)?;
     }
     for spare in &spare {
-        write_spare(&text, &judgement, spare, out)?;
+        write_spare(text, &names, &judgement, spare, out)?;
     }
-    write_unread(alloc, &text, out)
+    write_unread(alloc, text, out)
 }
 
 /// Writes for which values of its fields a rule fails and passes, if it does both.
@@ -300,17 +302,17 @@ fn write_outcome<W: Write>(
 
 /// Writes of each rule of a text that can fail and can pass for which values of its fields it does, a line a rule.
 ///
-/// Errors: the text's first fault, where it doesn't compile; `Memory`; `Write`, where the writer refuses bytes.
+/// Errors: `Memory`; `Write`, where the writer refuses bytes.
 pub fn list_outcomes<W: Write>(
     alloc: Global,
-    source: &[u8],
+    text: &RuleText<'_>,
     out: &mut W,
 ) -> Result<(), ListingError> {
-    let text = RuleText::read(alloc, source)?;
+    let names = FieldNames::of(alloc, text)?;
     let judgement = judge(alloc, &text.rules.rules)?;
     let rules = text.rules.rules.as_slice();
     for (rule, judged) in rules.iter().zip(&judgement.rules) {
-        write_outcome(alloc, &text.names, rule, judged, out)?;
+        write_outcome(alloc, &names, rule, judged, out)?;
     }
     Ok(())
 }

@@ -8,8 +8,8 @@ ghost use Rattle.analysis_listing.specs.Requests.{request_in, requests_of};
 
 use crate::error::ListingError;
 use crate::lines::Shown;
-use crate::rule_text::RuleText;
 use lc_model::SampleRequest;
+use rpn_compiler::RuleText;
 use rule_analysis::never_sampled;
 use schedules::{Entry, Schedule};
 use std::alloc::{AllocError, Global};
@@ -54,14 +54,13 @@ pub fn unsampled_rules(
 
 /// Writes which rules of a text a schedule samples at no tick, a warning each.
 ///
-/// Errors: the text's first fault, where it doesn't compile; `Memory`; `Write`, where the writer refuses bytes.
+/// Errors: `Memory`; `Write`, where the writer refuses bytes.
 pub fn list_unsampled<W: Write>(
     alloc: Global,
-    source: &[u8],
+    text: &RuleText<'_>,
     schedule: &Schedule,
     out: &mut W,
 ) -> Result<(), ListingError> {
-    let text = RuleText::read(alloc, source)?;
     let rules = text.rules.rules.as_slice();
     for number in &unsampled_rules(alloc, rules.len(), schedule)? {
         if let Some(rule) = rules.get(*number) {

@@ -11,7 +11,7 @@ mod trying;
 use crate::comparing::Counts;
 use crate::measuring::measure;
 use analysis_listing::{LineChoice, list_actionpoints, list_judgement, list_unsampled};
-use rpn_compiler::compile;
+use rpn_compiler::{RuleText, compile};
 use schedules::parse_schedule;
 use std::{env, fs};
 
@@ -29,12 +29,8 @@ const TEXTS: [&str; 6] = [
 fn show(rt: &HostRuntime, name: &str) -> anyhow::Result<()> {
     println!(rt; "{name}")?;
     let source = fs::read(rt, name)?;
-    list_judgement(
-        rt.alloc(),
-        source.as_slice(),
-        LineChoice::All,
-        &mut rt.stdout(),
-    )?;
+    let text = RuleText::read_valid(rt.alloc(), source.as_slice())?;
+    list_judgement(rt.alloc(), &text, LineChoice::All, &mut rt.stdout())?;
     Ok(())
 }
 
@@ -60,9 +56,10 @@ fn show_counts(rt: &HostRuntime, what: &str, counts: Counts) -> anyhow::Result<(
 fn show_unsampled(rt: &HostRuntime, name: &str, schedule: &str) -> anyhow::Result<()> {
     println!(rt; "{name} by {schedule}")?;
     let source = fs::read(rt, name)?;
-    let text = fs::read(rt, schedule)?;
-    let schedule = parse_schedule(rt.alloc(), &text)?;
-    list_unsampled(rt.alloc(), &source, &schedule, &mut rt.stdout())?;
+    let text = RuleText::read_valid(rt.alloc(), source.as_slice())?;
+    let schedule = fs::read(rt, schedule)?;
+    let schedule = parse_schedule(rt.alloc(), &schedule)?;
+    list_unsampled(rt.alloc(), &text, &schedule, &mut rt.stdout())?;
     Ok(())
 }
 

@@ -4,12 +4,9 @@ ghost use Rattle.std.specs.Prelude.{◌≡◌, ◌+◌, ◌%◌, ◌<◌, replic
 ghost use Rattle.lc_model.specs.Packet.{count_end, message_id_end};
 ghost use Rattle.lc_model.specs.Services.Seen.{count_among};
 
-use lc_model::packet::next_count;
+use lc_model::packet::{MESSAGE_IDS, next_count};
 use std::alloc::{AllocError, Global};
 use std::marker::Model;
-
-/// The message ids of packet version 0. No packet has another.
-const MESSAGE_IDS: usize = 8192;
 
 /// For each message id the number of packets sent so far, modulo 16,384. Those of event packets are counted by `Events`.
 /// Contracts see the numbers as a list.

@@ -10,7 +10,7 @@ ghost use Rattle.lc_model.specs.Services.Interface.{outgoing_room};
 ghost use Rattle.app_host.specs.Sending.{NothingIsTold, TellingGoesOn, TellingKeepsSenders, RequestsSequence, SendsHousekeeping};
 
 use crate::services::Services;
-use lc_model::packet::sequence_request;
+use lc_model::packet::{UNSEGMENTED, sequence_request};
 use lc_model::{LcMode, Moment, TABLE_ENTRIES, mids, u16_bytes, u32_bytes};
 
 /// In housekeeping, in the place of a rule that there isn't.
@@ -54,7 +54,7 @@ fn housekeeping_header(count: u16, moment: Moment) -> [u8; 12]
         u16 moment.subseconds }
 {
     let [a, b] = u16_bytes(mids::LC_HOUSEKEEPING);
-    let [c, d] = u16_bytes(0xC000 + count);
+    let [c, d] = u16_bytes(UNSEGMENTED + count);
     let [s, t, u, v] = u32_bytes(moment.seconds);
     let [x, y] = u16_bytes(moment.subseconds);
     [a, b, c, d, 0, 185, s, t, u, v, x, y]
@@ -64,11 +64,7 @@ fn housekeeping_header(count: u16, moment: Moment) -> [u8; 12]
 fn mode_bytes(mode: LcMode) -> [u8; 2]
     ensures { result ≡ u16 (mode_code mode) }
 {
-    match mode {
-        LcMode::Active => [0, 1],
-        LcMode::Passive => [0, 2],
-        LcMode::Disabled => [0, 3],
-    }
+    u16_bytes(mode.code())
 }
 
 /// How many there are, in two bytes.

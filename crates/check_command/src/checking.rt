@@ -2,7 +2,7 @@
 
 use crate::outcomes::write_outcomes;
 use crate::totals::{CheckOptions, CheckResult, Totals};
-use rpn_compiler::{CompileError, compile};
+use rpn_compiler::{CompileError, RuleText};
 use rule_errors::messages;
 use rule_lints::warnings;
 use schedules::Schedule;
@@ -11,14 +11,14 @@ use std::alloc::Global;
 use std::fs::Files;
 use std::io::Write;
 use tool_faults::{
-    Fault, LONGEST_TEXT, MOST_WARNINGS, alone, listing_result, read, read_text, write_messages,
+    Fault, MOST_WARNINGS, alone, listing_result, read_text, read_whole_text, write_messages,
     write_warnings,
 };
 
 /// Writes how many rules a text has, and how many warnings.
 fn write_counts<'a, W: Write>(
     name: &'a str,
-    rules: u16,
+    rules: usize,
     warnings: usize,
     out: &mut W,
 ) -> Result<(), Fault<'a>> {
@@ -30,23 +30,22 @@ fn write_counts<'a, W: Write>(
     listing_result(writeln!(out, "{name}: {rules} rules, {warnings} warnings{shown}"))
 }
 
-/// Writes what can be said of a rule text that compiles, with so many rules, and answers how many warnings these are.
+/// Writes what can be said of a valid rule text, and answers how many warnings these are.
 fn judge<'a, W: Write>(
     alloc: Global,
     name: &'a str,
-    text: &[u8],
-    rules: u16,
+    text: &RuleText<'_>,
     plan: &Option<Schedule>,
     asked: CheckOptions,
     out: &mut W,
 ) -> Result<usize, Fault<'a>> {
     let told = warnings(alloc, text, plan.as_ref())?;
-    write_warnings(alloc, name, text, told.as_slice(), asked.is_json, out)?;
+    write_warnings(alloc, name, text.bytes, told.as_slice(), asked.is_json, out)?;
     if asked.is_all {
         write_outcomes(alloc, name, text, asked.is_json, out)?;
     }
     if !asked.is_json {
-        write_counts(name, rules, told.len(), out)?;
+        write_counts(name, text.rules.rules.as_slice().len(), told.len(), out)?;
     }
     listing_result(out.flush())?;
     Ok(told.len())
@@ -62,9 +61,9 @@ fn check_text<'a, R: Files + AllocGlobal, W: Write>(
 ) -> Result<CheckResult, Fault<'a>> {
     let text = read_text(rt, name)?;
     let text = text.as_slice();
-    match compile(rt.alloc(), text) {
-        Ok(tables) => {
-            let warnings = judge(rt.alloc(), name, text, tables.rules, plan, asked, out)?;
+    match RuleText::read_valid(rt.alloc(), text) {
+        Ok(text) => {
+            let warnings = judge(rt.alloc(), name, &text, plan, asked, out)?;
             Ok(CheckResult::Warnings(warnings))
         }
         Err(CompileError::Memory) => Err(Fault::Memory),
@@ -83,7 +82,7 @@ fn plan_in<'a, R: Files + AllocGlobal, W: Write>(
     asked: CheckOptions,
     out: &mut W,
 ) -> Result<Option<Schedule>, Fault<'a>> {
-    let text = read(rt, name, LONGEST_TEXT)?;
+    let text = read_whole_text(rt, name)?;
     let text = text.as_slice();
     match read_schedule(rt.alloc(), text) {
         Ok(schedule) => Ok(Some(schedule)),

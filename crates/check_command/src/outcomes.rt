@@ -2,6 +2,7 @@
 
 use analysis_listing::list_outcomes;
 use diagnostics::{note_line, printable};
+use rpn_compiler::RuleText;
 use std::alloc::Global;
 use std::io::Write;
 use tool_faults::{Fault, judgement_fault, listing_result};
@@ -46,11 +47,11 @@ fn write_lines<'a, W: Write>(
     Ok(())
 }
 
-/// Writes for which values of their fields the rules of a text that compiles fail and pass.
+/// Writes for which values of their fields the rules of a text fail and pass.
 pub fn write_outcomes<'a, W: Write>(
     alloc: Global,
     name: &'a str,
-    text: &[u8],
+    text: &RuleText<'_>,
     is_json: bool,
     out: &mut W,
 ) -> Result<(), Fault<'a>> {

@@ -20,7 +20,7 @@ pub fn front_character(rest: &[u8]) -> (char, usize)
 }
 
 /// How many characters the bytes are.
-pub fn character_count(bytes: &[u8]) -> usize
+pub(crate) fn character_count(bytes: &[u8]) -> usize
     ensures value { result ≡ length (characters bytes.now) }
     ensures within { result ≤ length bytes.now }
 {

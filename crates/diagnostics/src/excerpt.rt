@@ -11,7 +11,7 @@ use std::alloc::{AllocError, Global};
 
 /// What is shown of a line, and which columns of that are marked.
 #[derive(Drop)]
-pub struct Excerpt {
+pub(crate) struct Excerpt {
     /// The line's number, from 1.
     pub line: usize,
     /// At most 100 columns.
@@ -25,7 +25,12 @@ pub struct Excerpt {
 }
 
 /// The excerpt for so many bytes at this place.
-pub fn excerpt_of(alloc: Global, text: &[u8], at: usize, size: usize) -> Result<Excerpt, AllocError>
+pub(crate) fn excerpt_of(
+    alloc: Global,
+    text: &[u8],
+    at: usize,
+    size: usize,
+) -> Result<Excerpt, AllocError>
     requires { at ≤ length text.now }
     ensures { IfOk result (IsExcerpt text.now at size) }
 {

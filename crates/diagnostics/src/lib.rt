@@ -18,8 +18,7 @@ mod place;
 mod quoting;
 mod spot;
 
-pub use character::{character_count, front_character};
-pub use excerpt::{Excerpt, excerpt_of};
+pub use character::front_character;
 pub use grouped::{Grouped, Many, Signed};
 pub use likeness::nearest;
 pub use line::{line_of, line_start, written_line};
@@ -27,5 +26,4 @@ pub use message::{Mark, Message};
 pub use object_line::{message_line, note_line};
 pub use page::{MOST_TOLD, page_of, warnings_page_of};
 pub use parts::{behind, front};
-pub use place::{Place, place_of};
 pub use quoting::{around, printable, push_quoted, quote};

@@ -9,13 +9,13 @@ use crate::line::{line_number, line_start};
 
 /// A line and a column, both counted from 1. A column is a character.
 #[derive(Clone, Copy)]
-pub struct Place {
+pub(crate) struct Place {
     pub line: usize,
     pub column: usize,
 }
 
 /// Where the byte stands that has so many bytes before it, or the text's end.
-pub fn place_of(text: &[u8], at: usize) -> Place
+pub(crate) fn place_of(text: &[u8], at: usize) -> Place
     requires { at ≤ length text.now }
     ensures line { result.line ≡ line_number text.now at }
     ensures column { result.column ≡ column text.now at }

@@ -3,31 +3,21 @@
 
 ghost use Rattle.std.specs.Prelude.{◌≡◌, ◌+◌, ◌++◌, ◌<◌, ◌≤◌, length, replicate, vec_capacity};
 ghost use Rattle.lc_model.specs.Bytes as model;
-ghost use Rattle.lc_model.specs.Codes.{event_code as code_of_kind};
 ghost use Rattle.lc_model.specs.Events.Outgoing.{event_packet, event_packet_size, longest_event_text};
 ghost use Rattle.lc_model.specs.Packet.{count_end};
 ghost use Rattle.event_service.specs.Packet.{laid};
 
 use crate::name::SenderName;
 use byteorder::{BigEndian, ByteOrder};
-use lc_model::{EventKind, Moment};
+use lc_model::packet::UNSEGMENTED;
+use lc_model::{EventKind, Moment, PROCESSOR, SPACECRAFT, mids};
 use std::marker::Model;
 
 /// The bytes of an event packet.
 pub const PACKET_SIZE: usize = 168;
 
-/// The message id of event packets.
-const EVENT_MESSAGE: u16 = 0x0808;
-
-/// The sequence flags of a packet that is no segment.
-const WHOLE_PACKET: u16 = 0xC000;
-
 /// The length field: the bytes behind the primary header, less 1.
 const PACKET_LENGTH: u16 = 161;
-
-const SPACECRAFT: u32 = 66;
-
-const PROCESSOR: u32 = 1;
 
 /// An event packet: 168 bytes with big-endian numbers, the primary header (6), seconds (4) and subseconds (2), the sender's
 /// name (20, zero filled), the event's id (2) and type (2), spacecraft 66 (4), processor 1 (4), and the text (124, zero
@@ -125,14 +115,14 @@ fn lay(
     ensures packet { bytes.new ≡ event_packet count moment sender.now id kind text.now }
     ensures size { length bytes.new ≡ length bytes.old }
 {
-    put_u16(bytes, 0, EVENT_MESSAGE);
-    put_u16(bytes, 2, WHOLE_PACKET + count);
+    put_u16(bytes, 0, mids::EVENT);
+    put_u16(bytes, 2, UNSEGMENTED + count);
     put_u16(bytes, 4, PACKET_LENGTH);
     put_u32(bytes, 6, moment.seconds);
     put_u16(bytes, 10, moment.subseconds);
     put(bytes, 12, sender.field());
     put_u16(bytes, 32, id);
-    put_u16(bytes, 34, event_code(kind));
+    put_u16(bytes, 34, kind.code());
     put_u32(bytes, 36, SPACECRAFT);
     put_u32(bytes, 40, PROCESSOR);
     put(bytes, 44, text);
@@ -163,16 +153,4 @@ fn put_u32(bytes: &mut [u8], at: usize, number: u32)
     ensures size { length bytes.new ≡ length bytes.old }
 {
     BigEndian::write_u32(&mut bytes[at..at + 4], number);
-}
-
-/// The number of an event type in a packet.
-fn event_code(kind: EventKind) -> u16
-    ensures { result ≡ code_of_kind kind }
-{
-    match kind {
-        EventKind::Debug => 1,
-        EventKind::Information => 2,
-        EventKind::Error => 3,
-        EventKind::Critical => 4,
-    }
 }

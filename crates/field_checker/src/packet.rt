@@ -11,13 +11,13 @@ ghost use Rattle.field_checker.specs.Faults.{NamesItsFault, after, first_of};
 
 use crate::fault::Check;
 use crate::faults::Faults;
-use lc_model::mids;
+use lc_model::{mids, packet};
 use rule_parser::{Number, PacketItem};
 
 /// A packet's least and most bytes.
 const SHORTEST_PACKET: u32 = 12;
 
-const LONGEST_PACKET: u32 = 2_048;
+const LONGEST_PACKET: u32 = packet::LONGEST_PACKET as u32;
 
 /// Whether the message id is one of the host's own telemetry, which no rule watches.
 fn is_reserved(mid: Number) -> bool

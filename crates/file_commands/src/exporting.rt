@@ -3,11 +3,11 @@
 use crate::ends::end_of_stream;
 use crate::listing::whole_records;
 use packet_archive::export_held;
-use program_files::{begin, discard, fault_of, keep};
+use program_io::{begin, discard, fault_of, feed_of, keep};
 use std::fs::Files;
 use std::io::Write;
 use stream_script::Front;
-use tool_faults::{Fault, fault_at, feed_of, is_apart};
+use tool_faults::{Fault, check_apart, fault_at};
 
 /// Writes the packets of a stream piece by piece. Returns what stands at the end, and the number of the record there.
 fn export_all<'a, R: Files + AllocGlobal, S: Write>(
@@ -46,7 +46,7 @@ pub fn export<'a, R: Files + AllocGlobal>(
     stream: &'a str,
     raw: &'a str,
 ) -> Result<(), Fault<'a>> {
-    is_apart(rt, raw, &[stream])?;
+    check_apart(rt, raw, &[stream])?;
     let mut draft = begin(rt, raw).map_err(|fault| fault_at(raw, fault))?;
     match export_all(rt, stream, raw, &mut draft.file) {
         Ok((front, n)) => {

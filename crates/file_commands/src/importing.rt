@@ -3,23 +3,21 @@
 ghost use Rattle.std.specs.Prelude.{◌≤◌, IfOk, IfSome};
 
 use flight_tools_args::ImportWords;
-use lc_model::Moment;
 use lc_model::stream::{HEADER, moment_of};
+use lc_model::{Moment, SUBSECONDS};
 use packet_archive::{
     ArchiveFront, Choice, Clock, ImportOptions, Met, Report, Tally, Times, import_held,
 };
-use program_files::{begin, discard, fault_of, keep};
+use program_io::{begin, discard, fault_of, feed_of, keep};
 use std::alloc::Global;
 use std::fs::Files;
 use std::io::Write;
 use stream_script::read_script;
-use tool_faults::{Fault, fault_at, feed_of, is_apart, listing_result};
+use text_lines::decimal_number;
+use tool_faults::{Fault, check_apart, fault_at, listing_result};
 
 /// The byte at which the time of this profile's telemetry begins, counted from 0.
 const OWN_TIME: u32 = 6;
-
-/// The number of parts in a second.
-const PARTS: u64 = 65_536;
 
 /// The most decimal digits of a part of a second.
 const MOST_DIGITS: usize = 6;
@@ -59,15 +57,17 @@ fn number_of<'a>(
 
 /// A part of a second, in 1/65,536 s rounded down, from one to six decimal digits.
 fn part_in(digits: &str) -> Option<u16> {
-    if digits.is_empty() || digits.len() > MOST_DIGITS {
-        return None;
-    }
-    let number = u64::from(number_in(digits, 999_999)?);
+    let number = decimal_number(MOST_DIGITS, digits.as_bytes())?;
     let mut whole = 1u64;
     for _ in 0..digits.len() {
         whole = whole.saturating_mul(10);
     }
-    u16::try_from(number.saturating_mul(PARTS).checked_div(whole)?).ok()
+    u16::try_from(
+        number
+            .saturating_mul(u64::from(SUBSECONDS))
+            .checked_div(whole)?,
+    )
+    .ok()
 }
 
 /// Seconds with up to six decimal digits after a point.
@@ -247,7 +247,7 @@ pub fn import<'a, R: Files + AllocGlobal, W: Write>(
     };
     let start = start_number(wanted.start)?;
     let mut clock = Clock::new(number_of("--tick", wanted.tick, u32::MAX, 0)?);
-    is_apart(rt, stream, archives)?;
+    check_apart(rt, stream, archives)?;
     let mut draft = begin(rt, stream).map_err(|fault| fault_at(stream, fault))?;
     let mut into = Stream {
         name: stream,

@@ -4,16 +4,14 @@ use analysis_listing::{LineChoice, list_actionpoints};
 use clap::Error;
 use lc_model::packet::first_packet;
 use packet_listing::PacketLine;
-use program_files::Noting;
+use program_io::{Feed, Noting, feed_of};
 use std::alloc::Global;
 use std::cell::Cell;
 use std::fs::Files;
 use std::io::{Read, Write};
 use stream_script::{Front, front_of, write_listing_from, write_script};
 use table_listing::{ListingError, list_table};
-use tool_faults::{
-    Fault, Feed, LONGEST_TABLE, feed_of, judgement_fault, listing_result, read, written_fault,
-};
+use tool_faults::{Fault, LONGEST_TABLE, judgement_fault, listing_result, read, written_fault};
 
 /// The largest number that a listing gives a record or a packet.
 const MOST_COUNTED: usize = usize::MAX / 2;

@@ -9,11 +9,12 @@ use packet_listing::PacketLine;
 use packet_rows::{
     Epoch, Form, PACKET_NAMES, RECORD_NAMES, RowError, write_names, write_packet, write_record,
 };
+use program_io::feed_of;
 use std::alloc::Global;
 use std::fs::Files;
 use std::io::Write;
 use stream_script::{Front, front_of};
-use tool_faults::{Fault, epoch_of, feed_of, listing_result, output_fault};
+use tool_faults::{Fault, epoch_of, listing_result, output_fault};
 
 /// How rows are written: as values or as objects, and from which epoch their times count.
 #[derive(Clone, Copy)]

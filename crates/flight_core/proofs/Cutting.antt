@@ -3,7 +3,7 @@ use Rattle.std.proofs.Common.{◌≡◌, refl, sym, ◌∙◌, ap, subst, ℕ, �
 use Rattle.lc_model.specs.Host.Stream.{StreamEntry, End, Whole, Bad, Truncated, Front, EndOfStream, Record, NoRecord, CutRecord, all_kinds, front, records_by_front, records_numbered, records_of}
 use Rattle.lc_model.proofs.Host.Streams.{front_decides}
 use Rattle.lc_model.proofs.Host.StreamsGoOn.{all_fronts_stay}
-use Rattle.flight_core.specs.Records.{Held, after_by, fed, front_of, most_counted, nothing_held, taken_of}
+use Rattle.flight_core.specs.Records.{Held, after_by, fed, first_record, front_of, most_counted, nothing_held, taken_of}
 use Rattle.flight_core.specs.Cutting.{behind, IsHandedOut, Begins, Comes, Goes, EndsBadly, EndsWhole, EndsCut, Call, Feed, Next, Course, after_call, after_calls, entry_in_front, joined, course_of, EveryCutting}
 
 -- ---- step by step
@@ -95,7 +95,7 @@ module _ (texts : ℕ) (before : Course) (on : IsOn texts before) where
   }
 
   taken_on : (entry : StreamEntry) (rest : List ℕ) → front all_kinds texts before.held.bytes ≡ Record entry rest →
-      IsOn texts (joined before (record { come = []; entries = entry ∷ []; held = record before.held { bytes = rest; count = min (before.held.count + 1) most_counted } }))
+      IsOn texts (joined before (record { come = []; entries = entry ∷ []; held = record before.held { bytes = rest; last = first_record before.held.bytes; count = min (before.held.count + 1) most_counted } }))
   taken_on entry rest is = record {
     handed_out = λ more.
         ap (λ (come : List ℕ). records_of texts (come ++ more)) (append-nil before.come)

@@ -85,6 +85,7 @@ pub whole_in_front : (texts : ℕ) (bytes : List ℕ) (size : ℕ) (shape : Shap
 whole_in_front texts bytes size shape there text named brings = record {
   inside = there.whole;
   long = omega arith;
+  sized = ap (λ n. 11 + n) there.same;
   named = subst (HasName shape) (length_of_body bytes size there.whole) named;
   text = text;
   is =

@@ -23,7 +23,7 @@ use Rattle.flight_core.specs.declared.found.Found.{Found}
 use Rattle.flight_core.specs.declared.found.Found.TheVariants as found
 use Rattle.flight_core.specs.Answer.{Entry}
 use Rattle.flight_core.specs.Found.{answer_of}
-use Rattle.flight_core.specs.Records.{Held, front_of, next_number, answer_by, after_by, next_answer, after_next, IsRecord}
+use Rattle.flight_core.specs.Records.{Held, first_record, front_of, next_number, answer_by, after_by, next_answer, after_next, IsRecord}
 use Rattle.flight_core.specs.Brought.{meanings_of, IsTaken, IsBrought}
 use Rattle.flight_core.specs.Going.{IsNext, IsHandled, IsCutShort}
 use Rattle.flight_core.specs.Leaving.{seat_left_for, LeavesForFront}
@@ -66,7 +66,7 @@ next_by held after entry answer goes shorter = by_front (front_of held) refl
   where
     by_front : (f : Front) → front_of held ≡ f → (next : IsNext held after) × (next.entry ≡ entry)
     by_front (Record first rest) is =
-        let then : after_next held ≡ record held { bytes = rest; count = next_number held } = ap (after_by held) is in
+        let then : after_next held ≡ record held { bytes = rest; last = first_record held.bytes; count = next_number held } = ap (after_by held) is in
         let same : Some (Entry entry) ≡ Some (Entry first) = answer ∙ ap (answer_by held) is in
         let comes : next_answer held ≡ Some (Entry first) = ap (answer_by held) is in (
           record {

@@ -1,7 +1,7 @@
 -- What is judged of the front of a stream. The format of streams is this project's own.
-use Rattle.std.specs.Prelude.{◌≡◌, ℕ, ◌-◌, ◌<◌, ◌≤◌, List, [], ◌∷◌, length, take, drop, ⊤}
+use Rattle.std.specs.Prelude.{◌≡◌, ℕ, ◌+◌, ◌-◌, ◌<◌, ◌≤◌, List, [], ◌∷◌, length, take, drop, ⊤}
 use Rattle.lc_model.specs.Name.{name_in, name_size}
-use Rattle.lc_model.specs.Host.Stream.{Contents, StreamEntry, header_size, all_kinds, moment_of, front}
+use Rattle.lc_model.specs.Host.Stream.{Contents, StreamEntry, header_size, all_kinds, body_size, moment_of, front}
 use Rattle.lc_model.specs.Host.Stream as stream
 use Rattle.flight_core.specs.declared.front.Shape.{Shape}
 use Rattle.flight_core.specs.declared.front.Shape.TheVariants as shape
@@ -40,6 +40,7 @@ part_of (byte ∷ bytes) = stream.CutRecord
 pub record IsWhole (texts : ℕ) (bytes : List ℕ) (shape : Shape) (size : ℕ) : Type 0 where
   pub inside : size ≤ length bytes
   pub long : header_size ≤ size
+  pub sized : size ≡ header_size + body_size bytes
   pub named : HasName shape (size - header_size)
   pub text : IsOfText texts shape
   pub is : front all_kinds texts bytes ≡ stream.Record (entry_by shape (take size bytes)) (drop size bytes)

@@ -13,18 +13,18 @@ use Rattle.flight_core.specs.declared.halt.Halt.{Halt}
 use Rattle.flight_core.specs.declared.halt.Halt.TheVariants as halt
 use Rattle.flight_core.specs.Front.{part_of}
 use Rattle.flight_core.specs.Gathered.{with_held, IsStuck}
-use Rattle.flight_core.specs.Records.{Held, front_of, next_number, piece_size}
+use Rattle.flight_core.specs.Records.{Held, first_record, front_of, next_number, piece_size}
 use Rattle.flight_core.specs.Steps.{IsOneStep, IsCutStep}
 
 -- ---- the next record
 
--- it is in front, and goes
+-- it is in front, and goes: its bytes went last
 pub record IsNext (old new : Held) : Type 0 where
   pub entry : StreamEntry
   pub rest : List ℕ
   pub front : front_of old ≡ Record entry rest
   pub shorter : length rest < length old.bytes
-  pub goes : new ≡ record old { bytes = rest; count = next_number old }
+  pub goes : new ≡ record old { bytes = rest; last = first_record old.bytes; count = next_number old }
 
 module _ (meanings : FileMeanings (List ℕ)) (held after : Held) (old new : Hosted) (before now : Sink) where
   -- all that it leads to is written
@@ -111,7 +111,7 @@ module _ (most : ℕ) (held after : Held) (before now : Source) where
     pub some : 0 < length piece
     pub few : length piece ≤ piece_size
     pub are : AreBytes piece
-    pub goes : after ≡ record held { bytes = held.bytes ++ piece }
+    pub goes : after ≡ record held { bytes = held.bytes ++ piece; last = [] }
     pub fine : now.failed ≡ before.failed
     pub one : now.reads ≡ before.reads + 1
 

@@ -1,12 +1,13 @@
 -- Records of a stream that comes in pieces, by what is held of it. This project's own.
 use Rattle.std.specs.Prelude.{ℕ, ◌+◌, ◌-◌, min, Bool, true, false, List, [], ◌++◌, length, take, if◌then◌else◌, Option, Some, None, ⊤}
-use Rattle.lc_model.specs.Host.Stream.{Front, EndOfStream, Record, NoRecord, CutRecord, all_kinds, front}
+use Rattle.lc_model.specs.Host.Stream.{Front, EndOfStream, Record, NoRecord, CutRecord, all_kinds, body_size, front, header_size}
 use Rattle.flight_core.specs.Answer.{Answer, Entry, Bad}
 
--- the bytes held; how many records were handed out, up to 2^64 - 1; whether what comes next was found to be none; and how
--- many rule texts there are
+-- the bytes held; those of the record that was handed out last, until more comes; how many records were handed out, up to
+-- 2^64 - 1; whether what comes next was found to be none; and how many rule texts there are
 pub record Held : Type 0 where
   pub bytes : List ℕ
+  pub last : List ℕ
   pub count : ℕ
   pub is_bad : Bool
   pub texts : ℕ
@@ -25,7 +26,7 @@ most_counted = 18446744073709551615
 
 -- nothing has come
 abbrev pub nothing_held : ℕ → Held
-nothing_held texts = record { bytes = []; count = 0; is_bad = false; texts = texts }
+nothing_held texts = record { bytes = []; last = []; count = 0; is_bad = false; texts = texts }
 
 -- ---- what comes
 
@@ -35,13 +36,17 @@ taken_of held piece = if held.is_bad then [] else take (most_held - length held.
 
 -- with what is taken of the piece at the end
 abbrev pub fed : Held → List ℕ → Held
-fed held piece = record held { bytes = held.bytes ++ taken_of held piece }
+fed held piece = record held { bytes = held.bytes ++ taken_of held piece; last = [] }
 
 -- ---- what goes
 
 -- what stands in front
 abbrev pub front_of : Held → Front
 front_of held = front all_kinds held.texts held.bytes
+
+-- the bytes of the record in front: its header, and its body
+abbrev pub first_record : List ℕ → List ℕ
+first_record bytes = take (header_size + body_size bytes) bytes
 
 -- the number of the next record
 abbrev pub next_number : Held → ℕ
@@ -56,7 +61,7 @@ answer_by held CutRecord = None
 
 -- what is held afterwards
 abbrev pub after_by : Held → Front → Held
-after_by held (Record entry rest) = record held { bytes = rest; count = next_number held }
+after_by held (Record entry rest) = record held { bytes = rest; last = first_record held.bytes; count = next_number held }
 after_by held NoRecord = record held { is_bad = true }
 after_by held EndOfStream = held
 after_by held CutRecord = held

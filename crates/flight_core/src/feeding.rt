@@ -1,12 +1,12 @@
 //! A host that is fed: its stream comes in pieces, as the caller has them, and each call handles one record.
 
-ghost use Rattle.std.specs.Prelude.{◌≡◌, false, true, length, IfErr, IfOk};
+ghost use Rattle.std.specs.Prelude.{◌≡◌, ◌≤◌, false, true, length, IfErr, IfOk};
 ghost use Rattle.app_host.specs.Hosted.{objects_in, shown};
 ghost use Rattle.app_host.specs.Whole.{AreSpares};
 ghost use Rattle.flight_core.specs.Compiled.{IsNotCompiled, sources_of};
 ghost use Rattle.flight_core.specs.Feeding.{HandlesOne, HasBegun, IsReady, boxes_on, fed_by, fed_with, feeding_of};
 ghost use Rattle.flight_core.specs.Leaving.{LeavesForFront};
-ghost use Rattle.flight_core.specs.Records.{front_of, taken_of};
+ghost use Rattle.flight_core.specs.Records.{front_of, most_held, taken_of};
 
 use crate::compiling::compile_all;
 use crate::error::RunError;
@@ -85,9 +85,17 @@ impl<B: App> FedHost<B> {
         )
     }
 
-    /// How many bytes are held.
+    /// The bytes of the record that was handled last, until a piece comes: its header, and its body.
+    pub fn last_record(&self) -> &[u8]
+        ensures { result.now ≡ (feeding_of B.meaning self.now).held.last }
+    {
+        self.records.last_record()
+    }
+
+    /// How many bytes are held: never more than 73,739.
     pub fn held_size(&self) -> usize
-        ensures { result ≡ length (feeding_of B.meaning self.now).held.bytes }
+        ensures held { result ≡ length (feeding_of B.meaning self.now).held.bytes }
+        ensures few { length (feeding_of B.meaning self.now).held.bytes ≤ most_held }
     {
         self.records.held()
     }

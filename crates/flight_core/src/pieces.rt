@@ -9,13 +9,13 @@ use crate::halt::Halt;
 use crate::outlet::Outlet;
 use crate::records::Records;
 use crate::settling::settle;
-use lc_model::{ByteSink, ByteSource, DeviceFault};
+use lc_model::{ByteSink, ByteSource, DeviceFault, stream};
 
 /// The most reads of a run: 2^32.
 pub const MOST_READS: u64 = 4_294_967_296;
 
 /// The most bytes of a piece.
-pub(crate) const PIECE: usize = 8192;
+pub(crate) const PIECE: usize = stream::PIECE;
 
 /// The bytes are below 256: it reads each of them, and does nothing.
 fn are_bytes(bytes: &[u8])

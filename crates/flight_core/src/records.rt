@@ -19,7 +19,7 @@ use std::marker::Model;
 ///
 /// A piece is taken to the end of what is held, and each record is judged and handed out where it lies. The time of all
 /// calls is a constant for each byte and each call. Contracts see what is held (`Held`): its bytes, how many records were
-/// handed out, whether what comes next was found to be none, and how many rule texts there are.
+/// handed out, whether what comes next was found to be none, how many rule texts there are, and what was handed out last.
 #[derive(Drop)]
 pub struct Records {
     window: Window,
@@ -34,7 +34,13 @@ impl Model for Records {
     ghost Value = { Held };
 
     ghost view = { λ r.
-        record { bytes = r.window.held; count = r.count; is_bad = r.is_bad; texts = r.texts } };
+        record {
+          bytes = r.window.held;
+          last = r.window.last;
+          count = r.count;
+          is_bad = r.is_bad;
+          texts = r.texts;
+        } };
 }
 
 impl Records {
@@ -63,6 +69,8 @@ impl Records {
     {
         let room = MOST_HELD - self.window.contents().len();
         if self.is_bad {
+            // Nothing comes, and none is lent from here on.
+            self.window.add(&[]);
             return 0;
         }
         let taken = piece.len().min(room);
@@ -99,9 +107,17 @@ impl Records {
         }
     }
 
+    /// The bytes of the record that was handed out last, until more comes: its header, and its body.
+    pub fn last_record(&self) -> &[u8]
+        ensures { result.now ≡ self.now.last }
+    {
+        self.window.last()
+    }
+
     /// How many bytes are held.
     pub fn held(&self) -> usize
-        ensures { result ≡ length self.now.bytes }
+        ensures held { result ≡ length self.now.bytes }
+        ensures few { length self.now.bytes ≤ most_held }
     {
         self.window.contents().len()
     }

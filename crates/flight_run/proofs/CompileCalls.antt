@@ -4,12 +4,14 @@ use Rattle.rpn_compiler.specs.declared.files.TablePair.{TablePair}
 use Rattle.rpn_compiler.specs.declared.error.CompileError.{CompileError}
 use Rattle.flight_run.specs.declared.done.Done.TheVariants.{Compiled}
 use Rattle.flight_run.specs.declared.fault.Fault.{Fault}
-use Rattle.flight_run.specs.Cause.{IsOfFile, fault_of_text}
-use Rattle.flight_run.specs.Commands.{IsCompileDone, all_apart, compile_order}
+use Rattle.program_io.specs.declared.error.FileError.{FileError}
+use Rattle.program_io.specs.FileCall.{FileCall, Reads, Compares, Writes, all_apart, followed_by}
+use Rattle.program_io.specs.Stops.{IsOfFile}
+use Rattle.program_io.proofs.Calls.{none_yet, then_more}
+use Rattle.flight_run.specs.Cause.{fault_of_file, fault_of_text}
+use Rattle.flight_run.specs.Commands.{IsCompileDone, compile_order}
 use Rattle.flight_core.specs.Compiled.{IsCompiled}
-use Rattle.flight_run.specs.FileCall.{FileCall, Reads, Compares, Writes, followed_by}
 use Rattle.flight_run.specs.Stops.{IsTextRefused, StopsIn}
-use Rattle.flight_run.proofs.Calls.{none_yet, then_more}
 use Rattle.flight_run.proofs.Stopping.{read_stops, stops_later, text_stops, write_stops}
 
 module _ (rules wdt adt : List ℕ) (before : Option (List FileCall)) where
@@ -20,8 +22,8 @@ module _ (rules wdt adt : List ℕ) (before : Option (List FileCall)) where
   abbrev comparisons : List FileCall
   comparisons = Compares wdt rules false ∷ Compares adt rules false ∷ Compares adt wdt false ∷ writes
 
-  pub at_read : (now : Option (List FileCall)) (fault : Fault) → now ≡ followed_by before (Reads rules None ∷ []) → IsOfFile rules fault → StopsIn (compile_order rules wdt adt) before now fault
-  at_read now fault e of = stops_later (compile_order rules wdt adt) (Reads rules None ∷ []) comparisons [] before before now fault refl (none_yet before) (read_stops rules before now fault e of)
+  pub at_read : (now : Option (List FileCall)) (error : FileError) → now ≡ followed_by before (Reads rules None ∷ []) → IsOfFile rules error → StopsIn (compile_order rules wdt adt) before now (fault_of_file error)
+  at_read now error e of = stops_later (compile_order rules wdt adt) (Reads rules None ∷ []) comparisons [] before before now (fault_of_file error) refl (none_yet before) (read_stops rules before now error e of)
 
   pub at_text : (text : List ℕ) (now : Option (List FileCall)) (error : CompileError) → now ≡ followed_by before (Reads rules (Some text) ∷ []) → IsTextRefused text error → StopsIn (compile_order rules wdt adt) before now (fault_of_text error)
   at_text text now error e refused =
@@ -46,16 +48,16 @@ module _ (rules wdt adt : List ℕ) (before : Option (List FileCall)) where
   abbrev compared : List ℕ → List FileCall
   compared text = Reads rules (Some text) ∷ Compares wdt rules false ∷ Compares adt rules false ∷ Compares adt wdt false ∷ []
 
-  pub at_first_write : (text bytes : List ℕ) (mid now : Option (List FileCall)) (fault : Fault) → mid ≡ followed_by before (compared text) → now ≡ followed_by mid (Writes wdt bytes false ∷ []) → IsOfFile wdt fault →
-      StopsIn (compile_order rules wdt adt) before now fault
-  at_first_write text bytes mid now fault e f of =
-      stops_later (compile_order rules wdt adt) (Writes wdt [] false ∷ []) (Writes adt [] false ∷ []) (compared text) before mid now fault refl e (write_stops wdt bytes mid now fault f of)
+  pub at_first_write : (text bytes : List ℕ) (mid now : Option (List FileCall)) (error : FileError) → mid ≡ followed_by before (compared text) → now ≡ followed_by mid (Writes wdt bytes false ∷ []) → IsOfFile wdt error →
+      StopsIn (compile_order rules wdt adt) before now (fault_of_file error)
+  at_first_write text bytes mid now error e f of =
+      stops_later (compile_order rules wdt adt) (Writes wdt [] false ∷ []) (Writes adt [] false ∷ []) (compared text) before mid now (fault_of_file error) refl e (write_stops wdt bytes mid now error f of)
 
-  pub at_second_write : (text bytes others : List ℕ) (mid next now : Option (List FileCall)) (fault : Fault) → mid ≡ followed_by before (compared text) → next ≡ followed_by mid (Writes wdt bytes true ∷ []) →
-      now ≡ followed_by next (Writes adt others false ∷ []) → IsOfFile adt fault → StopsIn (compile_order rules wdt adt) before now fault
-  at_second_write text bytes others mid next now fault e f h of =
-      stops_later (compile_order rules wdt adt) (Writes adt [] false ∷ []) [] (compared text ++ Writes wdt bytes true ∷ []) before next now fault refl
-      (then_more before mid next (compared text) (Writes wdt bytes true ∷ []) e f) (write_stops adt others next now fault h of)
+  pub at_second_write : (text bytes others : List ℕ) (mid next now : Option (List FileCall)) (error : FileError) → mid ≡ followed_by before (compared text) → next ≡ followed_by mid (Writes wdt bytes true ∷ []) →
+      now ≡ followed_by next (Writes adt others false ∷ []) → IsOfFile adt error → StopsIn (compile_order rules wdt adt) before now (fault_of_file error)
+  at_second_write text bytes others mid next now error e f h of =
+      stops_later (compile_order rules wdt adt) (Writes adt [] false ∷ []) [] (compared text ++ Writes wdt bytes true ∷ []) before next now (fault_of_file error) refl
+      (then_more before mid next (compared text) (Writes wdt bytes true ∷ []) e f) (write_stops adt others next now error h of)
 
   pub all_done : (text : List ℕ) (pair : TablePair) (one other : List ℕ) (mid next now : Option (List FileCall)) → IsCompiled text pair → one ≡ pair.wdt.items → other ≡ pair.adt.items →
       mid ≡ followed_by before (compared text) → next ≡ followed_by mid (Writes wdt one true ∷ []) → now ≡ followed_by next (Writes adt other true ∷ []) →

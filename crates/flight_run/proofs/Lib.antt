@@ -1,4 +1,3 @@
-mod Calls
 mod CompileCalls
 mod RunCalls
 mod Stopping

@@ -10,11 +10,12 @@ use Rattle.lc_model.specs.Host.ScheduleText.{schedule_in}
 use Rattle.lc_model.specs.Host.Outcome.{devices}
 use Rattle.flight_profile.specs.Stock.{own_mission}
 use Rattle.flight_run.specs.Flown.{Flies}
-use Rattle.flight_run.specs.Commands.{IsRunDone, all_apart, all_read, mission_of, run_order}
-use Rattle.flight_run.specs.FileCall.{FileCall, Closes, Compares, Makes, Opens, Reads, asked, followed_by}
+use Rattle.program_io.specs.FileCall.{FileCall, Closes, Compares, Makes, Opens, Reads, all_apart, all_read, asked, followed_by}
+use Rattle.program_io.proofs.Calls.{asked_apart, asked_read, none_yet, then_more}
+use Rattle.program_io.proofs.Stopping.{last_of}
+use Rattle.flight_run.specs.Commands.{IsRunDone, mission_of, run_order}
 use Rattle.flight_run.specs.Stops.{StopsIn}
-use Rattle.flight_run.proofs.Calls.{asked_apart, asked_read, none_yet, then_more}
-use Rattle.flight_run.proofs.Stopping.{last_of, one, stops_later}
+use Rattle.flight_run.proofs.Stopping.{one, stops_later}
 
 module _ (schedule : List ℕ) (stream out : Bor (List ℕ)) (rules : List (List ℕ)) (before : Option (List FileCall)) where
   abbrev whole : List FileCall

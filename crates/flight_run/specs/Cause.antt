@@ -9,10 +9,10 @@ use Rattle.flight_run_args.specs.declared.command_line.WordsError.{WordsError}
 use Rattle.flight_run_args.specs.declared.command_line.WordsError.TheVariants as words
 use Rattle.flight_run.specs.declared.fault.Fault.{Fault}
 use Rattle.flight_run.specs.declared.fault.Fault.TheVariants.{Text, Schedule, Words, File, Run, Memory}
-use Rattle.std.specs.Prelude.{◌≡◌, List, ℕ, ⊤}
-use Rattle.std.specs.Borrow.{Bor}
-use Rattle.program_files.specs.declared.why.FileFault.{FileFault}
-use Rattle.program_files.specs.declared.why.FileFault.TheVariants as file
+use Rattle.program_io.specs.declared.arguments.ArgumentsError.{ArgumentsError}
+use Rattle.program_io.specs.declared.arguments.ArgumentsError.TheVariants as arguments
+use Rattle.program_io.specs.declared.error.FileError.{FileError}
+use Rattle.program_io.specs.declared.error.FileError.TheVariants as file
 
 -- want of memory is one fault, wherever it arose, and a run that stops at a rule text is stopped by the text
 abbrev pub fault_of_words : WordsError → Fault
@@ -33,12 +33,11 @@ fault_of_run (run.Compile text error) = Text error
 fault_of_run error = Run error
 
 -- of a file only its name is said
-abbrev pub fault_of_file : Bor (List ℕ) → FileFault → Fault
-fault_of_file name file.Memory = Memory
-fault_of_file name (file.Unusable why) = File name
+abbrev pub fault_of_file : FileError → Fault
+fault_of_file file.Memory = Memory
+fault_of_file (file.Unusable name why) = File name
 
--- a fault of the file of this name, or want of memory
-abbrev pub IsOfFile : List ℕ → Fault → Type 0
-IsOfFile name Memory = ⊤
-IsOfFile name (File other) = other.now ≡ name
-IsOfFile name fault = ⊥
+-- where the system has no words for the program they are no command
+abbrev pub fault_of_arguments : ArgumentsError → Fault
+fault_of_arguments arguments.Memory = Memory
+fault_of_arguments arguments.NoText = Words words.Usage

@@ -7,21 +7,11 @@ use Rattle.lc_model.specs.Host.ScheduleText.{schedule_in}
 use Rattle.rpn_compiler.specs.declared.files.TablePair.{TablePair}
 use Rattle.flight_core.specs.Compiled.{IsCompiled}
 use Rattle.flight_profile.specs.Stock.{own_mission}
+use Rattle.program_io.specs.FileCall.{FileCall, Reads, Opens, Compares, Makes, Closes, Writes, all_apart, all_read, followed_by}
 use Rattle.flight_run.specs.declared.done.Done.{Done}
 use Rattle.flight_run.specs.declared.done.Done.TheVariants.{Compiled}
 use Rattle.flight_run.specs.declared.fault.Fault.{Fault}
-use Rattle.flight_run.specs.FileCall.{FileCall, Reads, Opens, Compares, Makes, Closes, Writes, followed_by}
 use Rattle.flight_run.specs.Flown.{Flies}
-
--- a name was compared with each of these, and is of none of their files
-abbrev pub all_apart : List ℕ → List (List ℕ) → List FileCall
-all_apart name others = map (λ other. Compares name other false) others
-
--- files were read, which have these texts
-unfoldable pub all_read : (names texts : List (List ℕ)) → List FileCall
-all_read [] texts = []
-all_read (name ∷ names) [] = []
-all_read (name ∷ names) (text ∷ texts) = Reads name (Some text) ∷ all_read names texts
 
 -- ---- `compile RULES WDT ADT`
 

@@ -3,12 +3,12 @@ use Rattle.std.specs.Prelude.{◌≡◌, ◌⊎◌, ℕ, List, map, Option, Ok, 
 use Rattle.flight_run_args.specs.declared.command_line.Plan.{Plan}
 use Rattle.flight_run_args.specs.declared.command_line.Plan.TheVariants as plan
 use Rattle.flight_run_args.specs.Words.{HoldsWords}
+use Rattle.program_io.specs.FileCall.{FileCall}
 use Rattle.flight_run.specs.declared.done.Done.{Done}
 use Rattle.flight_run.specs.declared.done.Done.TheVariants.{Stored, Compiled, Flown}
 use Rattle.flight_run.specs.declared.fault.Fault.{Fault}
 use Rattle.flight_run.specs.declared.fault.Fault.TheVariants.{Words, Memory}
 use Rattle.flight_run.specs.Commands.{IsCompileDone, IsRunDone, compile_order, run_order}
-use Rattle.flight_run.specs.FileCall.{FileCall}
 use Rattle.flight_run.specs.Stops.{StopsIn}
 
 abbrev pub IsStored : Done → Type 0

@@ -2,7 +2,6 @@ pub mod Answer
 pub mod Cause
 pub mod Commands
 pub mod Dispatch
-pub mod FileCall
 pub mod Finished
 pub mod Flown
 pub mod Lines

@@ -4,10 +4,9 @@ ghost use Rattle.std.specs.Prelude.{IfErr, IfOk};
 ghost use Rattle.flight_run.specs.Commands.{IsCompileDone, compile_order};
 ghost use Rattle.flight_run.specs.Stops.{StopsIn};
 
-use crate::disk::Disk;
 use crate::done::Done;
 use crate::fault::Fault;
-use crate::files::{is_apart, read, write};
+use program_io::{Disk, check_apart, read_text, write_file};
 use rpn_compiler::compile;
 use std::alloc::Global;
 
@@ -25,12 +24,12 @@ pub fn compile_files<'a, D: Disk>(
         (compile_order rules.entry.now wdt.entry.now adt.entry.now)
         (D.calls disk.old) (D.calls disk.new)) }
 {
-    let text = read(disk, rules)?;
+    let text = read_text(disk, rules)?;
     let pair = compile(alloc, text.as_slice())?;
-    is_apart(disk, wdt, &[rules])?;
-    is_apart(disk, adt, &[rules, wdt])?;
-    write(disk, wdt, pair.wdt.as_slice())?;
-    write(disk, adt, pair.adt.as_slice())?;
+    check_apart(disk, wdt, &[rules])?;
+    check_apart(disk, adt, &[rules, wdt])?;
+    write_file(disk, wdt, pair.wdt.as_slice())?;
+    write_file(disk, adt, pair.adt.as_slice())?;
     Ok(Done::Compiled {
         watchpoints: pair.watchpoints,
         rules: pair.rules,

@@ -1,12 +1,13 @@
 //! What ends the program with another status than 0, and the line that says so.
 
 ghost use Rattle.std.specs.Prelude.{◌≡◌};
-ghost use Rattle.flight_run.specs.Cause.{fault_of_run, fault_of_schedule, fault_of_text, fault_of_words};
+ghost use Rattle.flight_run.specs.Cause.{fault_of_arguments, fault_of_file, fault_of_run, fault_of_schedule, fault_of_text, fault_of_words};
 ghost use Rattle.flight_run.specs.Status.{status_of};
 ghost use Rattle.flight_run.specs.declared.fault.Fault.TheVariants.{Memory};
 
 use flight_core::RunError;
 use flight_run_args::WordsError;
+use program_io::{ArgumentsError, FileError};
 use rpn_compiler::CompileError;
 use schedules::ScheduleError;
 use std::alloc::{AllocError, AllocFailed};
@@ -41,6 +42,28 @@ impl<T: Drop> From<AllocFailed<T>> for Fault<'_> {
 
     fn from(_error: AllocFailed<T>) -> Self {
         Fault::Memory
+    }
+}
+
+impl<'a> From<FileError<'a>> for Fault<'a> {
+    ghost from_gives = { λ error fault. fault ≡ fault_of_file error };
+
+    fn from(error: FileError<'a>) -> Self {
+        match error {
+            FileError::Memory => Fault::Memory,
+            FileError::Unusable(name, _) => Fault::File(name),
+        }
+    }
+}
+
+impl From<ArgumentsError> for Fault<'_> {
+    ghost from_gives = { λ error fault. fault ≡ fault_of_arguments error };
+
+    fn from(error: ArgumentsError) -> Self {
+        match error {
+            ArgumentsError::Memory => Fault::Memory,
+            ArgumentsError::NoText => Fault::Words(WordsError::Usage),
+        }
     }
 }
 

@@ -4,23 +4,19 @@ ghost use Rattle.std.specs.Prelude.{◌≡◌, [], ◌∷◌, List, ℕ, Ok, Som
 ghost use Rattle.lc_model.specs.Host.Outcome.{devices};
 ghost use Rattle.lc_model.specs.Host.ScheduleText.{schedule_in};
 ghost use Rattle.flight_profile.specs.Stock.{own_mission};
-ghost use Rattle.flight_run.specs.Commands.{IsRunDone, all_read};
+ghost use Rattle.flight_run.specs.Commands.{IsRunDone};
 ghost use Rattle.flight_run.specs.Dispatch.{IsFlown, IsRunStopped};
-ghost use Rattle.flight_run.specs.FileCall.{Reads, followed_by};
 ghost use Rattle.flight_run.specs.Flown.{Flies};
 ghost use Rattle.flight_run.specs.Stops.{StopsIn};
+ghost use Rattle.program_io.specs.FileCall.{Reads, followed_by};
 
-use crate::disk::Disk;
 use crate::done::Done;
 use crate::fault::Fault;
-use crate::files::{is_apart, read};
 use flight_profile::launch;
 use lc_model::{ByteSink, ByteSource};
+use program_io::{Disk, check_apart, read_texts, read_whole_text};
 use schedules::{Schedule, parse_schedule};
 use std::alloc::{AllocError, Global};
-
-/// The longest text of a schedule, in bytes.
-const LONGEST_SCHEDULE: usize = 65_536;
 
 /// The schedule in a file.
 fn schedule_in<'a, D: Disk>(
@@ -35,32 +31,9 @@ fn schedule_in<'a, D: Disk>(
     ensures stops { IfErr result
         (StopsIn (Reads name.entry.now None ∷ []) (D.calls disk.old) (D.calls disk.new)) }
 {
-    let text = read(disk, name)?;
-    if text.len() > LONGEST_SCHEDULE {
-        return Err(Fault::File(name));
-    }
+    let text = read_whole_text(disk, name)?;
     let schedule = parse_schedule(alloc, text.as_slice())?;
     Ok(schedule)
-}
-
-/// The rule texts in files.
-fn texts_in<'a, D: Disk>(
-    alloc: Global,
-    disk: &mut D,
-    names: &[&'a str],
-) -> Result<Vec<Vec<u8>>, Fault<'a>>
-    ensures each { IfOk result (λ texts. length texts.items ≡ length names.now) }
-    ensures read { IfOk result (λ texts. D.calls disk.new ≡ followed_by (D.calls disk.old)
-        (all_read (map (λ name. name.now) names.now) (map (λ text. text.items) texts.items))) }
-    ensures stops { IfErr result (StopsIn
-        (map (λ name. Reads name None) (map (λ name. name.now) names.now))
-        (D.calls disk.old) (D.calls disk.new)) }
-{
-    let mut texts = Vec::new(alloc);
-    for name in names {
-        texts.push(read(disk, name)?)?;
-    }
-    Ok(texts)
 }
 
 /// The same texts, lent.
@@ -118,13 +91,13 @@ pub fn fly_files<'a, D: Disk>(
         (map (λ name. name.now) rules.now) (D.calls disk.old) (D.calls disk.new)) }
 {
     let plan = schedule_in(alloc, disk, schedule)?;
-    let texts = texts_in(alloc, disk, rules)?;
+    let texts = read_texts(alloc, disk, rules)?;
     let slices = slices_of(alloc, texts.as_slice())?;
     let Ok(mut reader) = disk.open(stream) else {
         return Err(Fault::File(stream));
     };
-    is_apart(disk, out, &[schedule, stream])?;
-    is_apart(disk, out, rules)?;
+    check_apart(disk, out, &[schedule, stream])?;
+    check_apart(disk, out, rules)?;
     let Ok(device) = disk.create(out) else {
         return Err(Fault::File(out));
     };

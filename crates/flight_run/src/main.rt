@@ -9,25 +9,20 @@ ghost use Rattle.flight_run.specs.Dispatch.{IsAskedFor, IsStoppedFor};
 
 mod answering;
 mod compiling;
-mod disk;
 mod done;
 mod fault;
-mod files;
 mod flying;
 mod lines;
 mod place;
-mod shell;
 mod stored;
 
-use crate::answering::{fault_without_words, print_result, status_by};
-use crate::disk::Disk;
+use crate::answering::{print_result, status_by};
 use crate::done::Done;
 use crate::fault::Fault;
-use crate::shell::Shell;
 use flight_run_args::{Plan, read_words};
-use program_files::lend_words;
+use program_io::{Disk, Shell, arguments_of, lend_words};
 use std::alloc::Global;
-use std::env::{self, Env};
+use std::env::Env;
 use std::fs::Files;
 use std::io::{Eprint, Print};
 use std::process::ExitCode;
@@ -73,24 +68,11 @@ fn tell<R: Eprint>(rt: &R, answer: &Result<(), Fault<'_>>) -> u8
     status_by(answer)
 }
 
-/// The words of the command line. What isn't text is no word.
-fn words_of<R: Env + AllocGlobal>(rt: &R) -> Result<Vec<String>, Fault<'static>> {
-    let args = match env::args(rt) {
-        Ok(args) => args,
-        Err(error) => return Err(fault_without_words(error.kind())),
-    };
-    let mut words = Vec::new(rt.alloc());
-    for word in args {
-        words.push(word)?;
-    }
-    Ok(words)
-}
-
 /// Does what the words of the command line say, and answers the exit status.
 fn status_on<R: Env + Files + Print + Eprint + AllocGlobal>(rt: &R) -> u8 {
-    let own = match words_of(rt) {
+    let own = match arguments_of(rt) {
         Ok(own) => own,
-        Err(fault) => return tell(rt, &Err(fault)),
+        Err(error) => return tell(rt, &Err(Fault::from(error))),
     };
     match lend_words(rt.alloc(), own.as_slice()) {
         Ok(words) => main_on(rt, words.as_slice()),

@@ -1,4 +1,5 @@
-//! The host in numbers keeps to the world, and over whole runs writes what is called for.
+//! The host in numbers keeps to the world, and over whole runs writes what is called for. Each function does nothing: it is a
+//! law. `app_host` and `flight_core` call those that their proofs need; those that say *to read* nobody calls.
 #![tactic(auto)]
 
 ghost use Rattle.std.specs.Prelude.{List, ℕ};
@@ -27,7 +28,7 @@ pub fn keeps_to_the_world()
         EachRecordKeeps (as_bytes layouts) AreBytes schedule }
 {}
 
-/// Part by part, what each record keeps.
+/// Part by part, what each record keeps. To read.
 pub fn each_part_is_kept()
     // The stored files, the registered tables with their slots, the senders of events with their types and filters, and each
     // message id's sequence count are the world's.
@@ -53,7 +54,7 @@ pub fn each_part_is_kept()
         IsKept (as_bytes layouts) schedule AreBytes (PipesAreEmpty (as_bytes layouts) schedule) }
 {}
 
-/// Over whole runs it writes exactly what is called for.
+/// Over whole runs it writes exactly what is called for. To read.
 pub fn writes_what_is_called_for()
     ensures { (layouts : List Layout) (schedule : Schedule) →
         WritesWhatIsCalledFor (as_bytes layouts) AreBytes schedule }
@@ -70,7 +71,7 @@ pub fn records_of_bytes_are_fine()
     ensures fine { RecordsAreFine }
 {}
 
-/// A schedule's text says 1 to 64 slots of at most eight entries.
+/// A schedule's text says 1 to 64 slots of at most eight entries. To read.
 pub fn schedules_fit()
     ensures { SchedulesFit }
 {}
@@ -100,13 +101,13 @@ pub fn calls_go_with_services()
     ensures publications { (layouts : List Layout) → PublishesFew (as_bytes layouts) }
 {}
 
-/// Each object on a seat of an executive that keeps to a world goes with its services.
+/// Each object on a seat of an executive that keeps to a world goes with its services. To read.
 pub fn seats_go_with_services()
     ensures { (layouts : List Layout) (schedule : Schedule) →
         SeatsGoWith (as_bytes layouts) AreBytes schedule }
 {}
 
-/// What one call asks to be written has 65,536 bytes at most.
+/// What one call asks to be written has 65,536 bytes at most. To read.
 pub fn calls_write_little()
     ensures start { (layouts : List Layout) → StartsWriteLittle (as_bytes layouts) }
     ensures packet { (layouts : List Layout) → WritesLittle (as_bytes layouts) }
@@ -121,7 +122,7 @@ pub fn writes_are_the_steps()
 {}
 
 /// What every step keeps, whatever comes: the stored files are at most eight, each under a name of its own; no two seats have
-/// objects of one name; and a pipe is subscribed to what its object's state says, so that no other call can change that.
+/// objects of one name; and a pipe is subscribed to what its object's state says, so that no other call can change that. To read.
 pub fn steps_keep_their_order()
     ensures files { (layouts : List Layout) → FilesStayAMap (as_bytes layouts) }
     ensures names { (layouts : List Layout) → NamesStayOwn (as_bytes layouts) }

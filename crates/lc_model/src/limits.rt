@@ -1,5 +1,5 @@
-//! The greatest sizes of tables and equations (cFS Limit Checker user's guide; the words of an equation and its operands that
-//! wait are this project's own).
+//! The greatest sizes of tables, equations and texts (cFS Limit Checker user's guide for the entries; the others are this
+//! project's own).
 
 /// The entries of a table: the most watchpoints, and the most actionpoints.
 pub const TABLE_ENTRIES: usize = 176;
@@ -9,3 +9,6 @@ pub const EQUATION_WORDS: usize = 32;
 
 /// The most operands that may wait at once while an equation is evaluated.
 pub const MOST_WAITING: usize = 8;
+
+/// The bytes of a rule text, and of a schedule.
+pub const LONGEST_TEXT: usize = 65_536;

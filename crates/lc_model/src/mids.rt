@@ -1,5 +1,8 @@
 //! The message ids that the host knows (CCSDS 133.0-B, cFE user's guide; the numbers are this project's own).
 
+ghost use Rattle.std.specs.Prelude.{◌≡◌};
+ghost use Rattle.lc_model.specs.Packet.{is_telemetry_mid};
+
 /// Telemetry with a secondary header, from the first to the last.
 pub const FIRST_TELEMETRY: u16 = 0x0800;
 
@@ -37,3 +40,10 @@ pub const SAMPLE: u16 = 0x18A6;
 
 /// Commands to the counter.
 pub const COUNTER: u16 = 0x18C1;
+
+/// Whether a message id is telemetry's, 0x0800 to 0x0FFF.
+pub fn is_telemetry(mid: u16) -> bool
+    ensures { result ≡ is_telemetry_mid mid }
+{
+    FIRST_TELEMETRY <= mid && mid <= LAST_TELEMETRY
+}

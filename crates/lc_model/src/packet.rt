@@ -13,10 +13,10 @@ use crate::numbers::{u16_at, u16_bytes};
 const PRIMARY_HEADER: usize = 6;
 
 /// The bytes of a command's headers, which every packet has.
-const COMMAND_HEADERS: usize = 8;
+pub const COMMAND_HEADERS: usize = 8;
 
 /// The bytes of telemetry's headers.
-const TELEMETRY_HEADERS: usize = 12;
+pub const TELEMETRY_HEADERS: usize = 12;
 
 /// The most bytes of a packet.
 pub const LONGEST_PACKET: usize = 2_048;
@@ -27,6 +27,12 @@ pub const REQUEST_SIZE: usize = 12;
 /// Sequence counts are below this number.
 pub const COUNT_END: u16 = 16_384;
 
+/// The sequence flags of a packet that is no part of another.
+pub const UNSEGMENTED: u16 = 0xC000;
+
+/// How many message ids there are.
+pub const MESSAGE_IDS: usize = 8_192;
+
 // ---- reading
 
 /// The message id: version, type, secondary header flag and application id.
@@ -35,6 +41,17 @@ pub fn message_id(packet: &[u8]) -> u16
     ensures { result ≡ message_id packet.now }
 {
     u16_at(packet, 0)
+}
+
+/// The message id of bytes that may be too few for one: those that are not there count as zero.
+pub fn padded_message_id(bytes: &[u8]) -> u16
+    ensures { result ≡ message_id bytes.now }
+{
+    match bytes {
+        [high, low, ..] => u16::from_be_bytes([*high, *low]),
+        [high] => u16::from_be_bytes([*high, 0]),
+        [] => 0,
+    }
 }
 
 /// A command's function code.
@@ -138,7 +155,7 @@ pub fn sequence_request(count: u16, number: u16) -> [u8; REQUEST_SIZE]
     requires { count < COUNT_END }
     ensures { result ≡ sequence_request count number }
 {
-    let [count_high, count_low] = u16_bytes(0xC000 + count);
+    let [count_high, count_low] = u16_bytes(UNSEGMENTED + count);
     let [number_high, number_low] = u16_bytes(number);
     let mut packet = [
         0x18,

@@ -18,6 +18,9 @@ pub const HALF: usize = 43;
 /// The most bytes of a body.
 pub const LONGEST_BODY: usize = 65_536;
 
+/// The most bytes that are read of a stream at a time.
+pub const PIECE: usize = 8_192;
+
 /// The moment of the record in front, as its header says.
 pub fn moment_of(bytes: &[u8]) -> Moment
     requires { header_size ≤ length bytes.now }

@@ -2,7 +2,6 @@
 //! this project's own).
 
 ghost use Rattle.std.specs.Prelude.{◌≡◌};
-ghost use Rattle.lc_model.specs.Packet.{is_telemetry_mid};
 ghost use Rattle.limit_checker.specs.Application.{IsHome, MayHave, Answers};
 
 use crate::application::Application;
@@ -11,13 +10,6 @@ use app_host::laws::seats_are_kept_by_the_rules;
 use app_host::sending::telling_goes_on;
 use lc_model::mids;
 use lc_model::packet::message_id;
-
-/// Whether a message id is telemetry's.
-fn is_telemetry(mid: u16) -> bool
-    ensures { result ≡ is_telemetry_mid mid }
-{
-    mids::FIRST_TELEMETRY <= mid && mid <= mids::LAST_TELEMETRY
-}
 
 impl Application {
     /// A packet is answered by its message id: a command (0x18A4), a housekeeping request (0x18A5), a sample request (0x18A6), or
@@ -34,7 +26,7 @@ impl Application {
         seats_are_kept_by_the_rules();
         telling_goes_on();
         let mid = message_id(packet);
-        if is_telemetry(mid) {
+        if mids::is_telemetry(mid) {
             self.telemetry(services, packet);
         } else if mid == mids::LC_COMMAND {
             self.command(services, packet);

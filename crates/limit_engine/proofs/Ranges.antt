@@ -8,9 +8,9 @@ use Rattle.lc_model.specs.declared.field.FieldType.{FieldType}
 use Rattle.lc_model.specs.declared.field.FieldType.TheVariants.{U8, I8, U16Be, U16Le, I16Be, I16Le, U32Be, U32Le, I32Be, I32Le}
 use Rattle.lc_model.specs.declared.field.CmpOp.{CmpOp}
 use Rattle.lc_model.specs.declared.field.CmpOp.TheVariants.{Less, LessOrEqual, NotEqual, Equal, GreaterOrEqual, Greater}
-use Rattle.lc_model.specs.Field.{is_in_type, least, greatest, full_mask, twos_complement, compares}
+use Rattle.lc_model.specs.Field.{is_in_type, least, greatest, full_mask, sign_weight, twos_complement, compares}
 use Rattle.lc_model.proofs.Facts.{tested_at_most, and_first, and_second}
-use Rattle.limit_engine.specs.Ranges.{sign_of, ordered, range_to, range_of, holds_in}
+use Rattle.limit_engine.specs.Ranges.{ordered, range_to, range_of, holds_in}
 
 -- ---- bits
 
@@ -41,7 +41,7 @@ signed_bits half x y y_is small most = go (nat_le half x) refl y_is
 plain_bits : (x y : ℕ) → y ≡ x → x < 4294967296 → IsOrdered 0 y (pos x)
 plain_bits x y e small = record { is = omega (arith, ints, e); small = omega (arith, e, small) }
 
-pub bits_ordered : (k : FieldType) (x : ℕ) → x ≤ full_mask k → IsOrdered (sign_of k) (bit_xor x (sign_of k)) (twos_complement k x)
+pub bits_ordered : (k : FieldType) (x : ℕ) → x ≤ full_mask k → IsOrdered (sign_weight k) (bit_xor x (sign_weight k)) (twos_complement k x)
 bits_ordered U8 x few = plain_bits x _ (xor_zero_r x) (omega (arith, few))
 bits_ordered U16Be x few = plain_bits x _ (xor_zero_r x) (omega (arith, few))
 bits_ordered U16Le x few = plain_bits x _ (xor_zero_r x) (omega (arith, few))
@@ -61,7 +61,7 @@ not_negative s n most few room = record { is = omega (arith, ints); small = omeg
 negative : (s n : ℕ) → n + 1 ≤ s → s < 4294967296 → IsOrdered s (s - (n + 1)) (negsuc n)
 negative s n few room = record { is = omega (arith, ints, few); small = omega (arith, room) }
 
-pub value_ordered : (k : FieldType) (v : ℤ) → is_in_type k v ≡ true → IsOrdered (sign_of k) (ordered k v) v
+pub value_ordered : (k : FieldType) (v : ℤ) → is_in_type k v ≡ true → IsOrdered (sign_weight k) (ordered k v) v
 value_ordered U8 (pos n) e = not_negative 0 n 255 (tested_at_most n 255 (and_second _ _ e)) (omega arith)
 value_ordered U16Be (pos n) e = not_negative 0 n 65535 (tested_at_most n 65535 (and_second _ _ e)) (omega arith)
 value_ordered U16Le (pos n) e = not_negative 0 n 65535 (tested_at_most n 65535 (and_second _ _ e)) (omega arith)
@@ -105,8 +105,8 @@ ranged NotEqual s y c small within = ap not (equal s y c) ∙ grind (arith, smal
 
 -- the six comparisons are ranges
 pub compared : (k : FieldType) (op : CmpOp) (x : ℕ) (v : ℤ) → x ≤ full_mask k → is_in_type k v ≡ true →
-    compares op (twos_complement k x) v ≡ holds_in (range_of k op v) (bit_xor x (sign_of k))
+    compares op (twos_complement k x) v ≡ holds_in (range_of k op v) (bit_xor x (sign_weight k))
 compared k op x v few in_type =
     let left = bits_ordered k x few in
     let right = value_ordered k v in_type in
-    ap₂ (compares op) left.is right.is ∙ ranged op (sign_of k) (bit_xor x (sign_of k)) (ordered k v) left.small right.small
+    ap₂ (compares op) left.is right.is ∙ ranged op (sign_weight k) (bit_xor x (sign_weight k)) (ordered k v) left.small right.small

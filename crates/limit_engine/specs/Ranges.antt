@@ -4,17 +4,13 @@ use Rattle.std.specs.Prelude.{ℕ, ◌+◌, ◌-◌, ◌^◌, ◌%◌, Bool, tru
 use Rattle.lc_model.specs.declared.field.FieldType.{FieldType}
 use Rattle.lc_model.specs.declared.field.CmpOp.{CmpOp}
 use Rattle.lc_model.specs.declared.field.CmpOp.TheVariants.{Less, LessOrEqual, NotEqual, Equal, GreaterOrEqual, Greater}
-use Rattle.lc_model.specs.Field.{is_signed, bit_width}
+use Rattle.lc_model.specs.Field.{sign_weight}
 use Rattle.limit_engine.specs.declared.field.Range.{Range}
-
--- the weight of the sign
-abbrev pub sign_of : FieldType → ℕ
-sign_of kind = if is_signed kind then 2 ^ (bit_width kind - 1) else 0
 
 -- a number of the type as bits whose sign is turned
 abbrev pub ordered : FieldType → ℤ → ℕ
-ordered kind (pos n) = sign_of kind + n
-ordered kind (negsuc n) = sign_of kind - (n + 1)
+ordered kind (pos n) = sign_weight kind + n
+ordered kind (negsuc n) = sign_weight kind - (n + 1)
 
 -- the range for a bound
 abbrev pub range_to : CmpOp → ℕ → Range

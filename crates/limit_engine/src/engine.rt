@@ -22,7 +22,8 @@ use crate::plan::Plan;
 use crate::reaction::Asked;
 use crate::states::{self, StateRefusal};
 use crate::watchpoint::{self, WatchResult};
-use crate::{field, layout, sampling};
+use crate::{layout, sampling};
+use lc_model::packet::padded_message_id;
 use lc_model::{ApMode, ApResult, EventKind, LcMode, SampleRequest, TABLE_ENTRIES, Term};
 use std::alloc::{AllocError, Global};
 use std::marker::Model;
@@ -240,7 +241,7 @@ impl Engine {
             self.probes = 0;
             return false;
         }
-        let found = self.watchpoints.find(field::message_id(packet));
+        let found = self.watchpoints.find(padded_message_id(packet));
         self.probes = found.probes;
         watchpoint::see_group(found.group, self.watch.as_mut_slice(), packet)
     }
@@ -285,7 +286,7 @@ impl Engine {
                   self.old.mode;
             } }
     {
-        let Some(mode) = states::mode_numbered(number) else {
+        let Some(mode) = LcMode::from_code(number) else {
             return Err(StateRefusal::BadMode);
         };
         self.mode = mode;

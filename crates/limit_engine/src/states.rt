@@ -1,12 +1,12 @@
 //! Modes and states that commands set (cFS Limit Checker user's guide; the numbers and the refusals are this project's own).
 
 ghost use Rattle.std.specs.Prelude.{◌≡◌, map};
-ghost use Rattle.lc_model.specs.Command.{mode_numbered, state_numbered};
+ghost use Rattle.lc_model.specs.Command.{state_numbered};
 ghost use Rattle.lc_model.specs.LimitChecker.Steps.{all_set, one_set, settable, states_set, turned_permanently_off};
 ghost use Rattle.limit_engine.specs.States.{answered, outcome, refusal_number, unless_refused};
 
 use crate::actionpoint::Point;
-use lc_model::{ALL_RULES, ApMode, LcMode};
+use lc_model::{ALL_RULES, ApMode};
 use thiserror::Error;
 
 /// Why a mode or a state is not set.
@@ -36,30 +36,6 @@ impl StateRefusal {
     }
 }
 
-/// The Limit Checker's mode with this number: active, passive, disabled.
-pub(crate) fn mode_numbered(number: u16) -> Option<LcMode>
-    ensures { result ≡ mode_numbered number }
-{
-    match number {
-        1 => Some(LcMode::Active),
-        2 => Some(LcMode::Passive),
-        3 => Some(LcMode::Disabled),
-        _ => None,
-    }
-}
-
-/// The state of a rule with this number: active, passive, disabled.
-pub(crate) fn state_numbered(number: u16) -> Option<ApMode>
-    ensures { result ≡ state_numbered number }
-{
-    match number {
-        1 => Some(ApMode::Active),
-        2 => Some(ApMode::Passive),
-        3 => Some(ApMode::Disabled),
-        _ => None,
-    }
-}
-
 /// All rules that are not off for good take the state.
 fn set_all(points: &mut [Point], state: ApMode)
     ensures { points.new ≡ all_set state points.old }
@@ -79,7 +55,7 @@ fn set_one(points: &mut [Point], index: u16, number: u16) -> Result<(), StateRef
     if points.len() <= index {
         return Err(StateRefusal::BadIndex);
     }
-    let Some(state) = state_numbered(number) else {
+    let Some(state) = ApMode::from_code(number) else {
         return Err(StateRefusal::BadMode);
     };
     if points[index].is_permanently_off() {
@@ -97,7 +73,7 @@ pub(crate) fn set_state(points: &mut [Point], index: u16, number: u16) -> Result
     if index != ALL_RULES {
         return set_one(points, index, number);
     }
-    let Some(state) = state_numbered(number) else {
+    let Some(state) = ApMode::from_code(number) else {
         return Err(StateRefusal::BadMode);
     };
     set_all(points, state);

@@ -86,7 +86,7 @@ impl Watch {
             need,
             by_four: field::is_by_four(term.kind, need),
             mask: term.mask,
-            sign: field::sign(term.kind),
+            sign: term.kind.sign_weight(),
             range: Range::of(term.kind, term.op, term.value),
             stale: term.stale,
         }
@@ -99,9 +99,9 @@ impl Watch {
         ensures { result ≡ counted_bits packet.now self.now }
     {
         if self.by_four {
-            return field::four_bytes(&packet[self.need - 4..self.need], false) & self.mask;
+            return field::four_bytes(&packet[self.need - 4..self.need]) & self.mask;
         }
-        field::bits_in(self.kind, &packet[self.start..self.need]) & self.mask
+        self.kind.bits_in(&packet[self.start..self.need]) & self.mask
     }
 
     /// What a packet of its message id says of it: an error where the field is not in it.

@@ -5,11 +5,8 @@ ghost use Rattle.lc_model.specs.Packet.{primary_header_size};
 ghost use Rattle.packet_archive.specs.Clock.{has_time, later_by, moment_by, next_tick, stopped, ticks_due, IsNextTick};
 
 use lc_model::packet::message_id;
-use lc_model::{Moment, u16_at, u32_at};
+use lc_model::{Moment, SUBSECONDS, u16_at, u32_at};
 use std::marker::Model;
-
-/// The parts of a second that a moment counts.
-const PARTS: u32 = 65_536;
 
 /// Seconds begin again at this number.
 const SECONDS_END: u64 = 4_294_967_296;
@@ -79,10 +76,12 @@ fn later_by(step: Moment, moment: Moment) -> Moment
     ensures { result ≡ later_by step moment }
 {
     let parts = u32::from(moment.subseconds) + u32::from(step.subseconds);
-    let seconds = u64::from(moment.seconds) + u64::from(step.seconds) + u64::from(parts / PARTS);
+    let seconds = u64::from(moment.seconds)
+        + u64::from(step.seconds)
+        + u64::from(parts / SUBSECONDS);
     Moment {
         seconds: (seconds % SECONDS_END) as u32,
-        subseconds: (parts % PARTS) as u16,
+        subseconds: (parts % SUBSECONDS) as u16,
     }
 }
 

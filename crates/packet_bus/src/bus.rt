@@ -20,11 +20,9 @@ use crate::pipe::PipePlace;
 use crate::pool::{PACKET_SIZE, Pool};
 use crate::seats::SeatSet;
 use lc_model::Seat;
+use lc_model::packet::MESSAGE_IDS;
 use std::alloc::{AllocError, Global};
 use std::marker::Model;
-
-/// The message ids of packet version 0. No packet has another.
-const MESSAGE_IDS: usize = 8192;
 
 /// The packet bus: for each seat none or one pipe, with up to 256 subscriptions and 72 packets.
 ///

@@ -4,6 +4,7 @@ ghost use Rattle.std.specs.Prelude.{◌≡◌, ◌≤◌, ◌==◌, false, is_no
 ghost use Rattle.lc_model.specs.Packet.{header_fault, message_id, sequence_flags, command_header_size, unsegmented};
 ghost use Rattle.packet_bus.specs.Header.{fault_number, fault_in, header_of, header_size};
 
+use lc_model::packet::{COMMAND_HEADERS, LONGEST_PACKET, TELEMETRY_HEADERS};
 use lc_model::{packet, u16_at};
 use thiserror::Error;
 
@@ -92,8 +93,8 @@ fn is_packet(bytes: &[u8]) -> bool
     ensures { result ≡ is_none (header_fault bytes.now) }
 {
     let size = bytes.len();
-    let has_headers = 12 <= size && size <= 2048
-        || 8 <= size && size < 12 && u16_at(bytes, 0) / 4096 % 2 == 1;
+    let has_headers = TELEMETRY_HEADERS <= size && size <= LONGEST_PACKET
+        || COMMAND_HEADERS <= size && size < TELEMETRY_HEADERS && u16_at(bytes, 0) / 4096 % 2 == 1;
     if !has_headers {
         return false;
     }

@@ -1,11 +1,10 @@
-//! The packet bus of the core Flight System: packet headers read and written, pipes with their subscriptions, and a pool in
-//! which each packet is kept once, however many pipes wait for it (CCSDS 133.0-B; cFE user's guide, software bus services).
+//! The packet bus of the core Flight System: packet headers, pipes with their subscriptions, and a pool in which each packet is
+//! kept once, however many pipes wait for it (CCSDS 133.0-B; cFE user's guide, software bus services).
 #![tactic(auto)]
 
 mod bus;
 mod error;
 mod header;
-mod outgoing;
 mod pipe;
 mod pool;
 mod seats;
@@ -13,5 +12,5 @@ mod seats;
 pub use bus::Bus;
 pub use error::BusError;
 pub use header::{Header, HeaderFault, PacketKind, parse_header};
-pub use outgoing::{build_command, build_telemetry};
+pub use packet_builders::{build_command, build_telemetry};
 pub use pool::PACKET_SIZE;

@@ -5,11 +5,12 @@ ghost use Rattle.lc_model.specs.Packet.{longest_packet};
 ghost use Rattle.lc_model.specs.Services.Bus.{most_publications};
 ghost use Rattle.packet_bus.specs.Slots.{PooledPacket, no_packet, no_slots, slot_at, used_slots, released};
 
+use lc_model::packet::LONGEST_PACKET;
 use std::alloc::{AllocError, Global};
 use std::marker::Model;
 
 /// The most bytes of a packet.
-pub const PACKET_SIZE: usize = 2048;
+pub const PACKET_SIZE: usize = LONGEST_PACKET;
 
 /// How many packets may wait: eight pipes of 72, none of them twice.
 const SLOTS: usize = 576;

@@ -2,16 +2,16 @@
 -- guides, and requests for command sequences. Which packets are read is this project's own.
 use Rattle.std.specs.Prelude.{ℕ, ◌&&◌, ◌==◌, Bool, not, List, drop, length, nat_le, nat_lt, slice_range, Option, Some, None, if◌then◌else◌}
 use Rattle.lc_model.specs.declared.mode.LcMode.{LcMode}
-use Rattle.lc_model.specs.declared.mode.LcMode.TheVariants.{Active, Passive, Disabled}
 use Rattle.lc_model.specs.declared.record.Moment.{Moment}
 use Rattle.lc_model.specs.declared.rule.EventKind.{EventKind}
 use Rattle.lc_model.specs.Bytes.{u16_at, u32_at}
+use Rattle.lc_model.specs.Codes.{event_numbered}
+use Rattle.lc_model.specs.Command.{mode_numbered}
 use Rattle.lc_model.specs.Name.{name_in}
 use Rattle.lc_model.specs.Packet.{event_mid, lc_housekeeping_mid, message_id, sequence_mid}
 use Rattle.packet_listing.specs.declared.sent.Event.{Event as HeldEvent}
 use Rattle.packet_listing.specs.declared.sent.Sent.{Sent}
 use Rattle.packet_listing.specs.declared.sent.Sent.TheVariants as held
-use Rattle.packet_listing.specs.Words.{event_numbered}
 
 -- A request for the command sequence with this number; an event with its moment, sender, id, type and text; the Limit
 -- Checker's state: its mode, its number of rules, and the bytes from 16 on, one for each rule.
@@ -52,10 +52,6 @@ abbrev pub event_told : List ℕ → Option Told
 event_told packet = if length packet == event_size then event_by packet (event_numbered (u16_at packet 34)) else None
 
 -- ---- housekeeping
-
--- the mode with this number
-abbrev pub mode_numbered : ℕ → Option LcMode
-mode_numbered n = if n == 1 then Some Active else if n == 2 then Some Passive else if n == 3 then Some Disabled else None
 
 abbrev pub housekeeping_by : List ℕ → Option LcMode → Option Told
 housekeeping_by packet None = None

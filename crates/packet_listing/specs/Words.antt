@@ -2,20 +2,8 @@
 use Rattle.std.specs.Prelude.{ℕ, List, [], ◌++◌, ◌*◌, ◌/◌, ◌==◌, ◌^◌, ◌-◌, false, codes, Option, Some, None, if◌then◌else◌}
 use Rattle.std.specs.Fmt.{decimal, digits, format_spec, padded_integral}
 use Rattle.lc_model.specs.declared.rule.EventKind.{EventKind}
-use Rattle.lc_model.specs.declared.rule.EventKind.TheVariants.{Debug, Information, Error, Critical}
-
--- the type of an event with this number
-abbrev pub event_numbered : ℕ → Option EventKind
-event_numbered n =
-    if n == 1 then Some Debug else if n == 2 then Some Information else if n == 3 then Some Error
-    else if n == 4 then Some Critical else None
-
--- the word for the type
-abbrev pub event_word : EventKind → List ℕ
-event_word Debug = codes "debug"
-event_word Information = codes "information"
-event_word Error = codes "error"
-event_word Critical = codes "critical"
+use Rattle.lc_model.specs.Codes.{event_numbered}
+use Rattle.lc_model.specs.Words.{event_word}
 
 -- the word for a number, or `type` and the number if no type has it
 abbrev pub word_by : ℕ → Option EventKind → List ℕ

@@ -2,19 +2,14 @@
 
 ghost use Rattle.std.specs.Prelude.{◌≡◌, ◌≤◌, length, Some};
 ghost use Rattle.lc_model.specs.Bytes.{u16_at, u32_at};
+ghost use Rattle.lc_model.specs.Packet.{telemetry_header_size};
 ghost use Rattle.packet_listing.specs.Words.{time_text};
 
-use lc_model::{Moment, u16_at, u32_at};
+use lc_model::{Moment, SUBSECONDS, u16_at, u32_at};
 use std::fmt::{self, Display, Formatter, Write};
 
 /// The character that is shown for a byte that is no printable ASCII character.
 const UNPRINTABLE: char = '.';
-
-/// The length in bytes of telemetry's headers; the last six bytes are its time.
-const TELEMETRY_HEADERS: usize = 12;
-
-/// The number of parts of a second that the last two bytes of a time count.
-const SUBSECONDS: u32 = 65_536;
 
 /// The number of parts of a second that are shown. Times that differ are shown differently.
 const SAID: u32 = 100_000;
@@ -40,7 +35,7 @@ impl Time {
 
 /// Returns the time in a telemetry packet: seconds at byte 6, parts of a second at byte 10, both high byte first.
 pub fn time_of(packet: &[u8]) -> Time
-    requires { TELEMETRY_HEADERS ≤ length packet.now }
+    requires { telemetry_header_size ≤ length packet.now }
     ensures { (result.seconds ≡ u32_at packet.now 6) × (result.subseconds ≡ u16_at packet.now 10) }
 {
     Time {

@@ -9,7 +9,6 @@ mod listing;
 mod sent;
 
 pub use display::{TextField, Time};
-pub use event::event_word;
 pub use line::PacketLine;
 pub use listing::list_packets;
 pub use sent::{Event, Sent, read_packet};

@@ -4,12 +4,9 @@ ghost use Rattle.std.specs.Prelude.{◌≡◌, length};
 
 use crate::event::{EVENT_SIZE, say_event};
 use crate::housekeeping::{HOUSEKEEPING_SIZE, say_housekeeping};
-use lc_model::packet::{REQUEST_SIZE, message_id};
+use lc_model::packet::{COUNT_END, REQUEST_SIZE, message_id};
 use lc_model::{mids, u16_at};
 use std::fmt::{self, Display, Formatter, Write};
-
-/// Sequence counts are below this number; the two bits above them are the sequence flags (CCSDS 133.0-B).
-const COUNT_END: u16 = 16_384;
 
 /// A packet with its number; it displays as its line without the line end (docs/TOOLS.md, this project's own).
 #[derive(Clone, Copy)]

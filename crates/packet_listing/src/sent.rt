@@ -3,10 +3,11 @@
 ghost use Rattle.std.specs.Prelude.{◌≡◌, ◌==◌, ◌≤◌, length, option_map};
 ghost use Rattle.std.specs.List.{position_or_len};
 ghost use Rattle.lc_model.specs.Bytes.{u16_at};
+ghost use Rattle.lc_model.specs.Command.{mode_numbered};
 ghost use Rattle.lc_model.specs.Name.{name_in};
-ghost use Rattle.packet_listing.specs.Told.{before_rules, event_of, event_told, housekeeping_by, mode_numbered, told_in, told_of};
+ghost use Rattle.packet_listing.specs.Told.{before_rules, event_of, event_told, housekeeping_by, told_in, told_of};
 
-use crate::event::{EVENT_SIZE, event_numbered};
+use crate::event::EVENT_SIZE;
 use lc_model::packet::{REQUEST_SIZE, message_id};
 use lc_model::{EventKind, LcMode, Moment, mids, u16_at, u32_at};
 
@@ -57,18 +58,6 @@ fn before_zero(field: &[u8]) -> &[u8]
     &field[..text_length(field)]
 }
 
-/// The Limit Checker's mode with this number, or `None` for other numbers.
-fn mode_of(number: u16) -> Option<LcMode>
-    ensures { result ≡ mode_numbered number }
-{
-    match number {
-        1 => Some(LcMode::Active),
-        2 => Some(LcMode::Passive),
-        3 => Some(LcMode::Disabled),
-        _ => None,
-    }
-}
-
 /// The event in an event packet; `None` for another length or an unknown type.
 fn event_in(packet: &[u8]) -> Option<Event<'_>>
     ensures { option_map event_of result ≡ event_told packet.now }
@@ -83,7 +72,7 @@ fn event_in(packet: &[u8]) -> Option<Event<'_>>
         },
         sender: before_zero(&packet[12..32]),
         id: u16_at(packet, 32),
-        kind: event_numbered(u16_at(packet, 34))?,
+        kind: EventKind::from_code(u16_at(packet, 34))?,
         text: before_zero(&packet[44..166]),
     })
 }
@@ -96,7 +85,7 @@ fn housekeeping_in(packet: &[u8]) -> Option<Sent<'_>>
 {
     let (_, rules) = packet.split_at(BEFORE_RULES);
     Some(Sent::Housekeeping {
-        mode: mode_of(u16_at(packet, 12))?,
+        mode: LcMode::from_code(u16_at(packet, 12))?,
         count: u16_at(packet, 14),
         rules,
     })

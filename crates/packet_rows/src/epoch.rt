@@ -2,16 +2,13 @@
 
 use crate::cell::Cell;
 use jiff::Timestamp;
-use lc_model::Moment;
+use lc_model::{Moment, SUBSECONDS};
 use packet_listing::Time;
 use std::alloc::{AllocError, Global};
 use std::fmt::{self, Display, Formatter, Write};
 
 /// The nanoseconds of a second.
 const NANOSECONDS: i128 = 1_000_000_000;
-
-/// The parts of a second that a moment counts.
-const PARTS: i128 = 65_536;
 
 /// The instant of second 0 of a stream. Leap seconds aren't counted, as in POSIX time.
 #[derive(Clone, Copy)]
@@ -37,7 +34,7 @@ impl Epoch {
 
     /// A moment's instant, its part of a second rounded down to nanoseconds; none behind the year 9999.
     pub fn at(self, moment: Moment) -> Option<Timestamp> {
-        let part = i128::from(moment.subseconds) * NANOSECONDS / PARTS;
+        let part = i128::from(moment.subseconds) * NANOSECONDS / i128::from(SUBSECONDS);
         let behind = i128::from(moment.seconds) * NANOSECONDS + part;
         match Timestamp::from_nanosecond(self.zero.as_nanosecond() + behind) {
             Ok(instant) => Some(instant),

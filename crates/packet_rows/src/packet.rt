@@ -1,14 +1,15 @@
 //! The packets that a run writes, as rows.
 
 ghost use Rattle.std.specs.Prelude.{◌≤◌, length};
+ghost use Rattle.lc_model.specs.Packet.{telemetry_header_size};
 
 use crate::cell::{Cell, number, some_word, word};
 use crate::epoch::{Epoch, time_cell, utc_cell};
 use crate::error::RowError;
 use crate::form::{Form, write_row};
-use lc_model::packet::message_id;
+use lc_model::packet::{COUNT_END, TELEMETRY_HEADERS, message_id};
 use lc_model::{Moment, u16_at, u32_at};
-use packet_listing::{Event, PacketLine, Sent, TextField, event_word, read_packet};
+use packet_listing::{Event, PacketLine, Sent, TextField, read_packet};
 use std::alloc::Global;
 use std::io::Write;
 
@@ -28,14 +29,8 @@ pub const PACKET_NAMES: [&str; 12] = [
     "size",
 ];
 
-/// The counts of packets are below this number; the two bits above it say that a packet is whole.
-const COUNT_END: u16 = 16_384;
-
 /// The bytes of a packet's primary header.
 const PRIMARY_HEADER: usize = 6;
-
-/// The bytes of telemetry's headers, whose last six are its time.
-const TELEMETRY_HEADERS: usize = 12;
 
 /// What a packet is.
 #[derive(Drop)]
@@ -74,7 +69,7 @@ fn event_said(alloc: Global, event: Event<'_>) -> Result<PacketContent, RowError
         moment: Some(event.moment),
         sender: text_of(alloc, event.sender)?,
         id: Some(event.id),
-        level: Some(event_word(event.kind)),
+        level: Some(event.kind.listed_word()),
         text: text_of(alloc, event.text)?,
         ..plain("event")
     })
@@ -82,7 +77,7 @@ fn event_said(alloc: Global, event: Event<'_>) -> Result<PacketContent, RowError
 
 /// A housekeeping packet: its text is what its line says behind the sender.
 fn housekeeping_said(alloc: Global, packet: &[u8]) -> Result<PacketContent, RowError>
-    requires { TELEMETRY_HEADERS ≤ length packet.now }
+    requires { telemetry_header_size ≤ length packet.now }
 {
     let line = PacketLine { number: 0, packet };
     let line = format!(in alloc; "{line}")?;

@@ -3,7 +3,7 @@
 use crate::json::{Item, Json};
 use crate::value_names::{how, mode};
 use bounded_history::{Changes, Entry};
-use run_summary::{Bands, Place, Seen, type_word};
+use run_summary::{Bands, Place, Seen};
 use std::fmt::Write;
 
 /// What stands in front of the items of an entry: of its first ones, and of those that tell of more than one change.
@@ -72,7 +72,7 @@ fn put_field<W: Write>(json: &mut Json<'_, W>, seen: &Seen<'_>, entries: &[Entry
         Item::Text(seen.field.name),
         Item::Text(seen.field.packet),
         Item::Natural(seen.field.mid as u64),
-        Item::Word(type_word(seen.field.kind)),
+        Item::Word(seen.field.kind.word()),
         Item::Natural(seen.field.at as u64),
         Item::NumberIf(seen.field.mask),
         Item::Number(seen.field.stale),

@@ -2,9 +2,10 @@
 
 use crate::json::{Item, Json};
 use crate::value_names::{joint, level, operator, state};
+use rpn_compiler::RuleText;
 use rule_lexer::Token;
 use rule_parser::{Expression, ReportItem, RuleItem};
-use run_summary::{Account, Part, Text};
+use run_summary::{Account, Part, condition_tokens, rule_at, rule_count, token_bytes};
 use std::fmt::Write;
 
 /// A condition as the text has it, with one blank where the text has some or a comment.
@@ -44,12 +45,12 @@ fn put_tree<W: Write>(json: &mut Json<'_, W>, condition: &Expression<'_>, next: 
 const COMPARISON: &[&str] = &["[", ",\"", "\",\"", "\"]"];
 
 /// The comparisons of a rule.
-fn put_comparisons<W: Write>(json: &mut Json<'_, W>, text: &Text<'_>, parts: &[Part]) {
+fn put_comparisons<W: Write>(json: &mut Json<'_, W>, text: &RuleText<'_>, parts: &[Part]) {
     for part in parts {
         let items = [
             Item::Natural(part.field as u64),
             operator(part.op),
-            Item::Text(text.token_bytes(part.at)),
+            Item::Text(token_bytes(text, part.at)),
         ];
         json.member(COMPARISON, &items);
     }
@@ -99,15 +100,15 @@ fn put_head<W: Write>(json: &mut Json<'_, W>, rule: &RuleItem<'_>) {
 }
 
 /// The tokens of the condition of a rule.
-fn condition_of<'a, 't>(text: &'a Text<'t>, rule: &RuleItem<'_>) -> &'a [Token<'t>] {
-    let (from, to) = text.condition(rule.name.at);
+fn condition_of<'a, 't>(text: &'a RuleText<'t>, rule: &RuleItem<'_>) -> &'a [Token<'t>] {
+    let (from, to) = condition_tokens(text, rule.name.at);
     text.tokens.as_slice().get(from..to).unwrap_or_default()
 }
 
 /// A rule of a text, with its comparisons.
 fn put_rule<W: Write>(
     json: &mut Json<'_, W>,
-    text: &Text<'_>,
+    text: &RuleText<'_>,
     rule: &RuleItem<'_>,
     parts: &[Part],
 ) {
@@ -124,11 +125,11 @@ fn put_rule<W: Write>(
 fn put_rules<W: Write>(
     json: &mut Json<'_, W>,
     account: &Account<'_>,
-    text: &Text<'_>,
+    text: &RuleText<'_>,
     number: Option<u16>,
 ) {
-    for place in 0..text.rule_count() {
-        if let Some(rule) = text.rule(place) {
+    for place in 0..rule_count(text) {
+        if let Some(rule) = rule_at(text, place) {
             put_rule(json, text, rule, account.parts(number, place));
         }
     }

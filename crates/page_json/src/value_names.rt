@@ -7,21 +7,12 @@ use run_summary::How;
 
 /// A type of events, as rule texts have it.
 pub fn level(kind: EventKind) -> Item<'static> {
-    Item::Word(match kind {
-        EventKind::Debug => "debug",
-        EventKind::Information => "info",
-        EventKind::Error => "error",
-        EventKind::Critical => "critical",
-    })
+    Item::Word(kind.word())
 }
 
 /// A state in which a rule begins.
 pub fn state(state: ApMode) -> Item<'static> {
-    Item::Word(match state {
-        ApMode::Active => "active",
-        ApMode::Passive => "passive",
-        ApMode::Disabled | ApMode::PermOff => "disabled",
-    })
+    Item::Word(state.word())
 }
 
 pub fn operator(op: CmpOp) -> Item<'static> {
@@ -61,8 +52,6 @@ pub fn mode(mode: Option<Option<LcMode>>) -> Item<'static> {
     Item::Word(match mode {
         None => "untold",
         Some(None) => "absent",
-        Some(Some(LcMode::Active)) => "active",
-        Some(Some(LcMode::Passive)) => "passive",
-        Some(Some(LcMode::Disabled)) => "disabled",
+        Some(Some(mode)) => mode.word(),
     })
 }

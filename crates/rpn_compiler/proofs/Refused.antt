@@ -1,7 +1,7 @@
 -- The refusal of a text is that of the first part of the compiler that has one.
-use Rattle.std.proofs.Common.{◌≡◌, refl, sym, ap, ℕ, ◌<◌, inl, inr, List, [], ◌∷◌, length}
+use Rattle.std.proofs.Common.{◌≡◌, refl, sym, ◌∙◌, ap, subst, ℕ, inl, inr, List, length}
 use Rattle.std.specs.Prelude.{Some, Result, Ok, Err, IfErr, IfOk, MatchResult}
-use Rattle.std.specs.List.{AllByRecursion}
+use Rattle.std.specs.Result.{IsErrAnd}
 use Rattle.std.proofs.lemmas.Bool.{lt-ltb}
 use Rattle.lc_model.specs.Rule.{NamedRule}
 use Rattle.lc_model.specs.Codes.{table_entries}
@@ -9,11 +9,10 @@ use Rattle.lc_model.specs.Text.Token.{Token, Splits}
 use Rattle.lc_model.specs.Text.Syntax.{Item}
 use Rattle.lc_model.specs.Text.Meaning.{faults, first_fault}
 use Rattle.lc_model.specs.Text.Reading as model
-use Rattle.lc_model.specs.Text.Reading.{Parses, HasParseFault, TextRefusal, ForText, AtPlace, Unparsed, Reads, IsUnreadable}
+use Rattle.lc_model.specs.Text.Reading.{Parses, HasParseFault, TextRefusal, ForText, AtPlace, Unparsed, IsUnreadable, Reads}
 use Rattle.lc_model.specs.Tables.Equation.{terms_of}
-use Rattle.lc_model.specs.Tables.Compiling.{Compiles, IsRefused, limit_refusal}
+use Rattle.lc_model.specs.Tables.Compiling.{limit_refusal}
 use Rattle.lc_model.specs.Tables.InForce.{limits}
-use Rattle.lc_model.specs.Laws.Reading.{AtMostOneVerdict, IsWithinRanges}
 use Rattle.rule_lexer.specs.declared.error.LexError.{LexError}
 use Rattle.rule_lexer.specs.declared.error.LexError.TheVariants as lexer
 use Rattle.rule_lexer.specs.Fault as lex
@@ -28,7 +27,8 @@ use Rattle.watch_sharing.specs.declared.error.ShareError.{ShareError}
 use Rattle.watch_sharing.specs.Fault.{IsTooManyUnlessMemory}
 use Rattle.rpn_compiler.specs.declared.error.CompileError.{CompileError}
 use Rattle.rpn_compiler.specs.declared.error.CompileError.TheVariants.{Memory}
-use Rattle.rpn_compiler.specs.declared.lowered.Lowered.{Lowered}
+use Rattle.rpn_compiler.specs.declared.rule_text.RuleText.{RuleText}
+use Rattle.rpn_compiler.specs.TextParts.{IsRuleText, bytes_in, items_in}
 use Rattle.rpn_compiler.specs.Fault.{Refuses, refusal_of, error_of_lexer, error_of_parser, error_of_checker, error_of_sharing}
 
 -- a refusal is another one, too
@@ -92,25 +92,57 @@ of_sharing rules error (inl memory) = inl (ap error_of_sharing memory)
 of_sharing rules error (inr many) =
     inr (ForText 31, ap (λ e. refusal_of (error_of_sharing e)) many.0, rw (lt-ltb table_entries (length (terms_of rules)) many.1) refl)
 
--- the texts of rules within the ranges are short
-pub short_texts : (rules : List NamedRule) → AllByRecursion (λ (rule : NamedRule). IsWithinRanges rule.action) rules →
-    AllByRecursion (λ (rule : NamedRule). length rule.action.text < 32) rules
-short_texts [] all = tt
-short_texts (rule ∷ rules) all = (all.0.text_length, short_texts rules all.1)
-
 -- ---- both directions
 
-module _ (text : List ℕ) (one : AtMostOneVerdict limits text) where
-  pub accepts : (r : Result Lowered CompileError) → IfOk r (λ lowered. Compiles limits text lowered.rules.rules) →
-      IfErr r (Refuses (IsRefused limits text)) → ((rules others : List NamedRule) → Reads text rules → Reads text others → rules ≡ others) →
-      (rules : List NamedRule) → Compiles limits text rules → MatchResult r (λ lowered. lowered.rules.rules ≡ rules) (λ error. error ≡ Memory)
-  accepts (Ok lowered) compiled refused once rules compiles = once lowered.rules.rules rules compiled.0 compiles.0
-  accepts (Err error) compiled (inl memory) once rules compiles = memory
-  accepts (Err error) compiled (inr known) once rules compiles = absurd (one.not_both rules known.0 compiles known.2)
+-- an error that is a refusal of this kind is want of memory, where there is none of this kind
+pub only_memory : (P : TextRefusal → Type 0) (error : CompileError) → Refuses P error → ((refusal : TextRefusal) → P refusal → ⊥) → error ≡ Memory
+only_memory P error (inl memory) none = memory
+only_memory P error (inr known) none = absurd (none known.0 known.2)
 
-  pub refuses : (r : Result Lowered CompileError) → IfOk r (λ lowered. Compiles limits text lowered.rules.rules) →
-      IfErr r (Refuses (IsRefused limits text)) →
-      (refusal : TextRefusal) → IsRefused limits text refusal → MatchResult r (λ _. ⊥) (Refuses (λ found. found ≡ refusal))
-  refuses (Ok lowered) compiled refused refusal is = one.not_both lowered.rules.rules refusal compiled is
-  refuses (Err error) compiled (inl memory) refusal is = inl memory
-  refuses (Err error) compiled (inr known) refusal is = inr (known.0, known.1, one.one_refusal known.0 refusal known.2 is)
+-- .. and it is the one of this kind, where there is one
+pub the_refusal : (P : TextRefusal → Type 0) (error : CompileError) → Refuses P error →
+    ((refusal other : TextRefusal) → P refusal → P other → refusal ≡ other) →
+    (refusal : TextRefusal) → P refusal → Refuses (λ found. found ≡ refusal) error
+the_refusal P error (inl memory) one refusal is = inl memory
+the_refusal P error (inr known) one refusal is = inr (known.0, known.1, one known.0 refusal known.2 is)
+
+-- both, of an answer
+pub accepts : {T : Type 0} (P : TextRefusal → Type 0) (Q : T → Type 0) (r : Result T CompileError) → IfOk r Q → IfErr r (Refuses P) →
+    ((refusal : TextRefusal) → P refusal → ⊥) → MatchResult r Q (λ error. error ≡ Memory)
+accepts P Q (Ok x) ok refused none = ok
+accepts P Q (Err error) ok refused none = only_memory P error refused none
+
+pub refuses : {T : Type 0} (P : TextRefusal → Type 0) (r : Result T CompileError) → IfOk r (λ _. ⊥) → IfErr r (Refuses P) →
+    ((refusal other : TextRefusal) → P refusal → P other → refusal ≡ other) →
+    (refusal : TextRefusal) → P refusal → MatchResult r (λ _. ⊥) (Refuses (λ found. found ≡ refusal))
+refuses P (Ok x) not refused one refusal is = not
+refuses P (Err error) not refused one refusal is = the_refusal P error refused one refusal is
+
+-- .. and of an answer that hands on an error
+pub exit_accepts : {T : Type 0} (P : TextRefusal → Type 0) (Q : T → Type 0) (r : Result T CompileError) (error : CompileError) →
+    IsErrAnd r (λ e. e ≡ error) → Refuses P error → ((refusal : TextRefusal) → P refusal → ⊥) → MatchResult r Q (λ e. e ≡ Memory)
+exit_accepts P Q (Ok x) error is refused none = absurd is
+exit_accepts P Q (Err e) error is refused none = is ∙ only_memory P error refused none
+
+pub exit_refuses : {T : Type 0} (P : TextRefusal → Type 0) (r : Result T CompileError) (error : CompileError) →
+    IsErrAnd r (λ e. e ≡ error) → Refuses P error → ((refusal other : TextRefusal) → P refusal → P other → refusal ≡ other) →
+    (refusal : TextRefusal) → P refusal → MatchResult r (λ _. ⊥) (Refuses (λ found. found ≡ refusal))
+exit_refuses P (Ok x) error is refused one refusal has = absurd is
+exit_refuses P (Err e) error is refused one refusal has =
+    subst (Refuses (λ found. found ≡ refusal)) (sym is) (the_refusal P error refused one refusal has)
+
+-- what follows of an answer that is there
+pub ok_also : {T : Type 0} (P Q : T → Type 0) (r : Result T CompileError) → ((x : T) → P x → Q x) → IfOk r P → IfOk r Q
+ok_also P Q (Ok x) so is = so x is
+ok_also P Q (Err error) so is = is
+
+pub ok_both : {T : Type 0} (P Q R : T → Type 0) (r : Result T CompileError) → ((x : T) → P x → Q x → R x) → IfOk r P → IfOk r Q → IfOk r R
+ok_both P Q R (Ok x) so one other = so x one other
+ok_both P Q R (Err error) so one other = one
+
+-- ---- texts that were read
+
+-- such a text reads
+pub text_reads : (text : RuleText) (bytes : List ℕ) → bytes_in text ≡ bytes → IsRuleText text → Reads bytes text.rules.rules
+text_reads text bytes same is =
+    subst (λ all. Reads all text.rules.rules) same (is.read.tokens, items_in text, is.read.splits, is.read.parses, is.read.means)

@@ -1,6 +1,8 @@
 -- What the compiler's contracts cite.
 pub mod Fault
 pub mod Naming
+pub mod Read
+pub mod TextParts
 pub mod Lowered
 pub mod Numbered
 pub mod Limits

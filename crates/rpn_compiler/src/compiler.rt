@@ -1,84 +1,40 @@
-//! From a text to what is laid out in its tables.
+//! From a text to the files of its two tables.
 
-ghost use Rattle.std.specs.Prelude.{◌≡◌, ◌<◌, List, Some, length, IfErr, IfOk, MatchResult};
-ghost use Rattle.std.specs.List.{AllByRecursion};
-ghost use Rattle.lc_model.specs.Codes.{rule_text_size};
+ghost use Rattle.std.specs.Prelude.{◌≡◌, List, IfErr, IfOk, MatchResult};
 ghost use Rattle.lc_model.specs.Rule.{NamedRule};
-ghost use Rattle.lc_model.specs.Text.Reading.{IsUnreadable, Reads, TextRefusal};
-ghost use Rattle.lc_model.specs.Tables.Compiling.{Compiles, IsRefused, limit_refusal};
+ghost use Rattle.lc_model.specs.Text.Reading.{TextRefusal};
+ghost use Rattle.lc_model.specs.Tables.Compiling.{Compiles, IsRefused};
 ghost use Rattle.lc_model.specs.Tables.InForce.{limits};
 ghost use Rattle.rpn_compiler.specs.declared.error.CompileError.TheVariants.{Memory};
 ghost use Rattle.rpn_compiler.specs.Fault.{Refuses};
-ghost use Rattle.rpn_compiler.specs.Lowered.{IsLowered};
-ghost use Rattle.rpn_compiler.specs.Naming.{NamesTheNumberIn, IsOfTables};
+ghost use Rattle.rpn_compiler.specs.Naming.{NamesTheNumberIn};
+ghost use Rattle.rpn_compiler.specs.Pair.{AreTables};
 
-use crate::equation::words_of_rules;
 use crate::error::CompileError;
-use crate::limits;
-use crate::lowered::Lowered;
-use field_checker::check;
-use lc_model::RuleSet;
-use rule_lexer::lex;
-use rule_parser::parse;
+use crate::files::TablePair;
+use crate::rule_text::RuleText;
 use std::alloc::Global;
-use watch_sharing::share;
 
-/// The rules that a text says.
-fn read(alloc: Global, text: &[u8]) -> Result<RuleSet, CompileError>
-    ensures reads { IfOk result (λ set. Reads text.now set.rules) }
-    ensures refused { IfErr result (Refuses (IsUnreadable text.now)) }
-    ensures named { IfErr result (NamesTheNumberIn text.now) }
-{
-    let tokens = lex(alloc, text)?;
-    let file = parse(alloc, text, tokens.as_slice())?;
-    Ok(check(alloc, &file)?)
-}
-
-/// The watchpoints and the words of rules, within the limits of the tables.
-fn lower_rules(alloc: Global, rules: RuleSet) -> Result<Lowered, CompileError>
-    requires { AllByRecursion (λ (rule : NamedRule). length rule.action.text < rule_text_size)
-        rules.rules }
-    ensures rules { IfOk result (λ lowered. lowered.rules.rules ≡ rules.rules) }
-    ensures lowered { IfOk result IsLowered }
-    ensures refused { IfErr result
-        (Refuses (λ refusal. limit_refusal limits rules.rules ≡ Some refusal)) }
-    ensures tables { IfErr result IsOfTables }
-{
-    let shared = share(alloc, &rules)?;
-    limits::judge(rules.rules.as_slice())?;
-    let words = words_of_rules(alloc, rules.rules.as_slice(), shared.mentions.as_slice())?;
-    Ok(Lowered {
-        rules,
-        terms: shared.terms,
-        words,
-    })
-}
-
-/// The compiled form of a text, or the first refusal.
-fn lower_text(alloc: Global, text: &[u8]) -> Result<Lowered, CompileError>
-    ensures compiles { IfOk result (λ lowered. Compiles limits text.now lowered.rules.rules) }
-    ensures lowered { IfOk result IsLowered }
-    ensures refused { IfErr result (Refuses (IsRefused limits text.now)) }
-    ensures named { IfErr result (NamesTheNumberIn text.now) }
-{
-    let rules = read(alloc, text)?;
-    lower_rules(alloc, rules)
-}
-
-/// Lowers a rule text: its rules as the text says them, their watchpoints in order of first mention, and for each rule
-/// the words of its condition, the heavier operand of two first.
+/// Compiles a rule text to the files of its two tables: its watchpoints in order of first mention, its rules in the order
+/// of the text, with the words of each equation operands first, and in both the SHA-256 of the text. Of two operands the one
+/// in whose words more operands wait comes first, and they stay as they stand where as many do; so at most 4 wait in 20
+/// words, and no rule that fits its words is refused for its depth.
 ///
 /// Errors: the first refusal, where the whole text is lexed, then parsed, then checked, and its watchpoints are counted,
-/// its rules, and last the words of each rule. `Memory` comes only where what is compiled finds no room.
-pub fn lower(alloc: Global, text: &[u8]) -> Result<Lowered, CompileError>
-    ensures compiles { IfOk result (λ lowered. Compiles limits text.now lowered.rules.rules) }
-    ensures lowered { IfOk result IsLowered }
+/// its rules, and last the words of each rule. `Memory` comes only where the files, or what is made on the way to them,
+/// find no room.
+pub fn compile(alloc: Global, text: &[u8]) -> Result<TablePair, CompileError>
+    ensures compiles { IfOk result (λ pair. (rules : List NamedRule) ×
+        Compiles limits text.now rules × AreTables text.now rules pair) }
     ensures refused { IfErr result (Refuses (IsRefused limits text.now)) }
+    // Where a number is said to be out of its range, one of the text's numbers is.
     ensures named { IfErr result (NamesTheNumberIn text.now) }
     ensures accepts { (rules : List NamedRule) → Compiles limits text.now rules →
-        MatchResult result (λ lowered. lowered.rules.rules ≡ rules) (λ error. error ≡ Memory) }
+        MatchResult result (AreTables text.now rules) (λ error. error ≡ Memory) }
     ensures refuses { (refusal : TextRefusal) → IsRefused limits text.now refusal →
         MatchResult result (λ _. ⊥) (Refuses (λ found. found ≡ refusal)) }
 {
-    lower_text(alloc, text)
+    let text = RuleText::read(alloc, text)?;
+    let pair = text.compile(alloc);
+    pair
 }

@@ -1,27 +1,22 @@
-//! From a text to the files of its two tables.
+//! The files of the two tables of a text.
 
-ghost use Rattle.std.specs.Prelude.{◌≡◌, ◌≤◌, List, length, IfErr, IfOk, MatchResult};
+ghost use Rattle.std.specs.Prelude.{◌≡◌, ◌≤◌, length, IfErr, IfOk};
 ghost use Rattle.std.specs.List.{AllByRecursion};
-ghost use Rattle.lc_model.specs.Rule.{NamedRule};
 ghost use Rattle.lc_model.specs.Codes.{table_entries};
 ghost use Rattle.lc_model.specs.declared.kind.Kind.TheVariants as kinds;
-ghost use Rattle.lc_model.specs.Text.Reading.{TextRefusal};
-ghost use Rattle.lc_model.specs.Tables.Compiling.{Compiles, IsRefused};
+ghost use Rattle.lc_model.specs.Tables.Compiling.{Compiles};
 ghost use Rattle.lc_model.specs.Tables.InForce.{limits};
 ghost use Rattle.lc_model.specs.Tables.File.{file_bytes, wrapped};
 ghost use Rattle.lc_model.specs.Tables.Image.{FitsEntry, FitsWatchpoint, adt_image, wdt_image};
 ghost use Rattle.table_file.specs.Layout.{layout_of_version};
 ghost use Rattle.rpn_compiler.specs.declared.error.CompileError.TheVariants.{Memory};
-ghost use Rattle.rpn_compiler.specs.Fault.{Refuses};
 ghost use Rattle.rpn_compiler.specs.Lowered.{IsLowered};
-ghost use Rattle.rpn_compiler.specs.Naming.{NamesTheNumberIn};
 ghost use Rattle.rpn_compiler.specs.Pair.{AreTables};
 
-use crate::compiler::lower;
 use crate::error::CompileError;
 use crate::images::entries;
 use crate::lowered::Lowered;
-use lc_model::Kind;
+use lc_model::{Kind, RuleSet};
 use sha2::{Digest, Sha256};
 use std::alloc::Global;
 use table_file::{AdtImage, AdtVersion, WdtImage, encode_adt, encode_wdt, wrap};
@@ -67,19 +62,20 @@ fn adt_file(alloc: Global, image: &AdtImage) -> Result<Vec<u8>, CompileError>
     wrap(alloc, Kind::Adt, bytes.as_slice()).map_err(|_| CompileError::Memory)
 }
 
-/// The files of the tables of what a text is lowered to.
-fn files(alloc: Global, text: &[u8], lowered: Lowered) -> Result<TablePair, CompileError>
-    requires compiles { Compiles limits text.now lowered.rules.rules }
-    requires lowered { IsLowered lowered }
-    ensures tables { IfOk result (AreTables text.now lowered.rules.rules) }
+/// The files of the tables of what the rules of a text are lowered to.
+pub fn files(
+    alloc: Global,
+    text: &[u8],
+    rules: &RuleSet,
+    lowered: Lowered,
+) -> Result<TablePair, CompileError>
+    requires compiles { Compiles limits text.now rules.now.rules }
+    requires lowered { IsLowered rules.now.rules lowered }
+    ensures tables { IfOk result (AreTables text.now rules.now.rules) }
     ensures refused { IfErr result (λ error. error ≡ Memory) }
 {
     let hash = Sha256::digest(text);
-    let Lowered {
-        rules,
-        terms,
-        words,
-    } = lowered;
+    let Lowered { terms, words } = lowered;
     let actionpoints = entries(alloc, rules.rules.as_slice(), words)?;
     let watchpoint_count = terms.len() as u16;
     let rule_count = actionpoints.len() as u16;
@@ -99,27 +95,4 @@ fn files(alloc: Global, text: &[u8], lowered: Lowered) -> Result<TablePair, Comp
         watchpoints: watchpoint_count,
         rules: rule_count,
     })
-}
-
-/// Compiles a rule text to the files of its two tables: its watchpoints in order of first mention, its rules in the order
-/// of the text, with the words of each equation operands first, and in both the SHA-256 of the text. Of two operands the one
-/// in whose words more operands wait comes first, and they stay as they stand where as many do; so at most 4 wait in 20
-/// words, and no rule that fits its words is refused for its depth.
-///
-/// Errors: the first refusal, where the whole text is lexed, then parsed, then checked, and its watchpoints are counted,
-/// its rules, and last the words of each rule. `Memory` comes only where the files, or what is made on the way to them,
-/// find no room.
-pub fn compile(alloc: Global, text: &[u8]) -> Result<TablePair, CompileError>
-    ensures compiles { IfOk result (λ pair. (rules : List NamedRule) ×
-        Compiles limits text.now rules × AreTables text.now rules pair) }
-    ensures refused { IfErr result (Refuses (IsRefused limits text.now)) }
-    // Where a number is said to be out of its range, one of the text's numbers is.
-    ensures named { IfErr result (NamesTheNumberIn text.now) }
-    ensures accepts { (rules : List NamedRule) → Compiles limits text.now rules →
-        MatchResult result (AreTables text.now rules) (λ error. error ≡ Memory) }
-    ensures refuses { (refusal : TextRefusal) → IsRefused limits text.now refusal →
-        MatchResult result (λ _. ⊥) (Refuses (λ found. found ≡ refusal)) }
-{
-    let lowered = lower(alloc, text)?;
-    files(alloc, text, lowered)
 }

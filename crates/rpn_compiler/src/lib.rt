@@ -8,6 +8,10 @@ mod files;
 mod images;
 mod limits;
 mod lowered;
+mod lowering;
+mod rule_text;
 
+pub use compiler::compile;
 pub use error::CompileError;
-pub use files::{TablePair, compile};
+pub use files::TablePair;
+pub use rule_text::RuleText;

@@ -11,10 +11,10 @@ use Rattle.lc_model.specs.declared.truth.Truth.TheVariants.{True, False}
 use Rattle.lc_model.specs.declared.field.FieldType.{FieldType}
 use Rattle.lc_model.specs.declared.field.FieldType.TheVariants.{U8, I8, U16Be, U16Le, I16Be, I16Le, U32Be, U32Le, I32Be, I32Le}
 use Rattle.lc_model.specs.declared.field.Term.{Term}
-use Rattle.lc_model.specs.Field.{bit_width, is_signed, compares, twos_complement}
+use Rattle.lc_model.specs.Field.{bit_width, is_signed, compares, sign_weight, twos_complement}
 use Rattle.lc_model.specs.LimitChecker.Watch.{judgement}
 use Rattle.rule_analysis.specs.Numbers.{Fits}
-use Rattle.rule_analysis.specs.Classes.{SaysTheSame, RepresentAll, sign_weight, ReachAlike, Separates, Covers}
+use Rattle.rule_analysis.specs.Classes.{SaysTheSame, RepresentAll, ReachAlike, Separates, Covers}
 use Rattle.rule_analysis.specs.Search.{Represent, AreRepresented}
 use Rattle.rule_analysis.proofs.WalkLaws.{decided, there_before, there_last}
 use Rattle.rule_analysis.proofs.Halves.{small}

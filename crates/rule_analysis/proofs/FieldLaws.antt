@@ -7,7 +7,7 @@ use Rattle.std.proofs.lemmas.Bool.Decides.{nat_tests}
 use Rattle.lc_model.specs.declared.field.Term.{Term}
 use Rattle.rule_analysis.specs.declared.fields.Field.{Field}
 use Rattle.lc_model.specs.Codes.{type_code}
-use Rattle.lc_model.proofs.CodesAgain.{one_type}
+use Rattle.lc_model.proofs.FieldTypes.{one_type}
 use Rattle.rule_analysis.specs.Judgement.{Place, place_of}
 use Rattle.rule_analysis.specs.Fields.{HasField, field_number, is_field_of, place_in}
 

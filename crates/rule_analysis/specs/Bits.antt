@@ -3,9 +3,8 @@ use Rattle.std.specs.Prelude.{◌≡◌, ℕ, ◌+◌, ◌-◌, ◌≤◌, ◌==
 use Rattle.std.specs.Int.{byte_at}
 use Rattle.std.specs.List.{AllByRecursion, list_any}
 use Rattle.lc_model.specs.declared.field.FieldType.{FieldType}
-use Rattle.lc_model.specs.declared.field.FieldType.TheVariants.{U16Le, I16Le, U32Le, I32Le}
 use Rattle.lc_model.specs.declared.field.Term.{Term}
-use Rattle.lc_model.specs.Field.{full_mask, width}
+use Rattle.lc_model.specs.Field.{full_mask, is_little, width}
 use Rattle.lc_model.specs.Packet.{is_telemetry_mid, longest_packet, reserved_mids}
 use Rattle.lc_model.specs.Rule.{NamedRule}
 use Rattle.lc_model.specs.Text.Reading.{Reads}
@@ -15,14 +14,6 @@ use Rattle.rule_analysis.specs.declared.fields.Field.{Field}
 use Rattle.rule_analysis.specs.Fields.{field_read, is_one}
 
 -- ---- where the bits of a field stand
-
--- whether the low byte of the type comes first
-abbrev pub is_little : FieldType → Bool
-is_little U16Le = true
-is_little I16Le = true
-is_little U32Le = true
-is_little I32Le = true
-is_little k = false
 
 -- which byte of a number stands so far behind the first byte of a field; 0 is the lowest
 abbrev pub byte_number : FieldType → ℕ → ℕ

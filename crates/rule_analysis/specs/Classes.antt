@@ -1,11 +1,10 @@
 -- Numbers of a field that its comparisons can't tell apart. This project's own.
-use Rattle.std.specs.Prelude.{◌≡◌, ℕ, ◌-◌, ◌≤◌, ◌<◌, ◌^◌, List, Contains, Option, Some, None, if◌then◌else◌}
+use Rattle.std.specs.Prelude.{◌≡◌, ℕ, ◌≤◌, ◌<◌, ◌^◌, List, Contains, Option, Some, None}
 use Rattle.std.specs.List.{AllByRecursion}
 use Rattle.lc_model.specs.declared.truth.Truth.{Truth}
 use Rattle.lc_model.specs.declared.truth.Truth.TheVariants.{Stale}
-use Rattle.lc_model.specs.declared.field.FieldType.{FieldType}
 use Rattle.lc_model.specs.declared.field.Term.{Term}
-use Rattle.lc_model.specs.Field.{bit_width, is_signed, twos_complement}
+use Rattle.lc_model.specs.Field.{twos_complement}
 use Rattle.lc_model.specs.LimitChecker.Watch.{judgement}
 use Rattle.rule_analysis.specs.Judgement.{place_of, value_by}
 use Rattle.rule_analysis.specs.Numbers.{Fits, IsLeastFrom}
@@ -25,10 +24,6 @@ RepresentAll terms candidates =
     (bits : ℕ) → (candidate : ℕ) × Contains candidates candidate × AllByRecursion (λ t. SaysTheSame t candidate bits) terms
 
 -- ---- thresholds
-
--- the weight of the sign's bit; 0 where there is none
-abbrev pub sign_weight : FieldType → ℕ
-sign_weight k = if is_signed k then 2 ^ (bit_width k - 1) else 0
 
 -- two numbers reach the same of these thresholds
 abbrev pub ReachAlike : List ℕ → ℕ → ℕ → Type 0

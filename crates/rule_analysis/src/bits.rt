@@ -3,7 +3,7 @@
 ghost use Rattle.std.specs.Prelude.{◌≡◌, ◌<◌};
 ghost use Rattle.std.specs.Int.{byte_at};
 ghost use Rattle.lc_model.specs.Field.{width};
-ghost use Rattle.rule_analysis.specs.Bits.{bits_read, byte_number, byte_there, is_little};
+ghost use Rattle.rule_analysis.specs.Bits.{bits_read, byte_number, byte_there};
 
 use crate::fields::Field;
 use lc_model::FieldType;
@@ -21,28 +21,13 @@ fn byte_at(number: u32, index: usize) -> u8
     }
 }
 
-/// Whether the low byte of the type comes first.
-fn is_little(kind: FieldType) -> bool
-    ensures { result ≡ is_little kind }
-{
-    match kind {
-        FieldType::U16Le | FieldType::I16Le | FieldType::U32Le | FieldType::I32Le => true,
-        FieldType::U8
-        | FieldType::I8
-        | FieldType::U16Be
-        | FieldType::I16Be
-        | FieldType::U32Be
-        | FieldType::I32Be => false,
-    }
-}
-
 /// Which byte of a number stands so far behind a field's first byte.
 fn byte_number(kind: FieldType, behind: usize) -> usize
     requires { behind < width kind }
     ensures number { result ≡ byte_number kind behind }
     ensures few { result < 4 }
 {
-    if is_little(kind) {
+    if kind.is_little() {
         behind
     } else {
         kind.width() - 1 - behind

@@ -3,7 +3,6 @@
 ghost use Rattle.std.specs.Prelude.{◌≡◌, ◌++◌, Contains, IsTrue, List, length};
 ghost use Rattle.std.specs.Prelude.{IfOk, OnOk};
 ghost use Rattle.std.specs.List.{AllByRecursion, list_any};
-ghost use Rattle.lc_model.specs.Codes.{type_code};
 ghost use Rattle.lc_model.specs.Condition.{condition_of};
 ghost use Rattle.lc_model.specs.Tables.Equation.{mentions};
 ghost use Rattle.lc_model.specs.declared.field.Term.{Term as Comparison};
@@ -24,24 +23,6 @@ pub struct Field {
     pub mask: u32,
 }
 
-/// The number of a type.
-pub(crate) fn code(kind: FieldType) -> u8
-    ensures { result ≡ type_code kind }
-{
-    match kind {
-        FieldType::U8 => 1,
-        FieldType::I8 => 2,
-        FieldType::U16Be => 3,
-        FieldType::U16Le => 4,
-        FieldType::I16Be => 5,
-        FieldType::I16Le => 6,
-        FieldType::U32Be => 7,
-        FieldType::U32Le => 8,
-        FieldType::I32Be => 9,
-        FieldType::I32Le => 10,
-    }
-}
-
 /// The field that the term reads.
 pub fn field_of(term: &Term) -> Field
     ensures reads { IsTrue (is_field_of term.now result) }
@@ -59,7 +40,7 @@ pub fn field_of(term: &Term) -> Field
 pub(crate) fn reads(term: &Term, field: &Field) -> bool
     ensures { result ≡ is_field_of term.now field.now }
 {
-    code(term.kind) == code(field.kind)
+    term.kind.code() == field.kind.code()
         && term.mid == field.mid
         && term.offset == field.offset
         && term.mask == field.mask

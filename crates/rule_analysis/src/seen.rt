@@ -1,46 +1,15 @@
 //! What a condition is found to be with some packets.
 
-ghost use Rattle.std.specs.Prelude.{◌≡◌, IsTrue, length, option_map};
+ghost use Rattle.std.specs.Prelude.{◌≡◌, IsTrue, option_map};
 ghost use Rattle.std.specs.List.{AllByRecursion};
 ghost use Rattle.lc_model.specs.Condition.{condition_of};
-ghost use Rattle.lc_model.specs.Field.{raw, value_of, width};
+ghost use Rattle.lc_model.specs.Field.{value_of};
 ghost use Rattle.lc_model.specs.LimitChecker.Watch.{judgement, last_packet, truth_of, truth_of_term};
-ghost use Rattle.lc_model.specs.Packet.{message_id as id_of};
 ghost use Rattle.rule_analysis.specs.Findings.{IsTelemetry, Shows, value_seen};
 ghost use Rattle.rule_analysis.specs.Came.{history_of};
 
-use crate::outcomes::{compares, signed_value};
-use lc_model::packet::stream_fault;
-use lc_model::{Cond, FieldType, Term, Truth};
-
-/// The message id: the packet's first two bytes, the high one first. Bytes that are not there count as zero.
-fn message_id(packet: &[u8]) -> u16
-    ensures { result ≡ id_of packet.now }
-{
-    match packet {
-        [high, low, ..] => u16::from_be_bytes([*high, *low]),
-        [high] => u16::from_be_bytes([*high, 0]),
-        [] => 0,
-    }
-}
-
-/// The bytes of a field as a number, in the order of its type.
-fn bits_in(kind: FieldType, bytes: &[u8]) -> u32
-    requires { length bytes.now ≡ width kind }
-    ensures { result ≡ raw kind bytes.now }
-{
-    match kind {
-        FieldType::U8 | FieldType::I8 => bytes[0] as u32,
-        FieldType::U16Be | FieldType::I16Be => u16::from_be_bytes([bytes[0], bytes[1]]) as u32,
-        FieldType::U16Le | FieldType::I16Le => u16::from_le_bytes([bytes[0], bytes[1]]) as u32,
-        FieldType::U32Be | FieldType::I32Be => {
-            u32::from_be_bytes([bytes[0], bytes[1], bytes[2], bytes[3]])
-        }
-        FieldType::U32Le | FieldType::I32Le => {
-            u32::from_le_bytes([bytes[0], bytes[1], bytes[2], bytes[3]])
-        }
-    }
-}
+use lc_model::packet::{padded_message_id, stream_fault};
+use lc_model::{Cond, Term, Truth, mids};
 
 /// The value of the term's field in a packet; none where the packet ends before the field does.
 fn value(term: &Term, packet: &[u8]) -> Option<i64>
@@ -51,10 +20,8 @@ fn value(term: &Term, packet: &[u8]) -> Option<i64>
     if packet.len() < end {
         return None;
     }
-    Some(signed_value(
-        term.kind,
-        bits_in(term.kind, &packet[start..end]) & term.mask,
-    ))
+    let bits = term.kind.bits_in(&packet[start..end]);
+    Some(term.kind.signed_value(bits & term.mask))
 }
 
 /// The last packet of a message id, where the first of these came last.
@@ -63,7 +30,7 @@ pub(crate) fn last_of(packets: &[Vec<u8>], mid: u16) -> Option<&[u8]>
         (packet.now, 0)) result }
 {
     for packet in packets {
-        if message_id(packet) == mid {
+        if padded_message_id(packet) == mid {
             return Some(packet);
         }
     }
@@ -89,7 +56,7 @@ fn term_with(term: &Term, packets: &[Vec<u8>]) -> Truth
         None => Truth::Stale,
         Some(packet) => match value(term, packet) {
             None => Truth::Error,
-            Some(value) => if compares(term.op, value, term.value) {
+            Some(value) => if term.op.holds(value, term.value) {
                 Truth::True
             } else {
                 Truth::False
@@ -122,8 +89,7 @@ fn is_telemetry(packet: &[u8]) -> bool
     ensures only { IsTrue result → IsTelemetry packet.now }
     ensures all { IsTelemetry packet.now → IsTrue result }
 {
-    let mid = message_id(packet);
-    stream_fault(packet).is_none() && 0x0800 <= mid && mid <= 0x0FFF
+    stream_fault(packet).is_none() && mids::is_telemetry(padded_message_id(packet))
 }
 
 /// Whether it may bring all these.

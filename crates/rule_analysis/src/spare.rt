@@ -3,7 +3,6 @@
 ghost use Rattle.std.specs.Prelude.{◌≡◌, ◌≢◌, ◌⊎◌, ◌+◌, ◌<◌, ℕ, Contains, IfOk, IfSome, IsFalse, IsTrue, None, OnOk, Some, length, slice_get};
 ghost use Rattle.std.specs.List.{AllByRecursion};
 ghost use Rattle.lc_model.specs.declared.field.Term.{Term as Comparison};
-ghost use Rattle.lc_model.specs.Codes.{operator_code};
 ghost use Rattle.lc_model.specs.Condition.{Join, Xor, condition_of};
 ghost use Rattle.lc_model.specs.Rule.{rules_of};
 ghost use Rattle.lc_model.specs.Tables.Equation.{mentions, same_term};
@@ -13,40 +12,25 @@ ghost use Rattle.rule_analysis.specs.Judgement.{HoldsForSome, NeverFails};
 ghost use Rattle.rule_analysis.specs.Steps.{AreFewByNames};
 
 use crate::conditions::copy_condition;
-use crate::fields::code;
 use crate::finding::SpareComparison;
 use crate::judging::comparisons_of;
 use crate::pairs::{TEXT_STEPS, ask};
-use lc_model::{CmpOp, Cond, Rule, Rules, Term};
+use lc_model::{Cond, Rule, Rules, Term};
 use std::alloc::{AllocError, Global};
 
 /// The steps that each question has, also where those for all are used up: enough for eight different comparisons.
 const LEAST_SPARE_STEPS: u32 = 1 << 8;
 
-/// The number of a comparison's operator.
-fn operator(op: CmpOp) -> u8
-    ensures { result ≡ operator_code op }
-{
-    match op {
-        CmpOp::Less => 1,
-        CmpOp::LessOrEqual => 2,
-        CmpOp::NotEqual => 3,
-        CmpOp::Equal => 4,
-        CmpOp::GreaterOrEqual => 5,
-        CmpOp::Greater => 6,
-    }
-}
-
 /// Whether the terms are one.
 fn are_one(one: &Term, other: &Term) -> bool
     ensures { result ≡ same_term one.now other.now }
 {
-    code(one.kind) == code(other.kind)
+    one.kind.code() == other.kind.code()
         && one.mid == other.mid
         && one.offset == other.offset
         && one.mask == other.mask
         && one.stale == other.stale
-        && operator(one.op) == operator(other.op)
+        && one.op.code() == other.op.code()
         && one.value == other.value
 }
 

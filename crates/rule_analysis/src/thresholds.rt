@@ -5,7 +5,6 @@ ghost use Rattle.std.specs.List.{AllByRecursion};
 ghost use Rattle.lc_model.specs.declared.field.Term.{Term as Comparison};
 ghost use Rattle.rule_analysis.specs.Classes.{Separates};
 
-use crate::outcomes::sign_weight;
 use lc_model::Term;
 use std::alloc::{AllocError, Global};
 
@@ -53,7 +52,7 @@ fn first_above(term: &Term, shift: u64) -> u64
 fn thresholds(term: &Term) -> [u64; 5]
     ensures { Separates result term.now }
 {
-    let sign = sign_weight(term.kind);
+    let sign = u64::from(term.kind.sign_weight());
     let shift = 2 * sign;
     [
         sign,

@@ -1,3 +1,4 @@
 -- Lemmas on what messages tell.
 mod Different
 mod Reasons
+mod Begins

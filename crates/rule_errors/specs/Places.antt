@@ -5,18 +5,9 @@ use Rattle.lc_model.specs.declared.field.Term.{Term}
 use Rattle.lc_model.specs.Codes.{table_entries}
 use Rattle.lc_model.specs.Rule.{NamedRule}
 use Rattle.lc_model.specs.Tables.Equation.{distinct}
-use Rattle.lc_model.specs.Text.Meaning.{Means}
-use Rattle.lc_model.specs.Text.Reading.{Parses}
 use Rattle.lc_model.specs.Text.Syntax.{Expression, Compare, Not, Join, RuleItem, Item, Packet, Field, Rule}
-use Rattle.lc_model.specs.Text.Token.{Token, Splits}
+use Rattle.rpn_compiler.specs.Read.{IsRead}
 use Rattle.watch_sharing.specs.Numbering.{all_mentions}
-
--- the text reads as these items, and they mean these rules
-pub record IsRead (text : List ℕ) (items : List Item) (rules : List NamedRule) : Type 0 where
-  pub tokens : List Token
-  pub splits : Splits text tokens
-  pub parses : Parses tokens items
-  pub means : Means items rules
 
 -- ---- rules
 

@@ -1,37 +1,38 @@
 //! All faults of a text: the compiler's first, and others that don't follow from it.
 
-ghost use Rattle.std.specs.Prelude.{◌≡◌, ◌++◌, List, [], ◌∷◌, IfOk};
+ghost use Rattle.std.specs.Prelude.{◌≡◌, ◌++◌, List, [], ◌∷◌, None, Some, IfOk};
 ghost use Rattle.lc_model.specs.Rule.{NamedRule};
 ghost use Rattle.lc_model.specs.Text.Reading.{TextRefusal};
-ghost use Rattle.lc_model.specs.Tables.Compiling.{Compiles, IsRefused};
+ghost use Rattle.lc_model.specs.Tables.Compiling.{Compiles, IsRefused, limit_refusal};
 ghost use Rattle.lc_model.specs.Tables.InForce.{limits};
 ghost use Rattle.rpn_compiler.specs.Fault.{refusal_of};
+ghost use Rattle.rpn_compiler.specs.TextParts.{IsRuleText};
 ghost use Rattle.rule_errors.specs.Telling.{BeginsWith, TellsOf};
 ghost use Rattle.diagnostics.specs.declared.message.Message.{Message};
 
 use crate::checks::check_place;
-use crate::explaining::explain;
+use crate::explaining::{explain, explain_limit};
 use crate::grammar_errors::read_items;
 use crate::item_faults::Checked;
 use crate::source::Source;
-use crate::tables::{is_too_long, rule_parts, words_of};
+use crate::tables::{is_too_long, length_message, rule_parts, words_of};
 use crate::tokens::{Mended, hides_items, mend, own_errors};
 use diagnostics::{MOST_TOLD, Message};
 use field_checker::CheckError;
-use rpn_compiler::{CompileError, compile};
+use rpn_compiler::{CompileError, RuleText};
 use rule_lexer::{LexError, lex};
 use rule_parser::ParseError;
 use std::alloc::{AllocError, Global};
 
-/// The errors of rules that are too long.
-fn long_rules(alloc: Global, source: &Source<'_>) -> Result<Vec<CompileError>, AllocError> {
-    let mut errors = Vec::new(alloc);
+/// The rules that are too long, by their numbers.
+fn long_rules(alloc: Global, source: &Source<'_>) -> Result<Vec<usize>, AllocError> {
+    let mut rules = Vec::new(alloc);
     for (rule, item) in rule_parts(alloc, source)?.iter().enumerate() {
         if is_too_long(words_of(source, *item)) {
-            errors.push(CompileError::EquationTooLong { rule })?;
+            rules.push(rule)?;
         }
     }
-    Ok(errors)
+    Ok(rules)
 }
 
 /// The errors of items, by place.
@@ -111,9 +112,6 @@ fn errors(
     if all.contains(&first) {
         return Ok(all);
     }
-    if all.is_empty() && matches!(first, CompileError::EquationTooLong { .. }) {
-        return long_rules(alloc, source);
-    }
     Ok(Vec::new(alloc))
 }
 
@@ -178,7 +176,80 @@ fn told_of_parts(
     Ok(told)
 }
 
-/// What is said of a text that has this first error.
+/// Adds what is said of each other rule that is too long, up to so many that it is known that there are more than are told of.
+fn add_long_rules(
+    alloc: Global,
+    source: &Source<'_>,
+    text: &RuleText<'_>,
+    first: usize,
+    told: &mut Vec<Message>,
+) -> Result<(), AllocError>
+    requires { IsRuleText text.now }
+    ensures { IfOk result (λ _. (more : List Message) × (told.new.items ≡ told.old.items ++ more)) }
+{
+    for rule in &long_rules(alloc, source)? {
+        if told.len() > MOST_TOLD {
+            break;
+        }
+        if *rule != first {
+            told.push(length_message(alloc, source, text, *rule)?)?;
+        }
+    }
+    Ok(())
+}
+
+/// Adds what is said beside a first limit: of other rules that are too long, where one is.
+fn add_beside_limit(
+    alloc: Global,
+    source: &Source<'_>,
+    text: &RuleText<'_>,
+    first: CompileError,
+    told: &mut Vec<Message>,
+) -> Result<(), AllocError>
+    requires { IsRuleText text.now }
+    ensures { IfOk result (λ _. (more : List Message) × (told.new.items ≡ told.old.items ++ more)) }
+{
+    match first {
+        CompileError::EquationTooLong { rule } => add_long_rules(alloc, source, text, rule, told),
+        _ => Ok(()),
+    }
+}
+
+/// What is said of a text that was read, whose rules don't keep to this limit first.
+fn told_of_limit(
+    alloc: Global,
+    text: &RuleText<'_>,
+    first: CompileError,
+) -> Result<Vec<Message>, AllocError>
+    requires { IsRuleText text.now }
+    ensures { IfOk result (λ told. (message : Message) × (more : List Message)
+        × (told.items ≡ message ∷ more) × TellsOf text.now.bytes.now (refusal_of first) message) }
+{
+    let tokens = Vec::from_slice(alloc, text.tokens.as_slice())?;
+    let source = Source::new(alloc, text.bytes, tokens)?;
+    let message = explain_limit(alloc, &source, text, first)?;
+    let mut told = alone(alloc, message)?;
+    add_beside_limit(alloc, &source, text, first, &mut told)?;
+    Ok(told)
+}
+
+/// What is said of a text that was read: nothing, where its rules keep to the limits of the tables.
+fn told_of_read(alloc: Global, text: &RuleText<'_>) -> Result<Vec<Message>, AllocError>
+    requires { IsRuleText text.now }
+    ensures quiet { limit_refusal limits text.now.rules.rules ≡ None →
+        IfOk result (λ told. told.items ≡ []) }
+    ensures first { (refusal : TextRefusal) →
+        limit_refusal limits text.now.rules.rules ≡ Some refusal →
+        IfOk result (λ told. BeginsWith text.now.bytes.now refusal told.items) }
+{
+    match text.check_limits(alloc) {
+        Ok(()) => Ok(Vec::new(alloc)),
+        Err(CompileError::Memory) => Err(AllocError),
+        Err(error) => told_of_limit(alloc, text, error),
+    }
+}
+
+/// What is said of a text that can't be read, and has this first error.
 fn told_of(alloc: Global, text: &[u8], first: CompileError) -> Result<Vec<Message>, AllocError>
     ensures { IfOk result (λ told. (message : Message) × (more : List Message)
         × (told.items ≡ message ∷ more) × TellsOf text.now (refusal_of first) message) }
@@ -203,8 +274,8 @@ pub fn messages(alloc: Global, text: &[u8]) -> Result<Vec<Message>, AllocError>
     ensures first { (refusal : TextRefusal) → IsRefused limits text.now refusal →
         IfOk result (λ told. BeginsWith text.now refusal told.items) }
 {
-    match compile(alloc, text) {
-        Ok(_) => Ok(Vec::new(alloc)),
+    match RuleText::read(alloc, text) {
+        Ok(text) => told_of_read(alloc, &text),
         Err(CompileError::Memory) => Err(AllocError),
         Err(error) => told_of(alloc, text, error),
     }

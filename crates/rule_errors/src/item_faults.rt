@@ -5,14 +5,14 @@ use crate::marks::value_of;
 use crate::naming::{declared_in, names};
 use crate::source::{Declaration, NameKind, Source, TokenRange};
 use field_checker::{CheckError, RuleNumber};
-use lc_model::{FieldType, mids};
+use lc_model::{FieldType, mids, packet};
 use rule_lexer::{Token, TokenKind};
 use std::alloc::{AllocError, Global};
 
 /// A packet's least and most bytes.
 const SHORTEST_PACKET: i64 = 12;
 
-const LONGEST_PACKET: i64 = 2_048;
+const LONGEST_PACKET: i64 = packet::LONGEST_PACKET as i64;
 
 /// The items of a text that are whole, by their numbers, and what is found of them.
 #[derive(Drop)]

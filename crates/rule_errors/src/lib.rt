@@ -22,5 +22,4 @@ mod token_faults;
 mod tokens;
 mod wanted;
 
-pub use explaining::explain;
 pub use faults::messages;

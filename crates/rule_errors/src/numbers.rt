@@ -12,21 +12,9 @@ use lc_model::FieldType;
 use rule_lexer::{Token, TokenKind};
 use std::alloc::{AllocError, Global};
 
-/// The type's least number.
-fn least_of(kind: FieldType) -> i64 {
-    match kind {
-        FieldType::I8 => -0x80,
-        FieldType::I16Be | FieldType::I16Le => -0x8000,
-        FieldType::I32Be | FieldType::I32Le => -0x8000_0000,
-        _ => 0,
-    }
-}
-
 /// The type's least and greatest number, as they are written.
 fn range_label(alloc: Global, kind: FieldType) -> Result<String, AllocError> {
-    let low = least_of(kind);
-    let least = Signed(low);
-    let most = Signed(low.saturating_add(i64::from(kind.full_mask())));
+    let (least, most) = (Signed(kind.least()), Signed(kind.greatest()));
     format!(in alloc; "write {least} to {most}")
 }
 

@@ -7,38 +7,14 @@ ghost use Rattle.lc_model.specs.Rule.{rules_of};
 ghost use Rattle.lc_model.specs.Tables.Equation.{distinct, mentions};
 ghost use Rattle.rule_parser.specs.Syntax.{expression_of, items_of};
 ghost use Rattle.watch_sharing.specs.Numbering.{added, all_mentions};
-ghost use Rattle.rule_errors.specs.Places.{IsBeyond, IsComparisonBeyond, IsRead, IsRule, all_places, places, rule_place};
+ghost use Rattle.rpn_compiler.specs.TextParts.{IsRuleText};
+ghost use Rattle.rule_errors.specs.Places.{IsBeyond, IsComparisonBeyond, IsRule, all_places, places, rule_place};
 
-use field_checker::check;
 use indexmap::IndexSet;
-use lc_model::{Cond, Rule, RuleSet, TABLE_ENTRIES, Term};
-use rule_lexer::lex;
-use rule_parser::{Expression, Item, Name, RuleFile, parse};
+use lc_model::{Cond, Rule, TABLE_ENTRIES, Term};
+use rpn_compiler::RuleText;
+use rule_parser::{Expression, Item, Name};
 use std::alloc::{AllocError, Global};
-
-/// The items of a text, and the rules that they mean.
-#[derive(Drop)]
-struct Read<'a> {
-    file: RuleFile<'a>,
-    rules: RuleSet,
-}
-
-/// Reads a text that has rules.
-fn read_rules<'a>(alloc: Global, text: &'a [u8]) -> Result<Read<'a>, AllocError>
-    ensures { IfOk result (λ read.
-        IsRead text.now (items_of read.file.items.items) read.rules.rules) }
-{
-    let Ok(tokens) = lex(alloc, text) else {
-        return Err(AllocError);
-    };
-    let Ok(file) = parse(alloc, text, tokens.as_slice()) else {
-        return Err(AllocError);
-    };
-    let Ok(rules) = check(alloc, &file) else {
-        return Err(AllocError);
-    };
-    Ok(Read { file, rules })
-}
 
 /// The name of the rule with this number, counted from 0.
 fn rule_among<'a>(items: &[Item<'a>], number: usize) -> Option<Name<'a>>
@@ -56,12 +32,12 @@ fn rule_among<'a>(items: &[Item<'a>], number: usize) -> Option<Name<'a>>
     None
 }
 
-/// The name of a text's rule with this number, counted from 0, where the text has rules.
-pub fn rule_name<'a>(alloc: Global, text: &'a [u8], number: usize) -> Result<Name<'a>, AllocError>
-    ensures { IfOk result (λ name. IsRule text.now number name.at) }
+/// The name of a text's rule with this number, counted from 0, which the text has.
+pub fn rule_name<'a>(text: &RuleText<'a>, number: usize) -> Result<Name<'a>, AllocError>
+    requires { IsRuleText text.now }
+    ensures { IfOk result (λ name. IsRule text.now.bytes.now number name.at) }
 {
-    let read = read_rules(alloc, text)?;
-    match rule_among(read.file.items.as_slice(), number) {
+    match rule_among(text.file.items.as_slice(), number) {
         Some(name) => Ok(name),
         None => Err(AllocError),
     }
@@ -172,13 +148,13 @@ pub struct Excess {
 }
 
 /// The comparisons of a text that mentions too many watchpoints.
-pub fn comparisons(alloc: Global, text: &[u8]) -> Result<Excess, AllocError>
-    ensures { IfOk result (λ found. IsComparisonBeyond text.now found.at) }
+pub fn comparisons(alloc: Global, text: &RuleText<'_>) -> Result<Excess, AllocError>
+    requires { IsRuleText text.now }
+    ensures { IfOk result (λ found. IsComparisonBeyond text.now.bytes.now found.at) }
 {
-    let read = read_rules(alloc, text)?;
-    let mentions = mentions_of(alloc, read.rules.rules.as_slice())?;
+    let mentions = mentions_of(alloc, text.rules.rules.as_slice())?;
     let found = count_different(alloc, mentions.as_slice())?;
-    let places = places_of(alloc, read.file.items.as_slice())?;
+    let places = places_of(alloc, text.file.items.as_slice())?;
     match places.get(found.beyond) {
         Some(at) => Ok(Excess {
             count: found.count,

@@ -3,6 +3,7 @@
 ghost use Rattle.std.specs.Prelude.{◌≡◌, IfOk};
 ghost use Rattle.rpn_compiler.specs.declared.error.CompileError.TheVariants.{EquationTooLong, TooManyRules, TooManyWatchpoints};
 ghost use Rattle.rpn_compiler.specs.Fault.{refusal_of};
+ghost use Rattle.rpn_compiler.specs.TextParts.{IsRuleText};
 ghost use Rattle.rule_errors.specs.Telling.{TellsOf};
 
 use crate::marks::mark;
@@ -10,6 +11,7 @@ use crate::rules::{comparisons, rule_name};
 use crate::source::{NameKind, Source, TokenRange};
 use diagnostics::{Many, Mark, Message, quote};
 use lc_model::{EQUATION_WORDS, TABLE_ENTRIES};
+use rpn_compiler::RuleText;
 use rule_lexer::TokenKind;
 use rule_parser::Name;
 use std::alloc::{AllocError, Global};
@@ -72,12 +74,12 @@ fn count_head(alloc: Global, count: usize, name: &str) -> Result<String, AllocEr
 }
 
 /// Over 176 rules.
-pub fn rules_message(alloc: Global, source: &Source<'_>) -> Result<Message, AllocError>
-    ensures { IfOk result (TellsOf source.now.text.now (refusal_of TooManyRules)) }
+pub fn rules_message(alloc: Global, text: &RuleText<'_>) -> Result<Message, AllocError>
+    requires { IsRuleText text.now }
+    ensures { IfOk result (TellsOf text.now.bytes.now (refusal_of TooManyRules)) }
 {
-    let rules = rule_parts(alloc, source)?;
-    let name = rule_name(alloc, source.text, TABLE_ENTRIES)?;
-    let head = count_head(alloc, rules.len(), "rule")?;
+    let name = rule_name(text, TABLE_ENTRIES)?;
+    let head = count_head(alloc, text.rules.rules.as_slice().len(), "rule")?;
     let label = String::from_str(alloc, "this is the 177th")?;
     Ok(Message::at(alloc, 41, head, name_mark(name, label)))
 }
@@ -103,13 +105,15 @@ fn length_head(alloc: Global, name: Name<'_>, count: usize) -> Result<String, Al
 pub fn length_message(
     alloc: Global,
     source: &Source<'_>,
+    text: &RuleText<'_>,
     rule: usize,
 ) -> Result<Message, AllocError>
-    ensures { IfOk result (TellsOf source.now.text.now (refusal_of (EquationTooLong rule))) }
+    requires { IsRuleText text.now }
+    ensures { IfOk result (TellsOf text.now.bytes.now (refusal_of (EquationTooLong rule))) }
 {
     let part = rule_part(alloc, source, rule)?;
     let words = words_of(source, part);
-    let name = rule_name(alloc, source.text, rule)?;
+    let name = rule_name(text, rule)?;
     let count = words.comparisons.saturating_add(words.operators);
     let head = length_head(alloc, name, count)?;
     let label = String::from_str(alloc, "split this rule in two")?;
@@ -138,10 +142,15 @@ fn condition_mark(
 }
 
 /// Over 176 different comparisons.
-pub fn comparisons_message(alloc: Global, source: &Source<'_>) -> Result<Message, AllocError>
-    ensures { IfOk result (TellsOf source.now.text.now (refusal_of TooManyWatchpoints)) }
+pub fn comparisons_message(
+    alloc: Global,
+    source: &Source<'_>,
+    text: &RuleText<'_>,
+) -> Result<Message, AllocError>
+    requires { IsRuleText text.now }
+    ensures { IfOk result (TellsOf text.now.bytes.now (refusal_of TooManyWatchpoints)) }
 {
-    let found = comparisons(alloc, source.text)?;
+    let found = comparisons(alloc, text)?;
     let head = count_head(alloc, found.count, "different comparison")?;
     let label = String::from_str(alloc, "this is the 177th")?;
     Ok(Message::at(alloc, 31, head, comparison_mark(source, found.at, label)))

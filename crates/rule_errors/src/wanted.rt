@@ -2,6 +2,7 @@
 
 use crate::source::{NameKind, Source, TokenRange};
 use diagnostics::{around, printable};
+use lc_model::TYPE_WORDS;
 use rule_lexer::{Token, TokenKind};
 use rule_parser::{Sign, What, Word};
 use std::alloc::{AllocError, Global};
@@ -10,11 +11,7 @@ use std::alloc::{AllocError, Global};
 pub const TYPES: &str =
     "a type is `u8`, `i8`, `u16be`, `u16le`, `i16be`, `i16le`, `u32be`, `u32le`, `i32be` or `i32le`";
 
-/// The words of each class.
-const TYPE_WORDS: &[&[u8]] = &[
-    b"u8", b"i8", b"u16be", b"u16le", b"i16be", b"i16le", b"u32be", b"u32le", b"i32be", b"i32le",
-];
-
+/// The words that begin an item.
 pub const ITEM_WORDS: &[&[u8]] = &[b"packet", b"field", b"rule"];
 
 const STATE_WORDS: &[&[u8]] = &[b"active", b"passive", b"disabled"];

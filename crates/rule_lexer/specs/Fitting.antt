@@ -1,13 +1,13 @@
 -- Which kinds of tokens belong to which classes of the grammar. This project's own.
 use Rattle.std.specs.Prelude.{ℕ, Bool, true, false, ◌&&◌, IsTrue, List, Option, Some, None, codes, bytes_eq}
 use Rattle.std.specs.Option.{option_map_or}
-use Rattle.lc_model.specs.declared.field.FieldType.TheVariants.{U8, I8, U16Be, U16Le, I16Be, I16Le, U32Be, U32Le, I32Be, I32Le}
 use Rattle.lc_model.specs.declared.field.CmpOp.TheVariants.{Less, LessOrEqual, NotEqual, Equal, GreaterOrEqual, Greater}
 use Rattle.lc_model.specs.declared.mode.ApMode.TheVariants.{Active, Passive, Disabled, PermOff}
 use Rattle.lc_model.specs.declared.rule.EventKind.TheVariants.{Debug, Information, Error, Critical}
 use Rattle.lc_model.specs.Text.Token.{is_word, is_sign}
 use Rattle.lc_model.specs.Text.Class as class
 use Rattle.lc_model.specs.Text.Class.{Class, is_reserved}
+use Rattle.lc_model.specs.Words.{type_word}
 use Rattle.rule_lexer.specs.declared.token.TokenKind.{TokenKind}
 use Rattle.rule_lexer.specs.declared.token.TokenKind.TheVariants.{Packet, Field, Rule, Mid, Length, At, Mask, Stale, Fails, Sequence, Event, Report, When, Or, Xor, And, Not, FieldKind, State, Level, Name, Number, Text, Equals, Semicolon, Open, Close, Compare}
 
@@ -30,16 +30,7 @@ spelling Or = Some (codes "or")
 spelling Xor = Some (codes "xor")
 spelling And = Some (codes "and")
 spelling Not = Some (codes "not")
-spelling (FieldKind U8) = Some (codes "u8")
-spelling (FieldKind I8) = Some (codes "i8")
-spelling (FieldKind U16Be) = Some (codes "u16be")
-spelling (FieldKind U16Le) = Some (codes "u16le")
-spelling (FieldKind I16Be) = Some (codes "i16be")
-spelling (FieldKind I16Le) = Some (codes "i16le")
-spelling (FieldKind U32Be) = Some (codes "u32be")
-spelling (FieldKind U32Le) = Some (codes "u32le")
-spelling (FieldKind I32Be) = Some (codes "i32be")
-spelling (FieldKind I32Le) = Some (codes "i32le")
+spelling (FieldKind kind) = Some (type_word kind)
 spelling (State Active) = Some (codes "active")
 spelling (State Passive) = Some (codes "passive")
 spelling (State Disabled) = Some (codes "disabled")

@@ -3,37 +3,12 @@
 ghost use Rattle.std.specs.Prelude.{◌≡◌, IsTrue, IsFalse, MatchOption, bytes_eq};
 ghost use Rattle.std.specs.List.{list_any};
 ghost use Rattle.lc_model.specs.Text.Token.{is_word};
-ghost use Rattle.lc_model.specs.Text.Class.{state, event_kind, other_words};
+ghost use Rattle.lc_model.specs.Text.Class.{other_words};
 ghost use Rattle.rule_lexer.specs.Token.{IsKind};
 ghost use Rattle.rule_lexer.specs.WordGroups.{item_words, field_words, rule_words, operator_words};
 
 use crate::token::TokenKind;
 use lc_model::{ApMode, EventKind, FieldType};
-
-/// The state that the word names.
-fn state(word: &[u8]) -> Option<ApMode>
-    ensures { result ≡ state word.now }
-{
-    match word {
-        b"active" => Some(ApMode::Active),
-        b"passive" => Some(ApMode::Passive),
-        b"disabled" => Some(ApMode::Disabled),
-        _ => None,
-    }
-}
-
-/// The event type that the word names.
-fn event_kind(word: &[u8]) -> Option<EventKind>
-    ensures { result ≡ event_kind word.now }
-{
-    match word {
-        b"debug" => Some(EventKind::Debug),
-        b"info" => Some(EventKind::Information),
-        b"error" => Some(EventKind::Error),
-        b"critical" => Some(EventKind::Critical),
-        _ => None,
-    }
-}
 
 /// The kind of a word that begins an item, or `None` for other words.
 fn item_word(word: &[u8]) -> Option<TokenKind>
@@ -117,9 +92,9 @@ pub fn word_kind(word: &[u8]) -> TokenKind
         kind
     } else if let Some(kind) = FieldType::from_word(word) {
         TokenKind::FieldKind(kind)
-    } else if let Some(mode) = state(word) {
+    } else if let Some(mode) = ApMode::from_word(word) {
         TokenKind::State(mode)
-    } else if let Some(kind) = event_kind(word) {
+    } else if let Some(kind) = EventKind::from_word(word) {
         TokenKind::Level(kind)
     } else {
         TokenKind::Name

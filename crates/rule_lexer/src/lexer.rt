@@ -11,10 +11,8 @@ ghost use Rattle.rule_lexer.specs.Fault.{IsFault, IsFaultUnlessMemory, IsUnlessM
 use crate::error::LexError;
 use crate::scanner::Scanner;
 use crate::token::Token;
+use lc_model::LONGEST_TEXT;
 use std::alloc::Global;
-
-/// The largest length of a text, in bytes.
-const LONGEST_TEXT: usize = 65_536;
 
 /// The list starts with room for one token per two bytes of text. Rules and declarations have fewer tokens;
 /// for a text with more, the list grows.

@@ -5,9 +5,10 @@ use Rattle.lc_model.specs.Rule.{NamedRule}
 use Rattle.lc_model.specs.Host.Schedule.{Schedule}
 use Rattle.lc_model.specs.Text.Syntax.{Item}
 use Rattle.diagnostics.specs.declared.message.Message.{Message}
+use Rattle.rpn_compiler.specs.Read.{IsRead}
 use Rattle.rule_lints.specs.declared.judging.Judged.{Judged}
 use Rattle.rule_lints.specs.declared.warning.Warning.{Warning}
-use Rattle.rule_lints.specs.Warned.{AreWarned, IsJudged, IsRead, named, seen, told}
+use Rattle.rule_lints.specs.Warned.{AreWarned, IsJudged, named, seen, told}
 
 pub of_messages : {E : Type 0} (text : List ℕ) (plan : Option (Bor Schedule)) (items : List Item) (rules : List NamedRule) (all : Judged)
     (list : List Warning) (result : Result (Vec Message Global) E) → IsRead text items rules → IsJudged rules plan all → list ≡ told text items all

@@ -1,7 +1,7 @@
 -- Names that gaps part: the first one, and the others.
 use Rattle.std.proofs.Common.{◌≡◌, sym, ◌∙◌, ap, ℕ, suc, ◌==◌, false, true, List, [], ◌∷◌, length, take, drop, arith}
 use Rattle.std.specs.List.{position_or_len, prefix_len}
-use Rattle.schedules.proofs.Parts as parts
+use Rattle.text_lines.proofs.Parts as parts
 use Rattle.rule_lints.specs.Quiet.{is_gap, names_in}
 
 not_none : (n : ℕ) → (suc n == 0) ≡ false

@@ -1,14 +1,12 @@
--- What is told of a rule text that compiles. This project's own.
+-- What is told of a valid rule text. This project's own.
 use Rattle.std.specs.Prelude.{◌≡◌, ℕ, not, List, [], ◌++◌, filter, length, map, Option, Some, None, option_map}
 use Rattle.std.specs.List.{AllByRecursion}
 use denote.Ref.{Bor}
 use Rattle.lc_model.specs.Rule.{NamedRule}
 use Rattle.lc_model.specs.Host.Schedule.{Schedule}
 use Rattle.lc_model.specs.Tables.Image.{numbers_below}
-use Rattle.lc_model.specs.Text.Meaning.{Means}
-use Rattle.lc_model.specs.Text.Reading.{Parses}
 use Rattle.lc_model.specs.Text.Syntax.{Item}
-use Rattle.lc_model.specs.Text.Token.{Token, Splits}
+use Rattle.rpn_compiler.specs.Read.{IsRead}
 use Rattle.analysis_listing.specs.Requests.{requests_of}
 use Rattle.rule_analysis.specs.Findings.{AreInOrder, AreJudged, AreSettled, IsPair}
 use Rattle.rule_analysis.specs.Reach.{is_sampled}
@@ -21,13 +19,6 @@ use Rattle.rule_lints.specs.Names.{name_of}
 use Rattle.rule_lints.specs.Items.{declared}
 use Rattle.rule_lints.specs.Judged.{judged}
 use Rattle.rule_lints.specs.Quiet.{kept, spare_quiets}
-
--- the text reads as these items, and they mean these rules
-pub record IsRead (text : List ℕ) (items : List Item) (rules : List NamedRule) : Type 0 where
-  pub tokens : List Token
-  pub splits : Splits text tokens
-  pub parses : Parses tokens items
-  pub means : Means items rules
 
 -- of so many rules those that the schedule never samples; none without a schedule
 abbrev pub unsampled : Option (Bor Schedule) → ℕ → List ℕ

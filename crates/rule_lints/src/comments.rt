@@ -8,9 +8,8 @@ ghost use Rattle.rule_lints.specs.Words.{names_by, texts_of};
 
 use crate::declarations::warn_if;
 use crate::lint::Lint;
-use crate::parts::{behind, front};
 use crate::warning::Warning;
-use diagnostics::{line_of, line_start};
+use diagnostics::{behind, front, line_of, line_start};
 use std::alloc::{AllocError, Global};
 
 /// The most names that are taken of one comment.

@@ -1,13 +1,12 @@
-//! What the author of a rule text that compiles is warned of, each warning with its place and its name, by which a comment keeps it
+//! What the author of a valid rule text is warned of, each warning with its place and its name, by which a comment keeps it
 //! quiet.
 #![tactic(auto)]
 
 mod comments;
-mod compiled_text;
 mod declarations;
+mod judged_rules;
 mod judging;
 mod lint;
-mod parts;
 mod sentences;
 mod warned;
 mod warning;

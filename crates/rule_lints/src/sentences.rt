@@ -5,7 +5,6 @@ ghost use Rattle.diagnostics.specs.Message.{IsWarning};
 ghost use Rattle.rule_lints.specs.Names.{name_of};
 
 use crate::comments::quiet_names;
-use crate::compiled_text::Read;
 use crate::judging::{Judged, places_of, rule_at};
 use crate::lint::Lint;
 use crate::warning::Warning;
@@ -14,6 +13,7 @@ use analysis_listing::{
 };
 use diagnostics::{Mark, Message, around, written_line};
 use lc_model::Term;
+use rpn_compiler::RuleText;
 use rule_analysis::{ComparisonJudgement, Constancy, RuleJudgement, SpareComparison};
 use rule_lexer::{Token, TokenKind};
 use rule_parser::{Item, RuleItem};
@@ -22,7 +22,7 @@ use std::alloc::{AllocError, Global};
 /// A text with what is judged of it, and the names of its fields.
 #[derive(Drop)]
 pub(crate) struct Subject<'s, 'a> {
-    read: &'s Read<'a>,
+    text: &'s RuleText<'a>,
     judged: &'s Judged,
     names: FieldNames<'a>,
 }
@@ -60,28 +60,28 @@ impl<'s, 'a> Subject<'s, 'a> {
     /// Of a text, and what is judged of it.
     pub fn new(
         alloc: Global,
-        read: &'s Read<'a>,
+        text: &'s RuleText<'a>,
         judged: &'s Judged,
     ) -> Result<Subject<'s, 'a>, AllocError> {
         Ok(Subject {
-            read,
+            text,
             judged,
-            names: FieldNames::of(alloc, &read.file)?,
+            names: FieldNames::of(alloc, text)?,
         })
     }
 
     /// The number of the token at this place, or how many there are.
     fn number_at(&self, at: usize) -> usize {
-        self.read
+        self.text
             .tokens
             .iter()
             .position(|token| token.at == at)
-            .unwrap_or(self.read.tokens.len())
+            .unwrap_or(self.text.tokens.len())
     }
 
     /// The token with this number.
     fn token(&self, number: usize) -> Option<Token<'a>> {
-        self.read.tokens.get(number).copied()
+        self.text.tokens.get(number).copied()
     }
 
     /// What stands at this place.
@@ -99,7 +99,7 @@ impl<'s, 'a> Subject<'s, 'a> {
         number: usize,
         label: &str,
     ) -> Result<Option<Mark>, AllocError> {
-        match rule_at(&self.read.file.items, number) {
+        match rule_at(&self.text.file.items, number) {
             Some(rule) => Ok(Some(Mark {
                 at: rule.name.at,
                 size: rule.name.text.len(),
@@ -111,7 +111,7 @@ impl<'s, 'a> Subject<'s, 'a> {
 
     /// The name of the rule with this number.
     fn rule_name(&self, number: usize) -> &'a [u8] {
-        match rule_at(&self.read.file.items, number) {
+        match rule_at(&self.text.file.items, number) {
             Some(rule) => rule.name.text,
             None => &[],
         }
@@ -160,7 +160,7 @@ fn same_sequence(
     subject: &Subject<'_, '_>,
     at: usize,
 ) -> Result<WarningWords, AllocError> {
-    let Some(rule) = rule_asking(&subject.read.file.items, at) else {
+    let Some(rule) = rule_asking(&subject.text.file.items, at) else {
         return Err(AllocError);
     };
     let mut words = of_name(
@@ -203,7 +203,7 @@ impl<'s, 'a> Subject<'s, 'a> {
     fn level_mark(&self, alloc: Global, at: usize) -> Result<Option<Mark>, AllocError> {
         let from = self.number_at(at);
         let level = self
-            .read
+            .text
             .tokens
             .iter()
             .skip(from)
@@ -220,7 +220,7 @@ impl<'s, 'a> Subject<'s, 'a> {
 
     /// A mark under the sequence of the first rule that requests this one.
     fn sequence_mark(&self, alloc: Global, value: i64) -> Result<Option<Mark>, AllocError> {
-        match first_asking(&self.read.file.items, value) {
+        match first_asking(&self.text.file.items, value) {
             Some(rule) => Ok(Some(Mark {
                 at: rule.sequence.at,
                 size: self.text_at(rule.sequence.at).len(),
@@ -313,7 +313,7 @@ impl<'s, 'a> Subject<'s, 'a> {
         number: usize,
         at: usize,
     ) -> Result<Option<ComparisonJudgement>, AllocError> {
-        let Some(rule) = rule_at(&self.read.file.items, number) else {
+        let Some(rule) = rule_at(&self.text.file.items, number) else {
             return Ok(None);
         };
         let places = places_of(alloc, &rule.condition)?;
@@ -340,7 +340,7 @@ impl<'s, 'a> Subject<'s, 'a> {
         term: &Term,
     ) -> Result<Option<Mark>, AllocError> {
         let (Some(rule), Some(judged)) = (
-            rule_at(&self.read.file.items, number),
+            rule_at(&self.text.file.items, number),
             self.judged.rules.get(number),
         ) else {
             return Ok(None);
@@ -481,7 +481,7 @@ fn never_sampled(alloc: Global, name: &[u8], number: usize) -> Result<WarningWor
 impl<'s, 'a> Subject<'s, 'a> {
     /// The line that begins at this place.
     fn line_at(&self, at: usize) -> &'a [u8] {
-        written_line(self.read.text, at.min(self.read.text.len()))
+        written_line(self.text.bytes, at.min(self.text.bytes.len()))
     }
 }
 

@@ -1,21 +1,18 @@
 //! All warnings of a rule text.
 
-ghost use Rattle.std.specs.Prelude.{◌≡◌, ◌++◌, [], List, IfOk, map};
-ghost use Rattle.lc_model.specs.Rule.{NamedRule};
-ghost use Rattle.lc_model.specs.Tables.Compiling.{Compiles, IsRefused};
-ghost use Rattle.lc_model.specs.Tables.InForce.{limits};
-ghost use Rattle.lc_model.specs.Text.Reading.{TextRefusal};
+ghost use Rattle.std.specs.Prelude.{◌≡◌, IfOk, map};
+ghost use Rattle.rpn_compiler.specs.TextParts.{IsRuleText};
 ghost use Rattle.rule_parser.specs.Syntax.{items_of};
 ghost use Rattle.rule_lints.specs.Warned.{AreWarned, found, named, seen, told};
 
 use crate::comments::{spare_quiets, without_quiet};
-use crate::compiled_text::{Read, judge_all};
 use crate::declarations::declaration_warnings;
+use crate::judged_rules::judge_all;
 use crate::judging::{Judged, add_judged};
 use crate::sentences::{Subject, explain};
 use crate::warning::Warning;
 use diagnostics::Message;
-use rpn_compiler::{CompileError, compile};
+use rpn_compiler::RuleText;
 use rule_parser::Item;
 use schedules::Schedule;
 use std::alloc::{AllocError, Global};
@@ -64,40 +61,22 @@ fn explain_all(
     Ok(messages)
 }
 
-/// The warnings of a text that compiles.
-fn of_compiled(
-    alloc: Global,
-    text: &[u8],
-    plan: Option<&Schedule>,
-) -> Result<Vec<Message>, AllocError>
-    ensures { IfOk result (λ messages. AreWarned text.now plan.entry messages.items) }
-{
-    let read = Read::of(alloc, text)?;
-    let all = judge_all(alloc, &read.rules.rules, plan)?;
-    let told = reported_warnings(alloc, text, read.file.items.as_slice(), &all)?;
-    let subject = Subject::new(alloc, &read, &all)?;
-    explain_all(alloc, &subject, told.as_slice())
-}
-
-/// What is to be looked at in a rule text that compiles: fields and packets that no rule uses, rules whose events are off or whose
+/// What is to be looked at in a valid rule text: fields and packets that no rule uses, rules whose events are off or whose
 /// sequence another one has, what is judged of rules before any packet comes, and rules that a schedule never samples, if one is
 /// given. A comment `# quiet: NAME, ..` alone on the line above keeps the warnings of these names quiet; one that keeps nothing quiet
-/// is told of itself. Of a text that doesn't compile there are no warnings.
+/// is told of itself.
 ///
 /// Errors: there is no memory.
 pub fn warnings(
     alloc: Global,
-    text: &[u8],
+    text: &RuleText<'_>,
     plan: Option<&Schedule>,
 ) -> Result<Vec<Message>, AllocError>
-    ensures warned { (rules : List NamedRule) → Compiles limits text.now rules →
-        IfOk result (λ messages. AreWarned text.now plan.entry messages.items) }
-    ensures none { (refusal : TextRefusal) → IsRefused limits text.now refusal →
-        IfOk result (λ messages. messages.items ≡ []) }
+    ensures { IsRuleText text.now →
+        IfOk result (λ messages. AreWarned text.now.bytes.now plan.entry messages.items) }
 {
-    match compile(alloc, text) {
-        Ok(_) => of_compiled(alloc, text, plan),
-        Err(CompileError::Memory) => Err(AllocError),
-        Err(_) => Ok(Vec::new(alloc)),
-    }
+    let all = judge_all(alloc, &text.rules.rules, plan)?;
+    let told = reported_warnings(alloc, text.bytes, text.file.items.as_slice(), &all)?;
+    let subject = Subject::new(alloc, text, &all)?;
+    explain_all(alloc, &subject, told.as_slice())
 }

@@ -2,8 +2,8 @@
 use Rattle.std.specs.Prelude.{◌≡◌, Bool, not, ◌||◌, if◌then◌else◌, nat_lt, List, ℕ, Option, Some, None, Result, Ok, Err, unwrap_or, slice_get}
 use Rattle.std.specs.Borrow.{Bor}
 use Rattle.std_io.specs.declared.io.kind.ErrorKind.{ErrorKind}
-use Rattle.program_files.specs.Why.{why_of}
-use Rattle.program_files.specs.declared.why.Why.TheVariants as why
+use Rattle.program_io.specs.Why.{why_of}
+use Rattle.program_io.specs.declared.why.Why.TheVariants as why
 use Rattle.rpn_compiler.specs.declared.error.CompileError.{CompileError}
 use Rattle.flight_core.specs.declared.error.Report.{Report}
 use Rattle.flight_core.specs.declared.error.RunError.{RunError}

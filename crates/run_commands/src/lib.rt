@@ -5,6 +5,7 @@
 mod comparing;
 mod live;
 mod report;
+mod rule_texts;
 mod scenario;
 mod trying;
 

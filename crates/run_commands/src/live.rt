@@ -6,7 +6,7 @@ ghost use Rattle.run_commands.specs.Cause.{IsAnswered, fault_of_text};
 use flight_core::{Report, RunError};
 use flight_profile::launch;
 use lc_model::{Reading, Writing};
-use program_files::Noting;
+use program_io::Noting;
 use rpn_compiler::CompileError;
 use std::cell::Cell;
 use std::fs::Files;

@@ -5,7 +5,7 @@ ghost use Rattle.run_commands.specs.Cause.{answer_of_ending, fault_of_device, fa
 
 use flight_core::RunError;
 use lc_model::Reading;
-use program_files::{Noting, Why, begin, discard, fault_of, keep, reason_for};
+use program_io::{Noting, Why, begin, discard, fault_of, keep, reason_for};
 use run_page::{Progress, ReportError, Run, Source, write_page};
 use run_stepper::Ending;
 use schedules::Schedule;
@@ -13,7 +13,7 @@ use std::alloc::{AllocError, Global};
 use std::cell::Cell;
 use std::fs::{File, Files, OpenFile};
 use std::io::{BufWriter, Eprint, ErrorKind, Read, Write};
-use tool_faults::{Fault, LONGEST_TEXT, epoch_of, fault_at, is_apart, read, schedule_of, texts_in};
+use tool_faults::{Fault, check_apart, epoch_of, fault_at, read_whole_text, schedule_of, texts_in};
 
 /// In how many parts a stream is told of.
 const PARTS: u64 = 20;
@@ -199,12 +199,12 @@ pub fn make_page<'a, R: Files + Eprint + AllocGlobal>(
     is_watched: bool,
 ) -> Result<(), Fault<'a>> {
     let epoch = epoch_text(rt.alloc(), epoch)?;
-    let planned = read(rt, schedule, LONGEST_TEXT)?;
+    let planned = read_whole_text(rt, schedule)?;
     let plan = schedule_of(rt, schedule, planned.as_slice())?;
     let (input, of) = stream_of(rt, stream)?;
     let texts = texts_in(rt, rules)?;
-    is_apart(rt, page, &[schedule, stream])?;
-    is_apart(rt, page, rules)?;
+    check_apart(rt, page, &[schedule, stream])?;
+    check_apart(rt, page, rules)?;
     let sources = sources_of(rt.alloc(), rules, texts.as_slice())?;
     let run = Run {
         plan: Source {

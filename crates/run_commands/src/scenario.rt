@@ -2,9 +2,10 @@
 
 ghost use Rattle.run_commands.specs.Cause.{IsOfReading, IsOfScenario};
 
+use crate::rule_texts::rule_text_of;
 use diagnostics::warnings_page_of;
-use program_files::{begin, discard, fault_of, keep};
-use rpn_compiler::{CompileError, compile};
+use program_io::{begin, discard, fault_of, keep};
+use rpn_compiler::RuleText;
 use scenario_trial::{ReadError, read_expectations, script_error_at, silence};
 use scenarios::{ScenarioError, declared_in, plain_script};
 use script_errors::script_warnings;
@@ -13,7 +14,7 @@ use std::fs::Files;
 use std::io::{Eprint, Write};
 use stream_script::read_script;
 use tool_faults::{
-    Fault, LONGEST_WHOLE, fault_at, is_apart, line_fault, read, read_text, script_fault,
+    Fault, LONGEST_WHOLE, check_apart, fault_at, line_fault, read, read_text, script_fault,
 };
 
 /// The number of a line of a scenario that says no line of a plain script.
@@ -62,7 +63,7 @@ fn stream_of<'a>(
     alloc: Global,
     name: &'a str,
     scenario: &[u8],
-    texts: &[&[u8]],
+    texts: &[RuleText<'_>],
 ) -> Result<Vec<u8>, Fault<'a>> {
     let declared = declared_in(alloc, texts)?;
     let plain = match plain_script(alloc, scenario, &declared) {
@@ -80,14 +81,16 @@ fn stream_of<'a>(
     }
 }
 
-/// The rule text in a file of this name, which compiles.
-fn rules_in<'a, R: Files + AllocGlobal>(rt: &R, name: &'a str) -> Result<Vec<u8>, Fault<'a>> {
-    let text = read_text(rt, name)?;
-    match compile(rt.alloc(), text.as_slice()) {
-        Ok(_files) => Ok(text),
-        Err(CompileError::Memory) => Err(Fault::Memory),
-        Err(error) => Err(Fault::Rules(name, error)),
-    }
+/// The stream that a scenario in a file of this name says, in the words of the rule text in another one.
+fn stream_by_rules<'a, R: Files + AllocGlobal>(
+    rt: &R,
+    name: &'a str,
+    scenario: &[u8],
+    rules: &'a str,
+) -> Result<Vec<u8>, Fault<'a>> {
+    let text = read_text(rt, rules)?;
+    let text = rule_text_of(rt.alloc(), rules, text.as_slice())?;
+    stream_of(rt.alloc(), name, scenario, &[text])
 }
 
 /// Says on standard error what is to be looked at in a script in a file of this name that says a stream.
@@ -106,12 +109,11 @@ pub fn make_stream<'a, R: Files + Eprint + AllocGlobal>(
     rules: Option<&'a str>,
 ) -> Result<(), Fault<'a>> {
     let text = read(rt, script, LONGEST_WHOLE)?;
-    is_apart(rt, stream, &[script])?;
+    check_apart(rt, stream, &[script])?;
     let bytes = match rules {
         Some(rules) => {
-            is_apart(rt, stream, &[rules])?;
-            let rules = rules_in(rt, rules)?;
-            stream_of(rt.alloc(), script, text.as_slice(), &[rules.as_slice()])?
+            check_apart(rt, stream, &[rules])?;
+            stream_by_rules(rt, script, text.as_slice(), rules)?
         }
         None => stream_of(rt.alloc(), script, text.as_slice(), &[])?,
     };

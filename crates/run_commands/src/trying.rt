@@ -3,7 +3,7 @@
 ghost use Rattle.run_commands.specs.Cause.{IsOfTrial};
 
 use crate::scenario::{expectation_fault, words_fault};
-use program_files::Noting;
+use program_io::Noting;
 use run_stepper::RunInputs;
 use scenario_trial::{TrialError, Tried, try_scenario};
 use std::alloc::Global;

@@ -7,6 +7,7 @@ use crate::difference::only_in;
 use crate::error::{ComparisonError, Which};
 use crate::lines::{OutputLine, lines_of};
 use packet_listing::Time;
+use rpn_compiler::RuleText;
 use run_stepper::{Ending, Trace, trace_of};
 use schedules::Schedule;
 use std::alloc::{AllocError, Global};
@@ -14,9 +15,9 @@ use std::io::{self, Write};
 
 /// A rule text, and the name that it is told by.
 #[derive(Clone, Copy)]
-pub struct Side<'a> {
+pub struct Side<'a, 't> {
     pub name: &'a str,
-    pub text: &'a [u8],
+    pub text: &'a RuleText<'t>,
 }
 
 /// What was found: how many requests and events came of each text alone, and of both.
@@ -189,12 +190,12 @@ pub fn write_comparison<W: Write>(
     alloc: Global,
     schedule: &Schedule,
     stream: &[u8],
-    old: Side<'_>,
-    new: Side<'_>,
+    old: Side<'_, '_>,
+    new: Side<'_, '_>,
     out: &mut W,
 ) -> Result<Compared, ComparisonError> {
-    let before = run_of(alloc, schedule, stream, old.text, Which::Old)?;
-    let after = run_of(alloc, schedule, stream, new.text, Which::New)?;
+    let before = run_of(alloc, schedule, stream, old.text.bytes, Which::Old)?;
+    let after = run_of(alloc, schedule, stream, new.text.bytes, Which::New)?;
     let names = TextNames {
         old: old.name,
         new: new.name,

@@ -10,6 +10,7 @@ use crate::naming::{RuleNames, rules_of};
 use crate::said::RuleOutput;
 use lc_model::Moment;
 use packet_listing::{Sent, read_packet};
+use rpn_compiler::RuleText;
 use run_stepper::{Came, Trace};
 use std::alloc::Global;
 use std::io::Write;
@@ -82,7 +83,7 @@ fn lines_among(
 pub fn lines_of(
     alloc: Global,
     trace: &Trace,
-    text: &[u8],
+    text: &RuleText<'_>,
 ) -> Result<Vec<OutputLine>, ComparisonError>
     ensures { IfOk result (λ lines. lines.items ≡
         map spoken_of (compared_of (arrived_from 0 trace.now.parts))) }

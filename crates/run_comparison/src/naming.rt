@@ -1,8 +1,12 @@
 //! Rules as events speak of them.
 
-use rule_lexer::lex;
-use rule_parser::{Item, RuleItem, parse};
+use rpn_compiler::RuleText;
+use rule_parser::{Item, RuleItem};
 use std::alloc::{AllocError, Global};
+use text_lines::{decimal_number, split_digits};
+
+/// The most digits of a rule's number.
+const MOST_DIGITS: usize = 5;
 
 /// What an event says before the number of the rule whose own event it is.
 const OF_RULE: &[u8] = b": AP = ";
@@ -35,16 +39,10 @@ impl<'a> RuleNames<'a> {
     }
 }
 
-/// The rules of a text that compiles, in order. Out of memory is the only error.
-pub fn rules_of<'a>(alloc: Global, text: &'a [u8]) -> Result<Vec<RuleNames<'a>>, AllocError> {
+/// The rules of a text, in order.
+pub fn rules_of<'a>(alloc: Global, text: &RuleText<'a>) -> Result<Vec<RuleNames<'a>>, AllocError> {
     let mut rules = Vec::new(alloc);
-    let Ok(tokens) = lex(alloc, text) else {
-        return Err(AllocError);
-    };
-    let Ok(file) = parse(alloc, text, tokens.as_slice()) else {
-        return Err(AllocError);
-    };
-    for item in &file.items {
+    for item in &text.file.items {
         if let Item::Rule(rule) = item {
             rules.push(RuleNames::of(rule))?;
         }
@@ -62,10 +60,8 @@ fn behind<'t>(front: &[u8], text: &'t [u8]) -> Option<&'t [u8]> {
 
 /// A number at the front of a text, and what stands behind its digits.
 fn number_in(text: &[u8]) -> Option<(usize, &[u8])> {
-    let size = text.iter().take_while(|byte| byte.is_ascii_digit()).count();
-    let (digits, rest) = text.split_at_checked(size)?;
-    let digits = str::from_utf8(digits).ok()?;
-    Some((digits.parse().ok()?, rest))
+    let (digits, rest) = split_digits(text);
+    Some((decimal_number(MOST_DIGITS, digits)? as usize, rest))
 }
 
 /// A rule that an event speaks of, and what that says of it: the rule's own text, where it is its own event, and the rest.

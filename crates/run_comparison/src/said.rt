@@ -1,7 +1,7 @@
 //! What came of a record, as a line: rules are called by their names.
 
 use crate::naming::{RuleNames, spoken_of};
-use packet_listing::{Event, Sent, TextField, event_word};
+use packet_listing::{Event, Sent, TextField};
 use std::fmt::{self, Display, Formatter, Write};
 
 /// Who sends what the Limit Checker says.
@@ -38,7 +38,7 @@ fn say_event<W: Write>(
     f: &mut Formatter<W>,
 ) -> fmt::Result {
     let sender = TextField(event.sender);
-    let level = event_word(event.kind);
+    let level = event.kind.listed_word();
     write!(f, "{sender} {} {level}", event.id)?;
     let found = if event.sender == LIMIT_CHECKER {
         spoken_of(rules, event.id, event.text)

@@ -12,7 +12,8 @@ use Rattle.run_summary.specs.declared.place.Stand.{Stand}
 use Rattle.flight_core.specs.Feeding.{Feeding}
 use Rattle.run_stepper.specs.Stepping.{engine_among}
 use Rattle.run_page.specs.declared.behind.Behind.{Behind}
-use Rattle.run_page.specs.Model.{HasTaken, Step, account_by, all_taken, led_to, mode_of, place_of, stands_of, start_of, taken_from, taken_of, ticks_of}
+use Rattle.run_stepper.specs.Steps.{Step}
+use Rattle.run_page.specs.Model.{HasTaken, account_by, all_taken, led_to, mode_of, place_of, stands_of, start_of, taken_from, taken_of, ticks_of}
 
 behind_more : (a : Account) (steps : List account.Step) (step : account.Step) → account_behind a (steps ++ step ∷ []) ≡ account_with step (account_behind a steps)
 behind_more a [] step = refl

@@ -1,14 +1,21 @@
 -- Records that are told one after the other.
-use Rattle.std.proofs.Common.{◌≡◌, ℕ, zero, suc, ◌+◌, ◌<◌, ◌^◌, true, false, List, [], ◌∷◌, ◌++◌, length, length-append, length-drop, take, drop, take-append-drop, min, ◌-◌, ◌≤◌, Option, refl, ap, sym, ◌∙◌, subst, arith, if◌then◌else◌, Ok}
+use Rattle.std.proofs.Common.{◌≡◌, ℕ, zero, suc, ◌+◌, ◌<◌, ◌^◌, true, false, List, [], ◌∷◌, ◌++◌, length, length-append, map, min, ◌-◌, Option, refl, ap, sym, ◌∙◌, subst, arith, if◌then◌else◌, Ok}
 use Rattle.std.specs.Prelude.{◌==◌}
 use Rattle.std.proofs.lemmas.Bool.{false≢true}
-use Rattle.std.proofs.lemmas.List.{append_assoc, append-nil}
+use Rattle.std.proofs.lemmas.List.{append_assoc, append-nil, length-map, map-append}
 use Rattle.sha2.specs.Hashers.{Holds256}
 use Rattle.sha2.specs.Sha256.{sha256}
 use Rattle.lc_model.specs.Host.Schedule.{Schedule}
+use Rattle.lc_model.specs.Host.Stream.{StreamEntry, End, Bad, Truncated, Record, all_kinds, front, records_of}
+use Rattle.lc_model.specs.Host.Stream as stream
 use Rattle.bounded_history.specs.declared.entry.Entry.{Entry}
-use Rattle.flight_core.specs.Feeding.{Feeding}
-use Rattle.run_stepper.specs.Stepping.{BeginsWith, HasStepped, engine_among}
+use Rattle.flight_core.specs.Cutting.{Begins, Comes, EndsBadly, EndsCut, EndsWhole, Goes, IsHandedOut}
+use Rattle.flight_core.specs.Feeding.{Feeding, fed_with}
+use Rattle.flight_core.specs.Front.{part_of}
+use Rattle.flight_core.specs.Records.{Held}
+use Rattle.run_stepper.specs.Stepping.{BeginsWith, GoesOn, HandlesAlone, HandlesRecord, HasHandled, HasStepped, MeetsNoRecord, Waits, engine_among, holding_none, one_record}
+use Rattle.run_stepper.specs.Steps.{AreItsRecords, Step, StepsAreARun, Went, bytes_of}
+use Rattle.run_stepper.specs.Trace.{ending_by}
 use Rattle.run_stepper.specs.declared.ending.Ending.{Ending}
 use Rattle.run_stepper.specs.declared.ending.Ending.TheVariants as ended
 use Rattle.run_stepper.specs.declared.handled.Handled.{Handled}
@@ -21,14 +28,13 @@ use Rattle.run_summary.specs.Brought.{brings}
 use Rattle.run_summary.specs.Fields.{AreKnown, all_brought}
 use Rattle.run_summary.specs.Run.{AreRead, OfTexts}
 use Rattle.run_summary.specs.Texts.{HaveItems}
-use Rattle.run_page.specs.declared.incoming.Incoming.{Incoming}
 use Rattle.run_page.specs.declared.intake.Intake.{Intake}
-use Rattle.run_page.specs.Coming.{HasCome, Took, TookAll}
+use Rattle.run_page.specs.Coming.{Arrives, Took, TookAll, without_bytes}
 use Rattle.run_page.proofs.Pieces.{took_more, took_none}
 use Rattle.run_summary.specs.declared.texts.Field.{Field}
 use Rattle.run_page.proofs.Accounts.{account_more}
 use Rattle.run_page.proofs.Values.{all_values_more, started}
-use Rattle.run_page.specs.Model.{EndsSo, HasTaken, HasTold, IsKept, KeepsStands, ListsTell, MetEnd, Step, StopsAt, TellsRead, TellsTaken, Went, all_values, bytes_of, lanes_from, place_of, stands_of, start_of, stood, stood_more, ticks_of, told_from, told_of, values_more}
+use Rattle.run_page.specs.Model.{EndsSo, HasTaken, HasTold, IsKept, IsNew, KeepsStands, ListsTell, StopsAt, Tells, TellsRead, TellsTaken, ending_at, all_values, lanes_from, place_of, stands_of, start_of, stood, stood_more, ticks_of, told_from, told_of, values_more}
 
 -- the host goes through one record more
 pub went_more : (first old new : Feeding) (steps : List Step) (bytes written : List ℕ) → Went first steps old → HasStepped bytes old new written (Ok handled.Whole) →
@@ -81,11 +87,35 @@ pub record SoFar (texts : OfTexts) (first now : Feeding) (stream rest : List ℕ
   pub count : length steps ≡ number
   pub went : Went first steps now
   pub bytes : bytes_of steps ++ rest ≡ stream
+  pub entries : List StreamEntry
+  pub handed : IsHandedOut (length first.files) stream entries rest
+  pub each : map (λ (step : Step). records_of (length first.files) step.bytes) steps ≡ map one_record entries
   pub told : HasTold texts lists behind a start steps
 
-pub nothing_so_far : (texts : OfTexts) (first : Feeding) (stream : List ℕ) (lists : Lists) (behind : Behind) (a : Account) (start : ℕ) →
-    HasTold texts lists behind a start [] → SoFar texts first first stream stream lists behind a start 0
-nothing_so_far texts first stream lists behind a start told = record { steps = []; count = refl; went = refl; bytes = refl; told = told }
+-- what is known of bytes that come and records that are handed out
+pub record Laws : Type 0 where
+  pub begins : Begins
+  pub comes : Comes
+  pub goes : Goes
+  pub bad : EndsBadly
+  pub whole : EndsWhole
+  pub cut : EndsCut
+
+pub laws_of : Begins → Comes → Goes → EndsBadly → EndsWhole → EndsCut → Laws
+laws_of begins comes goes bad whole cut = record { begins = begins; comes = comes; goes = goes; bad = bad; whole = whole; cut = cut }
+
+pub nothing_so_far : Laws → (texts : OfTexts) (first : Feeding) (lists : Lists) (behind : Behind) (a : Account) (start : ℕ) →
+    HasTold texts lists behind a start [] → SoFar texts first first [] [] lists behind a start 0
+nothing_so_far laws texts first lists behind a start told = record {
+  steps = [];
+  count = refl;
+  went = refl;
+  bytes = refl;
+  entries = [];
+  handed = laws.begins (length first.files);
+  each = refl;
+  told = told;
+}
 
 -- what a record behind so many others tells
 abbrev pub TellsNow : Lists → Behind → ℕ → List ℕ → Feeding → List Field → (lanes values : List (List Entry)) → ℕ → Type 0
@@ -95,19 +125,23 @@ TellsNow lists behind start bytes host fields lanes values number =
     × IsKept behind (stood_more (place_of start number bytes) (stands_of (engine_among host.host.seats)) 0 lanes)
 
 -- one record more
-pub next_so_far : (texts : OfTexts) (first old new : Feeding) (stream rest bytes left written : List ℕ) (lists after : Lists) (behind behind_it : Behind) (a after_it : Account)
-    (start now number : ℕ) →
+pub next_so_far : Laws → (texts : OfTexts) (first old new : Feeding) (stream rest bytes left written : List ℕ) (lists after : Lists) (behind behind_it : Behind) (a after_it : Account)
+    (start now number : ℕ) (entry : StreamEntry) →
     SoFar texts first old stream rest lists behind a start number → HasStepped bytes old new written (Ok handled.Whole) → bytes ++ left ≡ rest →
+    front all_kinds (length first.files) rest ≡ Record entry left → records_of (length first.files) bytes ≡ one_record entry →
     now ≡ (if number + 1 == 1 then ticks_of bytes else start) → now < 2 ^ 48 →
     ((fields : List Field) (lanes values : List (List Entry)) → AreKnown (number + 1) fields a.seen → ListsTell lists lanes values → IsKept behind lanes →
     TellsNow after behind_it now bytes new fields lanes values (number + 1)) →
     (KeepsStands behind a → HasTaken (record { bytes = bytes; host = new; written = written }) now (number + 1) behind_it a after_it) →
     SoFar texts first new stream left after behind_it after_it now (number + 1)
-next_so_far texts first old new stream rest bytes left written lists after behind behind_it a after_it start now number so stepped parts begins small adds takes = record {
+next_so_far laws texts first old new stream rest bytes left written lists after behind behind_it a after_it start now number entry so stepped parts here own begins small adds takes = record {
   steps = so.steps ++ step ∷ [];
   count = counted so.steps step number so.count;
   went = went_more first old new so.steps bytes written so.went stepped;
   bytes = ap (λ front. front ++ left) (bytes_more so.steps step) ∙ joined_bytes (bytes_of so.steps) bytes left ∙ ap (λ more. bytes_of so.steps ++ more) parts ∙ so.bytes;
+  entries = so.entries ++ entry ∷ [];
+  handed = laws.goes (length first.files) stream so.entries rest entry left so.handed here;
+  each = map-append (λ (step : Step). records_of (length first.files) step.bytes) so.steps (step ∷ []) ∙ (λ i. so.each i ++ own i ∷ []) ∙ sym (map-append one_record so.entries (entry ∷ []));
   told = record {
     first = started so.steps step now begins_so;
     small = small;
@@ -141,145 +175,212 @@ next_so_far texts first old new stream rest bytes left written lists after behin
 
 -- ---- a stream that comes in pieces
 
--- what was told so far of the bytes that were taken of a stream, of which these are held
-pub record ReadSoFar (texts : OfTexts) (first now : Feeding) (before left : Option (List ℕ)) (old new : Intake) (held : List ℕ) (lists : Lists) (behind : Behind) (a : Account) (start number : ℕ) : Type 0 where
+-- a host that holds none of its stream, and is so but for that
+pub record IsBare (bare now : Feeding) : Type 0 where
+  pub none : bare.held.bytes ≡ []
+  pub same : without_bytes bare ≡ without_bytes now
+
+-- what was told so far of the bytes that were taken of a stream: those of the records that the host handled, and those that it holds
+pub record ReadSoFar (texts : OfTexts) (first now : Feeding) (before left : Option (List ℕ)) (old new : Intake) (lists : Lists) (behind : Behind) (a : Account) (start number : ℕ) : Type 0 where
   pub taken : List ℕ
   pub took : Took before left old new taken
-  pub so : SoFar texts first now taken held lists behind a start number
+  pub bare : Feeding
+  pub is_bare : IsBare bare now
+  pub of_texts : now.held.texts ≡ length first.files
+  pub so : SoFar texts first bare taken now.held.bytes lists behind a start number
 
-pub nothing_read : (texts : OfTexts) (first : Feeding) (known : Option (List ℕ)) (it : Intake) (held : List ℕ) (lists : Lists) (behind : Behind) (a : Account) (start : ℕ) →
-    held ≡ [] → HasTold texts lists behind a start [] → ReadSoFar texts first first known known it it held lists behind a start 0
-nothing_read texts first known it held lists behind a start none told = record {
-  taken = [];
-  took = took_none known it;
-  so = subst (λ (bytes : List ℕ). SoFar texts first first [] bytes lists behind a start 0) (sym none) (nothing_so_far texts first [] lists behind a start told);
+pub nothing_read : Laws → (texts : OfTexts) (first : Feeding) (known : Option (List ℕ)) (it : Intake) (lists : Lists) (behind : Behind) (a : Account) (start : ℕ) →
+    IsNew first → HasTold texts lists behind a start [] → ReadSoFar texts first first known known it it lists behind a start 0
+nothing_read laws texts first known it lists behind a start new told =
+    let none : first.held.bytes ≡ [] = ap (λ (held : Held). held.bytes) new.held in
+    record {
+      taken = [];
+      took = took_none known it;
+      bare = first;
+      is_bare = record { none = none; same = refl };
+      of_texts = ap (λ (held : Held). held.texts) new.held;
+      so = subst (λ (bytes : List ℕ). SoFar texts first first [] bytes lists behind a start 0) (sym none) (nothing_so_far laws texts first lists behind a start told);
+    }
+
+pub new_goes_on : (first : Feeding) → IsNew first → GoesOn first
+new_goes_on first new = record {
+  is_open = new.is_open;
+  good = ap (λ (held : Held). held.is_bad) new.held;
+  few = omega (arith, ap (λ (held : Held). length held.bytes) new.held);
 }
 
--- more is read
-pub more_read : (texts : OfTexts) (first now : Feeding) (before between left : Option (List ℕ)) (old : Intake) (was is : Incoming) (lists : Lists) (behind : Behind) (a : Account) (start number : ℕ) →
-    ReadSoFar texts first now before between old was.intake was.window lists behind a start number → HasCome between left was is →
-    ReadSoFar texts first now before left old is.intake is.window lists behind a start number
-more_read texts first now before between left old was is lists behind a start number read come = record {
-  taken = read.taken ++ come.taken;
-  took = took_more before between left old was.intake is.intake read.taken come.taken read.took come.took;
-  so = record {
-    steps = read.so.steps;
-    count = read.so.count;
-    went = read.so.went;
-    bytes = ap (λ held. bytes_of read.so.steps ++ held) come.held ∙ sym (append_assoc (bytes_of read.so.steps) was.window come.taken) ∙ ap (λ front. front ++ come.taken) read.so.bytes;
-    told = read.so.told;
-  };
-}
+-- what is taken alone is taken alike by a host that is the same but for what it holds
+same_fed : (bytes : List ℕ) (bare now : Feeding) → IsBare bare now → fed_with bytes (holding_none now) ≡ fed_with bytes bare
+same_fed bytes bare now is =
+    ap (fed_with bytes) (sym is.same)
+    ∙ (λ i. fed_with bytes (record bare { held = record bare.held { bytes = sym is.none i; last = [] } }))
 
--- the bytes in front, and those behind them
-parted : (bytes held left : List ℕ) (size : ℕ) → size ≡ length bytes → bytes ≡ take (length bytes) held → left ≡ drop size held → bytes ++ left ≡ held
-parted bytes held left size sized front rest =
-    (λ i. front i ++ (rest ∙ ap (λ count. drop count held) sized) i) ∙ take-append-drop (length bytes) held
+-- behind a record it goes on
+pub whole_goes_on : (between left : Option (List ℕ)) (was is : Intake) (old last : Feeding) (written : List ℕ) (found : Handled) → Arrives between left was is old last written found →
+    found ≡ handled.Whole → GoesOn last
+whole_goes_on between left was is old last written found arrives whole =
+    let handles : HandlesRecord arrives.host last written = subst (HandlesAlone arrives.host last written) whole arrives.handles in handles.goes_on
 
--- a record more
-pub next_read : (texts : OfTexts) (first old new : Feeding) (before left : Option (List ℕ)) (intake now_intake : Intake) (held bytes rest written : List ℕ) (lists after : Lists)
-    (behind behind_it : Behind) (a after_it : Account) (start now number size : ℕ) →
-    ReadSoFar texts first old before left intake now_intake held lists behind a start number → HasStepped bytes old new written (Ok handled.Whole) →
-    size ≡ length bytes → bytes ≡ take (length bytes) held → rest ≡ drop size held →
-    now ≡ (if number + 1 == 1 then ticks_of bytes else start) → now < 2 ^ 48 →
-    ((fields : List Field) (lanes values : List (List Entry)) → AreKnown (number + 1) fields a.seen → ListsTell lists lanes values → IsKept behind lanes →
-    TellsNow after behind_it now bytes new fields lanes values (number + 1)) →
-    (KeepsStands behind a → HasTaken (record { bytes = bytes; host = new; written = written }) now (number + 1) behind_it a after_it) →
-    ReadSoFar texts first new before left intake now_intake rest after behind_it after_it now (number + 1)
-next_read texts first old new before left intake now_intake held bytes rest written lists after behind behind_it a after_it start now number size read stepped sized front parts begins small adds takes = record {
-  taken = read.taken;
-  took = read.took;
-  so = next_so_far texts first old new read.taken held bytes rest written lists after behind behind_it a after_it start now number read.so stepped
-      (parted bytes held rest size sized front parts) begins small adds takes;
-}
+module _ (laws : Laws) (texts : OfTexts) (first old last : Feeding) (before between left : Option (List ℕ)) (intake was is : Intake) (lists : Lists) (behind : Behind) (a : Account) (start number : ℕ)
+    (read : ReadSoFar texts first old before between intake was lists behind a start number) (written : List ℕ) (found : Handled) (arrives : Arrives between left was is old last written found) where
+  host : Feeding
+  host = arrives.host
 
--- less bytes stay
-pub few_left : (held rest : List ℕ) (size most : ℕ) → rest ≡ drop size held → length held ≤ most → length rest ≤ most
-few_left held rest size most is few = omega (arith, ap length is, length-drop size held, few)
+  -- more is read
+  more_read : ReadSoFar texts first host before left intake is lists behind a start number
+  unfolding host
+  more_read = record {
+    taken = read.taken ++ arrives.taken;
+    took = took_more before between left intake was is read.taken arrives.taken read.took arrives.took;
+    bare = read.bare;
+    is_bare = record { none = read.is_bare.none; same = read.is_bare.same ∙ sym arrives.fed.same };
+    of_texts = ap (λ (it : Feeding). it.held.texts) arrives.fed.same ∙ read.of_texts;
+    so = record {
+      steps = read.so.steps;
+      count = read.so.count;
+      went = read.so.went;
+      bytes = ap (λ held. bytes_of read.so.steps ++ held) arrives.fed.holds ∙ sym (append_assoc (bytes_of read.so.steps) old.held.bytes arrives.taken)
+          ∙ ap (λ front. front ++ arrives.taken) read.so.bytes;
+      entries = read.so.entries;
+      handed = subst (IsHandedOut (length first.files) (read.taken ++ arrives.taken) read.so.entries) (sym arrives.fed.holds)
+          (laws.comes (length first.files) read.taken read.so.entries old.held.bytes arrives.taken read.so.handed);
+      each = read.so.each;
+      told = read.so.told;
+    };
+  }
 
--- none are held where none are in front
-pub none_held : (held front : ℕ) → (0 < held → 0 < front) → front ≡ 0 → held ≡ 0
-none_held zero front some none = refl
-none_held (suc held) front some none = absurd (omega (arith, some (omega arith), none))
+  -- what was in front was taken alone
+  stepped : (bytes : List ℕ) (now : Feeding) (became : Handled) → HasStepped bytes (holding_none host) now written (Ok became) → HasStepped bytes more_read.bare now written (Ok became)
+  stepped bytes now became alone = subst (λ it. HasHandled it now written (Ok became)) (same_fed bytes more_read.bare host more_read.is_bare) alone
 
--- ---- how it ends
+  -- ---- a record more
 
-tells_so : (texts : OfTexts) (first now : Feeding) (before left : Option (List ℕ)) (old new : Intake) (held : List ℕ) (lists : Lists) (behind : Behind) (a : Account) (start number : ℕ) (ending : Ending) →
-    (read : ReadSoFar texts first now before left old new held lists behind a start number) → EndsSo ending read.so.steps now held →
-    MetEnd ending new → TellsTaken texts before left old new first lists a ending
-tells_so texts first now before left old new held lists behind a start number ending read ends met_end = record {
-  taken = read.taken;
-  took = read.took;
-  tells = record {
-    steps = read.so.steps;
-    host = now;
-    rest = held;
-    went = read.so.went;
-    bytes = read.so.bytes;
-    ends = ends;
-    lists_tell = read.so.told.lists_tell;
-    is_account = read.so.told.is_account;
-  };
-  met_end = met_end;
-}
+  module _ (whole : found ≡ handled.Whole) where
+    handles : HandlesRecord host last written
+    unfolding host
+    handles = subst (HandlesAlone host last written) whole arrives.handles
 
-pub ends_whole : (texts : OfTexts) (first now : Feeding) (before left : Option (List ℕ)) (old new : Intake) (held : List ℕ) (lists : Lists) (behind : Behind) (a : Account) (start number : ℕ) →
-    ReadSoFar texts first now before left old new held lists behind a start number → length held ≡ 0 → new.is_ended ≡ true →
-    TellsTaken texts before left old new first lists a (ended.Whole number)
-ends_whole texts first now before left old new [] lists behind a start number read none at_end =
-    tells_so texts first now before left old new [] lists behind a start number (ended.Whole number) read (sym read.so.count, refl) at_end
-ends_whole texts first now before left old new (byte ∷ held) lists behind a start number read none at_end = absurd (omega (arith, none))
+    pub next_read : (bytes : List ℕ) (after : Lists) (behind_it : Behind) (after_it : Account) (now : ℕ) → bytes ≡ last.held.last →
+        now ≡ (if number + 1 == 1 then ticks_of bytes else start) → now < 2 ^ 48 →
+        ((fields : List Field) (lanes values : List (List Entry)) → AreKnown (number + 1) fields a.seen → ListsTell lists lanes values → IsKept behind lanes →
+        TellsNow after behind_it now bytes last fields lanes values (number + 1)) →
+        (KeepsStands behind a → HasTaken (record { bytes = bytes; host = last; written = written }) now (number + 1) behind_it a after_it) →
+        ReadSoFar texts first last before left intake is after behind_it after_it now (number + 1)
+    next_read bytes after behind_it after_it now lent begins small adds takes = record {
+      taken = more_read.taken;
+      took = more_read.took;
+      bare = holding_none last;
+      is_bare = record { none = refl; same = refl };
+      of_texts = handles.texts ∙ more_read.of_texts;
+      so = next_so_far laws texts first more_read.bare (holding_none last) more_read.taken host.held.bytes bytes last.held.bytes written lists after behind behind_it a after_it start now number handles.entry
+          more_read.so
+          (subst (λ (own : List ℕ). HasStepped own more_read.bare (holding_none last) written (Ok handled.Whole)) (sym lent) (stepped last.held.last (holding_none last) handled.Whole handles.alone))
+          (ap (λ own. own ++ last.held.bytes) lent ∙ sym handles.parts)
+          (ap (λ n. front all_kinds n host.held.bytes) (sym more_read.of_texts) ∙ handles.front)
+          ((λ i. records_of (sym more_read.of_texts i) (lent i)) ∙ handles.own)
+          begins small adds
+          (λ stood. let taken = takes stood in record { taken = taken.taken; known = taken.known; stood_last = taken.stood_last });
+    }
 
--- what is in front of what is held isn't handled
-stops_there : (old new : Feeding) (held bytes written : List ℕ) (size : ℕ) (found : Handled) → size ≡ length bytes → bytes ≡ take (length bytes) held →
-    HasStepped bytes old new written (Ok found) → StopsAt old held found
-stops_there old new held bytes written size found sized front stepped = record {
-  front = bytes;
-  others = drop size held;
-  bytes = sym (parted bytes held (drop size held) size sized front refl);
-  now = new;
-  written = written;
-  stops = stepped;
-}
+  -- ---- how it ends
 
-pub ends_in_none : (texts : OfTexts) (first old new : Feeding) (before left : Option (List ℕ)) (intake now : Intake) (held bytes written : List ℕ) (lists : Lists) (behind : Behind) (a : Account)
-    (start number next size : ℕ) → ReadSoFar texts first old before left intake now held lists behind a start number → next ≡ number + 1 → size ≡ length bytes →
-    bytes ≡ take (length bytes) held → HasStepped bytes old new written (Ok handled.NoRecord) → TellsTaken texts before left intake now first lists a (ended.NoRecord next)
-ends_in_none texts first old new before left intake now held bytes written lists behind a start number next size read one_more sized front stepped =
-    tells_so texts first old before left intake now held lists behind a start number (ended.NoRecord next) read
-    (one_more ∙ ap (λ count. count + 1) (sym read.so.count), stops_there old new held bytes written size handled.NoRecord sized front stepped) tt
+  counted_entries : length more_read.so.entries ≡ length more_read.so.steps
+  counted_entries =
+      sym (length-map more_read.so.entries one_record) ∙ ap length (sym more_read.so.each) ∙ length-map more_read.so.steps (λ (step : Step). records_of (length first.files) step.bytes)
 
-pub ends_cut : (texts : OfTexts) (first old new : Feeding) (before left : Option (List ℕ)) (intake now : Intake) (held bytes written : List ℕ) (lists : Lists) (behind : Behind) (a : Account)
-    (start number next size : ℕ) → ReadSoFar texts first old before left intake now held lists behind a start number → next ≡ number + 1 → size ≡ length bytes →
-    bytes ≡ take (length bytes) held → HasStepped bytes old new written (Ok handled.Part) → TellsTaken texts before left intake now first lists a (ended.Cut next)
-ends_cut texts first old new before left intake now held bytes written lists behind a start number next size read one_more sized front stepped =
-    tells_so texts first old before left intake now held lists behind a start number (ended.Cut next) read
-    (one_more ∙ ap (λ count. count + 1) (sym read.so.count), stops_there old new held bytes written size handled.Part sized front stepped) tt
+  -- the records of what was taken and what follows are these, and it ends so
+  are_records : (more : List ℕ) (e : End) (ending : Ending) → records_of (length first.files) (more_read.taken ++ more) ≡ (more_read.so.entries, e) → ending ≡ ending_by (length more_read.so.steps) e →
+      AreItsRecords (length first.files) (more_read.taken ++ more) more_read.so.steps ending
+  are_records more e ending all ends = record {
+    each = more_read.so.each ∙ ap (λ (r : List StreamEntry × End). map one_record r.0) (sym all);
+    ends = ends ∙ ap (λ (r : List StreamEntry × End). ending_by (length more_read.so.steps) r.1) (sym all);
+  }
 
--- what is read behind the end of a run
-behind_it_all : (host : Feeding) (held more : List ℕ) (found : Handled) → StopsAt host held found → StopsAt host (held ++ more) found
-behind_it_all host held more found stops = record {
-  front = stops.front;
-  others = stops.others ++ more;
-  bytes = ap (λ bytes. bytes ++ more) stops.bytes ∙ append_assoc stops.front stops.others more;
-  now = stops.now;
-  written = stops.written;
-  stops = stops.stops;
-}
+  tells_so : (ending : Ending) → ((more : List ℕ) → (is.is_ended ≡ true → more ≡ []) →
+      AreItsRecords (length first.files) (more_read.taken ++ more) more_read.so.steps ending × EndsSo ending more_read.so.steps more_read.bare (host.held.bytes ++ more)) →
+      TellsTaken texts before left intake is first lists a ending
+  tells_so ending ends = record {
+    taken = more_read.taken;
+    took = more_read.took;
+    tells = λ more none. record {
+      steps = more_read.so.steps;
+      host = more_read.bare;
+      rest = host.held.bytes ++ more;
+      went = more_read.so.went;
+      bytes = sym (append_assoc (bytes_of more_read.so.steps) host.held.bytes more) ∙ ap (λ front. front ++ more) more_read.so.bytes;
+      are_records = (ends more none).0;
+      ends = (ends more none).1;
+      lists_tell = more_read.so.told.lists_tell;
+      is_account = more_read.so.told.is_account;
+    };
+  }
 
-ends_still : (ending : Ending) (steps : List Step) (host : Feeding) (was : Intake) (held more : List ℕ) → EndsSo ending steps host held → MetEnd ending was →
-    (was.is_ended ≡ true → more ≡ []) → EndsSo ending steps host (held ++ more)
-ends_still (ended.Whole records) steps host was held more ends met none = (ends.0, (λ i. ends.1 i ++ none met i))
-ends_still (ended.NoRecord n) steps host was held more ends met none = (ends.0, behind_it_all host held more handled.NoRecord ends.1)
-ends_still (ended.Cut n) steps host was held more ends met none = (ends.0, behind_it_all host held more handled.Part ends.1)
-ends_still ended.Bound steps host was held more ends met none = absurd ends
+  stops : (more : List ℕ) (now : Feeding) (became : Handled) → HasStepped host.held.bytes (holding_none host) now written (Ok became) → StopsAt more_read.bare (host.held.bytes ++ more) became
+  stops more now became alone = record {
+    front = host.held.bytes;
+    others = more;
+    bytes = refl;
+    now = now;
+    written = written;
+    stops = stepped host.held.bytes now became alone;
+  }
+
+  one_more : (next : ℕ) → next ≡ number + 1 → next ≡ length more_read.so.steps + 1
+  one_more next is_next = is_next ∙ ap (λ count. count + 1) (sym more_read.so.count)
+
+  pub ends_in_none : found ≡ handled.NoRecord → (next : ℕ) → next ≡ number + 1 → TellsTaken texts before left intake is first lists a (ended.NoRecord next)
+  unfolding host
+  ends_in_none none next is_next =
+      let meets : MeetsNoRecord host written = subst (HandlesAlone host last written) none arrives.handles in
+      tells_so (ended.NoRecord next) (λ more nothing. (
+        are_records more (Bad (length more_read.so.entries + 1)) (ended.NoRecord next)
+            (laws.bad (length first.files) more_read.taken more_read.so.entries host.held.bytes more more_read.so.handed
+            (ap (λ n. front all_kinds n host.held.bytes) (sym more_read.of_texts) ∙ meets.front))
+            (ap ended.NoRecord (one_more next is_next ∙ ap (λ count. count + 1) (sym counted_entries))),
+        (one_more next is_next, stops more meets.now handled.NoRecord meets.alone),
+      ))
+
+  -- of a stream that ended
+  module _ (part : found ≡ handled.Part) where
+    waits : Waits host last written
+    unfolding host
+    waits = subst (HandlesAlone host last written) part arrives.handles
+
+    -- nothing follows
+    all_there : (more : List ℕ) → (is.is_ended ≡ true → more ≡ []) → more ≡ []
+    all_there more none = none (arrives.ended part)
+
+    at_end : (e : End) → records_of (length first.files) more_read.taken ≡ (more_read.so.entries, e) → (more : List ℕ) → more ≡ [] →
+        records_of (length first.files) (more_read.taken ++ more) ≡ (more_read.so.entries, e)
+    at_end e all more none = (λ i. records_of (length first.files) (more_read.taken ++ none i)) ∙ ap (records_of (length first.files)) (append-nil more_read.taken) ∙ all
+
+    by_left : (bytes : List ℕ) → host.held.bytes ≡ bytes → front all_kinds (length first.files) host.held.bytes ≡ part_of bytes →
+        TellsTaken texts before left intake is first lists a (ending_at bytes number)
+    by_left [] none here = tells_so (ended.Whole number) (λ more nothing. (
+      are_records more stream.Whole (ended.Whole number)
+          (at_end stream.Whole (laws.whole (length first.files) more_read.taken more_read.so.entries host.held.bytes more_read.so.handed here) more (all_there more nothing))
+          (ap ended.Whole (sym more_read.so.count)),
+      (sym more_read.so.count, (λ i. none i ++ all_there more nothing i)),
+    ))
+    by_left (byte ∷ bytes) some here = tells_so (ended.Cut (number + 1)) (λ more nothing. (
+      are_records more (Truncated (length more_read.so.entries + 1)) (ended.Cut (number + 1))
+          (at_end (Truncated (length more_read.so.entries + 1)) (laws.cut (length first.files) more_read.taken more_read.so.entries host.held.bytes more_read.so.handed here) more (all_there more nothing))
+          (ap ended.Cut (one_more (number + 1) refl ∙ ap (λ count. count + 1) (sym counted_entries))),
+      (one_more (number + 1) refl, stops more waits.now handled.Part waits.alone),
+    ))
+
+    pub ends_there : (ending : Ending) → ending ≡ ending_at last.held.bytes number → TellsTaken texts before left intake is first lists a ending
+    ends_there ending so =
+        let left_is : last.held.bytes ≡ host.held.bytes = ap (λ (it : Feeding). it.held.bytes) waits.same in
+        subst (TellsTaken texts before left intake is first lists a) (sym (so ∙ ap (λ bytes. ending_at bytes number) left_is))
+        (by_left host.held.bytes refl (ap (λ n. front all_kinds n host.held.bytes) (sym more_read.of_texts) ∙ waits.front))
 
 -- .. of a run that began so
-pub all_read : (sources : List (List ℕ)) (schedule : Schedule) (texts : OfTexts) (first : Feeding) (before between left : Option (List ℕ)) (old was is : Intake) (lists : Lists) (a : Account)
+pub all_read : StepsAreARun → (sources : List (List ℕ)) (schedule : Schedule) (texts : OfTexts) (first : Feeding) (before between left : Option (List ℕ)) (old was is : Intake) (lists : Lists) (a : Account)
     (ending : Ending) (bytes : ℕ) (digest : List ℕ) → HaveItems sources texts.texts → AreRead texts → BeginsWith sources schedule first →
     TellsTaken texts before between old was first lists a ending → TookAll between left was is → old.count ≡ 0 → Holds256 old.hasher [] → old.is_ended ≡ false →
     bytes ≡ is.count → ((stream : List ℕ) → Holds256 is.hasher stream → digest ≡ sha256 stream) → TellsRead sources schedule before left lists a bytes digest ending
-all_read sources schedule texts first before between left old was is lists a ending bytes digest items are_read begins told all none_counted none_hashed unended sized hashed = record {
+all_read law sources schedule texts first before between left old was is lists a ending bytes digest items are_read begins told all none_counted none_hashed unended sized hashed = record {
   stream = told.taken ++ all.taken;
   consumes = took.consumes;
   at_end = took.at_end (λ ended. absurd (false≢true (sym unended ∙ ended))) all.ended;
@@ -291,17 +392,12 @@ all_read sources schedule texts first before between left old was is lists a end
     are_read = are_read;
     first = first;
     begins = begins;
-    tells = record {
-      steps = told.tells.steps;
-      host = told.tells.host;
-      rest = told.tells.rest ++ all.taken;
-      went = told.tells.went;
-      bytes = sym (append_assoc (bytes_of told.tells.steps) told.tells.rest all.taken) ∙ ap (λ front. front ++ all.taken) told.tells.bytes;
-      ends = ends_still ending told.tells.steps told.tells.host was told.tells.rest all.taken told.tells.ends told.met_end (λ ended. (all.took.none_behind ended).0);
-      lists_tell = told.tells.lists_tell;
-      is_account = told.tells.is_account;
-    };
+    tells = tells;
+    have_run = law sources schedule (told.taken ++ all.taken) first tells.host tells.steps tells.rest ending begins tells.went tells.bytes tells.are_records;
   };
 } where
+  tells : Tells texts (told.taken ++ all.taken) first lists a ending
+  tells = told.tells all.taken (λ ended. (all.took.none_behind ended).0)
+
   took : Took before left old is (told.taken ++ all.taken)
   took = took_more before between left old was is told.taken all.taken told.took all.took

@@ -21,7 +21,8 @@ use Rattle.run_summary.specs.Run.{FieldsCome, OfTexts}
 use Rattle.run_page.specs.declared.behind.Behind.{Behind}
 use Rattle.run_page.specs.declared.lists.Lists.{Lists}
 use Rattle.run_page.proofs.Lanes.{nothing_of_lanes, said_now}
-use Rattle.run_page.specs.Model.{IsKept, ListsTell, Step, all_values, lanes_from, nothing_told, place_of, start_of, stood_more, ticks_of, value_told, valued, values_from, values_more, values_of}
+use Rattle.run_stepper.specs.Steps.{Step}
+use Rattle.run_page.specs.Model.{IsKept, ListsTell, all_values, lanes_from, nothing_told, place_of, start_of, stood_more, ticks_of, value_told, valued, values_from, values_more, values_of}
 
 -- ---- a list behind the lanes
 

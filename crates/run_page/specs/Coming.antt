@@ -1,21 +1,12 @@
--- A stream that comes in pieces: what is read of it, and what is held. This project's own.
+-- A stream that comes in pieces: what is read of it, and what becomes of its next record. This project's own.
 use Rattle.std.specs.Prelude.{◌≡◌, ℕ, ◌+◌, ◌-◌, ◌^◌, true, List, [], ◌++◌, length, min, Option}
 use Rattle.std.specs.Io.KnownBytes.{Consumes, IsAtEnd}
 use Rattle.sha2.specs.Hashers.{Holds256}
-use Rattle.run_page.specs.declared.incoming.Incoming.{Incoming}
+use Rattle.flight_core.specs.Feeding.{Feeding}
+use Rattle.run_stepper.specs.Stepping.{HandlesAlone}
+use Rattle.run_stepper.specs.declared.handled.Handled.{Handled}
+use Rattle.run_stepper.specs.declared.handled.Handled.TheVariants.{Part}
 use Rattle.run_page.specs.declared.intake.Intake.{Intake}
-
--- the most bytes of a record: its header, and the longest body
-abbrev pub longest_record : ℕ
-longest_record = 65547
-
--- the most bytes of a piece
-abbrev pub piece_size : ℕ
-piece_size = 8192
-
--- the most bytes held: those of a longest record, and a piece
-abbrev pub most_held : ℕ
-most_held = 73739
 
 -- these bytes were taken of a source: they are counted and hashed behind those before, and none are taken behind its end
 pub record Took (before now : Option (List ℕ)) (old new : Intake) (taken : List ℕ) : Type 0 where
@@ -36,8 +27,20 @@ pub record TookAll (before now : Option (List ℕ)) (old new : Intake) : Type 0 
   pub took : Took before now old new taken
   pub ended : new.is_ended ≡ true
 
--- some bytes were taken of a source, and are held behind what was held
-pub record HasCome (before now : Option (List ℕ)) (old new : Incoming) : Type 0 where
+-- but for the bytes of its stream a host is as before
+abbrev pub without_bytes : Feeding → Feeding
+without_bytes it = record it { held = record it.held { bytes = []; last = [] } }
+
+-- these bytes came to a host that was so at first, and are held behind what it held
+pub record IsFed (taken : List ℕ) (first now : Feeding) : Type 0 where
+  pub holds : now.held.bytes ≡ first.held.bytes ++ taken
+  pub same : without_bytes now ≡ without_bytes first
+
+-- some bytes were taken of a source and came to a host, which then handled what is in front; it is part of a record only at the source's end
+pub record Arrives (before now : Option (List ℕ)) (old new : Intake) (first last : Feeding) (written : List ℕ) (found : Handled) : Type 0 where
   pub taken : List ℕ
-  pub took : Took before now old.intake new.intake taken
-  pub held : new.window ≡ old.window ++ taken
+  pub took : Took before now old new taken
+  pub host : Feeding
+  pub fed : IsFed taken first host
+  pub handles : HandlesAlone host last written found
+  pub ended : found ≡ Part → new.is_ended ≡ true

@@ -1,6 +1,6 @@
 -- What a page tells of a run: how the Limit Checker stands behind each record, rule by rule, the values of fields, and the account of
 -- the run (page/DATA.md). This project's own.
-use Rattle.std.specs.Prelude.{◌≡◌, ℕ, zero, suc, ◌+◌, ◌-◌, ◌*◌, ◌^◌, ◌<◌, min, true, List, [], ◌∷◌, ◌++◌, length, map, pos, ◌-ℤ◌, negsuc, ℤ, nat_lt, if◌then◌else◌, Option, Some, None, Ok}
+use Rattle.std.specs.Prelude.{◌≡◌, ℕ, zero, suc, ◌+◌, ◌-◌, ◌*◌, ◌^◌, ◌<◌, min, true, false, List, [], ◌∷◌, ◌++◌, length, map, pos, ◌-ℤ◌, negsuc, ℤ, nat_lt, if◌then◌else◌, Option, Some, None, Ok}
 use Rattle.lc_model.specs.declared.mode.LcMode.{LcMode}
 use Rattle.lc_model.specs.Bytes.{u16_at, u32_at}
 use Rattle.lc_model.specs.Host.Schedule.{Schedule}
@@ -8,7 +8,9 @@ use Rattle.lc_model.specs.Host.Stream.{header_size}
 use Rattle.lc_model.specs.Kept.Summary.{LcOwn, Tally}
 use Rattle.lc_model.specs.LimitChecker.Steps.{Point}
 use Rattle.flight_core.specs.Feeding.{Feeding}
+use Rattle.flight_core.specs.Records.{nothing_held}
 use Rattle.run_stepper.specs.Stepping.{BeginsWith, HasStepped, engine_among}
+use Rattle.run_stepper.specs.Steps.{AreItsRecords, HaveRun, Step, Went, bytes_of}
 use Rattle.run_stepper.specs.declared.handled.Handled.{Handled}
 use Rattle.run_stepper.specs.declared.handled.Handled.TheVariants as handled
 use Rattle.run_stepper.specs.declared.ending.Ending.{Ending}
@@ -37,16 +39,10 @@ use Rattle.sha2.specs.Sha256.{sha256}
 
 -- ---- a run
 
--- a record that was handled: its bytes, the host behind it, and the packets that it led to
-pub record Step : Type 0 where
-  pub bytes : List ℕ
-  pub host : Feeding
-  pub written : List ℕ
-
--- the host goes through these records
-abbrev pub Went : Feeding → List Step → Feeding → Type 0
-Went old [] new = old ≡ new
-Went old (step ∷ steps) new = HasStepped step.bytes old step.host step.written (Ok handled.Whole) × Went step.host steps new
+-- nothing has come to a host
+pub record IsNew (host : Feeding) : Type 0 where
+  pub held : host.held ≡ nothing_held (length host.files)
+  pub is_open : host.host.is_closed ≡ false
 
 -- ---- how a rule stands
 
@@ -239,11 +235,6 @@ pub record HasTold (texts : OfTexts) (lists : Lists) (behind : Behind) (a : Acco
   pub known : AreKnown (length steps + 1) texts.fields a.seen
   pub stood_last : KeepsStands behind a
 
--- the bytes of all records, one behind the other
-abbrev pub bytes_of : List Step → List ℕ
-bytes_of [] = []
-bytes_of (step ∷ steps) = step.bytes ++ bytes_of steps
-
 -- what is in front of these bytes the host doesn't handle
 pub record StopsAt (host : Feeding) (rest : List ℕ) (handled : Handled) : Type 0 where
   pub front : List ℕ
@@ -260,7 +251,7 @@ EndsSo (NoRecord n) steps host rest = (n ≡ length steps + 1) × StopsAt host r
 EndsSo (Cut n) steps host rest = (n ≡ length steps + 1) × StopsAt host rest handled.Part
 EndsSo Bound steps host rest = ⊥
 
--- a run over a stream by a host that was so at first, as its page tells it: the records in front of the stream are handled, each as the host
+-- a run over a stream by a host that was so at first, as its page tells it: the records of the stream are handled, each as the host
 -- itself handles it, each rule's lane has the changes of how the rule stood behind each of them, each field's list those of its values in the
 -- packets of its message id, all reduced by columns, and the account is that of these records
 pub record Tells (texts : OfTexts) (stream : List ℕ) (first : Feeding) (lists : Lists) (a : Account) (ending : Ending) : Type 0 where
@@ -269,12 +260,14 @@ pub record Tells (texts : OfTexts) (stream : List ℕ) (first : Feeding) (lists 
   pub rest : List ℕ
   pub went : Went first steps host
   pub bytes : bytes_of steps ++ rest ≡ stream
+  pub are_records : AreItsRecords (length first.files) stream steps ending
   pub ends : EndsSo ending steps host rest
   pub lists_tell : ListsTell lists (lanes_from 0 texts.lanes steps) (all_values texts.fields steps)
   pub is_account : a ≡ account_by texts steps
 
 -- .. of these texts under this schedule: the lanes are those of the texts' rules, the lists of values those of the fields that the rules
--- compare, and the host is new at first, with the texts' files and this profile's applications in stock
+-- compare, and the host is new at first, with the texts' files and this profile's applications in stock; each record led to the packets that the
+-- definitions call for
 pub record TellsRun (sources : List (List ℕ)) (schedule : Schedule) (stream : List ℕ) (lists : Lists) (a : Account) (ending : Ending) : Type 0 where
   pub read : OfTexts
   pub items : HaveItems sources read.texts
@@ -282,22 +275,20 @@ pub record TellsRun (sources : List (List ℕ)) (schedule : Schedule) (stream : 
   pub first : Feeding
   pub begins : BeginsWith sources schedule first
   pub tells : Tells read stream first lists a ending
+  pub have_run : HaveRun sources schedule stream tells.steps ending tells.host
 
 -- ---- a stream that comes in pieces
 
--- a run that ended behind its last record met the source's end
-abbrev pub MetEnd : Ending → Intake → Type 0
-MetEnd (Whole records) intake = intake.is_ended ≡ true
-MetEnd (NoRecord n) intake = Unit {0}
-MetEnd (Cut n) intake = Unit {0}
-MetEnd Bound intake = Unit {0}
+-- how a stream ended, of which no more comes, behind so many records, where these bytes are left
+abbrev pub ending_at : List ℕ → ℕ → Ending
+ending_at [] records = Whole records
+ending_at (byte ∷ bytes) records = Cut (records + 1)
 
--- of these bytes, taken of a source, it is told so
+-- of these bytes, taken of a source, and whatever is taken behind them, it is told so; nothing is, where the source's end was met
 pub record TellsTaken (texts : OfTexts) (before now : Option (List ℕ)) (old new : Intake) (first : Feeding) (lists : Lists) (a : Account) (ending : Ending) : Type 0 where
   pub taken : List ℕ
   pub took : Took before now old new taken
-  pub tells : Tells texts taken first lists a ending
-  pub met_end : MetEnd ending new
+  pub tells : (more : List ℕ) → (new.is_ended ≡ true → more ≡ []) → Tells texts (taken ++ more) first lists a ending
 
 -- all bytes of a source were taken, so many with this SHA-256, and of them it is told so
 pub record TellsRead (sources : List (List ℕ)) (schedule : Schedule) (before now : Option (List ℕ)) (lists : Lists) (a : Account) (bytes : ℕ) (digest : List ℕ) (ending : Ending) : Type 0 where

@@ -3,6 +3,7 @@
 ghost use Rattle.std.specs.Prelude.{◌≡◌, ◌<◌, ◌^◌, ◌==◌, ◌-ℤ◌, pos, if◌then◌else◌};
 ghost use Rattle.run_page.specs.Model.{ticks_of};
 
+use lc_model::SUBSECONDS;
 use lc_model::stream::{HEADER, moment_of};
 use run_summary::Place;
 
@@ -23,7 +24,7 @@ pub fn ticks_in(record: &[u8]) -> u64
         return 0;
     }
     let moment = moment_of(record);
-    u64::from(moment.seconds) * 65_536 + u64::from(moment.subseconds)
+    u64::from(moment.seconds) * u64::from(SUBSECONDS) + u64::from(moment.subseconds)
 }
 
 /// One time less another.

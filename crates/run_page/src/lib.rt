@@ -2,11 +2,11 @@
 //! own HTML, style and script, which tools/gate/page_constants makes of page/.
 #![tactic(auto)]
 
+mod arriving;
 mod behind;
 mod clock;
 mod entry;
 mod error;
-mod incoming;
 mod intake;
 mod lists;
 mod page_front;
@@ -16,7 +16,6 @@ mod page_script_2;
 mod progress;
 mod report;
 mod telling;
-mod window;
 
 pub use error::ReportError;
 pub use intake::Taken;

@@ -1,9 +1,11 @@
 //! From a stream to what its page tells.
 
-ghost use Rattle.std.specs.Prelude.{◌≡◌, ◌<◌, ℕ, ◌==◌, ◌≤◌, ◌^◌, [], List, false, OnOk, IfOk, length, map, if◌then◌else◌};
+ghost use Rattle.std.specs.Prelude.{◌≡◌, ◌<◌, ℕ, ◌+◌, ◌==◌, ◌^◌, [], List, false, OnOk, IfOk, length, map, if◌then◌else◌};
 ghost use Rattle.bounded_history.specs.declared.entry.Entry.{Entry as Told};
 ghost use Rattle.flight_core.specs.Compiled.{sources_of};
+ghost use Rattle.flight_core.specs.Records.{piece_size};
 ghost use Rattle.lc_model.specs.Host.Schedule.{Schedule as Plan};
+ghost use Rattle.rpn_compiler.specs.TextParts.{AreTextsOf};
 ghost use Rattle.run_stepper.specs.Stepping.{BeginsWith, IsAtRest, engine_among, host_in, written_by};
 ghost use Rattle.run_summary.specs.Account.{account_of};
 ghost use Rattle.run_summary.specs.Brought.{brings};
@@ -12,19 +14,21 @@ ghost use Rattle.run_summary.specs.declared.texts.Field.{Field};
 ghost use Rattle.run_summary.specs.Run as run;
 ghost use Rattle.run_summary.specs.Run.{AreRead, OfTexts};
 ghost use Rattle.run_summary.specs.Texts.{HaveItems};
-ghost use Rattle.run_page.specs.Coming.{most_held, piece_size};
-ghost use Rattle.run_page.specs.Model.{HasTaken, HasTold, IsKept, KeepsStands, ListsTell, SaidLast, TellsRead, TellsTaken, led_to, place_of, stands_of, stood_more, ticks_of, values_more};
+ghost use Rattle.run_page.specs.Model.{HasTaken, HasTold, IsKept, IsNew, KeepsStands, ListsTell, SaidLast, TellsRead, TellsTaken, ending_at, led_to, place_of, stands_of, stood_more, ticks_of, values_more};
 
+use crate::arriving::{PIECE, handle_next};
 use crate::behind::Behind;
 use crate::clock::{Clock, ticks_in};
 use crate::entry::value_entry;
 use crate::error::ReportError;
-use crate::incoming::{Incoming, PIECE};
-use crate::intake::Taken;
+use crate::intake::{Intake, Taken};
 use crate::lists::Lists;
 use crate::progress::Progress;
+use flight_core::laws::{records_are_handed_out, the_rest_says_the_end};
 use lc_model::ByteSource;
-use run_stepper::{Ending, Handled, Stepping};
+use rpn_compiler::RuleText;
+use run_stepper::laws::steps_are_a_run;
+use run_stepper::{Ending, Handled, Stepping, read_texts};
 use run_summary::laws::{fields_that_come, rules_that_stand_as_before};
 use run_summary::{Account, Place, Seen};
 use schedules::Schedule;
@@ -54,11 +58,12 @@ fn tell_values(seen: &[Seen<'_>], place: Place, lists: &mut Lists) -> Result<(),
 }
 
 impl<'a> Telling<'a> {
-    /// Of no record, for runs of these texts, which compile.
-    fn new(alloc: Global, texts: &[&'a [u8]]) -> Result<Telling<'a>, ReportError>
+    /// Of no record, for runs of these texts.
+    fn new(alloc: Global, texts: Vec<RuleText<'a>>) -> Result<Telling<'a>, ReportError>
         ensures small { IfOk result (λ telling. telling.clock.start < 2 ^ 48) }
-        ensures nothing { IfOk result (λ telling. (read : OfTexts) ×
-            HaveItems (sources_of texts.now) read.texts × AreRead read ×
+        ensures nothing { (sources : List (List ℕ)) → AreTextsOf sources texts.entry.items →
+            IfOk result (λ telling. (read : OfTexts) ×
+            HaveItems sources read.texts × AreRead read ×
             HasTold read telling.lists telling.behind
             (account_of telling.account) telling.clock.start []) }
     {
@@ -163,46 +168,53 @@ impl<'a> Telling<'a> {
     }
 }
 
+/// How a stream ended, of which no more comes: behind so many records, or inside the next one.
+fn ending_at_end(stepping: &Stepping, records: u64) -> Ending
+    requires { records + 1 < 2 ^ 64 }
+    ensures { result ≡ ending_at (host_in stepping.now).held.bytes records }
+{
+    if stepping.held_size() == 0 {
+        return Ending::Whole { records };
+    }
+    Ending::Cut { n: records + 1 }
+}
+
 /// All records of a stream. Answers how it ended.
 fn tell_all<R: ByteSource, P: Progress>(
     telling: &mut Telling<'_>,
     stepping: &mut Stepping,
-    incoming: &mut Incoming,
+    intake: &mut Intake,
     room: &mut [u8],
     reader: &mut R,
     progress: &mut P,
 ) -> Result<Ending, ReportError>
     requires rest { IsAtRest stepping.old }
+    requires new { IsNew (host_in stepping.old) }
     requires start { telling.old.clock.start < 2 ^ 48 }
     requires room { length room.old ≡ piece_size }
-    requires empty { incoming.old.window ≡ [] }
     ensures rest { IsAtRest stepping.new }
     ensures room { length room.new ≡ piece_size }
-    ensures few { OnOk result (length incoming.new.window ≤ most_held) }
     ensures told { (read : OfTexts) → HasTold read telling.old.lists telling.old.behind
         (account_of telling.old.account) telling.old.clock.start [] →
         IfOk result (TellsTaken read (R.source reader.old).rest (R.source reader.new).rest
-        incoming.old.intake incoming.new.intake (host_in stepping.old)
+        intake.old intake.new (host_in stepping.old)
         telling.new.lists (account_of telling.new.account)) }
 {
+    records_are_handed_out();
+    the_rest_says_the_end();
     let mut number = 0u64;
     let mut done = 0u64;
     for _ in 0..u64::MAX {
-        incoming.bring(room, reader)?;
-        let record = incoming.front();
-        let size = record.len();
-        if size == 0 {
-            return Ok(Ending::Whole { records: number });
-        }
         let next = number + 1;
-        match stepping.step(record)? {
-            Handled::Whole => telling.take(stepping, record, next)?,
+        match handle_next(stepping, intake, room, reader)? {
+            Handled::Whole => {}
             Handled::NoRecord => return Ok(Ending::NoRecord { n: next }),
-            Handled::Part => return Ok(Ending::Cut { n: next }),
+            Handled::Part => return Ok(ending_at_end(stepping, number)),
         }
-        incoming.window.let_go(size);
+        let record = stepping.last_record();
+        telling.take(stepping, record, next)?;
         number = next;
-        done = done.saturating_add(size as u64);
+        done = done.saturating_add(record.len() as u64);
         progress.update(done);
     }
     Err(ReportError::Bound)
@@ -217,6 +229,7 @@ fn tell_stream<R: ByteSource, P: Progress>(
     progress: &mut P,
 ) -> Result<(Taken, Ending), ReportError>
     requires rest { IsAtRest stepping.old }
+    requires new { IsNew (host_in stepping.old) }
     requires start { telling.old.clock.start < 2 ^ 48 }
     ensures rest { IsAtRest stepping.new }
     ensures told { (sources : List (List ℕ)) (schedule : Plan) (read : OfTexts) →
@@ -228,20 +241,17 @@ fn tell_stream<R: ByteSource, P: Progress>(
         (R.source reader.old).rest (R.source reader.new).rest telling.new.lists
         (account_of telling.new.account) told.0.bytes told.0.digest told.1) }
 {
-    let mut incoming = Incoming::new(alloc)?;
+    steps_are_a_run();
+    let mut intake = Intake::new();
     let mut room = vec![in alloc; 0; PIECE]?;
     let ending = tell_all(
         telling,
         stepping,
-        &mut incoming,
+        &mut intake,
         room.as_mut_slice(),
         reader,
         progress,
     )?;
-    let Incoming {
-        window: _,
-        mut intake,
-    } = incoming;
     intake.take_rest(room.as_mut_slice(), reader)?;
     Ok((intake.into_taken(), ending))
 }
@@ -254,7 +264,8 @@ fn tell_new<'a, R: ByteSource, P: Progress>(
     reader: &mut R,
     progress: &mut P,
 ) -> Result<(Telling<'a>, Taken, Ending), ReportError>
-    requires { IsAtRest stepping.old }
+    requires rest { IsAtRest stepping.old }
+    requires new { IsNew (host_in stepping.old) }
     ensures rest { IsAtRest stepping.new }
     ensures told { (schedule : Plan) →
         BeginsWith (sources_of texts.now) schedule (host_in stepping.old) →
@@ -262,6 +273,7 @@ fn tell_new<'a, R: ByteSource, P: Progress>(
         (R.source reader.old).rest (R.source reader.new).rest told.0.lists
         (account_of told.0.account) told.1.bytes told.1.digest told.2) }
 {
+    let texts = read_texts(alloc, texts)?;
     let mut telling = Telling::new(alloc, texts)?;
     let (taken, ending) = tell_stream(alloc, &mut telling, stepping, reader, progress)?;
     Ok((telling, taken, ending))
@@ -269,8 +281,9 @@ fn tell_new<'a, R: ByteSource, P: Progress>(
 
 /// Runs rule texts under a schedule over a stream, record by record, which is read in pieces of 8,192 bytes at most, to its end. Answers
 /// what is told of the run, how many bytes the stream has and their SHA-256, and how the run ended (`TellsRead`): the bytes that were
-/// taken are all of the stream, and of these it is told what the rules and fields of these texts do (`TellsRun`), of a host that was new,
-/// with these texts' files and this profile's applications under this schedule in stock. Of the stream at most 73,739 bytes are held.
+/// taken are all of the stream, and of its records, up to the first fault, it is told what the rules and fields of these texts do
+/// (`TellsRun`), of a host that was new, with these texts' files and this profile's applications under this schedule in stock. Of the
+/// stream at most 73,739 bytes are held.
 ///
 /// Errors: `Rules` with the first text that doesn't compile, numbered from 0; `Memory`; `Read`, where a read fails; `Bound`, where there
 /// are more records, or reads behind them, than 64 bits count.

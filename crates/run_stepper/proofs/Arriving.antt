@@ -1,10 +1,8 @@
 -- The packets that came, one after the other.
-use Rattle.std.proofs.Common.{◌≡◌, refl, sym, ◌∙◌, ap, subst, ℕ, zero, suc, ◌+◌, ◌<◌, ◌≤◌, ◌&&◌, Bool, true, false, nat_le, List, [], ◌∷◌, ◌++◌, length, take, drop, map, length-append, length-drop, append_assoc, append-nil, if◌then◌else◌, arith}
+use Rattle.std.proofs.Common.{◌≡◌, refl, sym, ◌∙◌, ap, ℕ, zero, suc, ◌<◌, ◌≤◌, ◌&&◌, Bool, true, false, nat_le, List, [], ◌∷◌, ◌++◌, length, take, drop, map, length-drop, append_assoc, append-nil, arith}
 use Rattle.std.proofs.Math.Seq.{take-append_seam, drop-append_seam}
-use Rattle.lc_model.specs.Bytes.{u16_at}
-use Rattle.lc_model.specs.declared.record.Moment.{Moment}
 use Rattle.lc_model.proofs.Facts.{and_both, tested_at_most}
-use Rattle.run_stepper.specs.Trace.{Arrived, Part, arrived_by, arrived_from, packet_size, packets_by, packets_in, packets_within}
+use Rattle.run_stepper.specs.Trace.{Arrived, Part, arrived_by, packet_size, packets_by, packets_in, packets_within}
 
 abbrev is_there : List ℕ → Bool
 is_there bytes = nat_le 6 (length bytes) && nat_le (packet_size bytes) (length bytes)

@@ -1,5 +1,8 @@
 pub mod Engines
 pub mod InFront
+pub mod Alone
 pub mod Tracing
 pub mod Arriving
 pub mod Output
+pub mod TextsRead
+pub mod Stepped

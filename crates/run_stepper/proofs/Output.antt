@@ -1,11 +1,9 @@
 -- What each record leads to, one behind the other, is what is written over all.
-use Rattle.std.proofs.Common.{◌≡◌, refl, sym, ◌∙◌, ap, ℕ, List, [], ◌∷◌, ◌++◌}
+use Rattle.std.proofs.Common.{refl, sym, ◌∙◌, ap, ℕ, List, [], ◌∷◌, ◌++◌}
 use Rattle.std.specs.List.{concat}
 use Rattle.std.proofs.lemmas.List.Folds.{concat-append}
-use Rattle.lc_model.specs.Tables.Interpretation.{FileMeanings}
 use Rattle.lc_model.specs.Host.Run.{input_of}
-use Rattle.lc_model.specs.Host.Stream.{StreamEntry}
-use Rattle.lc_model.specs.Kept.Executive.{Executive, Written, step_by, written_from}
+use Rattle.lc_model.specs.Kept.Executive.{Written, step_by, written_from}
 use Rattle.app_host.specs.Shared.{on_board}
 use Rattle.run_stepper.specs.Trace.{PartsAreTheOutput, parts_from}
 

@@ -54,7 +54,7 @@ module _ (pairs : List TablePair) (first : Executive (List ℕ)) (stream : List 
   abbrev texts : ℕ
   texts = length pairs
 
-  abbrev left : ℕ → List ℕ → List StreamEntry × End
+  abbrev pub left : ℕ → List ℕ → List StreamEntry × End
   left done rest = records_numbered all_kinds texts (1 + done) rest
 
   -- these parts are written, and those of the records that are left come behind them

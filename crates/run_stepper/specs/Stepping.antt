@@ -1,5 +1,5 @@
 -- A run that goes record by record. This project's own.
-use Rattle.std.specs.Prelude.{◌≡◌, ℕ, Bool, List, [], ◌∷◌, Option, Some, None, Result, Ok, Err, ⊤}
+use Rattle.std.specs.Prelude.{◌≡◌, ℕ, ◌<◌, ◌≤◌, Bool, false, List, [], ◌∷◌, ◌++◌, length, Option, Some, None, Result, Ok, Err, ⊤}
 use Rattle.std.specs.Option.{option_or}
 use Rattle.lc_model.specs.Kept.Summary.{LcOwn, AppState, LcState, SchState, CounterState, Other}
 use Rattle.app_host.specs.Hosted.{Object}
@@ -9,8 +9,12 @@ use Rattle.flight_core.specs.declared.error.RunError.{RunError}
 use Rattle.flight_core.specs.declared.error.RunError.TheVariants as error
 use Rattle.flight_core.specs.Compiled.{IsFirstRefused}
 use Rattle.flight_core.specs.Feeding.{Feeding, HandlesOne, HasBegun, IsReady, feeding_of, fed_with}
+use Rattle.flight_core.specs.Front.{part_of}
+use Rattle.flight_core.specs.Records.{front_of, most_held}
 use Rattle.flight_core.specs.Run.{IsOfProfile}
 use Rattle.lc_model.specs.Host.Schedule.{Schedule}
+use Rattle.lc_model.specs.Host.Stream.{End, StreamEntry, records_of}
+use Rattle.lc_model.specs.Host.Stream as stream
 use Rattle.flight_profile.specs.Stock.{names_of, own_names}
 use Rattle.flight_profile.specs.Members.{meaning_of}
 use Rattle.run_stepper.specs.declared.error.CourseError.{CourseError}
@@ -57,13 +61,65 @@ told_of (Err (halt.Unsent sent)) = Err Memory
 told_of (Err halt.Fault) = Err Memory
 told_of (Err halt.Bound) = Err Memory
 
--- the host takes these bytes behind what it holds, and handles the record in front: what it leads to is all that is written then
-pub record HasStepped (bytes : List ℕ) (old new : Feeding) (written : List ℕ) (result : Result Handled CourseError) : Type 0 where
+-- the host handles the record in front of what it holds: what it leads to is all that is written then
+pub record HasHandled (old new : Feeding) (written : List ℕ) (result : Result Handled CourseError) : Type 0 where
   pub answer : Result (Option ℕ) Halt
   pub failed : Bool
   pub fails : Bool
-  pub one : HandlesOne (fed_with bytes old) new (record { gained = Some []; failed = failed }) (record { gained = Some written; failed = fails }) answer
+  pub one : HandlesOne old new (record { gained = Some []; failed = failed }) (record { gained = Some written; failed = fails }) answer
   pub told : result ≡ told_of answer
+
+-- the host takes these bytes behind what it holds, and handles the record in front
+abbrev pub HasStepped : List ℕ → Feeding → Feeding → List ℕ → Result Handled CourseError → Type 0
+HasStepped bytes old = HasHandled (fed_with bytes old)
+
+-- ---- a record by itself
+
+-- bytes that are this record, and nothing else, as the definitions take them apart
+abbrev pub one_record : StreamEntry → List StreamEntry × End
+one_record entry = (entry ∷ [], stream.Whole)
+
+-- with none of its stream held
+abbrev pub holding_none : Feeding → Feeding
+holding_none it = record it { held = record it.held { bytes = [] } }
+
+-- it is open, no fault was met in its stream, and no more of that is held than a longest record and a piece
+pub record GoesOn (it : Feeding) : Type 0 where
+  pub is_open : it.host.is_closed ≡ false
+  pub good : it.held.is_bad ≡ false
+  pub few : length it.held.bytes ≤ most_held
+
+-- what stands in front is a record. What went last are its bytes and nothing else, the others are held, and all goes as if the host had
+-- held none, and had taken this record.
+pub record HandlesRecord (old new : Feeding) (written : List ℕ) : Type 0 where
+  pub entry : StreamEntry
+  pub front : front_of old.held ≡ stream.Record entry new.held.bytes
+  pub parts : old.held.bytes ≡ new.held.last ++ new.held.bytes
+  pub own : records_of old.held.texts new.held.last ≡ one_record entry
+  pub alone : HasStepped new.held.last (holding_none old) (holding_none new) written (Ok Whole)
+  pub files : new.files ≡ old.files
+  pub texts : new.held.texts ≡ old.held.texts
+  pub goes_on : GoesOn new
+
+-- it is none, as if the host had held none, and had taken these bytes
+pub record MeetsNoRecord (old : Feeding) (written : List ℕ) : Type 0 where
+  pub front : front_of old.held ≡ stream.NoRecord
+  pub now : Feeding
+  pub alone : HasStepped old.held.bytes (holding_none old) now written (Ok NoRecord)
+
+-- less than a record is there, and nothing changes
+pub record Waits (old new : Feeding) (written : List ℕ) : Type 0 where
+  pub front : front_of old.held ≡ part_of old.held.bytes
+  pub few : length old.held.bytes < 65547
+  pub same : new ≡ old
+  pub now : Feeding
+  pub alone : HasStepped old.held.bytes (holding_none old) now written (Ok Part)
+
+-- by what became of it
+abbrev pub HandlesAlone : Feeding → Feeding → List ℕ → Handled → Type 0
+HandlesAlone old new written Whole = HandlesRecord old new written
+HandlesAlone old new written NoRecord = MeetsNoRecord old written
+HandlesAlone old new written Part = Waits old new written
 
 -- ---- the Limit Checker that runs
 

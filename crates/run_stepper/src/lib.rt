@@ -8,6 +8,7 @@ mod framing;
 mod handled;
 pub mod laws;
 mod plan;
+mod rule_texts;
 mod stepping;
 mod trace;
 
@@ -16,5 +17,6 @@ pub use ending::Ending;
 pub use error::CourseError;
 pub use handled::Handled;
 pub use plan::RunInputs;
+pub use rule_texts::read_texts;
 pub use stepping::Stepping;
 pub use trace::{Came, Trace, trace_of};

@@ -1,10 +1,12 @@
 //! A run that goes record by record, and lets be seen how the Limit Checker stands behind each.
 
-ghost use Rattle.std.specs.Prelude.{◌≡◌, ◌<◌, option_map, IfErr, IfOk, Some};
+ghost use Rattle.std.specs.Prelude.{◌≡◌, ◌<◌, ◌≤◌, length, option_map, IfErr, IfOk, Some};
 ghost use Rattle.app_host.specs.Hosted.{object_at};
 ghost use Rattle.flight_core.specs.Compiled.{IsNotCompiled, sources_of};
+ghost use Rattle.flight_core.specs.Feeding.{fed_with};
+ghost use Rattle.flight_core.specs.Records.{most_held, taken_of};
 ghost use Rattle.run_stepper.specs.declared.error.CourseError.TheVariants.{Memory};
-ghost use Rattle.run_stepper.specs.Stepping.{HasStepped, IsAtRest, BeginsWith, IsRefusal, engine_among, engine_of, host_in, refusal_of, written_by};
+ghost use Rattle.run_stepper.specs.Stepping.{BeginsWith, GoesOn, HandlesAlone, HasHandled, HasStepped, IsAtRest, IsRefusal, engine_among, engine_of, host_in, refusal_of, written_by};
 
 use crate::error::CourseError;
 use crate::handled::Handled;
@@ -76,22 +78,60 @@ impl Stepping {
         }
     }
 
-    /// Handles a record, of which these are the bytes. What it leads to is there until the next one comes.
-    pub fn step(&mut self, record: &[u8]) -> Result<Handled, CourseError>
+    /// Takes a piece of the stream behind what is held, as much of it as leaves at most 73,739 bytes held. Answers how much.
+    pub fn feed(&mut self, piece: &[u8]) -> usize
         requires ready { IsAtRest self.old }
         ensures ready { IsAtRest self.new }
-        ensures stepped { HasStepped record.now (host_in self.old) (host_in self.new)
-            (written_by self.new) result }
+        ensures taken { result ≡ length (taken_of (host_in self.old).held piece.now) }
+        ensures fed { host_in self.new ≡ fed_with piece.now (host_in self.old) }
+    {
+        self.fed.feed(piece)
+    }
+
+    /// Handles the next record, where a whole one is held. What it leads to is there until the next one is handled.
+    pub fn handle(&mut self) -> Result<Handled, CourseError>
+        requires ready { IsAtRest self.old }
+        ensures ready { IsAtRest self.new }
+        ensures handled { HasHandled (host_in self.old) (host_in self.new) (written_by self.new)
+            result }
+        ensures alone { GoesOn (host_in self.old) → IfOk result
+            (HandlesAlone (host_in self.old) (host_in self.new) (written_by self.new)) }
         ensures memory { IfErr result (λ error. error ≡ Memory) }
     {
         self.written.bytes.clear();
-        let _taken = self.fed.feed(record);
         match self.fed.handle(&mut self.written) {
             Ok(Some(_)) => Ok(Handled::Whole),
             Ok(None) => Ok(Handled::Part),
             Err(Halt::NoRecord) => Ok(Handled::NoRecord),
             Err(_) => Err(CourseError::Memory),
         }
+    }
+
+    /// Takes these bytes behind what is held, and handles the next record.
+    pub(crate) fn step(&mut self, bytes: &[u8]) -> Result<Handled, CourseError>
+        requires ready { IsAtRest self.old }
+        ensures ready { IsAtRest self.new }
+        ensures stepped { HasStepped bytes.now (host_in self.old) (host_in self.new)
+            (written_by self.new) result }
+        ensures memory { IfErr result (λ error. error ≡ Memory) }
+    {
+        let _taken = self.feed(bytes);
+        self.handle()
+    }
+
+    /// The bytes of the record that was handled last, until a piece comes: its header, and its body.
+    pub fn last_record(&self) -> &[u8]
+        ensures { result.now ≡ (host_in self.now).held.last }
+    {
+        self.fed.last_record()
+    }
+
+    /// How many bytes are held: never more than 73,739.
+    pub fn held_size(&self) -> usize
+        ensures held { result ≡ length (host_in self.now).held.bytes }
+        ensures few { length (host_in self.now).held.bytes ≤ most_held }
+    {
+        self.fed.held_size()
     }
 
     /// The packets that the last record led to, one behind the other.

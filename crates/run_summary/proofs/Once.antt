@@ -9,8 +9,9 @@ use Rattle.std.proofs.lemmas.List.{drop_all}
 use Rattle.std.proofs.lemmas.Slice.Eq.{bytes_eq-Decides}
 use Rattle.lc_model.proofs.Facts.{and_both, or_true, tested_equal}
 use Rattle.lc_model.specs.Codes.{type_code}
-use Rattle.run_summary.specs.declared.texts.Text.{Text}
-use Rattle.run_summary.specs.Texts.{Compared, added, all_added, all_compared, each_once, fields_of, is_mask, is_same, items_in, place_from, place_of}
+use Rattle.rpn_compiler.specs.declared.rule_text.RuleText.{RuleText}
+use Rattle.rpn_compiler.specs.TextParts.{items_in}
+use Rattle.run_summary.specs.Texts.{Compared, added, all_added, all_compared, each_once, fields_of, is_mask, is_same, place_from, place_of}
 
 -- ---- equal fields
 
@@ -155,9 +156,9 @@ each_added more = added_so [] more ∙ all_pass (each_once more)
     all_pass (field ∷ fields) = ap (λ more. field ∷ more) (all_pass fields)
 
 -- those of all texts are added
-pub texts_told : (fields : List Compared) (texts : List Text) (k : ℕ) → length texts ≤ k →
+pub texts_told : (fields : List Compared) (texts : List RuleText) (k : ℕ) → length texts ≤ k →
     all_added fields (all_compared (map items_in (drop k texts))) ≡ all_added [] (all_compared (map items_in texts)) → fields ≡ fields_of (map items_in texts)
 texts_told fields texts k over so_far =
-    sym (ap (λ (left : List Text). all_added fields (all_compared (map items_in left))) (drop_all k texts over))
+    sym (ap (λ (left : List RuleText). all_added fields (all_compared (map items_in left))) (drop_all k texts over))
     ∙ so_far
     ∙ each_added (all_compared (map items_in texts))

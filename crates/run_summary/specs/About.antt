@@ -1,24 +1,17 @@
 -- The rule that an event is about, as the Limit Checker's own words tell it (`actionpoint 3`, `: AP = 3`). This project's own.
-use Rattle.std.specs.Prelude.{ℕ, ◌+◌, ◌-◌, ◌*◌, Bool, not, ◌&&◌, List, [], ◌∷◌, length, take, drop, fold, codes, bytes_eq, nat_le, nat_lt, ◌==◌, if◌then◌else◌, Option, Some, None}
+use Rattle.std.specs.Prelude.{ℕ, Bool, not, ◌&&◌, List, [], ◌∷◌, length, take, drop, codes, bytes_eq, nat_le, if◌then◌else◌, Option, None}
 use Rattle.std.specs.Char.{is_ascii_digit}
 use Rattle.std.specs.List.{prefix_len}
 use Rattle.lc_model.specs.Name.{lc_name}
-
--- a digit more, of numbers of at most five digits
-abbrev pub digit_more : Option ℕ → ℕ → Option ℕ
-digit_more None digit = None
-digit_more (Some n) digit = if nat_lt n 10000 then Some (n * 10 + (digit - 48)) else None
-
-abbrev pub number_of : List ℕ → Option ℕ
-number_of digits = if length digits == 0 then None else fold digit_more (Some 0) digits
+use Rattle.text_lines.specs.Number.{decimal_number}
 
 -- the digits in front of a text
 abbrev pub digits_in_front : List ℕ → List ℕ
 digits_in_front text = take (prefix_len is_ascii_digit text) text
 
--- the number in front of a text
+-- the number in front of a text, of at most five digits
 abbrev pub number_in_front : List ℕ → Option ℕ
-number_in_front text = number_of (digits_in_front text)
+number_in_front text = decimal_number 5 (digits_in_front text)
 
 -- whether a text begins with these words
 abbrev pub begins : List ℕ → List ℕ → Bool

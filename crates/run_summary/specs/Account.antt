@@ -27,7 +27,7 @@ use Rattle.run_summary.specs.Plans.{Planned, parts_by, planned_at}
 use Rattle.run_summary.specs.Samples.{Row, met_by_parts, row_with}
 use Rattle.run_summary.specs.Sent.{Requested, Said, Sending, requested_more, said_more}
 use Rattle.run_summary.specs.Standing.{stand_at}
-use Rattle.run_summary.specs.Texts.{items_in}
+use Rattle.rpn_compiler.specs.TextParts.{items_in}
 
 -- all that is told of a run
 pub record Account : Type 0 where

@@ -2,7 +2,7 @@
 use Rattle.std.specs.Prelude.{ℕ, ◌+◌, Bool, true, false, not, ◌&&◌, ◌||◌, List, [], ◌∷◌, ◌++◌, codes, bytes_eq, find, length, nat_lt, ◌==◌, if◌then◌else◌, Option, Some, None, is_none, slice_set}
 use Rattle.std.specs.List.{position_from}
 use Rattle.lc_model.specs.declared.mode.LcMode.{LcMode}
-use Rattle.lc_model.specs.declared.mode.LcMode.TheVariants.{Active, Passive, Disabled}
+use Rattle.lc_model.specs.Codes.{mode_code}
 use Rattle.lc_model.specs.Name.{Name}
 use Rattle.run_summary.specs.declared.bands.How.{How}
 use Rattle.run_summary.specs.declared.bands.How.TheVariants as how
@@ -104,9 +104,7 @@ enforced place how b = record b {
 -- a number for each mode, and for none
 abbrev pub mode_number : Option LcMode → ℕ
 mode_number None = 0
-mode_number (Some Active) = 1
-mode_number (Some Passive) = 2
-mode_number (Some Disabled) = 3
+mode_number (Some mode) = mode_code mode
 
 -- the mode is this: it is told at the first record, and where it changes
 abbrev pub in_mode : Place → Option LcMode → InForce → InForce

@@ -1,7 +1,6 @@
 -- What is read of the rule texts of a run, by the items of each: the fields that their rules compare, and their rules. This project's own;
 -- what the items say is the rule language's (lc_model's Text).
 use Rattle.std.specs.Prelude.{ℕ, ◌+◌, Bool, true, false, not, ◌&&◌, List, [], ◌∷◌, ◌++◌, length, map, max, fold, filter_map, ◌==◌, if◌then◌else◌, Option, Some, None, option_map, unwrap_or, ℤ, pos, nat_abs, bytes_eq, ⊤}
-use Rattle.std.specs.Borrow.{Bor}
 use Rattle.std.specs.List.{filter, flat_map}
 use Rattle.std.specs.Option.{option_map_or}
 use Rattle.std.specs.Ordering.{int_eq}
@@ -10,38 +9,23 @@ use Rattle.lc_model.specs.declared.field.FieldType.{FieldType}
 use Rattle.lc_model.specs.Codes.{type_code}
 use Rattle.lc_model.specs.Field.{full_mask}
 use Rattle.lc_model.specs.Text.Meaning.{field_named, packet_named}
-use Rattle.lc_model.specs.Text.Reading.{Parses}
 use Rattle.lc_model.specs.Text.Syntax.{Compare, Expression, FieldItem, Item, Join, Not, Number, PacketItem, Rule, RuleItem}
-use Rattle.lc_model.specs.Text.Token.{Splits, Token}
-use Rattle.rule_parser.specs.Syntax.{items_of, name_of, number_of}
+use Rattle.lc_model.specs.Text.Token.{Token}
+use Rattle.rule_parser.specs.Syntax.{name_of, number_of}
 use Rattle.rule_parser.specs.declared.syntax.Comparison.{Comparison as Parsed}
+use Rattle.rpn_compiler.specs.Read.{HasItems}
 use Rattle.run_summary.specs.declared.plans.Part.{Part}
 use Rattle.run_summary.specs.declared.texts.Field.{Field}
-use Rattle.run_summary.specs.declared.texts.Text.{Text}
 use Rattle.run_summary.specs.Plans.{Planned}
 
 -- ---- items
 
--- the text has these items
-pub record HasItems (text : List ℕ) (items : List Item) : Type 0 where
-  pub tokens : List Token
-  pub splits : Splits text tokens
-  pub parses : Parses tokens items
-
--- .. each of these texts
+-- each of these texts has these items
 abbrev pub HaveItems : List (List ℕ) → List (List Item) → Type 0
 HaveItems [] [] = ⊤
 HaveItems [] (items ∷ all) = ⊥
 HaveItems (text ∷ texts) [] = ⊥
 HaveItems (text ∷ texts) (items ∷ all) = HasItems text items × HaveItems texts all
-
--- the bytes of texts
-abbrev pub sources_of : List (Bor (List ℕ)) → List (List ℕ)
-sources_of texts = map (λ text. text.now) texts
-
--- the items of a text as it is held
-abbrev pub items_in : Text → List Item
-items_in text = items_of text.file.items.items
 
 -- the rule that an item is
 abbrev pub rule_in : Item → Option RuleItem

@@ -1,9 +1,12 @@
 //! The rule that an event is about, as the Limit Checker's own words tell it.
 
-ghost use Rattle.std.specs.Prelude.{◌≡◌, ◌≤◌, bytes_eq, length};
-ghost use Rattle.std.specs.Char.{is_ascii_digit};
-ghost use Rattle.std.specs.List.{prefix_len};
-ghost use Rattle.run_summary.specs.About.{begins, digit_more, digits_in_front, found_in_front, number_behind, number_in_front, number_of, rule_of};
+ghost use Rattle.std.specs.Prelude.{◌≡◌, bytes_eq};
+ghost use Rattle.run_summary.specs.About.{begins, found_in_front, number_behind, number_in_front, rule_of};
+
+use text_lines::{decimal_number, split_digits};
+
+/// The most digits of a rule's number.
+const MOST_DIGITS: usize = 5;
 
 /// Whether two texts are one.
 pub(crate) fn is(text: &[u8], other: &[u8]) -> bool
@@ -12,59 +15,15 @@ pub(crate) fn is(text: &[u8], other: &[u8]) -> bool
     text == other
 }
 
-/// A digit more, of numbers of at most five digits.
-fn digit_more(number: Option<usize>, digit: u8) -> Option<usize>
-    ensures { result ≡ digit_more number digit }
-{
-    match number {
-        None => None,
-        Some(number) => if number < 10_000 {
-            Some(number * 10 + usize::from(digit.saturating_sub(48)))
-        } else {
-            None
-        },
-    }
-}
-
-/// The number that digits write.
-fn number_of(digits: &[u8]) -> Option<usize>
-    ensures { result ≡ number_of digits.now }
-{
-    if digits.len() == 0 {
-        return None;
-    }
-    let mut number = Some(0);
-    for digit in digits {
-        number = digit_more(number, *digit);
-    }
-    number
-}
-
-fn is_digit(byte: u8) -> bool
-    ensures { result ≡ is_ascii_digit byte }
-{
-    byte.is_ascii_digit()
-}
-
-/// How many digits stand in front of a text.
-fn digit_count(text: &[u8]) -> usize
-    ensures { result ≡ prefix_len is_ascii_digit text.now }
-{
-    text.iter().take_while(|byte| is_digit(**byte)).count()
-}
-
-/// The digits in front of a text.
-fn digits_in_front(text: &[u8]) -> &[u8]
-    ensures { result.now ≡ digits_in_front text.now }
-{
-    &text[..digit_count(text)]
-}
-
-/// The number in front of a text.
+/// The number in front of a text, of at most five digits.
 fn number_in_front(text: &[u8]) -> Option<usize>
     ensures { result ≡ number_in_front text.now }
 {
-    number_of(digits_in_front(text))
+    let (digits, _) = split_digits(text);
+    match decimal_number(MOST_DIGITS, digits) {
+        Some(number) => Some(number as usize),
+        None => None,
+    }
 }
 
 /// Whether a text begins with these words.

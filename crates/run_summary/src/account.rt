@@ -1,13 +1,14 @@
 //! The account of a run: taken record by record, in memory that doesn't grow with the run.
 
-ghost use Rattle.std.specs.Prelude.{◌≡◌, IfOk, OnOk, map, replicate};
+ghost use Rattle.std.specs.Prelude.{◌≡◌, IfOk, List, OnOk, map, replicate, ℕ};
+ghost use Rattle.rpn_compiler.specs.TextParts.{AreTextsOf, items_in};
 ghost use Rattle.run_summary.specs.Account.{account_of, before_with, brought_by, come, rows_with, sampled, stood_again, stood_so};
 ghost use Rattle.run_summary.specs.Brought.{brings_of};
 ghost use Rattle.run_summary.specs.Plans.{parts_by, planned_at};
 ghost use Rattle.run_summary.specs.Run.{TellsNothing};
 ghost use Rattle.run_summary.specs.Samples.{no_row};
 ghost use Rattle.run_summary.specs.Standing.{absent};
-ghost use Rattle.run_summary.specs.Texts.{HaveItems, items_in, most_rules, sources_of};
+ghost use Rattle.run_summary.specs.Texts.{most_rules};
 
 use crate::bands::Bands;
 use crate::brought::{Brought, read_record};
@@ -17,15 +18,16 @@ use crate::plans::{Part, RulePlans, parts_at, plans_of};
 use crate::samples::FailRun;
 use crate::seen::{Seen, all_unseen, see_all};
 use crate::sent::Sending;
-use crate::texts::{Text, fields_of, read_text};
+use crate::texts::{fields_of, rule_count};
 use lc_model::LcMode;
+use rpn_compiler::RuleText;
 use std::alloc::{AllocError, Global};
 
 /// All that is told of a run, of the records so far.
 #[derive(Drop)]
 pub struct Account<'a> {
     pub(crate) alloc: Global,
-    pub texts: Vec<Text<'a>>,
+    pub texts: Vec<RuleText<'a>>,
     pub(crate) plans: Vec<RulePlans>,
     /// The most rules of a text.
     pub lanes: usize,
@@ -39,25 +41,13 @@ pub struct Account<'a> {
     pub figures: Figures,
 }
 
-/// The texts. Out of memory is the only error.
-fn texts_of<'a>(alloc: Global, sources: &[&'a [u8]]) -> Result<Vec<Text<'a>>, AllocError>
-    ensures { IfOk result (λ texts.
-        HaveItems (sources_of sources.now) (map items_in texts.items)) }
-{
-    let mut texts = Vec::new(alloc);
-    for source in sources {
-        texts.push(read_text(alloc, source)?)?;
-    }
-    Ok(texts)
-}
-
 /// The most rules of a text.
-fn most_rules(texts: &[Text<'_>]) -> usize
+fn most_rules(texts: &[RuleText<'_>]) -> usize
     ensures { result ≡ most_rules (map items_in texts.now) }
 {
     let mut most = 0usize;
     for text in texts {
-        most = most.max(text.rule_count());
+        most = most.max(rule_count(text));
     }
     most
 }
@@ -114,11 +104,11 @@ fn take_stands(stands: &[Stand], before: &mut [Stand])
 }
 
 impl<'a> Account<'a> {
-    /// Of no record, for runs of these texts, which compile. Out of memory is the only error.
-    pub fn new(alloc: Global, sources: &[&'a [u8]]) -> Result<Account<'a>, AllocError>
-        ensures { IfOk result (λ it. TellsNothing (sources_of sources.now) (account_of it)) }
+    /// Of no record, for runs of these texts. Out of memory is the only error.
+    pub fn new(alloc: Global, texts: Vec<RuleText<'a>>) -> Result<Account<'a>, AllocError>
+        ensures { (sources : List (List ℕ)) → AreTextsOf sources texts.entry.items →
+            IfOk result (λ it. TellsNothing sources (account_of it)) }
     {
-        let texts = texts_of(alloc, sources)?;
         let fields = fields_of(alloc, texts.as_slice())?;
         let lanes = most_rules(texts.as_slice());
         let plans = plans_of(alloc, texts.as_slice(), fields.as_slice())?;

@@ -137,14 +137,12 @@ fn tell_more<T: Copy>(all: &mut Vec<T>, told: T, untold: T) -> Result<(), AllocE
 }
 
 /// A number for each mode, and for none.
-fn mode_number(mode: Option<LcMode>) -> u8
+fn mode_number(mode: Option<LcMode>) -> u16
     ensures { result ≡ mode_number mode }
 {
     match mode {
         None => 0,
-        Some(LcMode::Active) => 1,
-        Some(LcMode::Passive) => 2,
-        Some(LcMode::Disabled) => 3,
+        Some(mode) => mode.code(),
     }
 }
 

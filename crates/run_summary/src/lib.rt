@@ -28,5 +28,4 @@ pub use plans::Part;
 pub use samples::{Sample, verdict};
 pub use seen::{Met, Seen};
 pub use sent::{Request, SeenEvent, Sending};
-pub use texts::{Field, Text};
-pub use values::type_word;
+pub use texts::{Field, condition_tokens, rule_at, rule_count, token_bytes};

@@ -3,10 +3,12 @@
 ghost use Rattle.std.specs.Prelude.{◌≡◌, IfOk, Some, filter_map, map, option_map, slice_get};
 ghost use Rattle.rule_parser.specs.Syntax.{rule_of};
 ghost use Rattle.run_summary.specs.Plans.{may_by, parts_by, planned_at};
-ghost use Rattle.run_summary.specs.Texts.{compared_of, comparison_of, items_in, part_in, planned_of, text_planned, texts_planned};
+ghost use Rattle.rpn_compiler.specs.TextParts.{items_in};
+ghost use Rattle.run_summary.specs.Texts.{compared_of, comparison_of, part_in, planned_of, text_planned, texts_planned};
 
-use crate::texts::{Field, Text, comparisons_of, place_of};
+use crate::texts::{Field, comparisons_of, field_by_name, place_of};
 use lc_model::CmpOp;
+use rpn_compiler::RuleText;
 use rule_parser::{Comparison, Item, RuleItem};
 use std::alloc::{AllocError, Global};
 use std::marker::Model;
@@ -114,11 +116,11 @@ pub(crate) fn may_request(
 }
 
 /// A comparison by the number of its field among these, if it names one.
-fn part_of(text: &Text<'_>, comparison: &Comparison<'_>, fields: &[Field<'_>]) -> Option<Part>
+fn part_of(text: &RuleText<'_>, comparison: &Comparison<'_>, fields: &[Field<'_>]) -> Option<Part>
     ensures { result ≡ part_in (items_in text.now) (map compared_of fields.now)
         (comparison_of comparison.now) }
 {
-    match text.field(comparison.field) {
+    match field_by_name(text, comparison.field) {
         Some(field) => Some(Part {
             field: place_of(fields, &field).unwrap_or(0),
             op: comparison.op,
@@ -132,7 +134,7 @@ fn part_of(text: &Text<'_>, comparison: &Comparison<'_>, fields: &[Field<'_>]) -
 /// These comparisons by the numbers of their fields. Out of memory is the only error.
 fn parts_among(
     alloc: Global,
-    text: &Text<'_>,
+    text: &RuleText<'_>,
     comparisons: &[Comparison<'_>],
     fields: &[Field<'_>],
 ) -> Result<Vec<Part>, AllocError>
@@ -151,7 +153,7 @@ fn parts_among(
 /// The comparisons of a rule, from the left. Out of memory is the only error.
 fn parts_of(
     alloc: Global,
-    text: &Text<'_>,
+    text: &RuleText<'_>,
     rule: &RuleItem<'_>,
     fields: &[Field<'_>],
 ) -> Result<Vec<Part>, AllocError>
@@ -165,7 +167,7 @@ fn parts_of(
 /// A rule of a text. Out of memory is the only error.
 fn rule_plan(
     alloc: Global,
-    text: &Text<'_>,
+    text: &RuleText<'_>,
     rule: &RuleItem<'_>,
     fields: &[Field<'_>],
 ) -> Result<RulePlan, AllocError>
@@ -179,7 +181,11 @@ fn rule_plan(
 }
 
 /// The rules of a text, which compares these fields. Out of memory is the only error.
-fn plan_of(alloc: Global, text: &Text<'_>, fields: &[Field<'_>]) -> Result<RulePlans, AllocError>
+fn plan_of(
+    alloc: Global,
+    text: &RuleText<'_>,
+    fields: &[Field<'_>],
+) -> Result<RulePlans, AllocError>
     ensures { IfOk result (λ plan. plan ≡
         text_planned (map compared_of fields.now) (items_in text.now)) }
 {
@@ -195,7 +201,7 @@ fn plan_of(alloc: Global, text: &Text<'_>, fields: &[Field<'_>]) -> Result<RuleP
 /// The rules of texts, which compare these fields. Out of memory is the only error.
 pub(crate) fn plans_of(
     alloc: Global,
-    texts: &[Text<'_>],
+    texts: &[RuleText<'_>],
     fields: &[Field<'_>],
 ) -> Result<Vec<RulePlans>, AllocError>
     ensures { IfOk result (λ plans. plans.items ≡

@@ -1,14 +1,12 @@
 //! The samples that count for a request: those in which a rule failed in a row.
 
 ghost use Rattle.std.specs.Prelude.{◌≡◌, ◌++◌, ◌∷◌, [], length, IfOk, OnOk};
-ghost use Rattle.lc_model.specs.Field.{compares};
 ghost use Rattle.run_summary.specs.Samples.{in_row, met_by_parts, no_row, row_with, sampled_more, with_room};
 ghost use Rattle.run_summary.specs.Verdicts.{verdict_of};
 
 use crate::place::{Place, Stand};
 use crate::plans::Part;
 use crate::seen::{Met, Seen, met_of};
-use lc_model::CmpOp;
 use std::alloc::{AllocError, Global};
 use std::marker::Model;
 
@@ -183,20 +181,6 @@ impl FailRun {
     }
 }
 
-/// What a comparison makes of a value.
-fn holds(op: CmpOp, value: i64, number: i64) -> bool
-    ensures { result ≡ compares op value number }
-{
-    match op {
-        CmpOp::Less => value < number,
-        CmpOp::LessOrEqual => value <= number,
-        CmpOp::NotEqual => value != number,
-        CmpOp::Equal => value == number,
-        CmpOp::GreaterOrEqual => value >= number,
-        CmpOp::Greater => value > number,
-    }
-}
-
 /// What a comparison makes of what it met: stale where no packet came, an error where it ended before the field, else whether it holds.
 pub fn verdict(part: Part, met: Met) -> &'static str
     ensures { result.now ≡ verdict_of part met }
@@ -205,7 +189,7 @@ pub fn verdict(part: Part, met: Met) -> &'static str
         None => "stale",
         Some(_) => match met.value {
             None => "error",
-            Some(value) => if holds(part.op, value, part.number) {
+            Some(value) => if part.op.holds(value, part.number) {
                 "true"
             } else {
                 "false"

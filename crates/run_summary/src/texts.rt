@@ -1,27 +1,18 @@
-//! Rule texts as a page has them: their rules, and the fields that these compare.
+//! The rules of texts as a page has them, and the fields that these compare.
 
 ghost use Rattle.std.specs.Prelude.{◌≡◌, ◌++◌, IfOk, OnOk, filter_map, length, map, nat_abs, option_map, slice_get};
 ghost use Rattle.std.specs.Option.{option_map_or};
-ghost use Rattle.lc_model.specs.Codes.{type_code};
 ghost use Rattle.lc_model.specs.Field.{full_mask};
 ghost use Rattle.lc_model.specs.Text.Meaning.{field_named};
 ghost use Rattle.rule_parser.specs.Syntax.{expression_of, field_of, name_of, rule_of};
-ghost use Rattle.run_summary.specs.Texts.{HasItems, added, all_added, compared_by, compared_in, compared_in_text, compared_of, comparison_of, comparisons_in, field_compared, fields_of, is_mask, is_same, items_in, mid_named, place_of, rules_of};
+ghost use Rattle.rpn_compiler.specs.TextParts.{items_in};
+ghost use Rattle.run_summary.specs.Texts.{added, all_added, compared_by, compared_in, compared_in_text, compared_of, comparison_of, comparisons_in, field_compared, fields_of, is_mask, is_same, mid_named, place_of, rules_of};
 
 use lc_model::FieldType;
-use rule_lexer::{Token, TokenKind, lex};
-use rule_parser::{
-    Comparison, Expression, FieldItem, Item, Name, Number, RuleFile, RuleItem, parse,
-};
+use rpn_compiler::RuleText;
+use rule_lexer::TokenKind;
+use rule_parser::{Comparison, Expression, FieldItem, Item, Name, Number, RuleItem};
 use std::alloc::{AllocError, Global};
-
-/// A rule text that compiles.
-#[derive(Drop)]
-pub struct Text<'a> {
-    pub source: &'a [u8],
-    pub tokens: Vec<Token<'a>>,
-    pub file: RuleFile<'a>,
-}
 
 /// A field that a rule compares. Two are one where all of this is equal.
 #[derive(Clone, Copy)]
@@ -53,127 +44,109 @@ fn bits_of(field: FieldItem<'_>) -> u32
     field.mask.map_or(field.kind.full_mask(), magnitude)
 }
 
-/// Reads a text that compiles. Out of memory is the only error then.
-pub fn read_text<'a>(alloc: Global, source: &'a [u8]) -> Result<Text<'a>, AllocError>
-    ensures { IfOk result (λ text. HasItems source.now (items_in text)) }
+/// How many rules a text has.
+pub fn rule_count(text: &RuleText<'_>) -> usize
+    ensures { result ≡ length (rules_of (items_in text.now)) }
 {
-    let Ok(tokens) = lex(alloc, source) else {
-        return Err(AllocError);
-    };
-    let Ok(file) = parse(alloc, source, tokens.as_slice()) else {
-        return Err(AllocError);
-    };
-    Ok(Text {
-        source,
-        tokens,
-        file,
-    })
+    let mut count = 0usize;
+    for item in &text.file.items {
+        if let Item::Rule(_) = item {
+            count += 1;
+        }
+    }
+    count
 }
 
-impl<'a> Text<'a> {
-    /// How many rules there are.
-    pub fn rule_count(&self) -> usize
-        ensures { result ≡ length (rules_of (items_in self.now)) }
-    {
-        let mut count = 0usize;
-        for item in &self.file.items {
-            if let Item::Rule(_) = item {
-                count += 1;
+/// The rule of a text with this number.
+pub fn rule_at<'f, 'a>(text: &'f RuleText<'a>, number: usize) -> Option<&'f RuleItem<'a>>
+    ensures { option_map (λ rule. rule_of rule.now) result ≡
+        slice_get (rules_of (items_in text.now)) number }
+{
+    let mut left = number;
+    for item in &text.file.items {
+        if let Item::Rule(rule) = item {
+            if left == 0 {
+                return Some(rule);
+            }
+            left -= 1;
+        }
+    }
+    None
+}
+
+/// The message id of a text's packet of this name; 0 where there is none.
+fn mid_of(text: &RuleText<'_>, name: Name<'_>) -> u32
+    ensures { result ≡ mid_named (items_in text.now) (name_of name.entry) }
+{
+    for item in &text.file.items {
+        if let Item::Packet(packet) = item {
+            if packet.name.text == name.text {
+                return magnitude(packet.mid);
             }
         }
-        count
     }
+    0
+}
 
-    /// The rule with this number.
-    pub fn rule(&self, number: usize) -> Option<&RuleItem<'a>>
-        ensures { option_map (λ rule. rule_of rule.now) result ≡
-            slice_get (rules_of (items_in self.now)) number }
-    {
-        let mut left = number;
-        for item in &self.file.items {
-            if let Item::Rule(rule) = item {
-                if left == 0 {
-                    return Some(rule);
-                }
-                left -= 1;
+/// The field of a text that has this name.
+pub(crate) fn field_by_name<'a>(text: &RuleText<'a>, name: Name<'_>) -> Option<Field<'a>>
+    ensures { option_map compared_of result ≡ option_map (compared_in (items_in text.now))
+        (field_named (items_in text.now) (name_of name.entry)) }
+{
+    for item in &text.file.items {
+        if let Item::Field(field) = item {
+            if field.name.text == name.text {
+                return Some(field_of(text, *field));
             }
         }
-        None
     }
+    None
+}
 
-    /// The message id of the packet of this name; 0 where there is none.
-    fn mid_of(&self, name: Name<'_>) -> u32
-        ensures { result ≡ mid_named (items_in self.now) (name_of name.entry) }
-    {
-        for item in &self.file.items {
-            if let Item::Packet(packet) = item {
-                if packet.name.text == name.text {
-                    return magnitude(packet.mid);
-                }
-            }
-        }
-        0
+/// What an item of a text says of a field.
+fn field_of<'a>(text: &RuleText<'a>, field: FieldItem<'a>) -> Field<'a>
+    ensures { compared_of result ≡ compared_in (items_in text.now) (field_of field.entry) }
+{
+    Field {
+        name: field.name.text,
+        packet: field.packet.text,
+        mid: mid_of(text, field.packet),
+        kind: field.kind,
+        at: magnitude(field.offset),
+        mask: field.mask.map(|mask| mask.value),
+        bits: bits_of(field),
+        stale: field.stale.map_or(0, |stale| stale.value),
     }
+}
 
-    /// The field of this name.
-    pub(crate) fn field(&self, name: Name<'_>) -> Option<Field<'a>>
-        ensures { option_map compared_of result ≡ option_map (compared_in (items_in self.now))
-            (field_named (items_in self.now) (name_of name.entry)) }
-    {
-        for item in &self.file.items {
-            if let Item::Field(field) = item {
-                if field.name.text == name.text {
-                    return Some(self.field_of(*field));
-                }
-            }
-        }
-        None
-    }
-
-    fn field_of(&self, field: FieldItem<'a>) -> Field<'a>
-        ensures { compared_of result ≡ compared_in (items_in self.now) (field_of field.entry) }
-    {
-        Field {
-            name: field.name.text,
-            packet: field.packet.text,
-            mid: self.mid_of(field.packet),
-            kind: field.kind,
-            at: magnitude(field.offset),
-            mask: field.mask.map(|mask| mask.value),
-            bits: bits_of(field),
-            stale: field.stale.map_or(0, |stale| stale.value),
+/// The bytes of the token at this byte of a text.
+pub fn token_bytes<'a>(text: &RuleText<'a>, at: usize) -> &'a [u8] {
+    for token in &text.tokens {
+        if token.at == at {
+            return token.text;
         }
     }
+    b""
+}
 
-    /// The bytes of the token at this byte of the text.
-    pub fn token_bytes(&self, at: usize) -> &'a [u8] {
-        for token in &self.tokens {
-            if token.at == at {
-                return token.text;
-            }
+/// The first of the tokens of the condition of the rule whose name stands at this byte of a text, and the one behind them.
+pub fn condition_tokens(text: &RuleText<'_>, at: usize) -> (usize, usize) {
+    let name = text.tokens.iter().take_while(|token| token.at < at).count();
+    let when = next_token(text, name, TokenKind::When);
+    (
+        when.saturating_add(1),
+        next_token(text, when, TokenKind::Semicolon),
+    )
+}
+
+/// The number of the first token of this kind, from one on.
+fn next_token(text: &RuleText<'_>, from: usize, kind: TokenKind) -> usize {
+    for (number, token) in text.tokens.iter().enumerate() {
+        if number >= from && token.kind == kind {
+            return number;
         }
-        b""
     }
-
-    /// The first of the tokens of the condition of the rule whose name stands at this byte, and the one behind them.
-    pub fn condition(&self, at: usize) -> (usize, usize) {
-        let name = self.tokens.iter().take_while(|token| token.at < at).count();
-        let when = self.next(name, TokenKind::When);
-        (
-            when.saturating_add(1),
-            self.next(when, TokenKind::Semicolon),
-        )
-    }
-
-    /// The number of the first token of this kind, from one on.
-    fn next(&self, from: usize, kind: TokenKind) -> usize {
-        for (number, token) in self.tokens.iter().enumerate() {
-            if number >= from && token.kind == kind {
-                return number;
-            }
-        }
-        self.tokens.len()
-    }
+    text.tokens.len()
 }
 
 /// Adds the comparisons of a condition, from the left. Out of memory is the only error.
@@ -210,24 +183,6 @@ pub(crate) fn comparisons_of<'a>(
     Ok(comparisons)
 }
 
-/// The number of a type (the Limit Checker's tables).
-fn kind_number(kind: FieldType) -> u8
-    ensures { result ≡ type_code kind }
-{
-    match kind {
-        FieldType::U8 => 1,
-        FieldType::I8 => 2,
-        FieldType::U16Be => 3,
-        FieldType::U16Le => 4,
-        FieldType::I16Be => 5,
-        FieldType::I16Le => 6,
-        FieldType::U32Be => 7,
-        FieldType::U32Le => 8,
-        FieldType::I32Be => 9,
-        FieldType::I32Le => 10,
-    }
-}
-
 /// Whether two masks are one, or none is written.
 fn is_mask(one: Option<i64>, other: Option<i64>) -> bool
     ensures { result ≡ is_mask one other }
@@ -248,7 +203,7 @@ fn is_same(one: &Field<'_>, other: &Field<'_>) -> bool
     one.name == other.name
         && one.packet == other.packet
         && one.mid == other.mid
-        && kind_number(one.kind) == kind_number(other.kind)
+        && one.kind.code() == other.kind.code()
         && one.at == other.at
         && is_mask(one.mask, other.mask)
         && one.stale == other.stale
@@ -279,7 +234,7 @@ fn add_field<'a>(fields: &mut Vec<Field<'a>>, field: Field<'a>) -> Result<(), Al
 
 /// Adds the fields that these comparisons name, each once. Out of memory is the only error.
 fn add_fields<'a>(
-    text: &Text<'a>,
+    text: &RuleText<'a>,
     comparisons: &[Comparison<'a>],
     fields: &mut Vec<Field<'a>>,
 ) -> Result<(), AllocError>
@@ -288,7 +243,7 @@ fn add_fields<'a>(
         (field_compared (items_in text.now)) (map comparison_of comparisons.now))) }
 {
     for comparison in comparisons {
-        if let Some(field) = text.field(comparison.field) {
+        if let Some(field) = field_by_name(text, comparison.field) {
             add_field(fields, field)?;
         }
     }
@@ -298,7 +253,7 @@ fn add_fields<'a>(
 /// Adds the fields that a rule compares, each once. Out of memory is the only error.
 fn add_rule<'a>(
     alloc: Global,
-    text: &Text<'a>,
+    text: &RuleText<'a>,
     rule: &RuleItem<'a>,
     fields: &mut Vec<Field<'a>>,
 ) -> Result<(), AllocError>
@@ -313,7 +268,7 @@ fn add_rule<'a>(
 /// Adds the fields that the rules of a text compare, each once. Out of memory is the only error.
 fn add_text<'a>(
     alloc: Global,
-    text: &Text<'a>,
+    text: &RuleText<'a>,
     fields: &mut Vec<Field<'a>>,
 ) -> Result<(), AllocError>
     ensures { OnOk result (map compared_of fields.new.items ≡
@@ -328,7 +283,10 @@ fn add_text<'a>(
 }
 
 /// The fields that the rules of all texts compare, in the order of their first comparison. Out of memory is the only error.
-pub(crate) fn fields_of<'a>(alloc: Global, texts: &[Text<'a>]) -> Result<Vec<Field<'a>>, AllocError>
+pub(crate) fn fields_of<'a>(
+    alloc: Global,
+    texts: &[RuleText<'a>],
+) -> Result<Vec<Field<'a>>, AllocError>
     ensures { IfOk result (λ fields. map compared_of fields.items ≡
         fields_of (map items_in texts.now)) }
 {

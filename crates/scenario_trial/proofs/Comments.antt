@@ -1,15 +1,15 @@
 -- A script whose expectations are comments says what its other lines say.
 use Rattle.std.proofs.Common.{◌≡◌, refl, sym, ◌∙◌, ap, subst, ℕ, zero, suc, ◌+◌, Bool, true, false, not, ◌==◌, List, [], ◌∷◌, ◌++◌, length, take, drop, map, Result, Ok, Err, if◌then◌else◌, arith}
 use Rattle.std.specs.Prelude.{All, slice_index_or}
-use Rattle.std.specs.List.{AllByRecursion, join_with_byte, list_all, onto_first, prefix_len, slice_split}
-use Rattle.std.proofs.lemmas.List.Splits.{slice_split_at, slice_split_none}
+use Rattle.std.specs.List.{AllByRecursion, join_with_byte, list_all, prefix_len}
 use Rattle.std.proofs.lemmas.List.Folds.{list_all-append}
 use Rattle.std.proofs.lemmas.List.Sums.{AllPass-from_list_all}
-use Rattle.lc_model.specs.Host.ScheduleText.{is_silent}
+use Rattle.lc_model.specs.Host.ScheduleText.{is_silent, lines_of, onto_first, parted, words_of}
 use Rattle.lc_model.proofs.Facts.{and_both, and_true, test_unequal}
+use Rattle.text_lines.specs.Lines.{full, is_blank, is_feed}
+use Rattle.text_lines.proofs.Splits.{parted_at, parted_none}
 use Rattle.stream_script.specs.declared.error.Reason.{Reason}
 use Rattle.stream_script.specs.Error.{ScriptFault}
-use Rattle.stream_script.specs.Part.{full, is_blank, is_feed, lines_of, words_of}
 use Rattle.stream_script.specs.Script.{Said, line_said, lines_said, nothing_said, stream_of}
 use Rattle.scenario_trial.specs.Reading.{SilencedSaysTheRest, commented, emptied_line, is_expectation, silenced_in, silenced_line}
 use Rattle.scenario_trial.proofs.Lines.{AreSome, some_parts}
@@ -33,7 +33,7 @@ lines_free : (text : List ℕ) → AllByRecursion IsFree (lines_of text)
 lines_free [] = (refl, tt)
 lines_free (byte ∷ bytes) = by_test (is_feed byte) refl (some_parts is_feed bytes) (lines_free bytes)
   where
-    by_test : (b : Bool) → is_feed byte ≡ b → AreSome (slice_split is_feed bytes) → AllByRecursion IsFree (slice_split is_feed bytes) → AllByRecursion IsFree (slice_split is_feed (byte ∷ bytes))
+    by_test : (b : Bool) → is_feed byte ≡ b → AreSome (parted is_feed bytes) → AllByRecursion IsFree (parted is_feed bytes) → AllByRecursion IsFree (parted is_feed (byte ∷ bytes))
     by_test true is rest free = rw is (refl, free)
     by_test false is rest free =
         let those : AllByRecursion IsFree (rest.first ∷ rest.others) = subst (AllByRecursion IsFree) rest.are free in
@@ -41,9 +41,9 @@ lines_free (byte ∷ bytes) = by_test (is_feed byte) refl (some_parts is_feed by
         rw is (subst (AllByRecursion IsFree) (sym (ap (onto_first byte) rest.are)) (and_true (no_feed byte) (list_all no_feed rest.first) here those.0, those.1))
 
 joined_again : (line : List ℕ) (lines : List (List ℕ)) → AllByRecursion IsFree (line ∷ lines) → lines_of (join_with_byte 10 (line ∷ lines)) ≡ line ∷ lines
-joined_again line [] free = slice_split_none is_feed line (all_free line free.0)
+joined_again line [] free = parted_none is_feed line (all_free line free.0)
 joined_again line (next ∷ lines) free =
-    slice_split_at is_feed line 10 (join_with_byte 10 (next ∷ lines)) (all_free line free.0) refl ∙ ap (λ others. line ∷ others) (joined_again next lines free.1)
+    parted_at is_feed line 10 (join_with_byte 10 (next ∷ lines)) (all_free line free.0) refl ∙ ap (λ others. line ∷ others) (joined_again next lines free.1)
 
 -- ---- a comment in the place of an expectation
 
@@ -96,7 +96,7 @@ front_blank (byte ∷ bytes) = by_test (is_blank byte) refl (front_blank bytes)
     by_test false is rest = rw is refl
 
 mark_silent : (rest : List ℕ) → is_silent (words_of (35 ∷ rest)) ≡ true
-mark_silent rest = by_parts (slice_split is_blank rest) (some_parts is_blank rest)
+mark_silent rest = by_parts (parted is_blank rest) (some_parts is_blank rest)
   where
     by_parts : (parts : List (List ℕ)) → AreSome parts → is_silent (full (onto_first 35 parts)) ≡ true
     by_parts parts some =

@@ -1,10 +1,11 @@
 -- The lines of a script, as parts of it.
 use Rattle.std.proofs.Common.{◌≡◌, refl, sym, ◌∙◌, ap, ℕ, suc, ◌+◌, Bool, true, false, List, [], ◌∷◌, ◌++◌, length, map, append_assoc, Option, Some, None, is_none, Result, subst, arith}
 use denote.Ref.{Bor}
-use Rattle.stream_script.specs.Part.{is_feed, parts_in}
+use Rattle.lc_model.specs.Host.ScheduleText.{onto_first, parted}
 use Rattle.scenario_trial.specs.declared.expectation_lines.ReadError.{ReadError}
 use Rattle.scenario_trial.specs.Reading.{IsReadError, PlacedExpected, ReadFault, lines_expected}
-use Rattle.std.specs.List.{join_with_byte, onto_first, slice_split}
+use Rattle.std.specs.List.{join_with_byte}
+use Rattle.text_lines.specs.Lines.{is_feed, lines_in}
 use Rattle.scenario_trial.specs.Reading.{silenced_line}
 
 -- the bytes of parts, with one more for each
@@ -22,27 +23,27 @@ longer : (a b n : ℕ) → a + 1 + b ≡ n + 1 → suc a + 1 + b ≡ suc n + 1
 longer a b n is = omega (arith, is)
 
 module _ (ends : ℕ → Bool) where
-  pub some_parts : (text : List ℕ) → AreSome (slice_split ends text)
+  pub some_parts : (text : List ℕ) → AreSome (parted ends text)
   some_parts [] = record { first = []; others = []; are = refl }
   some_parts (byte ∷ bytes) = by_test (ends byte) refl (some_parts bytes)
     where
-      by_test : (b : Bool) → ends byte ≡ b → AreSome (slice_split ends bytes) → AreSome (slice_split ends (byte ∷ bytes))
-      by_test true is rest = record { first = []; others = slice_split ends bytes; are = rw is refl }
+      by_test : (b : Bool) → ends byte ≡ b → AreSome (parted ends bytes) → AreSome (parted ends (byte ∷ bytes))
+      by_test true is rest = record { first = []; others = parted ends bytes; are = rw is refl }
       by_test false is rest = record { first = byte ∷ rest.first; others = rest.others; are = rw is (ap (onto_first byte) rest.are) }
 
-  pub all_sizes : (text : List ℕ) → sizes (slice_split ends text) ≡ length text + 1
+  pub all_sizes : (text : List ℕ) → sizes (parted ends text) ≡ length text + 1
   all_sizes [] = refl
   all_sizes (byte ∷ bytes) = by_test (ends byte) refl (some_parts bytes) (all_sizes bytes)
     where
-      by_test : (b : Bool) → ends byte ≡ b → AreSome (slice_split ends bytes) → sizes (slice_split ends bytes) ≡ length bytes + 1 →
-          sizes (slice_split ends (byte ∷ bytes)) ≡ length (byte ∷ bytes) + 1
+      by_test : (b : Bool) → ends byte ≡ b → AreSome (parted ends bytes) → sizes (parted ends bytes) ≡ length bytes + 1 →
+          sizes (parted ends (byte ∷ bytes)) ≡ length (byte ∷ bytes) + 1
       by_test true is rest later = rw is (omega (arith, later))
       by_test false is rest later =
           let parts : length rest.first + 1 + sizes rest.others ≡ length bytes + 1 = sym (ap sizes rest.are) ∙ later in
           rw is (ap (λ (parts : List (List ℕ)). sizes (onto_first byte parts)) rest.are ∙ longer (length rest.first) (sizes rest.others) (length bytes) parts)
 
 -- the parts of what is left, where something is
-pub some_left : (rest : Option (Bor (List ℕ))) → is_none rest ≡ false → AreSome (parts_in is_feed rest)
+pub some_left : (rest : Option (Bor (List ℕ))) → is_none rest ≡ false → AreSome (lines_in rest)
 some_left None some = absurd (cc some)
 some_left (Some text) some = some_parts is_feed text.now
 
@@ -60,7 +61,7 @@ join_more quiet text line parts some is =
 -- the line in front of what is left is refused, and so is the script
 pub line_refused : (found : List PlacedExpected) (n at : ℕ) (left : Option (Bor (List ℕ))) (line : List ℕ) (rest : Option (Bor (List ℕ)))
     (whole : Result (List PlacedExpected) ReadFault) (error : ReadError) →
-    lines_expected found n at (parts_in is_feed left) ≡ whole → parts_in is_feed left ≡ line ∷ parts_in is_feed rest →
+    lines_expected found n at (lines_in left) ≡ whole → lines_in left ≡ line ∷ lines_in rest →
     ((lines : List (List ℕ)) → IsReadError (lines_expected found n at (line ∷ lines)) error) → IsReadError whole error
 line_refused found n at left line rest whole error says parts refuses =
-    subst (λ (r : Result (List PlacedExpected) ReadFault). IsReadError r error) (sym (ap (lines_expected found n at) parts) ∙ says) (refuses (parts_in is_feed rest))
+    subst (λ (r : Result (List PlacedExpected) ReadFault). IsReadError r error) (sym (ap (lines_expected found n at) parts) ∙ says) (refuses (lines_in rest))

@@ -2,7 +2,7 @@
 use Rattle.std.proofs.Common.{◌≡◌, sym, ◌∙◌, ap, ℕ, suc, ◌-◌, ◌≤◌, List, [], ◌∷◌, length, take, drop, get_or, arith, Result, Ok}
 use Rattle.std.proofs.lemmas.List.{take_all}
 use denote.Ref.{Bor}
-use Rattle.stream_script.specs.Part.{texts_of}
+use Rattle.text_lines.specs.Lines.{texts_of}
 use Rattle.scenario_trial.specs.declared.expectation.Span.{Span}
 use Rattle.scenario_trial.specs.declared.fault.ExpectationFault.{ExpectationFault}
 use Rattle.scenario_trial.specs.Expected.{narrowed, span_in, ◌>>=◌}

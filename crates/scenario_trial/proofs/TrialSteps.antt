@@ -1,6 +1,6 @@
 -- What a trial comes to.
 use Rattle.std.proofs.Common.{◌≡◌, refl, sym, ◌∙◌, ap, ℕ, List, [], ◌∷◌, length, map, Result, Ok, Err}
-use Rattle.std.specs.Prelude.{IfErr}
+use Rattle.std.specs.Prelude.{IfErr, IfOk}
 use Rattle.std.specs.List.{AllByRecursion}
 use Rattle.std.proofs.lemmas.List.{length-map}
 use Rattle.lc_model.specs.Host.Schedule.{Schedule}
@@ -12,7 +12,7 @@ use Rattle.scenario_trial.specs.declared.trial.Tried.{Tried}
 use Rattle.scenario_trial.specs.declared.expectation.Arrival.{Arrival}
 use Rattle.scenario_trial.specs.declared.expectation_lines.Placed.{Placed}
 use Rattle.scenario_trial.specs.declared.verdict.Judged.{Judged}
-use Rattle.scenario_trial.specs.Arrivals.{IsFound, IsJudged, placed_in}
+use Rattle.scenario_trial.specs.Arrivals.{IsFound, IsJudged, IsPlainTried, IsTried, placed_in}
 use Rattle.scenario_trial.specs.Judged.{unmet_of}
 use Rattle.scenario_trial.specs.Reading.{placed_of}
 use Rattle.scenario_trial.specs.Untried.{IsPlainUntried, IsUntried}
@@ -42,3 +42,16 @@ untried sources text declared plain (Err (trial.Rules number error)) declares sh
 untried sources text declared plain (Err (trial.Scenario error)) declares short why = absurd why
 untried sources text declared plain (Err (trial.Script error)) declares short why = (plain, record { declared = declared; declares = declares; short = short }, why)
 untried sources text declared plain (Err (trial.Expectation error)) declares short why = (plain, record { declared = declared; declares = declares; short = short }, why)
+
+-- what a plain script comes to is what the scenario comes to that is short for it
+pub tried_so : (sources : List (List ℕ)) (schedule : Schedule) (text : List ℕ) (declared : Declarations) (plain : PlainScript) (result : Result Tried TrialError) →
+    AreDeclared sources nothing_declared declared → plain_in declared text ≡ Ok plain → IfOk result (IsPlainTried sources schedule declared plain.script) →
+    IfOk result (IsTried sources schedule text)
+tried_so sources schedule text declared plain (Ok tried) declares short tries = record {
+  declared = declared;
+  declares = declares;
+  plain = plain;
+  short = short;
+  tries = tries;
+}
+tried_so sources schedule text declared plain (Err error) declares short tries = tries

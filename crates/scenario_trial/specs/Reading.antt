@@ -1,8 +1,9 @@
 -- The expectations of a script, and the script without them. This project's own.
 use Rattle.std.specs.Prelude.{◌≡◌, ℕ, ◌+◌, Bool, false, List, [], ◌∷◌, ◌++◌, length, take, drop, map, codes, bytes_eq, Option, Some, None, Result, Ok, Err, ⊤, if◌then◌else◌}
 use Rattle.std.specs.List.{join_with_byte, prefix_len}
+use Rattle.lc_model.specs.Host.ScheduleText.{lines_of, words_of}
+use Rattle.text_lines.specs.Lines.{is_blank}
 use Rattle.stream_script.specs.Error.{ScriptFault}
-use Rattle.stream_script.specs.Part.{is_blank, lines_of, words_of}
 use Rattle.stream_script.specs.Script.{lines_said, nothing_said, script_in, stream_of}
 use Rattle.scenario_trial.specs.declared.fault.ExpectationFault.{ExpectationFault}
 use Rattle.scenario_trial.specs.declared.expectation_lines.Placed.{Placed}

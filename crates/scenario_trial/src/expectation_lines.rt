@@ -3,9 +3,9 @@
 //! A line whose first word is `expect` says nothing of the stream. For whoever reads the stream it is made a comment, byte for
 //! byte in its place, so that every line keeps its number.
 
-ghost use Rattle.std.specs.Prelude.{◌≡◌, ◌≤◌, ◌+◌, ◌++◌, ◌∷◌, ℕ, List, drop, length, map, option_map, Ok, Err, IfOk, IfErr, IsErr};
-ghost use Rattle.std.specs.List.{prefix_len};
-ghost use Rattle.stream_script.specs.Part.{is_blank, texts_of, words_of};
+ghost use Rattle.std.specs.Prelude.{◌≡◌, ◌+◌, ◌++◌, ◌∷◌, ℕ, List, drop, length, map, option_map, Ok, Err, IfOk, IfErr, IsErr};
+ghost use Rattle.lc_model.specs.Host.ScheduleText.{words_of};
+ghost use Rattle.text_lines.specs.Lines.{texts_of};
 ghost use Rattle.scenario_trial.specs.Expected.{expected_of};
 ghost use Rattle.scenario_trial.specs.Reading.{IsReadError, IsRefused, PlacedExpected, ReadFault, commented, expectations_in, is_expectation, line_expected, lines_expected, placed_of, silenced_in, silenced_line, with_expected};
 ghost use Rattle.scenario_trial.specs.Untried.{read_error_at};
@@ -17,7 +17,7 @@ use crate::expectation_words::{expectation, is};
 use crate::fault::ExpectationFault;
 use scenarios::Plain;
 use std::alloc::{AllocError, Global};
-use stream_script::{first_line, words};
+use text_lines::{blank_count, first_line, words};
 use thiserror::Error;
 
 /// Why the expectations of a script can't be read.
@@ -215,21 +215,6 @@ pub fn read_expectations<'a>(alloc: Global, script: &'a [u8]) -> Result<Vec<Plac
     }
 }
 
-/// How many blanks stand in front of a line.
-fn indent(line: &[u8]) -> usize
-    ensures place { result ≡ prefix_len is_blank line.now }
-    ensures inside { result ≤ length line.now }
-{
-    line.iter().take_while(|byte| is_blank(**byte)).count()
-}
-
-/// Space, tab and carriage return part words.
-fn is_blank(byte: u8) -> bool
-    ensures { result ≡ is_blank byte }
-{
-    byte == b' ' || byte == b'\t' || byte == b'\r'
-}
-
 /// What stands behind the first byte.
 fn behind_first(bytes: &[u8]) -> &[u8]
     ensures { result.now ≡ drop 1 bytes.now }
@@ -245,7 +230,7 @@ fn with_comment(text: Vec<u8>, line: &[u8]) -> Result<Vec<u8>, AllocError>
     ensures { IfOk result (λ after. after.items ≡ text.items ++ commented line.now) }
 {
     let mut text = text;
-    let (blanks, rest) = line.split_at(indent(line));
+    let (blanks, rest) = line.split_at(blank_count(line));
     text.extend_from_slice(blanks)?;
     text.push(b'#')?;
     text.extend_from_slice(behind_first(rest))?;

@@ -1,7 +1,7 @@
 //! Expectations from the words behind `expect`.
 
 ghost use Rattle.std.specs.Prelude.{◌≡◌, bytes_eq, Ok, Err, IfOk, IfErr};
-ghost use Rattle.stream_script.specs.Part.{texts_of};
+ghost use Rattle.text_lines.specs.Lines.{texts_of};
 ghost use Rattle.scenario_trial.specs.Expected.{coming_in, coming_of, expected_in, expected_of, is_numeral, narrowed, narrowed_to, number_in, numbered, result_in, result_named, some_number, span_in, state_in, state_named, until, what_of, within};
 
 use crate::expectation::{Coming, Expectation, Span, What};

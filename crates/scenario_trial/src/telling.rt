@@ -7,7 +7,6 @@ use crate::expectation::{Arrival, Span, What};
 use lc_model::ApResult;
 use run_stepper::RuleStanding;
 use std::fmt::{self, Display, Formatter, Write};
-use table_listing::state_word;
 
 /// Of what came so many are told, at most.
 const TOLD: usize = 3;
@@ -150,11 +149,7 @@ impl Display for Unmet<'_> {
                 let _is_told = say_those("there came ", those, arrivals, f)?;
                 Ok(())
             }
-            Unmet::State(RuleStanding::Stands { state, .. }) => write!(
-                f,
-                "it is {}",
-                state_word(state)
-            ),
+            Unmet::State(RuleStanding::Stands { state, .. }) => write!(f, "it is {}", state.word()),
             Unmet::Result(RuleStanding::Stands { last, .. }) => write!(
                 f,
                 "its last result is {}",

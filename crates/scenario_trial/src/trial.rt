@@ -15,7 +15,7 @@ use crate::expectation_lines::{Placed, read_expectations, silence};
 use crate::telling::Unmet;
 use crate::verdict::{Judged, unmet_of};
 use packet_listing::{PacketLine, Sent, read_packet};
-use run_stepper::{Came, RuleStanding, RunInputs, standing_of, trace_of};
+use run_stepper::{Came, RuleStanding, RunInputs, read_texts, standing_of, trace_of};
 use scenarios::{DeclaredItems, Plain, declared_in, plain_script};
 use std::alloc::{AllocError, Global};
 use std::io::{self, Write};
@@ -323,9 +323,8 @@ pub fn try_scenario<W: Write>(
         scenario.now) }
     ensures refused { IfErr result (IsUntried (sources_of plan.entry.texts.now) scenario.now) }
 {
-    // For the texts' sake alone: one that doesn't compile declares nothing.
-    let _nothing = trace_of(alloc, plan.texts, plan.schedule, &[])?;
-    let declared = declared_in(alloc, plan.texts)?;
+    let texts = read_texts(alloc, plan.texts)?;
+    let declared = declared_in(alloc, texts.as_slice())?;
     let plain = plain_script(alloc, scenario, &declared)?;
     try_plain(alloc, name, plan, &declared, &plain, out)
 }

@@ -1,7 +1,6 @@
 //! Which expectations are met.
 
 ghost use Rattle.std.specs.Prelude.{◌≡◌, IfOk};
-ghost use Rattle.lc_model.specs.Codes.{result_code, state_code};
 ghost use Rattle.scenario_trial.specs.Expected.{expected_of};
 ghost use Rattle.scenario_trial.specs.Judged.{has_result, is_in_state, is_met, is_unmet, unmet_of};
 
@@ -18,31 +17,6 @@ pub struct Judged<'a> {
     pub found: RuleStanding,
 }
 
-/// The number of a state in housekeeping.
-fn state_code(state: ApMode) -> u8
-    ensures { result ≡ state_code state }
-{
-    match state {
-        ApMode::Active => 1,
-        ApMode::Passive => 2,
-        ApMode::Disabled => 3,
-        ApMode::PermOff => 4,
-    }
-}
-
-/// The number of a last result there.
-fn result_code(last: Option<ApResult>) -> u8
-    ensures { result ≡ result_code last }
-{
-    match last {
-        None => 0,
-        Some(ApResult::Pass) => 1,
-        Some(ApResult::Fail) => 2,
-        Some(ApResult::Stale) => 3,
-        Some(ApResult::Error) => 4,
-    }
-}
-
 /// Whether a rule is in this state.
 fn is_in_state(state: ApMode, found: RuleStanding) -> bool
     ensures { result ≡ is_in_state state found }
@@ -51,7 +25,7 @@ fn is_in_state(state: ApMode, found: RuleStanding) -> bool
         RuleStanding::Stands {
             state: there,
             last: _,
-        } => state_code(there) == state_code(state),
+        } => there.code() == state.code(),
         _ => false,
     }
 }
@@ -64,7 +38,7 @@ fn has_result(last: Option<ApResult>, found: RuleStanding) -> bool
         RuleStanding::Stands {
             state: _,
             last: there,
-        } => result_code(there) == result_code(last),
+        } => ApResult::last_code(there) == ApResult::last_code(last),
         _ => false,
     }
 }

@@ -3,7 +3,7 @@ use Rattle.std.proofs.Common.{◌≡◌, refl, sym, ◌∙◌, ap, ℕ, ◌<◌,
 use Rattle.std.proofs.lemmas.Option.{slice_get-get_or, slice_get-map, slice_get_read}
 use denote.Ref.{Bor}
 use Rattle.lc_model.specs.Field.{is_in_type}
-use Rattle.stream_script.specs.Part.{texts_of}
+use Rattle.text_lines.specs.Lines.{texts_of}
 use Rattle.scenarios.specs.declared.error.Reason.TheVariants.{OutsideType}
 use Rattle.scenarios.specs.Named.{NamedField, valued}
 use Rattle.scenarios.specs.Plain.{Going, words_at}

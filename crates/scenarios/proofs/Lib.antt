@@ -3,3 +3,4 @@ mod Short
 mod Fields
 mod Values
 mod Steps
+mod TextsDeclare

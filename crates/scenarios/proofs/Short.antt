@@ -1,8 +1,8 @@
 -- Words that are too few, or too many.
 use Rattle.std.proofs.Common.{◌≡◌, refl, ℕ, ◌<◌, ◌≤◌, List, [], ◌∷◌, length, arith, Err}
 use denote.Ref.{Bor}
+use Rattle.text_lines.specs.Lines.{texts_of}
 use Rattle.scenarios.specs.declared.error.Reason.TheVariants.{NoFilter, NoRamp, NoRepeat}
-use Rattle.stream_script.specs.Part.{texts_of}
 use Rattle.scenarios.specs.Named.{NamedField}
 use Rattle.scenarios.specs.Orders.{filter_line}
 use Rattle.scenarios.specs.Plain.{times_in}

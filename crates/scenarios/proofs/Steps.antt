@@ -2,7 +2,7 @@
 use Rattle.std.proofs.Common.{◌≡◌, refl, sym, ◌∙◌, ap, ℕ, zero, suc, ◌+◌, ◌<◌, ◌≤◌, Bool, true, false, nat_lt, if◌then◌else◌, List, length, Result, Ok, Err, arith}
 use Rattle.std.proofs.lemmas.List.{length-map}
 use denote.Ref.{Bor}
-use Rattle.stream_script.specs.Part.{texts_of}
+use Rattle.text_lines.specs.Lines.{texts_of}
 use Rattle.scenarios.specs.declared.error.Reason.{Reason}
 use Rattle.scenarios.specs.declared.error.Reason.TheVariants.{TooLong}
 use Rattle.scenarios.specs.Error.{ScenarioFault}

@@ -1,9 +1,8 @@
 -- What rule texts declare. This project's own.
 use Rattle.std.specs.Prelude.{◌≡◌, ℕ, ◌+◌, List, [], ◌∷◌, ◌++◌, None, unsigned_abs}
-use Rattle.lc_model.specs.Text.Token.{Token, Splits}
-use Rattle.lc_model.specs.Text.Reading.{Parses}
 use Rattle.lc_model.specs.Text.Syntax.{FieldItem, Item, Number, PacketItem}
 use Rattle.lc_model.specs.Text.Syntax as item
+use Rattle.rpn_compiler.specs.Read.{HasItems}
 use Rattle.scenarios.specs.Named.{NamedField, NamedPacket, NamedRule}
 
 -- the packets, fields and rules of rule texts, those of the first text first
@@ -44,10 +43,6 @@ next_behind other next = next
 abbrev pub with_items : ℕ → List Item → Declarations → Declarations
 with_items next [] d = d
 with_items next (i ∷ items) d = with_items (next_behind i next) items (with_item next i d)
-
--- the text has these items
-abbrev pub HasItems : List ℕ → List Item → Type 0
-HasItems text items = (tokens : List Token) × Splits text tokens × Parses tokens items
 
 -- this text, behind what is declared by then, declares that
 abbrev pub IsDeclared : List ℕ → Declarations → Declarations → Type 0

@@ -5,7 +5,7 @@ use Rattle.lc_model.specs.Bytes.{u16}
 use Rattle.lc_model.specs.Packet.{count_end}
 use Rattle.lc_model.specs.declared.field.FieldType.{FieldType}
 use Rattle.table_listing.specs.Shown.{in_hex}
-use Rattle.table_listing.specs.Words.{type_word}
+use Rattle.lc_model.specs.Words.{type_word}
 
 -- a packet, with the sequence count of the next one of it
 pub record NamedPacket : Type 0 where

@@ -1,6 +1,6 @@
 -- The plain script that a scenario is short for. This project's own.
 use Rattle.std.specs.Prelude.{ℕ, zero, suc, ◌+◌, ◌-◌, Bool, false, ◌==◌, List, [], ◌∷◌, length, drop, codes, bytes_eq, nat_lt, slice_get, unwrap_or, Option, Some, None, Result, Ok, Err, if◌then◌else◌}
-use Rattle.stream_script.specs.Part.{lines_of}
+use Rattle.lc_model.specs.Host.ScheduleText.{lines_of}
 use Rattle.scenarios.specs.declared.error.Reason.{Reason}
 use Rattle.scenarios.specs.declared.error.Reason.TheVariants.{NoRepeat, TooLong, Unbegun, Unended}
 use Rattle.scenarios.specs.declared.repetition.Repetition.{Repetition}

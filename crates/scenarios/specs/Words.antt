@@ -1,6 +1,6 @@
 -- The words of a scenario's lines. This project's own.
 use Rattle.std.specs.Prelude.{ℕ, Bool, false, ◌||◌, ◌==◌, List, [], ◌∷◌, ◌++◌, codes, bytes_eq, if◌then◌else◌}
-use Rattle.stream_script.specs.Part.{words_of}
+use Rattle.lc_model.specs.Host.ScheduleText.{words_of}
 
 -- a word that begins with `#` begins a comment
 abbrev pub is_comment : List ℕ → Bool

@@ -1,18 +1,18 @@
 //! What rule texts declare.
 
-ghost use Rattle.std.specs.Prelude.{◌≡◌, ◌<◌, ◌≤◌, ◌+◌, ◌^◌, bytes_eq, find, option_map, IfOk};
-ghost use Rattle.stream_script.specs.Part.{texts_of};
+ghost use Rattle.std.specs.Prelude.{◌≡◌, ◌<◌, ◌≤◌, ◌+◌, ◌^◌, bytes_eq, find, option_map, IfOk, List, ℕ};
 ghost use Rattle.rule_parser.specs.Syntax.{item_of, items_of};
+ghost use Rattle.rpn_compiler.specs.TextParts.{AreTextsOf};
 ghost use Rattle.scenarios.specs.Named.{NamedRule};
-ghost use Rattle.scenarios.specs.Declarations.{AreDeclared, IsDeclared, next_behind, nothing_declared, with_item, with_items};
+ghost use Rattle.scenarios.specs.Declarations.{AreDeclared, next_behind, nothing_declared, with_item, with_items};
 
 use crate::named::{Packet, Rule, ScenarioField, number_of_rule};
-use rule_lexer::lex;
-use rule_parser::{Item, parse};
+use rpn_compiler::RuleText;
+use rule_parser::Item;
 use std::alloc::{AllocError, Global};
 use std::marker::Model;
 
-/// The packets, fields and rules of rule texts that compile, those of the first text first. Contracts see all (`Declarations`).
+/// The packets, fields and rules of rule texts, those of the first text first. Contracts see all (`Declarations`).
 #[derive(Drop)]
 pub struct DeclaredItems<'a> {
     packets: Vec<Packet<'a>>,
@@ -135,32 +135,17 @@ fn with_items<'a>(
     Ok(declared)
 }
 
-/// What is declared with a text. Out of memory is the only error of one that compiles.
-fn with_text<'a>(
+/// What rule texts declare. Out of memory is the only error.
+pub fn declared_in<'a>(
     alloc: Global,
-    declared: DeclaredItems<'a>,
-    text: &'a [u8],
+    texts: &[RuleText<'a>],
 ) -> Result<DeclaredItems<'a>, AllocError>
-    ensures { IfOk result (λ after. IsDeclared text.now declared.entry after) }
-{
-    let Ok(tokens) = lex(alloc, text) else {
-        return Err(AllocError);
-    };
-    let Ok(file) = parse(alloc, text, tokens.as_slice()) else {
-        return Err(AllocError);
-    };
-    with_items(declared, file.items.as_slice())
-}
-
-/// What rule texts declare that compile. Of such texts want of memory is the only error; of one that doesn't compile it is answered,
-/// too, so that who calls compiles them first.
-pub fn declared_in<'a>(alloc: Global, texts: &[&'a [u8]]) -> Result<DeclaredItems<'a>, AllocError>
-    ensures { IfOk result
-        (λ declared. AreDeclared (texts_of texts.now) nothing_declared declared) }
+    ensures { (sources : List (List ℕ)) → AreTextsOf sources texts.now →
+        IfOk result (λ declared. AreDeclared sources nothing_declared declared) }
 {
     let mut declared = DeclaredItems::new(alloc);
     for text in texts {
-        declared = with_text(alloc, declared, text)?;
+        declared = with_items(declared, text.file.items.as_slice())?;
     }
     Ok(declared)
 }

@@ -2,7 +2,7 @@
 
 ghost use Rattle.std.specs.Prelude.{◌≡◌, ◌≤◌, length, IfOk, IfErr, Ok, slice_get};
 ghost use Rattle.std.specs.List.{position_or_len};
-ghost use Rattle.stream_script.specs.Part.{texts_of};
+ghost use Rattle.text_lines.specs.Lines.{texts_of};
 ghost use Rattle.scenarios.specs.Error.{IsRefused};
 ghost use Rattle.scenarios.specs.Line.{all_assigned, assigned, assigned_by, field_assigned, is_equals, line_said, other_said, own_field, packet_said, plain_said, verb_said};
 

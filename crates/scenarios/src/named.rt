@@ -9,11 +9,12 @@ ghost use Rattle.scenarios.specs.Said.{field_place, packet_place};
 
 use crate::word::is;
 use lc_model::FieldType;
+use lc_model::packet::COUNT_END;
 use rule_parser::{FieldItem, Number, PacketItem};
 use std::alloc::{AllocError, Global};
 use std::fmt::{self, Display, Formatter, Write};
 use std::marker::Model;
-use table_listing::{InHex, type_word};
+use table_listing::InHex;
 
 /// A number of a rule text, where it is one of 16 bits.
 fn short(number: Number) -> Option<u16>
@@ -80,7 +81,7 @@ impl<'a> Packet<'a> {
     pub(crate) fn count_on(&mut self)
         ensures { self.new ≡ counted_on self.old }
     {
-        self.count = ((u32::from(self.count) + 1) % 16_384) as u16;
+        self.count = ((u32::from(self.count) + 1) % u32::from(COUNT_END)) as u16;
     }
 
     /// The line of the next packet, with all values that fields have by now.
@@ -227,7 +228,7 @@ impl Display for FieldWords<'_, '_> {
         if !self.field.is_of(self.name) {
             return Ok(());
         }
-        let (kind, offset) = (type_word(self.field.kind()), self.field.offset());
+        let (kind, offset) = (self.field.kind().word(), self.field.offset());
         match self.field.value() {
             Some(value) => write!(f, " {kind} {offset} {value}"),
             None => Ok(()),

@@ -1,7 +1,7 @@
 //! Commands in words: the Limit Checker's mode, the state of its rules, and filters of events.
 
 ghost use Rattle.std.specs.Prelude.{◌≡◌, IfOk, IfErr, Ok, Some};
-ghost use Rattle.stream_script.specs.Part.{texts_of};
+ghost use Rattle.text_lines.specs.Lines.{texts_of};
 ghost use Rattle.scenarios.specs.Error.{IsRefused};
 ghost use Rattle.scenarios.specs.Orders.{command_line, filter_line, filter_of, is_all, is_off, mode_line, rule_number, some_name, standing_number, state_line, state_of};
 

@@ -1,7 +1,8 @@
 //! From a scenario to a plain script.
 
 ghost use Rattle.std.specs.Prelude.{◌≡◌, ◌<◌, ◌+◌, ◌^◌, drop, length, IfOk, IfErr, IsErr, Ok, Err};
-ghost use Rattle.stream_script.specs.Part.{lines_of, texts_of};
+ghost use Rattle.lc_model.specs.Host.ScheduleText.{lines_of};
+ghost use Rattle.text_lines.specs.Lines.{texts_of};
 ghost use Rattle.scenarios.specs.Error.{IsRefused, IsScenarioError, ScenarioFault};
 ghost use Rattle.scenarios.specs.Line.{line_said};
 ghost use Rattle.scenarios.specs.Plain.{PlainScript, begun, behind_end, end_said, gone_on, line_of, most_steps, plain_in, repeat_said, said_within, scenario_said, some_end, step, words_at};
@@ -17,7 +18,7 @@ use crate::word::words_in;
 use std::alloc::{AllocError, Global};
 use std::collections::VecDeque;
 use std::marker::Model;
-use stream_script::first_line;
+use text_lines::first_line;
 
 /// The most lines that are said, those that repeat others and those that begin and end repetitions among them.
 const MOST_STEPS: u64 = 10_000_000;

@@ -2,7 +2,7 @@
 
 ghost use Rattle.std.specs.Prelude.{◌≡◌, ◌<◌, ◌^◌, ◌++◌, codes, slice_get, IfOk, IfErr, Ok, unsigned_abs};
 ghost use Rattle.std.specs.Fmt.{decimal};
-ghost use Rattle.stream_script.specs.Part.{texts_of};
+ghost use Rattle.text_lines.specs.Lines.{texts_of};
 ghost use Rattle.scenarios.specs.Error.{IsRefused};
 ghost use Rattle.scenarios.specs.Said.{field_place};
 ghost use Rattle.scenarios.specs.Ramp.{has_ticks, is_paced, next_value, packet_of, packet_of_field, ramp_in, ramp_lines, ramp_of, ramp_paced, ramp_said, some_field, step_in, ticked, value_said, values_behind, values_said};

@@ -1,7 +1,7 @@
 //! Repeated lines: `repeat NUMBER {` before them, and `}` behind them.
 
 ghost use Rattle.std.specs.Prelude.{◌≡◌, ◌<◌, ◌≤◌, ◌+◌, ◌^◌, drop, IfOk, IfSome};
-ghost use Rattle.stream_script.specs.Part.{texts_of};
+ghost use Rattle.text_lines.specs.Lines.{texts_of};
 ghost use Rattle.scenarios.specs.Plain.{behind_end, depth_behind, is_end, is_repeat, times_in};
 
 use crate::error::Reason;

@@ -1,11 +1,11 @@
 //! Words of a scenario's lines.
 
 ghost use Rattle.std.specs.Prelude.{◌≡◌, ◌++◌, bytes_eq, IfOk};
-ghost use Rattle.stream_script.specs.Part.{texts_of};
+ghost use Rattle.text_lines.specs.Lines.{texts_of};
 ghost use Rattle.scenarios.specs.Words.{before_comment, is_app_word, is_comment, is_plain, is_record_word, is_request_word, is_table_word, words_behind, words_in};
 
 use std::alloc::{AllocError, Global};
-use stream_script::words;
+use text_lines::words;
 
 /// Whether a word is this one.
 pub(crate) fn is(word: &[u8], other: &[u8]) -> bool

@@ -5,12 +5,12 @@
 mod entry;
 mod error;
 mod line;
-mod number;
 mod parsing;
 mod schedule;
 mod word;
 
 pub use crate::entry::Entry;
 pub use crate::error::ScheduleError;
+pub use crate::line::MOST_DIGITS;
 pub use crate::parsing::parse_schedule;
 pub use crate::schedule::Schedule;

@@ -1,56 +1,33 @@
-//! The lines of a text, and what each says.
+//! What a line says.
 
-ghost use Rattle.std.specs.Prelude.{◌≡◌, ◌==◌, [], ◌∷◌, ◌≤◌, length, bytes_eq, codes, IfSome, option_map};
-ghost use Rattle.std.specs.List.{position_or_len};
+ghost use Rattle.std.specs.Prelude.{◌≡◌, [], ◌∷◌, bytes_eq, codes, IfSome, option_map};
 ghost use Rattle.lc_model.specs.Host.Schedule.{IsEntry};
 ghost use Rattle.lc_model.specs.Command.{is_range};
-ghost use Rattle.lc_model.specs.Host.ScheduleText.{ages_in, entry_in, is_silent, lines_of, slots_in};
-ghost use Rattle.lc_model.specs.Text.Token.{line_feed};
-ghost use Rattle.schedules.specs.Word.{lines_in, most_lines, texts_of};
+ghost use Rattle.lc_model.specs.Host.ScheduleText.{ages_in, decimal_number, entry_in, slots_in};
 ghost use Rattle.schedules.specs.Entry.{entry_of};
 ghost use Rattle.schedules.specs.Line.{placed_of, sample_said};
+ghost use Rattle.text_lines.specs.Lines.{texts_of};
 
 use crate::entry::Entry;
-use crate::number::decimal_number;
 use lc_model::{ALL_RULES, TABLE_ENTRIES};
+use text_lines::decimal_number;
 
-/// How many bytes come before the first line feed.
-fn line_length(text: &[u8]) -> usize
-    ensures place { result ≡ position_or_len (λ byte. byte == line_feed) text.now }
-    ensures inside { result ≤ length text.now }
-{
-    text.iter().take_while(|byte| **byte != b'\n').count()
-}
+/// The most digits of a number in a schedule.
+pub const MOST_DIGITS: usize = 5;
 
-/// The first line, and what follows its line feed, where it has one.
-pub(crate) fn first_line(text: &[u8]) -> (&[u8], Option<&[u8]>)
-    ensures lines { lines_of text.now ≡ result.0.now ∷ lines_in result.1 }
-    ensures fewer { most_lines result.1 ≤ length text.now }
+/// The number that one to five decimal digits write.
+fn number_in(word: &[u8]) -> Option<u64>
+    ensures { result ≡ decimal_number word.now }
 {
-    let (line, rest) = text.split_at(line_length(text));
-    if rest.is_empty() {
-        return (line, None);
-    }
-    let (_, rest) = rest.split_at(1);
-    (line, Some(rest))
-}
-
-/// Whether a line with these words says nothing: there are none, or the first begins with `#`.
-pub(crate) fn is_silent(words: &[&[u8]]) -> bool
-    ensures { result ≡ is_silent (texts_of words.now) }
-{
-    match words {
-        [] => true,
-        [first, ..] => !first.is_empty() && first[0] == b'#',
-    }
+    decimal_number(MOST_DIGITS, word)
 }
 
 /// The number of slots in `slots N`.
-pub(crate) fn slots_in(words: &[&[u8]]) -> Option<u32>
+pub(crate) fn slots_in(words: &[&[u8]]) -> Option<u64>
     ensures { result ≡ slots_in (texts_of words.now) }
 {
     match words {
-        [b"slots", number] => decimal_number(number).filter(|slots| *slots != 0),
+        [b"slots", number] => number_in(number).filter(|slots| *slots != 0),
         _ => None,
     }
 }
@@ -87,7 +64,7 @@ fn housekeeping_in(slot: &[u8], verb: &[u8]) -> Option<(usize, Entry)>
     ensures said { option_map placed_of result ≡ entry_in (slot.now ∷ verb.now ∷ []) }
     ensures fits { IfSome result (λ placed. IsEntry (entry_of placed.1)) }
 {
-    let slot = decimal_number(slot)?;
+    let slot = number_in(slot)?;
     if !is_housekeeping(verb) {
         return None;
     }
@@ -95,15 +72,15 @@ fn housekeeping_in(slot: &[u8], verb: &[u8]) -> Option<(usize, Entry)>
 }
 
 /// Whether these are all rules, or a range of rules that there may be.
-fn is_range(first: u32, last: u32) -> bool
+fn is_range(first: u64, last: u64) -> bool
     ensures { result ≡ is_range first last }
 {
-    let all = u32::from(ALL_RULES);
+    let all = u64::from(ALL_RULES);
     first == all && last == all || first <= last && (last as usize) < TABLE_ENTRIES
 }
 
 /// The entry that samples a range of rules.
-fn sample(verb: &[u8], first: u32, last: u32, ages: bool) -> Option<Entry>
+fn sample(verb: &[u8], first: u64, last: u64, ages: bool) -> Option<Entry>
     ensures said { option_map entry_of result ≡ sample_said verb.now first last ages }
     ensures fits { IfSome result (λ entry. IsEntry (entry_of entry)) }
 {
@@ -129,9 +106,9 @@ fn sample_in(
         entry_in (slot.now ∷ verb.now ∷ first.now ∷ last.now ∷ ages.now ∷ []) }
     ensures fits { IfSome result (λ placed. IsEntry (entry_of placed.1)) }
 {
-    let slot = decimal_number(slot)?;
-    let first = decimal_number(first)?;
-    let last = decimal_number(last)?;
+    let slot = number_in(slot)?;
+    let first = number_in(first)?;
+    let last = number_in(last)?;
     let ages = ages_in(ages)?;
     let entry = sample(verb, first, last, ages)?;
     Some((slot as usize, entry))

@@ -4,14 +4,15 @@ ghost use Rattle.std.specs.Prelude.{◌≡◌, ◌≢◌, ◌+◌, ◌<◌, ◌^
 ghost use Rattle.lc_model.specs.Host.Schedule.{Schedule as Slots};
 ghost use Rattle.lc_model.specs.Host.ScheduleText.{entry_added, entry_in, empty_slots, lines_read, schedule_in, slots_in, ScheduleFault};
 ghost use Rattle.schedules.specs.Error.{IsRefused};
-ghost use Rattle.schedules.specs.Word.{texts_of};
 ghost use Rattle.schedules.specs.declared.error.ScheduleError.TheVariants.{Memory};
+ghost use Rattle.text_lines.specs.Lines.{texts_of};
 
 use crate::error::ScheduleError;
 use crate::line;
 use crate::schedule::{MOST_SLOTS, Schedule};
 use crate::word::words;
 use std::alloc::Global;
+use text_lines::{first_line, is_silent};
 
 /// The slots that the first line with words asks for, without entries.
 fn empty_slots(alloc: Global, words: &[&[u8]], n: usize) -> Result<Schedule, ScheduleError>
@@ -58,10 +59,10 @@ fn read_line(
     ensures refused { IfErr result (λ error. (texts : List (List ℕ)) →
         IsRefused (lines_read known n (text.now ∷ texts)) error) }
 {
-    let words = words(text);
-    if line::is_silent(words.as_slice()) {
+    if is_silent(text) {
         return Ok(known);
     }
+    let words = words(text);
     let schedule = match known {
         None => empty_slots(alloc, words.as_slice(), n)?,
         Some(schedule) => with_entry(schedule, words.as_slice(), n)?,
@@ -88,7 +89,7 @@ pub fn parse_schedule(alloc: Global, text: &[u8]) -> Result<Schedule, ScheduleEr
     let mut left = Some(text);
     let mut n = 0;
     while let Some(bytes) = left {
-        let (text, rest) = line::first_line(bytes);
+        let (text, rest) = first_line(bytes);
         n += 1;
         known = read_line(alloc, known, text, n)?;
         left = rest;

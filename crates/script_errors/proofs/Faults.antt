@@ -1,13 +1,11 @@
 -- The line of a reader's fault is one of the text's.
 use Rattle.std.proofs.Common.{◌≡◌, ◌+◌, ◌<◌, ◌≤◌, ℕ, Bool, true, false, suc, cond, List, [], ◌∷◌, length, count_by, nat_lt, nat_le, not, refl, sym, ◌∙◌, ap, subst, arith, Option, Some, None, Result, Ok, Err}
 use Rattle.std.specs.Prelude.{⊤, slice_index_or}
-use Rattle.std.proofs.lemmas.List.Splits.{length-slice_split}
-use Rattle.std.proofs.lemmas.List.Sums.{sum_by-cons}
 use Rattle.lc_model.specs.Host.Schedule.{Schedule, ScheduleEntry, most_slots, most_entries}
-use Rattle.lc_model.specs.Host.ScheduleText.{ScheduleFault, entry_added, entry_in, empty_slots, is_silent, line_read, lines_of, lines_read, onto_first, parted, schedule_in, slots_in, words_of}
+use Rattle.lc_model.specs.Host.ScheduleText.{ScheduleFault, entry_added, entry_in, empty_slots, is_silent, line_read, lines_of, lines_read, schedule_in, slots_in, words_of}
 use Rattle.diagnostics.specs.Line.{is_line_feed}
+use Rattle.text_lines.proofs.Splits.{length-parted}
 use Rattle.stream_script.specs.Error.{ScriptFault}
-use Rattle.stream_script.specs.Part as script
 use Rattle.stream_script.specs.Script.{Said, line_said, lines_said, nothing_said, script_in, stream_of}
 use Rattle.stream_script.specs.declared.error.Reason.{Reason}
 use Rattle.script_errors.specs.Line.{line_count}
@@ -64,24 +62,12 @@ of_lines (text ∷ texts) (Some known) line some =
     (of_more (line_read (Some known) (words_of text) line) (λ schedule. lines_read (Some schedule) (line + 1) texts) line (length texts)
     (of_line (Some known) (words_of text) line) (λ schedule. of_lines texts (Some schedule) (line + 1) (omega arith)))
 
-some_more : (byte : ℕ) (pieces : List (List ℕ)) (count : ℕ) (b : Bool) → length pieces ≡ count + 1
-    → length (cond b ([] ∷ pieces) (onto_first byte pieces)) ≡ cond b 1 0 + count + 1
-some_more byte pieces count true e = omega (arith, e)
-some_more byte [] count false e = absurd (omega (arith, e))
-some_more byte (piece ∷ pieces) count false e = omega (arith, e)
-
-count_parted : (text : List ℕ) → length (parted is_line_feed text) ≡ count_by is_line_feed text + 1
-count_parted [] = refl
-count_parted (byte ∷ text) =
-    some_more byte (parted is_line_feed text) (count_by is_line_feed text) (is_line_feed byte) (count_parted text)
-    ∙ ap (λ n. n + 1) (sym (sum_by-cons (λ x. cond (is_line_feed x) 1 0) byte text))
-
 -- the line of a schedule's fault is one of the text's
 pub of_schedule : (text : List ℕ) (code number : ℕ) → schedule_in text ≡ Err (record { code = code; line = number }) → number ≤ line_count text
 of_schedule text code number fault =
     let line : fault_line (schedule_in text) ≡ number = ap fault_line fault in
     let below = of_lines (lines_of text) None 1 (omega arith) in
-    let count = count_parted text in
+    let count = length-parted is_line_feed text in
     omega (arith, line, below, count)
 
 -- ---- scripts
@@ -107,7 +93,7 @@ of_statement (Ok after) n count next later = one_later (next after) n count (lat
 of_statements : (lines : List (List ℕ)) (said : Said) (n : ℕ) → IsBetween n (n + length lines) (lines_said said n lines)
 of_statements [] said n = tt
 of_statements (line ∷ lines) said n =
-    of_statement (line_said said (script.words_of line)) n (length lines) (λ after. lines_said after (n + 1) lines)
+    of_statement (line_said said (words_of line)) n (length lines) (λ after. lines_said after (n + 1) lines)
     (λ after. of_statements lines after (n + 1))
 
 of_stream : (answer : Result Said ScriptFault) (from to : ℕ) → IsBetween from to answer → IsBetween from to (stream_of answer)
@@ -118,9 +104,9 @@ of_stream (Err fault) from to is = is
 pub of_script : (text : List ℕ) (reason : Reason) (number : ℕ) → script_in text ≡ Err (record { line = number; reason = reason })
     → (1 ≤ number) × (number ≤ line_count text)
 of_script text reason number fault =
-    let is = of_stream (lines_said nothing_said 1 (script.lines_of text)) 1 (1 + length (script.lines_of text))
-    (of_statements (script.lines_of text) nothing_said 1) in
-    let place : (1 ≤ number) × (number < 1 + length (script.lines_of text)) =
-    subst (IsBetween 1 (1 + length (script.lines_of text))) fault is in
-    let count = length-slice_split is_line_feed text in
+    let is = of_stream (lines_said nothing_said 1 (lines_of text)) 1 (1 + length (lines_of text))
+    (of_statements (lines_of text) nothing_said 1) in
+    let place : (1 ≤ number) × (number < 1 + length (lines_of text)) =
+    subst (IsBetween 1 (1 + length (lines_of text))) fault is in
+    let count = length-parted is_line_feed text in
     (place.0, omega (arith, place.1, count))

@@ -2,12 +2,10 @@
 
 use crate::said::{LineMessage, advise, expect_word, expected_word, said_of};
 use crate::statement::{Wanted, WordShape};
-use crate::word::{Word, are_digits, number_in};
+use crate::word::{Word, are_digits};
 use diagnostics::{front_character, quote};
 use std::alloc::{AllocError, Global};
-
-/// The most digits of a number in a script.
-pub const MOST_DIGITS: usize = 10;
+use stream_script::decimal_number;
 
 /// The digits of a message id.
 const ID_DIGITS: usize = 4;
@@ -17,7 +15,7 @@ const BYTES_ADVICE: &str = "bytes have two digits each, of 0 to 9 and A to F";
 
 /// Whether a word is a number between these.
 fn is_number(word: &[u8], least: u64, most: u64) -> bool {
-    number_in(word, MOST_DIGITS).is_some_and(|number| (least..=most).contains(&number))
+    decimal_number(word).is_some_and(|number| (least..=most).contains(&number))
 }
 
 /// How many hexadecimal digits stand in front.
@@ -63,7 +61,7 @@ fn number_said(
         return expect_word(alloc, word, wanted.what, wanted.advice);
     }
     let shown = word.quote(alloc)?;
-    let is_small = number_in(word.text, MOST_DIGITS).is_some_and(|number| number < least);
+    let is_small = decimal_number(word.text).is_some_and(|number| number < least);
     let head = if is_small {
         format!(in alloc; "{shown} is too small")?
     } else {

@@ -1,9 +1,10 @@
 //! What is said of a line that should be an entry of a slot.
 
-use crate::first_line::MOST_DIGITS;
 use crate::said::{LineMessage, advise, expect_word, expected_word, too_many};
-use crate::word::{Word, are_digits, nth_word, number_in};
+use crate::word::{Word, are_digits, nth_word};
+use schedules::MOST_DIGITS;
 use std::alloc::{AllocError, Global};
+use text_lines::decimal_number;
 
 const VERBS: &[&[u8]] = &[b"sample", b"housekeeping"];
 
@@ -23,7 +24,7 @@ const ALL_RULES: u64 = 65_535;
 
 /// The number of a word, or one that is none of a schedule's.
 fn number(word: Word<'_>) -> u64 {
-    number_in(word.text, MOST_DIGITS).unwrap_or(u64::MAX)
+    decimal_number(MOST_DIGITS, word.text).unwrap_or(u64::MAX)
 }
 
 /// What is said of a slot that isn't there, where there are so many.

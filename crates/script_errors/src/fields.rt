@@ -1,11 +1,13 @@
 //! What is said of the fields of a packet.
 
-use crate::argument::{MOST_DIGITS, is_right, word_said};
+use crate::argument::{is_right, word_said};
 use crate::said::{LineMessage, advise, expect_word, mark_word};
 use crate::statement::{OFFSET, TYPE};
-use crate::word::{Word, are_digits, nth_word, number_in, word_behind};
+use crate::word::{Word, are_digits, nth_word, word_behind};
+use diagnostics::Signed;
 use lc_model::FieldType;
 use std::alloc::{AllocError, Global};
+use stream_script::decimal_number;
 
 /// The bytes of telemetry's headers.
 const HEADERS: u64 = 12;
@@ -13,16 +15,10 @@ const HEADERS: u64 = 12;
 /// The number of the word with the packet's length.
 const LENGTH: usize = 3;
 
-/// The numbers of a type.
-fn range_of(kind: FieldType) -> &'static str {
-    match kind {
-        FieldType::U8 => "write 0 to 255",
-        FieldType::I8 => "write -128 to 127",
-        FieldType::U16Be | FieldType::U16Le => "write 0 to 65,535",
-        FieldType::I16Be | FieldType::I16Le => "write -32,768 to 32,767",
-        FieldType::U32Be | FieldType::U32Le => "write 0 to 4,294,967,295",
-        FieldType::I32Be | FieldType::I32Le => "write -2,147,483,648 to 2,147,483,647",
-    }
+/// What to write where a number of a type is wanted.
+fn range_advice(alloc: Global, kind: FieldType) -> Result<String, AllocError> {
+    let (least, greatest) = (Signed(kind.least()), Signed(kind.greatest()));
+    format!(in alloc; "write {least} to {greatest}")
 }
 
 /// The word without the `-` in front.
@@ -35,7 +31,7 @@ fn without_sign(word: &[u8]) -> &[u8] {
 
 /// The number that a word writes, with `-` in front of a negative one.
 fn value_in(word: &[u8]) -> Option<i64> {
-    let number = number_in(without_sign(word), MOST_DIGITS)?;
+    let number = decimal_number(without_sign(word))?;
     let value = i64::try_from(number).ok()?;
     Some(if word.starts_with(b"-") {
         value.saturating_neg()
@@ -51,7 +47,8 @@ fn is_value(kind: FieldType, word: &[u8]) -> bool {
 
 /// What is said of a word that writes none.
 fn value_said(alloc: Global, kind: FieldType, value: Word<'_>) -> Result<LineMessage, AllocError> {
-    let advice = range_of(kind);
+    let advice = range_advice(alloc, kind)?;
+    let advice = advice.as_str();
     if !are_digits(without_sign(value.text)) {
         return expect_word(alloc, value, "the value of the field", advice);
     }
@@ -67,7 +64,7 @@ fn is_inside(width: u64, place: u64, size: u64) -> bool {
 
 /// The size of the packet, as the line says it.
 fn size_of(line: &[u8]) -> u64 {
-    number_in(nth_word(line, LENGTH).text, MOST_DIGITS).unwrap_or(0)
+    decimal_number(nth_word(line, LENGTH).text).unwrap_or(0)
 }
 
 /// So many bytes, in words.
@@ -99,7 +96,7 @@ fn outside_said(
     kind: FieldType,
     offset: Word<'_>,
 ) -> Result<LineMessage, AllocError> {
-    let (place, width) = (number_in(offset.text, MOST_DIGITS), kind.width() as u64);
+    let (place, width) = (decimal_number(offset.text), kind.width() as u64);
     let size = size_of(line);
     let head = if place.is_some_and(|place| place < HEADERS) {
         "the field begins in the headers of its packet"
@@ -124,7 +121,7 @@ fn placed_said(
     offset: Word<'_>,
     value: Word<'_>,
 ) -> Result<Option<LineMessage>, AllocError> {
-    let place = number_in(offset.text, MOST_DIGITS).unwrap_or(0);
+    let place = decimal_number(offset.text).unwrap_or(0);
     if !is_inside(kind.width() as u64, place, size_of(line)) {
         return Ok(Some(outside_said(alloc, line, kind, offset)?));
     }

@@ -1,8 +1,10 @@
 //! What is said of a line that should be `slots N`.
 
 use crate::said::{LineMessage, advise, expect_word, expected_word, too_many};
-use crate::word::{are_digits, nth_word, number_in};
+use crate::word::{are_digits, nth_word};
+use schedules::MOST_DIGITS;
 use std::alloc::{AllocError, Global};
+use text_lines::decimal_number;
 
 /// The first word.
 const SLOTS: &[&[u8]] = &[b"slots"];
@@ -10,12 +12,9 @@ const SLOTS: &[&[u8]] = &[b"slots"];
 /// How many slots there may be.
 const RANGE: &str = "write 1 to 64";
 
-/// The most digits of a number in a schedule.
-pub const MOST_DIGITS: usize = 5;
-
 /// The number of slots that the first line with words asks for.
 pub fn slots_in(line: &[u8]) -> u64 {
-    number_in(nth_word(line, 1).text, MOST_DIGITS).unwrap_or(0)
+    decimal_number(MOST_DIGITS, nth_word(line, 1).text).unwrap_or(0)
 }
 
 /// What is wrong with the number of slots.

@@ -11,10 +11,10 @@ use crate::first_line::{first_said, slots_in};
 use crate::line::{Line, line_numbered};
 use crate::refusal::Refusal;
 use crate::said::{LineMessage, message_at_end, message_on};
-use crate::word::nth_word;
 use diagnostics::Message;
 use schedules::{Schedule, ScheduleError, parse_schedule};
 use std::alloc::{AllocError, Global};
+use text_lines::is_silent;
 
 /// The number of a line that may not stand there.
 const BAD_LINE: u8 = 131;
@@ -24,12 +24,6 @@ const TOO_MANY_SLOTS: u8 = 132;
 
 /// The number of a slot with too many entries.
 const TOO_MANY_ENTRIES: u8 = 133;
-
-/// Whether the line says nothing: it has no words, or the first begins with `#`.
-fn is_silent(line: &[u8]) -> bool {
-    let first = nth_word(line, 0);
-    first.is_end() || first.text.starts_with(b"#")
-}
 
 /// The first line that says something, if there is one in so many bytes of a text.
 fn first_with_words(text: &[u8]) -> Option<&[u8]> {

@@ -1,6 +1,7 @@
 //! The statements of scripts, and the words that each has.
 
 use crate::entry::{AGES, AGES_ADVICE, RULES_ADVICE};
+use lc_model::TYPE_WORDS;
 
 /// What a word has to be.
 #[derive(Clone, Copy)]
@@ -130,16 +131,11 @@ const KIND: Wanted = Wanted {
     shape: WordShape::OneOf(KINDS),
 };
 
-/// The types of fields.
-const TYPES: &[&[u8]] = &[
-    b"u8", b"i8", b"u16be", b"u16le", b"i16be", b"i16le", b"u32be", b"u32le", b"i32be", b"i32le",
-];
-
 /// The first word of a field.
 pub const TYPE: Wanted = Wanted {
     what: "the type of a field",
     advice: "write u8, i8, u16be, u16le, i16be, i16le, u32be, u32le, i32be or i32le",
-    shape: WordShape::OneOf(TYPES),
+    shape: WordShape::OneOf(TYPE_WORDS),
 };
 
 /// The second word of a field.

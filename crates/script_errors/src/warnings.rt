@@ -2,6 +2,7 @@
 
 use crate::word::nth_word;
 use diagnostics::{Mark, Message, quote};
+use lc_model::mids;
 use std::alloc::{AllocError, Global};
 use std::str;
 
@@ -15,26 +16,23 @@ const NAME: &str = "message-id";
 const ID_DIGITS: usize = 4;
 
 /// The message id that a word writes.
-fn id_in(word: &[u8]) -> Option<u32> {
+fn id_in(word: &[u8]) -> Option<u16> {
     if word.len() != ID_DIGITS {
         return None;
     }
     let digits = str::from_utf8(word).ok()?;
-    u32::from_str_radix(digits, 16).ok()
+    u16::from_str_radix(digits, 16).ok()
 }
 
-fn is_telemetry(id: u32) -> bool {
-    (0x0800..=0x0FFF).contains(&id)
-}
-
-fn is_command(id: u32) -> bool {
+/// Whether a message id is a command's: it has a secondary header and the type of a command (CCSDS 133.0-B).
+fn is_command(id: u16) -> bool {
     (0x1800..=0x1FFF).contains(&id)
 }
 
 /// What the message id isn't, and which there are, where it isn't one of those that go with this statement.
-fn not_fitting(verb: &[u8], id: u32) -> Option<(&'static str, &'static str)> {
+fn not_fitting(verb: &[u8], id: u16) -> Option<(&'static str, &'static str)> {
     match verb {
-        b"fields" | b"telemetry" if !is_telemetry(id) => {
+        b"fields" | b"telemetry" if !mids::is_telemetry(id) => {
             Some(("not one of telemetry", "telemetry has 0800 to 0FFF"))
         }
         b"command" if !is_command(id) => Some((

@@ -1,9 +1,8 @@
 //! Words of a line.
 
-ghost use Rattle.std.specs.Prelude.{◌≤◌, ◌+◌, length, IfSome};
-
 use diagnostics::quote;
 use std::alloc::{AllocError, Global};
+use text_lines::{first_word, is_blank};
 
 /// The most bytes of a word that a sentence shows.
 const MOST_SHOWN: usize = 40;
@@ -19,25 +18,6 @@ pub struct Word<'a> {
     /// Bytes of the line before it.
     pub at: usize,
     pub text: &'a [u8],
-}
-
-/// Space, tab and carriage return part words.
-fn is_blank(byte: u8) -> bool {
-    byte == b' ' || byte == b'\t' || byte == b'\r'
-}
-
-/// How many blanks stand in front.
-fn blank_count(bytes: &[u8]) -> usize
-    ensures { result ≤ length bytes.now }
-{
-    bytes.iter().take_while(|byte| is_blank(**byte)).count()
-}
-
-/// How many other bytes stand in front.
-fn word_size(bytes: &[u8]) -> usize
-    ensures { result ≤ length bytes.now }
-{
-    bytes.iter().take_while(|byte| !is_blank(**byte)).count()
 }
 
 /// The place behind the line's last word.
@@ -78,17 +58,18 @@ impl<'a> Word<'a> {
 /// The first word behind so many bytes of the line.
 pub fn word_behind(line: &[u8], from: usize) -> Word<'_> {
     let rest = line.split_at(from.min(line.len())).1;
-    let rest = rest.split_at(blank_count(rest)).1;
-    let (text, _) = rest.split_at(word_size(rest));
-    if text.is_empty() {
-        return Word {
-            at: line_end(line),
+    match first_word(rest) {
+        Some((text, behind)) => Word {
+            at: line
+                .len()
+                .saturating_sub(behind.len())
+                .saturating_sub(text.len()),
             text,
-        };
-    }
-    Word {
-        at: line.len().saturating_sub(rest.len()),
-        text,
+        },
+        None => Word {
+            at: line_end(line),
+            text: b"",
+        },
     }
 }
 
@@ -104,18 +85,4 @@ pub fn nth_word(line: &[u8], number: usize) -> Word<'_> {
 /// Whether all bytes are digits, one at least.
 pub fn are_digits(word: &[u8]) -> bool {
     !word.is_empty() && word.iter().all(|byte| byte.is_ascii_digit())
-}
-
-/// The number that digits write, so many at most.
-pub fn number_in(word: &[u8], most_digits: usize) -> Option<u64> {
-    if !are_digits(word) || word.len() > most_digits {
-        return None;
-    }
-    let mut number = 0u64;
-    for byte in word {
-        number = number
-            .saturating_mul(10)
-            .saturating_add(u64::from(byte.saturating_sub(b'0')));
-    }
-    Some(number)
 }

@@ -4,8 +4,7 @@ use Rattle.std.specs.Prelude.{codes, decimal, bytes_eq}
 use Rattle.std.specs.Prelude.{slice_index_or}
 use Rattle.std.specs.Char.{is_ascii_digit, digit_value}
 use Rattle.std.specs.Int.{IsInRange}
-use Rattle.std.specs.List.{All, list_all, slice_split}
-use Rattle.std.proofs.lemmas.List.Splits.{slice_split_at, slice_split_none}
+use Rattle.std.specs.List.{All, list_all}
 use Rattle.std.proofs.lemmas.List.Folds.{list_all-append}
 use Rattle.std.proofs.lemmas.List.Sums.{AllPass-from_list_all}
 use Rattle.std.proofs.lemmas.Fmt.{decimal_nonempty, length-decimal-le, digits_decimal, digits_value-decimal}
@@ -17,6 +16,9 @@ use Rattle.lc_model.specs.Text.Token.{number_of_digits}
 use Rattle.lc_model.specs.declared.record.Moment.{Moment}
 use Rattle.lc_model.specs.Host.Stream.{moment_of}
 use Rattle.lc_model.proofs.Facts.{and_both, and_true, and_false, test_at_most, test_less, test_not_less, test_unequal, tested_at_most, tested_less}
+use Rattle.lc_model.specs.Host.ScheduleText.{lines_of, parted, words_of}
+use Rattle.text_lines.specs.Lines.{full, is_blank, is_feed}
+use Rattle.text_lines.proofs.Splits.{parted_at, parted_none}
 use Rattle.stream_script.specs.declared.error.Reason.{Reason}
 use Rattle.stream_script.specs.declared.error.Reason.TheVariants.{BadBytes, BadBody, BadNumber}
 use Rattle.stream_script.specs.declared.kind.RecordKind.{RecordKind}
@@ -27,7 +29,6 @@ use Rattle.stream_script.specs.Error.{ScriptFault, ◌>>=◌}
 use Rattle.stream_script.specs.Front.{body_in_front, front_in, record_size}
 use Rattle.stream_script.specs.Kind.{kind_in, kind_word, may_bring}
 use Rattle.stream_script.specs.Number.{at_most, bytes_in, bytes_word, number_in}
-use Rattle.stream_script.specs.Part.{full, is_blank, is_feed, lines_of, words_of}
 use Rattle.stream_script.specs.Script.{Said, brought, line_said, lines_said, moment_set, nothing_said, record_brought, record_bytes, recorded, some_kind, stream_of}
 use Rattle.stream_script.specs.Whole.{SaysTheRecords, record_line, records_by, records_within, script_by, script_within}
 use Rattle.stream_script.proofs.Stands.{Stands, stands, record_again, has_moment, bytes_behind, bytes_before}
@@ -76,10 +77,10 @@ full_more word words some = rw (test_unequal (length word) 0 (λ same. omega (ar
 
 next_word : (word rest : List ℕ) → IsWord word → words_of (word ++ (32 ∷ rest)) ≡ word ∷ words_of rest
 next_word word rest is =
-    ap full (slice_split_at is_blank word 32 rest (no_blanks word is.plain) refl) ∙ full_more word (slice_split is_blank rest) is.some
+    ap full (parted_at is_blank word 32 rest (no_blanks word is.plain) refl) ∙ full_more word (parted is_blank rest) is.some
 
 last_word : (word : List ℕ) → IsWord word → words_of word ≡ word ∷ []
-last_word word is = ap full (slice_split_none is_blank word (no_blanks word is.plain)) ∙ full_more word [] is.some
+last_word word is = ap full (parted_none is_blank word (no_blanks word is.plain)) ∙ full_more word [] is.some
 
 -- the words with a space between them, from the left and from the right
 joined : (s f k b : List ℕ) → codes "record " ++ s ++ codes " " ++ f ++ codes " " ++ k ++ codes " " ++ b ≡ codes "record" ++ (32 ∷ (s ++ (32 ∷ (f ++ (32 ∷ (k ++ (32 ∷ b)))))))
@@ -254,7 +255,7 @@ line_is_one : (moment : Moment) (kind : RecordKind) (body more : List ℕ) → m
 line_is_one moment kind body more early small are =
     let less : moment.subseconds < 2 ^ 32 = omega (arith, small) in
     ap lines_of (append_assoc (record_line moment kind body) (codes "\n") more)
-    ∙ slice_split_at is_feed (record_line moment kind body) 10 more
+    ∙ parted_at is_feed (record_line moment kind body) 10 more
     (no_feeds (record_line moment kind body) (line_is_over (decimal moment.seconds) (decimal moment.subseconds) (kind_word kind) (bytes_word body)
     (decimal_is_word moment.seconds early) (decimal_is_word moment.subseconds less) (kind_is_word kind) (bytes_are_word body are))) refl
 

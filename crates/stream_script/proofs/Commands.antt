@@ -11,9 +11,9 @@ use Rattle.stream_script.specs.declared.kind.RecordKind.{RecordKind}
 use Rattle.stream_script.specs.Error.{◌>>=◌}
 use Rattle.stream_script.specs.Kind.{kind_in}
 use Rattle.stream_script.specs.Number.{bytes_in}
-use Rattle.stream_script.specs.Part.{texts_of}
 use Rattle.stream_script.specs.Script.{Said, brought, name_field, record_brought, some_kind, some_words}
 use denote.Ref.{Bor}
+use Rattle.text_lines.specs.Lines.{texts_of}
 
 in_front : (xs ys : List ℕ) → take (length xs) (xs ++ ys) ≡ xs
 in_front [] ys = refl

@@ -4,8 +4,8 @@ use Rattle.std.proofs.lemmas.List.{take_all}
 use Rattle.stream_script.specs.declared.error.Reason.{Reason}
 use Rattle.stream_script.specs.Error.{◌>>=◌}
 use Rattle.stream_script.specs.Fields.{field_set, fields_set}
-use Rattle.stream_script.specs.Part.{texts_of}
 use denote.Ref.{Bor}
+use Rattle.text_lines.specs.Lines.{texts_of}
 
 all_but_three : {A : Type 0} (more : List A) → take (suc (suc (suc (length more))) - 3) more ≡ more
 all_but_three more = take_all (suc (suc (suc (length more))) - 3) more (omega arith)

@@ -1,9 +1,7 @@
 -- Telemetry whose fields are set by type and offset. This project's own; types and offsets are those of rule texts.
-use Rattle.std.specs.Prelude.{ℕ, ◌+◌, ◌-◌, ◌^◌, ◌%◌, ◌&&◌, List, [], ◌∷◌, ◌++◌, length, take, drop, replicate, codes, bytes_eq, nat_le, Option, Some, None, Result, Ok, Err, ℤ, if◌then◌else◌}
-use Rattle.std.specs.Int.{w16, w32, to_be_bytes, to_le_bytes}
+use Rattle.std.specs.Prelude.{ℕ, ◌+◌, ◌-◌, ◌^◌, ◌&&◌, List, [], ◌∷◌, ◌++◌, length, take, drop, replicate, codes, bytes_eq, nat_le, Option, Some, None, Result, Ok, Err, ℤ, if◌then◌else◌}
 use Rattle.lc_model.specs.declared.field.FieldType.{FieldType}
-use Rattle.lc_model.specs.declared.field.FieldType.TheVariants.{U8, I8, U16Be, U16Le, I16Be, I16Le, U32Be, U32Le, I32Be, I32Le}
-use Rattle.lc_model.specs.Field.{is_in_type, width}
+use Rattle.lc_model.specs.Field.{field_bytes, is_in_type, width}
 use Rattle.lc_model.specs.Tables.Image.{bits_32}
 use Rattle.lc_model.specs.Text.Class.{field_type}
 use Rattle.lc_model.specs.Text.Token.{magnitude_text, with_sign}
@@ -55,19 +53,6 @@ place_in kind size word = do
   place_of kind size offset
 
 -- ---- fields
-
--- the last of these bits as bytes, in the type's order
-abbrev pub field_bytes : FieldType → ℕ → List ℕ
-field_bytes U8 bits = bits % 2 ^ 8 ∷ []
-field_bytes I8 bits = bits % 2 ^ 8 ∷ []
-field_bytes U16Be bits = to_be_bytes w16 (bits % 2 ^ 16)
-field_bytes I16Be bits = to_be_bytes w16 (bits % 2 ^ 16)
-field_bytes U16Le bits = to_le_bytes w16 (bits % 2 ^ 16)
-field_bytes I16Le bits = to_le_bytes w16 (bits % 2 ^ 16)
-field_bytes U32Be bits = to_be_bytes w32 bits
-field_bytes I32Be bits = to_be_bytes w32 bits
-field_bytes U32Le bits = to_le_bytes w32 bits
-field_bytes I32Le bits = to_le_bytes w32 bits
 
 -- bytes written over those at a place
 abbrev pub written_at : ℕ → List ℕ → List ℕ → List ℕ

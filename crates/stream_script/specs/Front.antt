@@ -1,5 +1,6 @@
 -- What stands at the front of a stream, by its kind. This project's own.
 use Rattle.std.specs.Prelude.{◌≡◌, ℕ, ◌+◌, ◌-◌, ◌≤◌, not, ◌==◌, List, [], length, take, drop, slice_index, nat_lt, Option, Some, None, if◌then◌else◌, ⊤}
+use denote.Ref.{Bor}
 use Rattle.lc_model.specs.Host.Stream.{Contents, all_kinds, body_size, contents_of, fits_body, front, header_size, moment_of}
 use Rattle.lc_model.specs.Host.Stream as stream
 use Rattle.stream_script.specs.declared.kind.RecordKind.{RecordKind}
@@ -30,6 +31,11 @@ front_in bytes =
     if length bytes == 0 then End
     else if nat_lt (length bytes) header_size then Cut
     else front_of_kind (kind_numbered (slice_index bytes 0)) bytes
+
+-- what is left of a stream, where something is, and its end
+abbrev pub bytes_left : Option (Bor (List ℕ)) → ℕ
+bytes_left None = 0
+bytes_left (Some bytes) = length bytes.now + 1
 
 -- a record in front is there as a whole, and its body fits its kind
 abbrev pub IsInside : List ℕ → Front → Type 0

@@ -1,6 +1,5 @@
 -- What the contracts of scripts cite.
 pub mod Kind
-pub mod Part
 pub mod Number
 pub mod Error
 pub mod Fields

@@ -1,16 +1,13 @@
 -- Numbers and bytes in scripts. This project's own.
-use Rattle.std.specs.Prelude.{ℕ, ◌&&◌, List, [], length, codes, bytes_eq, nat_lt, nat_le, ◌==◌, Option, Some, None, Result, Ok, Err, if◌then◌else◌}
-use Rattle.std.specs.List.{list_all}
-use Rattle.std.specs.Char.{is_ascii_digit}
-use Rattle.lc_model.specs.Text.Token.{number_of_digits}
+use Rattle.std.specs.Prelude.{ℕ, List, [], length, codes, bytes_eq, nat_le, ◌==◌, Option, Some, None, Result, Ok, Err, if◌then◌else◌}
 use Rattle.hex.specs.Hex.{decode_of, encode_lower}
+use Rattle.text_lines.specs.Number as number
 use Rattle.stream_script.specs.declared.error.Reason.{Reason}
 use Rattle.stream_script.specs.declared.error.Reason.TheVariants.{BadNumber, BadBytes}
 
 -- a number of 1 to 10 decimal digits
 abbrev pub decimal_number : List ℕ → Option ℕ
-decimal_number word =
-    if nat_lt 0 (length word) && nat_le (length word) 10 && list_all is_ascii_digit word then Some (number_of_digits 10 word) else None
+decimal_number word = number.decimal_number 10 word
 
 -- a number that is not over the greatest
 abbrev pub at_most : ℕ → Option ℕ → Result ℕ Reason

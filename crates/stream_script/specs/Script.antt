@@ -2,7 +2,7 @@
 use Rattle.std.specs.Prelude.{ℕ, ◌+◌, ◌-◌, Bool, false, ◌==◌, List, [], ◌∷◌, ◌++◌, length, codes, bytes_eq, nat_le, Option, Some, None, Result, Ok, Err, if◌then◌else◌}
 use Rattle.lc_model.specs.Bytes.{u16, u32, u16_at, zero_filled}
 use Rattle.lc_model.specs.Packet.{command, telemetry, executive_services_mid, table_services_mid, lc_housekeeping_request_mid, sample_mid}
-use Rattle.lc_model.specs.Host.ScheduleText.{is_silent}
+use Rattle.lc_model.specs.Host.ScheduleText.{is_silent, lines_of, words_of}
 use Rattle.lc_model.specs.declared.record.Moment.{Moment}
 use Rattle.stream_script.specs.declared.error.Reason.{Reason}
 use Rattle.stream_script.specs.declared.error.Reason.TheVariants.{UnknownStatement, BadNumber, UnknownKind, BadBody, LongName}
@@ -12,7 +12,6 @@ use Rattle.stream_script.specs.Error.{ScriptFault, ◌>>=◌}
 use Rattle.stream_script.specs.Fields.{payload_of}
 use Rattle.stream_script.specs.Kind.{kind_in, kind_number, may_bring}
 use Rattle.stream_script.specs.Number.{bytes_in, number_in}
-use Rattle.stream_script.specs.Part.{lines_of, words_of}
 
 -- what a script says so far: the moment of what comes next, and the stream's bytes
 pub record Said : Type 0 where

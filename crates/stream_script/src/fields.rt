@@ -1,14 +1,14 @@
 //! Payloads whose fields are set by type and offset.
 
 ghost use Rattle.std.specs.Prelude.{◌≡◌, ◌≤◌, ◌+◌, IsTrue, true, length, take, codes, bytes_eq, IfOk, IfErr, Ok, Err, ◌-◌};
-ghost use Rattle.lc_model.specs.Field.{is_in_type, width};
+ghost use Rattle.lc_model.specs.Field.{field_bytes, is_in_type, width};
 ghost use Rattle.lc_model.specs.Packet.{longest_packet, telemetry_header_size};
 ghost use Rattle.lc_model.specs.Tables.Image.{bits_32, fits_32_bits};
 ghost use Rattle.lc_model.specs.Text.Class.{field_type};
 ghost use Rattle.lc_model.specs.Text.Token.{magnitude_text};
+ghost use Rattle.text_lines.specs.Lines.{texts_of};
 ghost use Rattle.stream_script.specs.Error.{IsRefused};
-ghost use Rattle.stream_script.specs.Fields.{field_bytes, field_set, fields_set, payload_of, payload_size, place_in, signed_number, some_type, value_in, written_at};
-ghost use Rattle.stream_script.specs.Part.{texts_of};
+ghost use Rattle.stream_script.specs.Fields.{field_set, fields_set, payload_of, payload_size, place_in, signed_number, some_type, value_in, written_at};
 
 use crate::error::{Reason, StatementFault};
 use crate::number::number_in;
@@ -117,12 +117,12 @@ fn with_bits(payload: Vec<u8>, kind: FieldType, place: usize, bits: u32) -> Vec<
 {
     let low_byte = (bits % 0x100) as u8;
     let low_half = (bits % 0x1_0000) as u16;
-    match kind {
-        FieldType::U8 | FieldType::I8 => written_at(payload, place, &[low_byte]),
-        FieldType::U16Be | FieldType::I16Be => written_at(payload, place, &low_half.to_be_bytes()),
-        FieldType::U16Le | FieldType::I16Le => written_at(payload, place, &low_half.to_le_bytes()),
-        FieldType::U32Be | FieldType::I32Be => written_at(payload, place, &bits.to_be_bytes()),
-        FieldType::U32Le | FieldType::I32Le => written_at(payload, place, &bits.to_le_bytes()),
+    match (kind.width(), kind.is_little()) {
+        (1, _) => written_at(payload, place, &[low_byte]),
+        (2, false) => written_at(payload, place, &low_half.to_be_bytes()),
+        (2, true) => written_at(payload, place, &low_half.to_le_bytes()),
+        (_, false) => written_at(payload, place, &bits.to_be_bytes()),
+        (_, true) => written_at(payload, place, &bits.to_le_bytes()),
     }
 }
 

@@ -1,26 +1,26 @@
 //! From a script to its stream, line by line.
 
 ghost use Rattle.std.specs.Prelude.{◌≡◌, ◌+◌, ◌∷◌, ℕ, List, Ok, Err, IfOk, IfErr, IsErr};
+ghost use Rattle.lc_model.specs.Host.ScheduleText.{lines_of, words_of};
 ghost use Rattle.stream_script.specs.Error.{IsRefused, IsScriptError, ScriptFault};
-ghost use Rattle.stream_script.specs.Part.{lines_of, words_of};
 ghost use Rattle.stream_script.specs.Script.{line_said, lines_said, nothing_said, script_in};
 ghost use Rattle.stream_script.specs.declared.error.ScriptError.TheVariants.{Memory};
 
 use crate::error::{ScriptError, StatementFault};
-use crate::part::{first_line, is_silent, words};
 use crate::script::Script;
 use crate::statement::statement;
 use std::alloc::Global;
+use text_lines::{first_line, is_silent, words};
 
 /// What is said behind this line.
 fn line_said(alloc: Global, script: Script, line: &[u8]) -> Result<Script, StatementFault>
     ensures said { IfOk result (λ after. line_said script (words_of line.now) ≡ Ok after) }
     ensures refused { IfErr result (IsRefused (line_said script (words_of line.now))) }
 {
-    let words = words(alloc, line)?;
-    if is_silent(words.as_slice()) {
+    if is_silent(line) {
         return Ok(script);
     }
+    let words = words(alloc, line)?;
     statement(alloc, script, words.as_slice())
 }
 

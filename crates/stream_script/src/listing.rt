@@ -2,10 +2,9 @@
 
 ghost use Rattle.std.specs.Prelude.{◌≡◌, ◌++◌, ◌+◌, ◌-◌, ◌^◌, ◌<◌, ◌≤◌, decimal, length, IfOk};
 ghost use Rattle.lc_model.specs.Host.Stream.{header_size, moment_of};
-ghost use Rattle.stream_script.specs.Front.{body_in_front, record_size};
+ghost use Rattle.stream_script.specs.Front.{body_in_front, bytes_left, record_size};
 ghost use Rattle.stream_script.specs.Kind.{fits_kind};
 ghost use Rattle.stream_script.specs.Listing.{head_shown, lines_from, lines_of_rest, listing_of, record_shown};
-ghost use Rattle.stream_script.specs.Part.{most_parts};
 
 use crate::front::{Front, front_of};
 use crate::kind::RecordKind;
@@ -92,7 +91,7 @@ fn with_next<'a>(
     ensures said { IfOk result
         (λ next. next.0.items ++ lines_of_rest (number + 1) next.1 ≡ text.items ++ lines_from number
         bytes.now) }
-    ensures fewer { IfOk result (λ next. most_parts next.1 ≤ length bytes.now) }
+    ensures fewer { IfOk result (λ next. bytes_left next.1 ≤ length bytes.now) }
 {
     match front_of(bytes) {
         Front::End => Ok((text, None)),

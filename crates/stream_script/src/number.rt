@@ -1,6 +1,6 @@
 //! Numbers in scripts.
 
-ghost use Rattle.std.specs.Prelude.{◌≡◌, ◌<◌, ◌^◌, Some, IfSome, option_map, ok_or};
+ghost use Rattle.std.specs.Prelude.{◌≡◌};
 ghost use Rattle.stream_script.specs.Number.{decimal_number, number_in};
 
 use crate::error::Reason;
@@ -12,17 +12,7 @@ const MOST_DIGITS: usize = 10;
 pub fn decimal_number(word: &[u8]) -> Option<u64>
     ensures { result ≡ decimal_number word.now }
 {
-    if word.is_empty() || word.len() > MOST_DIGITS {
-        return None;
-    }
-    let mut number = 0u64;
-    for byte in word {
-        if !byte.is_ascii_digit() {
-            return None;
-        }
-        number = number * 10 + u64::from(byte - b'0');
-    }
-    Some(number)
+    text_lines::decimal_number(MOST_DIGITS, word)
 }
 
 /// The number that a word writes, which is no greater than this.

@@ -11,7 +11,7 @@ use crate::error::{Reason, StatementFault};
 use crate::kind::RecordKind;
 use lc_model::Moment;
 use lc_model::packet::LONGEST_PACKET;
-use packet_bus::{build_command, build_telemetry};
+use packet_builders::{build_command, build_telemetry};
 use std::alloc::{AllocError, Global};
 use std::marker::Model;
 

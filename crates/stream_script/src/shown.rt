@@ -4,7 +4,7 @@ ghost use Rattle.std.specs.Prelude.{◌≡◌, ◌==◌, ◌++◌, ◌≤◌, le
 ghost use Rattle.std.specs.List.{position_or_len};
 ghost use Rattle.lc_model.specs.Host.Stream.{half_size};
 ghost use Rattle.lc_model.specs.Name.{name_in, name_size};
-ghost use Rattle.lc_model.specs.Packet.{is_telemetry_mid, command_header_size};
+ghost use Rattle.lc_model.specs.Packet.{command_header_size};
 ghost use Rattle.stream_script.specs.Kind.{fits_kind};
 ghost use Rattle.stream_script.specs.Listing.{any_order_shown, app_order, body_shown, event_order, file_shown, half_shown, header_shown, mid_shown, order_shown, packet_shown, table_order};
 
@@ -25,13 +25,6 @@ fn at_most(size: usize, bytes: &[u8]) -> &[u8]
     }
 }
 
-/// Whether the message id is one of telemetry.
-fn is_telemetry(mid: u16) -> bool
-    ensures { result ≡ is_telemetry_mid mid }
-{
-    (mids::FIRST_TELEMETRY..=mids::LAST_TELEMETRY).contains(&mid)
-}
-
 /// Whom a message id is for, where it is a command of the host's, or that it is telemetry.
 fn mid_shown(mid: u16) -> &'static [u8]
     ensures { result.now ≡ mid_shown mid }
@@ -44,7 +37,7 @@ fn mid_shown(mid: u16) -> &'static [u8]
         mids::LC_HOUSEKEEPING_REQUEST => b" LC housekeeping",
         mids::SAMPLE => b" LC sample",
         mids::COUNTER => b" counter",
-        _ if is_telemetry(mid) => b" telemetry",
+        _ if mids::is_telemetry(mid) => b" telemetry",
         _ => b"",
     }
 }
@@ -120,7 +113,7 @@ fn with_any_order(text: Vec<u8>, mid: u16, packet: &[u8]) -> Result<Vec<u8>, All
     requires { command_header_size ≤ length packet.now }
     ensures { IfOk result (λ after. after.items ≡ text.items ++ any_order_shown mid packet.now) }
 {
-    if is_telemetry(mid) {
+    if mids::is_telemetry(mid) {
         return Ok(text);
     }
     with_order(text, mid, packet)

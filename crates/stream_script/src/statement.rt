@@ -2,8 +2,8 @@
 
 ghost use Rattle.std.specs.Prelude.{◌≡◌, ◌<◌, ◌≤◌, ◌+◌, length, IfOk, IfErr, Ok};
 ghost use Rattle.lc_model.specs.Packet.{count_end, longest_packet, telemetry_header_size};
+ghost use Rattle.text_lines.specs.Lines.{texts_of};
 ghost use Rattle.stream_script.specs.Error.{IsRefused};
-ghost use Rattle.stream_script.specs.Part.{texts_of};
 ghost use Rattle.stream_script.specs.Script.{app_ordered, command_brought, command_fits, fields_brought, fields_said, file_brought, five_words, four_words, half_brought, moment_set, moved_on, one_word, packet_brought, record_brought, sample_requested, sets_fields, some_words, statement, table_ordered, telemetry_brought, telemetry_fits, three_words, told, two_words, whole_record};
 
 use crate::error::{Reason, StatementFault};

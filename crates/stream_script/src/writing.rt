@@ -2,9 +2,8 @@
 
 ghost use Rattle.std.specs.Prelude.{◌≡◌, ◌++◌, ◌≤◌, codes, decimal, length, drop, IfOk};
 ghost use Rattle.lc_model.specs.Host.Stream.{header_size, moment_of};
-ghost use Rattle.stream_script.specs.Front.{body_in_front, record_size};
+ghost use Rattle.stream_script.specs.Front.{body_in_front, bytes_left, record_size};
 ghost use Rattle.stream_script.specs.Number.{bytes_word};
-ghost use Rattle.stream_script.specs.Part.{most_parts};
 ghost use Rattle.stream_script.specs.Whole.{record_line, script_of, script_of_rest};
 
 use crate::front::{Front, front_of};
@@ -67,7 +66,7 @@ fn with_next<'a>(
 ) -> Result<(Vec<u8>, Option<&'a [u8]>), AllocError>
     ensures said { IfOk result
         (λ next. next.0.items ++ script_of_rest next.1 ≡ text.items ++ script_of bytes.now) }
-    ensures fewer { IfOk result (λ next. most_parts next.1 ≤ length bytes.now) }
+    ensures fewer { IfOk result (λ next. bytes_left next.1 ≤ length bytes.now) }
 {
     match front_of(bytes) {
         Front::End => Ok((text, None)),

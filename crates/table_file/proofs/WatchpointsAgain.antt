@@ -3,7 +3,7 @@ use Rattle.std.proofs.Common.{◌≡◌, refl, ◌∙◌, ap, ℕ, ◌<◌, List
 use Rattle.std.proofs.lemmas.Nat.{from_be_bytes-to_be_bytes_2, from_be_bytes-to_be_bytes_4}
 use Rattle.std.proofs.lemmas.List.{length-map}
 use Rattle.lc_model.specs.declared.field.FieldType.{FieldType}
-use Rattle.lc_model.specs.declared.field.FieldType.TheVariants.{U8, I8, U16Be, U16Le, I16Be, I16Le, U32Be, U32Le, I32Be, I32Le}
+use Rattle.lc_model.specs.declared.field.FieldType.TheVariants.{U8}
 use Rattle.lc_model.specs.declared.field.Term.{Term}
 use Rattle.lc_model.specs.Codes.{type_code}
 use Rattle.lc_model.specs.Tables.Image.{Watchpoints, bits_32, twos_complement_32, term_bytes, type_of_code, FitsWatchpoint, wdt_image, entry_at, numbers_below, filled}
@@ -13,13 +13,14 @@ use Rattle.table_file.specs.Laws.{WatchpointsAreReadAgain}
 use Rattle.lc_model.proofs.Tables.EntryLengths.{terms_long}
 use Rattle.lc_model.proofs.Tables.EntriesAgain.{entry_again, listed, at_place, preamble_again}
 use Rattle.lc_model.proofs.CodesAgain.{operator_again}
+use Rattle.lc_model.proofs.FieldTypes.{type_again}
 
-type_again : (k : FieldType) → unwrap_or (type_of_code (type_code k)) U8 ≡ k
-type_again = elim [ U8 ↦ refl | I8 ↦ refl | U16Be ↦ refl | U16Le ↦ refl | I16Be ↦ refl | I16Le ↦ refl | U32Be ↦ refl | U32Le ↦ refl | I32Be ↦ refl | I32Le ↦ refl ]
+type_or_first : (k : FieldType) → unwrap_or (type_of_code (type_code k)) U8 ≡ k
+type_or_first k = ap (λ found. unwrap_or found U8) (type_again k)
 
 term_again : (t : Term) → FitsWatchpoint t → spelled_term (term_bytes t) ≡ t
 term_again t fits =
-    let kinds : unwrap_or (type_of_code (type_code t.kind)) U8 ≡ t.kind = type_again t.kind in
+    let kinds : unwrap_or (type_of_code (type_code t.kind)) U8 ≡ t.kind = type_or_first t.kind in
     let mids = from_be_bytes-to_be_bytes_2 t.mid fits.mid in
     let offsets = from_be_bytes-to_be_bytes_4 t.offset fits.offset in
     let masks = from_be_bytes-to_be_bytes_4 t.mask fits.mask in

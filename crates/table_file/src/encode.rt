@@ -10,7 +10,6 @@ ghost use Rattle.table_file.specs.Layout.{layout_of, layout_of_version};
 ghost use Rattle.table_file.specs.Parts.{entry_numbers};
 ghost use Rattle.table_file.specs.declared.error.FileError.TheVariants.{Memory};
 
-use crate::codes::{event_code, kind_code, operator_code, state_code, type_code};
 use crate::error::FileError;
 use crate::image::{AdtImage, TableEntry, WdtImage};
 use crate::layout::Layout;
@@ -44,7 +43,7 @@ fn push_preamble(
         hash.now) }
 {
     push_u16(out, layout.version())?;
-    push_u16(out, kind_code(layout.kind()))?;
+    push_u16(out, layout.kind().code())?;
     push_u16(out, own_count)?;
     push_u16(out, watchpoint_count)?;
     out.extend_from_slice(hash)?;
@@ -56,8 +55,8 @@ fn push_watchpoint(out: &mut Vec<u8>, term: &Term) -> Result<(), AllocError>
     requires { FitsWatchpoint term.now }
     ensures { OnOk result (out.new.items ≡ out.old.items ++ term_bytes term.now) }
 {
-    out.push(type_code(term.kind))?;
-    out.push(operator_code(term.op))?;
+    out.push(term.kind.code())?;
+    out.push(term.op.code())?;
     push_u16(out, term.mid)?;
     push_u32(out, term.offset)?;
     push_u32(out, term.mask)?;
@@ -71,13 +70,13 @@ fn push_watchpoint(out: &mut Vec<u8>, term: &Term) -> Result<(), AllocError>
 fn push_numbers(out: &mut Vec<u8>, entry: &TableEntry) -> Result<(), AllocError>
     ensures { OnOk result (out.new.items ≡ out.old.items ++ entry_numbers entry.now) }
 {
-    out.push(state_code(entry.mode))?;
+    out.push(entry.mode.code())?;
     out.push(entry.report.passive)?;
     push_u16(out, entry.report.pass_to_fail)?;
     push_u16(out, entry.report.fail_to_pass)?;
     push_u16(out, entry.sequence)?;
     push_u16(out, entry.fails)?;
-    push_u16(out, event_code(entry.event_kind))?;
+    push_u16(out, entry.event_kind.code())?;
     push_u16(out, entry.event_id)?;
     Ok(())
 }

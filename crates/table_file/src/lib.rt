@@ -16,7 +16,6 @@ mod watchpoint;
 mod wrapping;
 
 pub use actionpoint::ActionpointEntry;
-pub use codes::kind_code;
 pub use encode::{encode_adt, encode_wdt};
 pub use entry::{are_zeros, entry_bytes, is_blank};
 pub use error::FileError;

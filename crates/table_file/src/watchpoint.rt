@@ -3,12 +3,11 @@
 ghost use Rattle.std.specs.Prelude.{◌≡◌, ◌<◌, length};
 ghost use Rattle.lc_model.specs.Bytes.{u16_at, u32_at};
 ghost use Rattle.lc_model.specs.Codes.{table_entries};
-ghost use Rattle.lc_model.specs.Field as model;
 ghost use Rattle.lc_model.specs.Tables.Entry.{mask_field, mid_field, offset_field, operator_field, stale_field, type_field, value_field, zero_field};
 ghost use Rattle.lc_model.specs.Tables.Image.{Watchpoints, image_length, entry_at, type_of_code, twos_complement_32};
 ghost use Rattle.lc_model.specs.Tables.Spelled.{operator_of_code, spelled_term};
 
-use crate::codes::{field_type_of, operator_of};
+use crate::codes::operator_of;
 use crate::entry::entry_bytes;
 use crate::layout::Layout;
 use lc_model::{CmpOp, FieldType, Term, u16_at, u32_at};
@@ -31,23 +30,11 @@ impl<'a> Model for WatchpointEntry<'a> {
     ghost invariant = { λ e. length e.bytes.now ≡ entry_length Watchpoints };
 }
 
-/// Whether the type has negative numbers.
-fn is_signed(kind: FieldType) -> bool
-    ensures { result ≡ model.is_signed kind }
-{
-    match kind {
-        FieldType::I8 | FieldType::I16Be | FieldType::I16Le | FieldType::I32Be | FieldType::I32Le =>
-            true,
-        FieldType::U8 | FieldType::U16Be | FieldType::U16Le | FieldType::U32Be | FieldType::U32Le =>
-            false,
-    }
-}
-
 /// The number that 32 bits are, in two's complement where the type has negative numbers.
 fn value_of(kind: FieldType, bits: u32) -> i64
     ensures { result ≡ twos_complement_32 kind bits }
 {
-    if is_signed(kind) && bits >= 0x8000_0000 {
+    if kind.is_signed() && bits >= 0x8000_0000 {
         bits as i64 - 0x1_0000_0000
     } else {
         bits as i64
@@ -77,7 +64,7 @@ impl<'a> WatchpointEntry<'a> {
     pub fn field_type(&self) -> Option<FieldType>
         ensures { result ≡ type_of_code (type_field self.now) }
     {
-        field_type_of(self.bytes[0])
+        FieldType::from_code(self.bytes[0])
     }
 
     /// The number of the comparison.

@@ -10,13 +10,8 @@ ghost use Rattle.table_file.specs.declared.error.FileError.TheVariants.{Memory};
 use crate::error::FileError;
 use crate::file::{CONTENT_TYPE, FILE_HEADER_LENGTH, HEADERS_LENGTH, SUBTYPE};
 use crate::output::{push_u32, push_zeros};
-use lc_model::Kind;
+use lc_model::{Kind, PROCESSOR, SPACECRAFT};
 use std::alloc::{AllocError, Global};
-
-/// The spacecraft and the processor that files are written for (this project's own).
-const SPACECRAFT: u32 = 66;
-
-const PROCESSOR: u32 = 1;
 
 /// The bytes of the field with the table's name.
 const NAME_LENGTH: usize = 40;

@@ -3,10 +3,10 @@ use Rattle.std.specs.Prelude.{ℕ, List, ◌++◌, codes}
 use Rattle.std.specs.Fmt.{decimal, signed_decimal}
 use Rattle.lc_model.specs.declared.field.Term.{Term}
 use Rattle.lc_model.specs.Tables.Image.{TableEntry}
+use Rattle.lc_model.specs.Words.{type_word, comparison_sign, state_word, level_word}
 use Rattle.table_listing.specs.Formula.{Formula}
 use Rattle.table_listing.specs.ConditionText.{condition_text}
 use Rattle.table_listing.specs.Shown.{four_digits, hex_digits, shown}
-use Rattle.table_listing.specs.Words.{type_word, comparison_sign, state_word, level_word}
 
 -- w0: u16be at 12 mask 0xFFFF of 0x0883 < 2400 stale 2
 abbrev pub watchpoint_line : ℕ → Term → List ℕ

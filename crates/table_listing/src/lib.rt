@@ -21,4 +21,3 @@ pub use judged::{FaultLine, RefusalLine};
 pub use lines::{ActionpointLine, WatchpointLine};
 pub use listing::list_table;
 pub use shown::{InHex, QuotedName, Shown};
-pub use value_names::{state_word, type_word};

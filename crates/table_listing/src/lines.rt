@@ -6,7 +6,6 @@ ghost use Rattle.table_listing.specs.Lines as line;
 
 use crate::equation::Equation;
 use crate::shown::Shown;
-use crate::value_names::{comparison_sign, level_word, state_word, type_word};
 use lc_model::{ApMode, EventKind, ReportMaxima, Term};
 use std::fmt::{self, Display, Formatter, Write};
 
@@ -33,7 +32,7 @@ impl Display for WatchpointLine {
             op,
             value,
         } = self.term;
-        let (kind, sign) = (type_word(kind), comparison_sign(op));
+        let (kind, sign) = (kind.word(), op.sign());
         write!(
             f,
             "w{number}: {kind} at {offset} mask 0x{mask:X} of 0x{mid:04X} {sign} {value} stale {stale}"
@@ -84,7 +83,7 @@ impl Display for ActionpointLine<'_> {
             report,
             condition,
         } = *self;
-        let (state, level, text) = (state_word(mode), level_word(event_kind), Shown(text));
+        let (state, level, text) = (mode.word(), event_kind.word(), Shown(text));
         let ReportMaxima {
             passive,
             pass_to_fail,

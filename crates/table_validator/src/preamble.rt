@@ -37,7 +37,7 @@ pub fn preamble_fault(layout: Layout, image: &[u8]) -> Option<FaultCode>
     if preamble::version(image) != layout.version() {
         return Some(FaultCode::WrongVersion);
     }
-    if preamble::kind_code(image) != table_file::kind_code(layout.kind()) {
+    if preamble::kind_code(image) != layout.kind().code() {
         return Some(FaultCode::WrongKind);
     }
     if has_wrong_counts(layout, image) {

@@ -10,7 +10,7 @@ ghost use Rattle.table_validator.specs.Fault.{code_number};
 
 use crate::fault::FaultCode;
 use lc_model::FieldType;
-use lc_model::mids::{EVENT, FIRST_TELEMETRY, LAST_TELEMETRY, LC_HOUSEKEEPING};
+use lc_model::mids::{EVENT, LC_HOUSEKEEPING, is_telemetry};
 use table_file::WatchpointEntry;
 
 /// Whether the message id may not be watched: it isn't telemetry's, or it is one of the host's own.
@@ -18,9 +18,7 @@ fn is_unwatchable(message_id: u16) -> bool
     ensures { result ≡ (not (is_telemetry_mid message_id)
         || list_any (◌==◌ message_id) reserved_mids) }
 {
-    !(FIRST_TELEMETRY..=LAST_TELEMETRY).contains(&message_id)
-        || message_id == EVENT
-        || message_id == LC_HOUSEKEEPING
+    !is_telemetry(message_id) || message_id == EVENT || message_id == LC_HOUSEKEEPING
 }
 
 /// Whether the number is that of a comparison, 1 to 6.

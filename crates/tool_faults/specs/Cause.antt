@@ -5,11 +5,13 @@ use Rattle.std.specs.IoError.{error_kind}
 use Rattle.std_io.specs.declared.io.error.Error.{Error}
 use Rattle.std_io.specs.declared.io.kind.ErrorKind.{ErrorKind}
 use Rattle.std_io.specs.declared.io.kind.ErrorKind.TheVariants as kind
-use Rattle.program_files.specs.Why.{why_of}
-use Rattle.program_files.specs.declared.why.Why.{Why}
-use Rattle.program_files.specs.declared.why.Why.TheVariants as why
-use Rattle.program_files.specs.declared.why.FileFault.{FileFault}
-use Rattle.program_files.specs.declared.why.FileFault.TheVariants as file
+use Rattle.program_io.specs.Why.{why_of}
+use Rattle.program_io.specs.declared.why.Why.{Why}
+use Rattle.program_io.specs.declared.why.Why.TheVariants as why
+use Rattle.program_io.specs.declared.error.FileError.{FileError}
+use Rattle.program_io.specs.declared.error.FileError.TheVariants as file
+use Rattle.program_io.specs.declared.arguments.ArgumentsError.{ArgumentsError}
+use Rattle.program_io.specs.declared.arguments.ArgumentsError.TheVariants as arguments
 use Rattle.script_errors.specs.declared.refusal.Refusal.{Refusal}
 use Rattle.script_errors.specs.declared.refusal.Refusal.TheVariants as refusal
 use Rattle.stream_script.specs.declared.error.ScriptError.{ScriptError}
@@ -20,9 +22,14 @@ use Rattle.tool_faults.specs.declared.fault.Fault.{Fault}
 use Rattle.tool_faults.specs.declared.fault.Fault.TheVariants as fault
 
 -- want of memory is one fault, wherever it arose
-abbrev pub fault_of_file : Bor (List ℕ) → FileFault → Fault
-fault_of_file name file.Memory = fault.Memory
-fault_of_file name (file.Unusable why) = fault.File name why
+abbrev pub fault_of_file : FileError → Fault
+fault_of_file file.Memory = fault.Memory
+fault_of_file (file.Unusable name why) = fault.File name why
+
+-- of words that the system doesn't have
+abbrev pub fault_of_arguments : ArgumentsError → Fault
+fault_of_arguments arguments.Memory = fault.Memory
+fault_of_arguments arguments.NoText = fault.NoText
 
 -- what is said of a text is the fault, or there was no memory for it
 abbrev pub IsToldFault : Fault → Type 0

@@ -1,12 +1,13 @@
 //! What ends the program with another status than 0, and the line that says so.
 
 ghost use Rattle.std.specs.Prelude.{◌≡◌};
+ghost use Rattle.tool_faults.specs.Cause.{fault_of_arguments, fault_of_file};
 ghost use Rattle.tool_faults.specs.Status.{status_of, stopped};
 ghost use Rattle.tool_faults.specs.declared.fault.Fault.TheVariants.{Memory};
 
 use clap::Error;
 use flight_core::RunError;
-use program_files::Why;
+use program_io::{ArgumentsError, FileError, Why};
 use rpn_compiler::CompileError;
 use std::alloc::{AllocError, AllocFailed};
 use std::fmt::{self, Display, Formatter, Write};
@@ -65,6 +66,28 @@ impl<T: Drop> From<AllocFailed<T>> for Fault<'_> {
 
     fn from(_error: AllocFailed<T>) -> Self {
         Fault::Memory
+    }
+}
+
+impl<'a> From<FileError<'a>> for Fault<'a> {
+    ghost from_gives = { λ error fault. fault ≡ fault_of_file error };
+
+    fn from(error: FileError<'a>) -> Self {
+        match error {
+            FileError::Memory => Fault::Memory,
+            FileError::Unusable(name, why) => Fault::File(name, why),
+        }
+    }
+}
+
+impl From<ArgumentsError> for Fault<'_> {
+    ghost from_gives = { λ error fault. fault ≡ fault_of_arguments error };
+
+    fn from(error: ArgumentsError) -> Self {
+        match error {
+            ArgumentsError::Memory => Fault::Memory,
+            ArgumentsError::NoText => Fault::NoText,
+        }
     }
 }
 

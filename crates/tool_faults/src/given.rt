@@ -1,8 +1,9 @@
 //! What a run is given: a schedule and rule texts, from files.
 
 use crate::fault::Fault;
-use crate::files::{LONGEST_TEXT, read, read_text};
+use crate::files::read_whole_text;
 use crate::telling::refusal_fault;
+use program_io::{Shell, read_texts};
 use schedules::Schedule;
 use script_errors::read_schedule;
 use std::fs::Files;
@@ -24,7 +25,7 @@ pub fn schedule_in<'a, R: Files + AllocGlobal>(
     rt: &R,
     name: &'a str,
 ) -> Result<Schedule, Fault<'a>> {
-    let text = read(rt, name, LONGEST_TEXT)?;
+    let text = read_whole_text(rt, name)?;
     schedule_of(rt, name, text.as_slice())
 }
 
@@ -33,9 +34,5 @@ pub fn texts_in<'a, R: Files + AllocGlobal>(
     rt: &R,
     names: &[&'a str],
 ) -> Result<Vec<Vec<u8>>, Fault<'a>> {
-    let mut texts = Vec::new(rt.alloc());
-    for name in names {
-        texts.push(read_text(rt, name)?)?;
-    }
-    Ok(texts)
+    Ok(read_texts(rt.alloc(), &mut Shell::new(rt), names)?)
 }

@@ -4,7 +4,6 @@
 
 mod epoch;
 mod fault;
-mod feed;
 mod files;
 mod given;
 mod output;
@@ -12,9 +11,8 @@ mod telling;
 
 pub use crate::epoch::epoch_of;
 pub use crate::fault::Fault;
-pub use crate::feed::{Feed, feed_of};
 pub use crate::files::{
-    LONGEST_TABLE, LONGEST_TEXT, LONGEST_WHOLE, fault_at, is_apart, read, read_text,
+    LONGEST_TABLE, LONGEST_WHOLE, check_apart, fault_at, read, read_text, read_whole_text,
 };
 pub use crate::given::{schedule_in, schedule_of, texts_in};
 pub use crate::output::{input_fault, listing_result, output_fault, written_fault};

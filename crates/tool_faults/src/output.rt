@@ -3,14 +3,8 @@
 ghost use Rattle.tool_faults.specs.Cause.{IsListed, IsOfInput, IsOfOutput, IsOfWrite};
 
 use crate::fault::Fault;
-use program_files::{Why, reason_for};
+use program_io::{STANDARD_INPUT, STANDARD_OUTPUT, Why, reason_for};
 use std::io::{self, ErrorKind};
-
-/// What is said of standard input.
-const STANDARD_INPUT: &str = "standard input";
-
-/// What is said of standard output.
-const STANDARD_OUTPUT: &str = "standard output";
 
 /// Of an error of standard input.
 pub fn input_fault(kind: ErrorKind) -> Fault<'static>

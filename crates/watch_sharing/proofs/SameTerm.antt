@@ -6,12 +6,12 @@ use Rattle.std.proofs.lemmas.List.Sums.{AllPass-from_list_all}
 use Rattle.std.specs.Ordering.{int_eq}
 use Rattle.lc_model.specs.declared.field.Term.{Term}
 use Rattle.lc_model.specs.declared.field.FieldType.{FieldType}
-use Rattle.lc_model.specs.declared.field.FieldType.TheVariants.{U8, I8, U16Be, U16Le, I16Be, I16Le, U32Be, U32Le, I32Be, I32Le}
 use Rattle.lc_model.specs.declared.field.CmpOp.{CmpOp}
 use Rattle.lc_model.specs.declared.field.CmpOp.TheVariants.{Less, LessOrEqual, NotEqual, Equal, GreaterOrEqual, Greater}
 use Rattle.lc_model.specs.Codes.{type_code, operator_code}
 use Rattle.lc_model.specs.Tables.Equation.{same_term}
 use Rattle.lc_model.specs.Tables.Image.{types}
+use Rattle.lc_model.proofs.FieldTypes.{of_type}
 use Rattle.lc_model.specs.contracts.field.TermPartialEq.TheImpl as terms
 use Rattle.lc_model.specs.contracts.field.FieldTypePartialEq.TheImpl as kinds
 use Rattle.lc_model.specs.contracts.field.CmpOpPartialEq.TheImpl as operators
@@ -26,19 +26,6 @@ agreed true true e = refl
 agreed true false e = absurd (cc e)
 agreed false true e = absurd (cc e)
 agreed false false e = refl
-
--- what holds of all types holds of each
-of_type : (test : FieldType → Bool) → AllPass test types → (k : FieldType) → test k ≡ true
-of_type test all U8 = all 0 U8 (omega arith)
-of_type test all I8 = all 1 U8 (omega arith)
-of_type test all U16Be = all 2 U8 (omega arith)
-of_type test all U16Le = all 3 U8 (omega arith)
-of_type test all I16Be = all 4 U8 (omega arith)
-of_type test all I16Le = all 5 U8 (omega arith)
-of_type test all U32Be = all 6 U8 (omega arith)
-of_type test all U32Le = all 7 U8 (omega arith)
-of_type test all I32Be = all 8 U8 (omega arith)
-of_type test all I32Le = all 9 U8 (omega arith)
 
 abbrev comparisons : List CmpOp
 comparisons = Less ∷ LessOrEqual ∷ NotEqual ∷ Equal ∷ GreaterOrEqual ∷ Greater ∷ []

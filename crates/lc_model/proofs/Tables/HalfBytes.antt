@@ -3,8 +3,6 @@ use Rattle.std.proofs.Common.{sym, subst, ℕ, zero, suc, ◌-◌, ◌/◌, ◌<
 use Rattle.std.specs.List.{AllByRecursion}
 use Rattle.std.specs.Int.{w32, byte_at, to_be_bytes}
 use Rattle.sha2.specs.Sha256.{sha256, digest_bytes, final_hash, initial_hash_256}
-use Rattle.lc_model.specs.declared.field.FieldType.{FieldType}
-use Rattle.lc_model.specs.declared.field.FieldType.TheVariants.{U8, I8, U16Be, U16Le, I16Be, I16Le, U32Be, U32Le, I32Be, I32Le}
 use Rattle.lc_model.specs.declared.field.CmpOp.{CmpOp}
 use Rattle.lc_model.specs.declared.field.CmpOp.TheVariants.{Less, LessOrEqual, NotEqual, Equal, GreaterOrEqual, Greater}
 use Rattle.lc_model.specs.declared.field.Term.{Term}
@@ -12,10 +10,11 @@ use Rattle.lc_model.specs.declared.mode.ApMode.{ApMode}
 use Rattle.lc_model.specs.declared.mode.ApMode.TheVariants.{Active, Passive, Disabled, PermOff}
 use Rattle.lc_model.specs.declared.kind.Kind.TheVariants.{Wdt, Adt}
 use Rattle.lc_model.specs.Bytes.{u16, zero_filled}
-use Rattle.lc_model.specs.Codes.{type_code, operator_code, state_code, event_code, kind_code, table_entries}
+use Rattle.lc_model.specs.Codes.{operator_code, state_code, event_code, kind_code, table_entries}
 use Rattle.lc_model.specs.Tables.Equation.{terms_of, equal_word}
 use Rattle.lc_model.specs.Tables.Image.{Layout, Watchpoints, kind_of, version_of, words_in, entry_length, preamble, blank_entry, filled, bits_32, term_bytes, TableEntry, entry_bytes, FitsEntry, EndsOnce}
 use Rattle.lc_model.specs.Tables.Half.{IsHalf}
+use Rattle.lc_model.proofs.FieldTypes.{type_byte}
 use Rattle.lc_model.proofs.Tables.SaidLaws.{all_append}
 
 abbrev AreBytes : List ℕ → Type 0
@@ -82,9 +81,6 @@ preamble_bytes l own watchpoints hash rest first second =
     two_more (version_of l) (two_more (kind_code (kind_of l)) (two_more own (two_more watchpoints (all_append (λ b. b < 256) hash rest first second))))
 
 -- ---- entries
-
-type_byte : (k : FieldType) → type_code k < 256
-type_byte = elim [ U8 ↦ omega arith | I8 ↦ omega arith | U16Be ↦ omega arith | U16Le ↦ omega arith | I16Be ↦ omega arith | I16Le ↦ omega arith | U32Be ↦ omega arith | U32Le ↦ omega arith | I32Be ↦ omega arith | I32Le ↦ omega arith ]
 
 operator_byte : (o : CmpOp) → operator_code o < 256
 operator_byte = elim [ Less ↦ omega arith | LessOrEqual ↦ omega arith | NotEqual ↦ omega arith | Equal ↦ omega arith | GreaterOrEqual ↦ omega arith | Greater ↦ omega arith ]

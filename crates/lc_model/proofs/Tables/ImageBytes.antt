@@ -16,7 +16,8 @@ use Rattle.lc_model.specs.Tables.Equation.{equal_word}
 use Rattle.lc_model.specs.Tables.Image.{Layout, words_in, bits_32, fits_32_bits, twos_complement_32, term_bytes, TableEntry, entry_bytes, FitsWatchpoint, FitsEntry, EndsOnce}
 use Rattle.lc_model.proofs.Tables.NumbersIn32Bits.{bits_small, value_again}
 use Rattle.lc_model.proofs.Tables.EntryLengths.{length-zero_filled, entry_long}
-use Rattle.lc_model.proofs.CodesAgain.{one_type, one_operator}
+use Rattle.lc_model.proofs.CodesAgain.{one_operator}
+use Rattle.lc_model.proofs.FieldTypes.{one_type}
 
 -- ---- lists in parts
 

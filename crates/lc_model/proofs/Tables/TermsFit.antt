@@ -1,12 +1,10 @@
 -- The watchpoints of a rule text are those that a sound table may have.
-use Rattle.std.proofs.Common.{◌≡◌, refl, subst, ℕ, ◌<◌, ◌≤◌, ◌==◌, ◌^◌, Bool, true, false, not, cond, List, [], ◌∷◌, ◌++◌, filter, flat_map, Option, Some, None, option_map, arith}
+use Rattle.std.proofs.Common.{◌≡◌, refl, subst, ℕ, ◌<◌, ◌≤◌, ◌==◌, Bool, true, false, not, cond, List, [], ◌∷◌, ◌++◌, filter, flat_map, Option, Some, None, option_map, arith}
 use Rattle.std.specs.Prelude.{option_and_then}
 use Rattle.std.specs.List.{AllByRecursion, list_any}
 use Rattle.lc_model.specs.Packet.{reserved_mids}
 use Rattle.std.specs.Option.{option_map_or}
 use Rattle.lc_model.specs.declared.field.CmpOp.{CmpOp}
-use Rattle.lc_model.specs.declared.field.FieldType.{FieldType}
-use Rattle.lc_model.specs.declared.field.FieldType.TheVariants.{U8, I8, U16Be, U16Le, I16Be, I16Le, U32Be, U32Le, I32Be, I32Le}
 use Rattle.lc_model.specs.declared.field.Term.{Term}
 use Rattle.lc_model.specs.Field.{full_mask, is_in_type}
 use Rattle.lc_model.specs.Condition.{Operator, Condition, Watch}
@@ -20,6 +18,7 @@ use Rattle.lc_model.specs.Tables.Image.{FitsWatchpoint, ComparesInType}
 use Rattle.lc_model.proofs.Tables.NumbersIn32Bits.{in_type_fits}
 use Rattle.lc_model.proofs.Texts.ItemsInRange.{FitsField, HasMask, HasMid, OfField, OfPacket, fields_fit, all_masked, all_identified, field_found, packet_found}
 use Rattle.lc_model.proofs.Facts.{append_none_second, append_none_first}
+use Rattle.lc_model.proofs.FieldTypes.{mask_small}
 
 -- a watchpoint that a sound table may have: a message id of telemetry that isn't the host's own, a mask of some of the
 -- type's bits, and a number of the type
@@ -29,9 +28,6 @@ pub record IsSoundTerm (t : Term) : Type 0 where
   pub mid : (0x0800 ≤ t.mid) × (t.mid ≤ 0x0FFF)
   pub free : list_any (◌==◌ t.mid) reserved_mids ≡ false
   pub mask : (1 ≤ t.mask) × (t.mask ≤ full_mask t.kind)
-
-mask_small : (k : FieldType) → full_mask k < 2 ^ 32
-mask_small = elim [ U8 ↦ omega arith | I8 ↦ omega arith | U16Be ↦ omega arith | U16Le ↦ omega arith | I16Be ↦ omega arith | I16Le ↦ omega arith | U32Be ↦ omega arith | U32Le ↦ omega arith | I32Be ↦ omega arith | I32Le ↦ omega arith ]
 
 abbrev AllFit : List Term → Type 0
 AllFit ts = AllByRecursion IsSoundTerm ts

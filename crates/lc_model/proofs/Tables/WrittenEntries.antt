@@ -27,7 +27,7 @@ use Rattle.lc_model.proofs.Tables.NumbersIn32Bits.{bits_small, value_again}
 use Rattle.lc_model.proofs.Tables.TermsFit.{IsSoundTerm}
 use Rattle.lc_model.proofs.Tables.EntryLengths.{length-zero_filled}
 use Rattle.lc_model.proofs.Tables.SoundFields.{before_here, before_later, after_here, after_later}
-use Rattle.lc_model.proofs.CodesAgain.{type_again}
+use Rattle.lc_model.proofs.FieldTypes.{type_again}
 
 -- ---- tests
 

@@ -5,7 +5,6 @@ use Rattle.std.specs.Ordering.{int_eq}
 use Rattle.std.specs.Option.{option_map_or}
 use Rattle.std.proofs.lemmas.Bool.Decides.{Decides-int_eq}
 use Rattle.lc_model.specs.declared.field.FieldType.{FieldType}
-use Rattle.lc_model.specs.declared.field.FieldType.TheVariants.{U8, I8, U16Be, U16Le, I16Be, I16Le, U32Be, U32Le, I32Be, I32Le}
 use Rattle.lc_model.specs.Packet.{reserved_mids, first_telemetry_mid, last_telemetry_mid}
 use Rattle.lc_model.specs.Field.{full_mask}
 use Rattle.lc_model.specs.Text.Token.{Token, at_most_32_bits, with_sign, magnitude, magnitude_text}
@@ -15,6 +14,7 @@ use Rattle.lc_model.specs.Text.Grammar as grammar
 use Rattle.lc_model.specs.Text.Grammar.{number_of, DerivesOption, DerivesItem, DerivesFile}
 use Rattle.lc_model.specs.Text.Meaning.{fault_if, fault_outside, name_faults, packet_faults, field_faults, faults_of, field_of, packet_of}
 use Rattle.lc_model.proofs.Facts.{or_neither, or_second, or_first, append_none_first, append_none_second, tested_equal}
+use Rattle.lc_model.proofs.FieldTypes.{some_bit}
 
 -- ---- nothing is refused
 
@@ -115,9 +115,6 @@ item_fits (grammar.DerivesItem.rule w e phrase a b c d f g) = tt
 pub fields_fit : {ts : List Token} {items : List Item} → DerivesFile ts items → AllByRecursion (OfField FitsField) items
 fields_fit grammar.DerivesFile.done = tt
 fields_fit (grammar.DerivesFile.next item others) = (item_fits item, fields_fit others)
-
-some_bit : (k : FieldType) → 1 ≤ full_mask k
-some_bit = elim [ U8 ↦ omega arith | I8 ↦ omega arith | U16Be ↦ omega arith | U16Le ↦ omega arith | I16Be ↦ omega arith | I16Le ↦ omega arith | U32Be ↦ omega arith | U32Le ↦ omega arith | I32Be ↦ omega arith | I32Le ↦ omega arith ]
 
 mask_in_range : (k : FieldType) (o : Option Number) → option_map_or (fault_outside 1 (full_mask k) 26) o [] ≡ [] →
     (1 ≤ option_map_or (λ (m : Number). nat_abs m.value) o (full_mask k)) × (option_map_or (λ (m : Number). nat_abs m.value) o (full_mask k) ≤ full_mask k)

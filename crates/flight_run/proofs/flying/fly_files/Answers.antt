@@ -1,7 +1,9 @@
 use Rattle.std.proofs.Common.{◌∙◌, ap, List, ℕ, map, inr, Bor, Vec, Global}
-use Rattle.flight_run.proofs.Calls.{each_text}
+use Rattle.program_io.proofs.Calls.{each_text}
+use Rattle.program_io.proofs.Stopping.{passes}
+use Rattle.flight_run.specs.Cause.{fault_of_file}
 use Rattle.flight_run.proofs.RunCalls.{all_texts, all_there, at_create, at_out, at_rules, at_schedule, at_slices, at_stream, at_texts, is_opened, is_run, run_ends, run_stops}
-use Rattle.flight_run.proofs.Stopping.{passes}
+use Rattle.flight_run.proofs.Stopping.{lifted}
 use Rattle.flight_run.proofs.flying.fly_files.Goals as goal
 
 pub returns-in_err-plan-clause-stops : goal.returns-in_err-plan-clause-stops
@@ -11,7 +13,7 @@ returns-in_err-plan-clause-stops g c =
 pub returns-in_err-texts-clause-stops : goal.returns-in_err-texts-clause-stops
 returns-in_err-texts-clause-stops g c =
     passes _ _ _ c.from_residual-in_err-texts.ensures.1
-    (inr (at_texts c.args.schedule.now c.args.stream c.args.out _ _ c.in_ok-plan.ensures.said.0 _ _ c.in_err-texts.field-0.0 c.in_ok-plan.ensures.said.2 c.in_err-texts.ensures.stops))
+    (inr (at_texts c.args.schedule.now c.args.stream c.args.out _ _ c.in_ok-plan.ensures.said.0 _ _ (fault_of_file c.in_err-texts.field-0.0) c.in_ok-plan.ensures.said.2 (lifted _ _ _ c.in_err-texts.field-0.0 c.in_err-texts.ensures.stops)))
 
 pub returns-in_err-slices-clause-stops : goal.returns-in_err-slices-clause-stops
 returns-in_err-slices-clause-stops g c =
@@ -29,22 +31,22 @@ returns-in_default-clause-stops g c =
     let read = all_texts c.args.schedule.now c.args.stream c.args.out _ _ text texts _ _ c.in_ok-plan.ensures.said.2 c.in_ok-texts.ensures.read in
     inr (at_stream c.args.schedule.now c.args.stream c.args.out _ _ text texts _ _ same read c.in_default.ensures.noted)
 
-pub returns-in_err-is_apart-clause-stops : goal.returns-in_err-is_apart-clause-stops
-returns-in_err-is_apart-clause-stops g c =
+pub returns-in_err-check_apart-clause-stops : goal.returns-in_err-check_apart-clause-stops
+returns-in_err-check_apart-clause-stops g c =
     let text = c.in_ok-plan.ensures.said.0 in
     let texts = map (λ (x : Vec ℕ Global). x.items) c.in_ok-texts.texts.items in
     let same = each_text c.in_ok-texts.texts.items c.args.rules.now c.in_ok-texts.ensures.each in
     let read = all_texts c.args.schedule.now c.args.stream c.args.out _ _ text texts _ _ c.in_ok-plan.ensures.said.2 c.in_ok-texts.ensures.read in
-    passes _ _ _ c.from_residual-in_err-is_apart.ensures.1 (inr (at_out c.args.schedule.now c.args.stream c.args.out _ _ text texts _ _ _ _ c.in_err-is_apart.field-0.0 same read c.in-Ok.ensures.noted c.in_err-is_apart.ensures.refused))
+    passes _ _ _ c.from_residual-in_err-check_apart.ensures.1 (inr (at_out c.args.schedule.now c.args.stream c.args.out _ _ text texts _ _ _ _ (fault_of_file c.in_err-check_apart.field-0.0) same read c.in-Ok.ensures.noted (lifted _ _ _ c.in_err-check_apart.field-0.0 c.in_err-check_apart.ensures.refused)))
 
-pub returns-in_err-is_apart-2-clause-stops : goal.returns-in_err-is_apart-2-clause-stops
-returns-in_err-is_apart-2-clause-stops g c =
+pub returns-in_err-check_apart-2-clause-stops : goal.returns-in_err-check_apart-2-clause-stops
+returns-in_err-check_apart-2-clause-stops g c =
     let text = c.in_ok-plan.ensures.said.0 in
     let texts = map (λ (x : Vec ℕ Global). x.items) c.in_ok-texts.texts.items in
     let same = each_text c.in_ok-texts.texts.items c.args.rules.now c.in_ok-texts.ensures.each in
     let read = all_texts c.args.schedule.now c.args.stream c.args.out _ _ text texts _ _ c.in_ok-plan.ensures.said.2 c.in_ok-texts.ensures.read in
-    let opened = is_opened c.args.schedule.now c.args.stream c.args.out _ _ text texts _ _ _ _ read c.in-Ok.ensures.noted c.in_ok-is_apart.ensures.apart in
-    passes _ _ _ c.from_residual-in_err-is_apart-2.ensures.1 (inr (at_rules c.args.schedule.now c.args.stream c.args.out _ _ text texts _ _ _ c.in_err-is_apart-2.field-0.0 same opened c.in_err-is_apart-2.ensures.refused))
+    let opened = is_opened c.args.schedule.now c.args.stream c.args.out _ _ text texts _ _ _ _ read c.in-Ok.ensures.noted c.in_ok-check_apart.ensures.apart in
+    passes _ _ _ c.from_residual-in_err-check_apart-2.ensures.1 (inr (at_rules c.args.schedule.now c.args.stream c.args.out _ _ text texts _ _ _ (fault_of_file c.in_err-check_apart-2.field-0.0) same opened (lifted _ _ _ c.in_err-check_apart-2.field-0.0 c.in_err-check_apart-2.ensures.refused)))
 
 pub returns-in_default-create-clause-stops : goal.returns-in_default-create-clause-stops
 returns-in_default-create-clause-stops g c =
@@ -52,8 +54,8 @@ returns-in_default-create-clause-stops g c =
     let texts = map (λ (x : Vec ℕ Global). x.items) c.in_ok-texts.texts.items in
     let same = each_text c.in_ok-texts.texts.items c.args.rules.now c.in_ok-texts.ensures.each in
     let read = all_texts c.args.schedule.now c.args.stream c.args.out _ _ text texts _ _ c.in_ok-plan.ensures.said.2 c.in_ok-texts.ensures.read in
-    let opened = is_opened c.args.schedule.now c.args.stream c.args.out _ _ text texts _ _ _ _ read c.in-Ok.ensures.noted c.in_ok-is_apart.ensures.apart in
-    let there = all_there c.args.schedule.now c.args.stream c.args.out _ _ text texts _ _ _ opened c.in_ok-is_apart-2.ensures.apart in
+    let opened = is_opened c.args.schedule.now c.args.stream c.args.out _ _ text texts _ _ _ _ read c.in-Ok.ensures.noted c.in_ok-check_apart.ensures.apart in
+    let there = all_there c.args.schedule.now c.args.stream c.args.out _ _ text texts _ _ _ opened c.in_ok-check_apart-2.ensures.apart in
     inr (at_create c.args.schedule.now c.args.stream c.args.out _ _ text texts _ _ _ same there c.in_default-create.ensures.noted)
 
 pub returns-clause-done : goal.returns-clause-done
@@ -62,8 +64,8 @@ returns-clause-done g c =
     let texts = map (λ (x : Vec ℕ Global). x.items) c.in_ok-texts.texts.items in
     let same = each_text c.in_ok-texts.texts.items c.args.rules.now c.in_ok-texts.ensures.each in
     let read = all_texts c.args.schedule.now c.args.stream c.args.out _ _ text texts _ _ c.in_ok-plan.ensures.said.2 c.in_ok-texts.ensures.read in
-    let opened = is_opened c.args.schedule.now c.args.stream c.args.out _ _ text texts _ _ _ _ read c.in-Ok.ensures.noted c.in_ok-is_apart.ensures.apart in
-    let there = all_there c.args.schedule.now c.args.stream c.args.out _ _ text texts _ _ _ opened c.in_ok-is_apart-2.ensures.apart in
+    let opened = is_opened c.args.schedule.now c.args.stream c.args.out _ _ text texts _ _ _ _ read c.in-Ok.ensures.noted c.in_ok-check_apart.ensures.apart in
+    let there = all_there c.args.schedule.now c.args.stream c.args.out _ _ text texts _ _ _ opened c.in_ok-check_apart-2.ensures.apart in
     let lent = ap (map (λ (x : Bor (List ℕ)). x.now)) c.as_slice-2.ensures.value ∙ c.in_ok-slices.ensures ∙ ap (map (λ (x : Vec ℕ Global). x.items)) c.as_slice.ensures.value in
     let ran = is_run c.args.schedule.now c.args.stream c.args.out _ _ text _ texts c.as_slice-2.result.now _ _ _ _ _ _ _ c.fly-outcome.result.0 c.in_ok-plan.ensures.said.1 same lent there c.in-Ok-create.ensures.noted c.close.ensures c.fly-outcome.ensures.flies in
     run_ends c.args.schedule.now c.args.stream c.args.out _ _ _ c.fly-outcome.result.0 ran
@@ -74,8 +76,8 @@ returns-clause-stops g c =
     let texts = map (λ (x : Vec ℕ Global). x.items) c.in_ok-texts.texts.items in
     let same = each_text c.in_ok-texts.texts.items c.args.rules.now c.in_ok-texts.ensures.each in
     let read = all_texts c.args.schedule.now c.args.stream c.args.out _ _ text texts _ _ c.in_ok-plan.ensures.said.2 c.in_ok-texts.ensures.read in
-    let opened = is_opened c.args.schedule.now c.args.stream c.args.out _ _ text texts _ _ _ _ read c.in-Ok.ensures.noted c.in_ok-is_apart.ensures.apart in
-    let there = all_there c.args.schedule.now c.args.stream c.args.out _ _ text texts _ _ _ opened c.in_ok-is_apart-2.ensures.apart in
+    let opened = is_opened c.args.schedule.now c.args.stream c.args.out _ _ text texts _ _ _ _ read c.in-Ok.ensures.noted c.in_ok-check_apart.ensures.apart in
+    let there = all_there c.args.schedule.now c.args.stream c.args.out _ _ text texts _ _ _ opened c.in_ok-check_apart-2.ensures.apart in
     let lent = ap (map (λ (x : Bor (List ℕ)). x.now)) c.as_slice-2.ensures.value ∙ c.in_ok-slices.ensures ∙ ap (map (λ (x : Vec ℕ Global). x.items)) c.as_slice.ensures.value in
     let ran = is_run c.args.schedule.now c.args.stream c.args.out _ _ text _ texts c.as_slice-2.result.now _ _ _ _ _ _ _ c.fly-outcome.result.0 c.in_ok-plan.ensures.said.1 same lent there c.in-Ok-create.ensures.noted c.close.ensures c.fly-outcome.ensures.flies in
     run_stops c.args.schedule.now c.args.stream c.args.out _ _ _ c.fly-outcome.result.0 ran

@@ -22,7 +22,7 @@ entries-requires-clause-as_many c =
 
 pub entries-requires-clause-short : goal.entries-requires-clause-short
 entries-requires-clause-short c =
-    let rules : List NamedRule = c.args.lowered.rules.rules in
+    let rules : List NamedRule = c.args.rules.now.rules in
     let terms : List Term = c.args.lowered.terms.items in
     subst (AllByRecursion (λ (ws : List ℕ). length ws ≤ 32)) (sym c.requires.lowered.words)
     (short_words terms rules
@@ -30,13 +30,13 @@ entries-requires-clause-short c =
 
 pub wdt_file-requires-clause-fit : goal.wdt_file-requires-clause-fit
 wdt_file-requires-clause-fit c =
-    let rules : List NamedRule = c.args.lowered.rules.rules in
+    let rules : List NamedRule = c.args.rules.now.rules in
     fit_terms c.args.text.now rules c.args.lowered.terms.items c.requires.lowered.watchpoints
     (compiled_tables_are_halves c.args.text.now rules c.requires.compiles)
 
 pub adt_file-requires-clause-fit : goal.adt_file-requires-clause-fit
 adt_file-requires-clause-fit c =
-    let rules : List NamedRule = c.args.lowered.rules.rules in
+    let rules : List NamedRule = c.args.rules.now.rules in
     let terms : List Term = c.args.lowered.terms.items in
     let known = c.requires.lowered.words ∙ ap (map (words_in arranged terms)) (sym c.as_slice.ensures) in
     let entries = c.in_ok-actionpoints.ensures terms known ∙ ap (map (entry_over arranged terms)) c.as_slice.ensures in
@@ -46,7 +46,7 @@ adt_file-requires-clause-fit c =
 
 pub returns-clause-tables : goal.returns-clause-tables
 returns-clause-tables c =
-    let rules : List NamedRule = c.args.lowered.rules.rules in
+    let rules : List NamedRule = c.args.rules.now.rules in
     let terms : List Term = c.args.lowered.terms.items in
     let known = c.requires.lowered.words ∙ ap (map (words_in arranged terms)) (sym c.as_slice.ensures) in
     let entries = c.in_ok-actionpoints.ensures terms known ∙ ap (map (entry_over arranged terms)) c.as_slice.ensures in

@@ -7,10 +7,10 @@ use Rattle.rule_errors.proofs.rules.comparisons.Goals as goal
 
 pub returns-in-Some : goal.returns-in-Some
 returns-in-Some c = record {
-  items = items_of c.in_ok-read.read.file.items.items;
-  rules = c.in_ok-read.read.rules.rules;
+  items = items_of c.args.text.now.file.items.items;
+  rules = c.args.text.now.rules.rules;
   number = c.in_ok-found.found.beyond;
-  read = c.in_ok-read.ensures;
+  read = c.requires.read;
   beyond =
       subst (λ mentions. IsBeyond mentions c.in_ok-found.found.beyond)
       (c.as_slice-2.ensures.value ∙ c.in_ok-mentions.ensures ∙ ap all_mentions c.as_slice.ensures) c.in_ok-found.ensures.beyond;

@@ -6,9 +6,9 @@ use Rattle.rule_errors.proofs.rules.rule_name.Goals as goal
 
 pub returns-in-Some : goal.returns-in-Some
 returns-in-Some c = record {
-  items = items_of c.in_ok-read.read.file.items.items;
-  rules = c.in_ok-read.read.rules.rules;
-  read = c.in_ok-read.ensures;
+  items = items_of c.args.text.now.file.items.items;
+  rules = c.args.text.now.rules.rules;
+  read = c.requires.read;
   named =
       sym (ap (λ items. rule_place (items_of items) c.args.number) c.as_slice.ensures.value) ∙ sym c.rule_among.ensures
       ∙ ap (option_map (λ (name : Name). name.at)) c.in-Some.is;

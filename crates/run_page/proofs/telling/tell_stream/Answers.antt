@@ -5,8 +5,8 @@ use Rattle.run_page.proofs.telling.tell_stream.Goals as goal
 
 pub returns-clause-told : goal.returns-clause-told
 returns-clause-told g c = λ sources schedule texts items are_read begins nothing.
-    all_read sources schedule texts (host_in c.args.stepping.now) (g.R.ByteSource.source c.args.reader.now).rest
-    (g.R.ByteSource.source c.tell_all.new.reader).rest (g.R.ByteSource.source c.take_rest.new.reader).rest c.in_ok-incoming.incoming.intake c.tell_all.new.incoming.intake c.take_rest.new.self
+    all_read c.steps_are_a_run.ensures sources schedule texts (host_in c.args.stepping.now) (g.R.ByteSource.source c.args.reader.now).rest
+    (g.R.ByteSource.source c.tell_all.new.reader).rest (g.R.ByteSource.source c.take_rest.new.reader).rest c.new-intake.result c.tell_all.new.intake c.take_rest.new.self
     c.tell_all.new.telling.lists (account_of c.tell_all.new.telling.account) c.in_ok-ending.ending c.into_taken.result.bytes c.into_taken.result.digest
     items are_read begins (c.in_ok-ending.ensures.told texts nothing)
-    c.in_ok-take_rest.ensures c.in_ok-incoming.ensures.count c.in_ok-incoming.ensures.hasher c.in_ok-incoming.ensures.open c.into_taken.ensures.bytes c.into_taken.ensures.digest
+    c.in_ok-take_rest.ensures c.new-intake.ensures.count c.new-intake.ensures.hasher c.new-intake.ensures.open c.into_taken.ensures.bytes c.into_taken.ensures.digest

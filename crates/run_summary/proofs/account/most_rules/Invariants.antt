@@ -1,5 +1,6 @@
 use Rattle.std.proofs.Common.{◌≡◌, map, fold, max, drop, length}
-use Rattle.run_summary.specs.Texts.{items_in, most_rules, rules_of}
+use Rattle.rpn_compiler.specs.TextParts.{items_in}
+use Rattle.run_summary.specs.Texts.{most_rules, rules_of}
 use Rattle.run_summary.proofs.account.most_rules.Given as goal
 
 abbrev pub invariant-loop-text : goal.invariant-loop-text

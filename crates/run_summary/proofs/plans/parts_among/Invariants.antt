@@ -1,5 +1,6 @@
 use Rattle.std.proofs.Common.{◌≡◌, ◌++◌, map, drop, filter_map}
-use Rattle.run_summary.specs.Texts.{compared_of, comparison_of, items_in, part_in}
+use Rattle.rpn_compiler.specs.TextParts.{items_in}
+use Rattle.run_summary.specs.Texts.{compared_of, comparison_of, part_in}
 use Rattle.run_summary.proofs.plans.parts_among.Given as goal
 
 abbrev pub invariant-loop-comparison : goal.invariant-loop-comparison

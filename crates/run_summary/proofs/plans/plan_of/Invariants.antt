@@ -1,6 +1,7 @@
 use Rattle.std.proofs.Common.{◌≡◌, ◌++◌, map, drop}
 use Rattle.rule_parser.specs.Syntax.{items_of}
-use Rattle.run_summary.specs.Texts.{compared_of, items_in, planned_of, rules_of, text_planned}
+use Rattle.rpn_compiler.specs.TextParts.{items_in}
+use Rattle.run_summary.specs.Texts.{compared_of, planned_of, rules_of, text_planned}
 use Rattle.run_summary.proofs.plans.plan_of.Given as goal
 
 abbrev pub invariant-loop-item : goal.invariant-loop-item

@@ -1,5 +1,6 @@
 use Rattle.std.proofs.Common.{◌≡◌, map, take}
-use Rattle.run_summary.specs.Texts.{compared_of, items_in, texts_planned}
+use Rattle.rpn_compiler.specs.TextParts.{items_in}
+use Rattle.run_summary.specs.Texts.{compared_of, texts_planned}
 use Rattle.run_summary.proofs.plans.plans_of.Given as goal
 
 abbrev pub invariant-loop-text : goal.invariant-loop-text

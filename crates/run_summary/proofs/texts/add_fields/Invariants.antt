@@ -1,5 +1,6 @@
 use Rattle.std.proofs.Common.{◌≡◌, map, drop, filter_map}
-use Rattle.run_summary.specs.Texts.{all_added, compared_of, comparison_of, field_compared, items_in}
+use Rattle.rpn_compiler.specs.TextParts.{items_in}
+use Rattle.run_summary.specs.Texts.{all_added, compared_of, comparison_of, field_compared}
 use Rattle.run_summary.proofs.texts.add_fields.Given as goal
 
 abbrev pub invariant-loop-comparison : goal.invariant-loop-comparison

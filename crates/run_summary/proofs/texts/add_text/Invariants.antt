@@ -1,7 +1,8 @@
 use Rattle.std.proofs.Common.{◌≡◌, map, drop}
 use Rattle.std.specs.List.{flat_map}
 use Rattle.rule_parser.specs.Syntax.{items_of}
-use Rattle.run_summary.specs.Texts.{all_added, compared_by, compared_in_text, compared_of, items_in, rules_of}
+use Rattle.rpn_compiler.specs.TextParts.{items_in}
+use Rattle.run_summary.specs.Texts.{all_added, compared_by, compared_in_text, compared_of, rules_of}
 use Rattle.run_summary.proofs.texts.add_text.Given as goal
 
 abbrev pub invariant-loop-item : goal.invariant-loop-item

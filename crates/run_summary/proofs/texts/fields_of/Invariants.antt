@@ -1,5 +1,6 @@
 use Rattle.std.proofs.Common.{◌≡◌, [], map, drop}
-use Rattle.run_summary.specs.Texts.{all_added, all_compared, compared_of, items_in}
+use Rattle.rpn_compiler.specs.TextParts.{items_in}
+use Rattle.run_summary.specs.Texts.{all_added, all_compared, compared_of}
 use Rattle.run_summary.proofs.texts.fields_of.Given as goal
 
 abbrev pub invariant-loop-text : goal.invariant-loop-text

@@ -1,16 +1,16 @@
 -- What is found and left is what the script expects.
 use Rattle.std.proofs.Common.{◌≡◌, ◌+◌, ◌≤◌, length, map}
-use Rattle.stream_script.specs.Part.{is_feed, most_parts, parts_in}
+use Rattle.text_lines.specs.Lines.{lines_in, most_lines}
 use Rattle.scenario_trial.specs.Reading.{expectations_in, lines_expected, placed_of}
 use Rattle.scenario_trial.proofs.Lines.{sizes}
 use Rattle.scenario_trial.proofs.expectation_lines.read_lines.Given as goal
 
 abbrev pub invariant-loop-left : goal.invariant-loop-left
 invariant-loop-left l = record {
-  says : lines_expected (map placed_of l.found.items) (l.n + 1) l.at (parts_in is_feed l.left) ≡ expectations_in l.script;
-  counted : l.n + most_parts l.left ≤ length l.script + 1;
-  sized : l.at + sizes (parts_in is_feed l.left) ≡ length l.script + 1;
+  says : lines_expected (map placed_of l.found.items) (l.n + 1) l.at (lines_in l.left) ≡ expectations_in l.script;
+  counted : l.n + most_lines l.left ≤ length l.script + 1;
+  sized : l.at + sizes (lines_in l.left) ≡ length l.script + 1;
 }
 
 abbrev pub decreases-loop-left : goal.decreases-loop-left
-decreases-loop-left l = most_parts l.left
+decreases-loop-left l = most_lines l.left

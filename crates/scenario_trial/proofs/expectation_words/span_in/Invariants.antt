@@ -1,6 +1,6 @@
 -- What is left of the words, over the seconds so far, is what all words say.
 use Rattle.std.proofs.Common.{◌≡◌, length}
-use Rattle.stream_script.specs.Part.{texts_of}
+use Rattle.text_lines.specs.Lines.{texts_of}
 use Rattle.scenario_trial.specs.Expected.{span_in}
 use Rattle.scenario_trial.proofs.expectation_words.span_in.Given as goal
 

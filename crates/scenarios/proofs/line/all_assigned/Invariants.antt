@@ -1,6 +1,6 @@
 -- What is left says what all words say.
 use Rattle.std.proofs.Common.{◌≡◌, drop}
-use Rattle.stream_script.specs.Part.{texts_of}
+use Rattle.text_lines.specs.Lines.{texts_of}
 use Rattle.scenarios.specs.Line.{all_assigned}
 use Rattle.scenarios.proofs.line.all_assigned.Given as goal
 

@@ -1,5 +1,5 @@
 -- What is left to say says what all of it says.
-use Rattle.stream_script.specs.Part.{texts_of}
+use Rattle.text_lines.specs.Lines.{texts_of}
 use Rattle.scenarios.specs.Plain.{most_steps, said_within}
 use Rattle.scenarios.proofs.Steps.{Stepping}
 use Rattle.scenarios.proofs.plain.said_within.Given as goal

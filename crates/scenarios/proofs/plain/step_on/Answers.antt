@@ -1,7 +1,7 @@
 -- The words are those of the line at the place.
 use Rattle.std.proofs.Common.{◌≡◌, rules, subst, List, ℕ, Ok}
 use Rattle.std.specs.Prelude.{IfErr, IfOk}
-use Rattle.stream_script.specs.Part.{texts_of}
+use Rattle.text_lines.specs.Lines.{texts_of}
 use Rattle.scenarios.specs.Error.{IsRefused}
 use Rattle.scenarios.specs.Plain.{step}
 use Rattle.scenarios.proofs.Fields.{same_words}

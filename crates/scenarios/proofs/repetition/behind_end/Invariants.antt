@@ -1,6 +1,6 @@
 -- The end is found among the lines that are left.
 use Rattle.std.proofs.Common.{◌≡◌, ◌≤◌, drop}
-use Rattle.stream_script.specs.Part.{texts_of}
+use Rattle.text_lines.specs.Lines.{texts_of}
 use Rattle.scenarios.specs.Plain.{behind_end}
 use Rattle.scenarios.proofs.repetition.behind_end.Given as goal
 

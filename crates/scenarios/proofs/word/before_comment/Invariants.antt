@@ -1,6 +1,6 @@
 -- The words so far, and those of the rest in front of a comment, are all of them.
 use Rattle.std.proofs.Common.{◌≡◌, ◌++◌, drop}
-use Rattle.stream_script.specs.Part.{texts_of}
+use Rattle.text_lines.specs.Lines.{texts_of}
 use Rattle.scenarios.specs.Words.{before_comment}
 use Rattle.scenarios.proofs.word.before_comment.Given as goal
 

@@ -1,6 +1,6 @@
 -- The text so far, and the words that are left, are all of it.
 use Rattle.std.proofs.Common.{◌≡◌, ◌++◌, drop}
-use Rattle.stream_script.specs.Part.{texts_of}
+use Rattle.text_lines.specs.Lines.{texts_of}
 use Rattle.scenarios.specs.Words.{words_behind}
 use Rattle.scenarios.proofs.word.with_words.Given as goal
 

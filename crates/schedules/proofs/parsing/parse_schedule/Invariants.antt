@@ -1,7 +1,7 @@
 -- What is known and left says what the text says.
 use Rattle.std.proofs.Common.{◌≡◌, ◌+◌, ◌≤◌, length}
 use Rattle.lc_model.specs.Host.ScheduleText.{lines_read, schedule_in}
-use Rattle.schedules.specs.Word.{lines_in, most_lines}
+use Rattle.text_lines.specs.Lines.{lines_in, most_lines}
 use Rattle.schedules.proofs.parsing.parse_schedule.Given as goal
 
 abbrev pub invariant-loop-left : goal.invariant-loop-left

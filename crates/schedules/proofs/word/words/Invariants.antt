@@ -1,7 +1,7 @@
 -- The words so far, and those that are left, are the line's.
 use Rattle.std.proofs.Common.{◌≡◌, ◌-◌, ◌++◌, length}
 use Rattle.lc_model.specs.Host.ScheduleText.{words_of}
-use Rattle.schedules.specs.Word.{texts_of}
+use Rattle.text_lines.specs.Lines.{texts_of}
 use Rattle.schedules.proofs.word.words.Given as goal
 
 abbrev pub invariant-loop-left : goal.invariant-loop-left

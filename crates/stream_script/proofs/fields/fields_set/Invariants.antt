@@ -1,7 +1,7 @@
 -- What is left of the words, set in the payload so far, is what all words say.
 use Rattle.std.proofs.Common.{◌≡◌, length}
+use Rattle.text_lines.specs.Lines.{texts_of}
 use Rattle.stream_script.specs.Fields.{fields_set}
-use Rattle.stream_script.specs.Part.{texts_of}
 use Rattle.stream_script.proofs.fields.fields_set.Given as goal
 
 abbrev pub invariant-loop-left : goal.invariant-loop-left

@@ -17,7 +17,7 @@ returns c =
       words = c.entry.inside.words.items;
     } in
     subst (λ (e : TableEntry). c.push_u16-6.new.out.items ≡ c.args.out.now.items ++ entry_numbers e) c.entry.view_is
-    (numbers_written fields c.state_code.result c.event_code.result c.args.out.now.items _ _ _ _ _ _ _ _
-    c.state_code.ensures c.event_code.ensures
+    (numbers_written fields c.code.result c.code-2.result c.args.out.now.items _ _ _ _ _ _ _ _
+    c.code.ensures c.code-2.ensures
     c.in_ok-push.ensures.items c.in_ok-push-2.ensures.items c.in_ok-push_u16.ensures c.in_ok-push_u16-2.ensures
     c.in_ok-push_u16-3.ensures c.in_ok-push_u16-4.ensures c.in_ok-push_u16-5.ensures c.in_ok-push_u16-6.ensures)

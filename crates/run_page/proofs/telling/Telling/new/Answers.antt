@@ -2,24 +2,25 @@ use Rattle.std.proofs.Common.{◌∙◌, sym, subst, refl, arith}
 use Rattle.std.proofs.lemmas.Bool.{false≢true}
 use Rattle.run_summary.specs.Account.{Account, account_of}
 use Rattle.run_summary.specs.Fields.{AreKnown}
-use Rattle.run_summary.specs.Run.{OfTexts}
+use Rattle.run_summary.specs.Run.{OfTexts, TellsNothing}
 use Rattle.run_page.proofs.Values.{nothing_yet}
 use Rattle.run_page.proofs.telling.Telling.new.Goals as goal
 
 pub returns-clause-nothing : goal.returns-clause-nothing
-returns-clause-nothing c =
-    let texts : OfTexts = c.in_ok-account.ensures.read in (
+returns-clause-nothing c sources are =
+    let nothing : TellsNothing sources (account_of c.in_ok-account.account) = c.in_ok-account.ensures sources are in
+    let texts : OfTexts = nothing.read in (
       texts,
-      c.in_ok-account.ensures.items,
-      c.in_ok-account.ensures.are_read,
+      nothing.items,
+      nothing.are_read,
       record {
         first = c.new-3.ensures;
         small = omega (arith, c.new-3.ensures);
         lists_tell = nothing_yet texts (account_of c.in_ok-account.account) c.in_ok-lists.lists c.in_ok-account.account.lanes c.len.result
-            c.in_ok-account.ensures.is refl (c.len.ensures ∙ c.in_ok-account.account.seen.ok.0) c.in_ok-lists.ensures;
+            nothing.is refl (c.len.ensures ∙ c.in_ok-account.account.seen.ok.0) c.in_ok-lists.ensures;
         kept = λ looked. absurd (false≢true (sym c.new-4.ensures ∙ looked));
-        is_account = c.in_ok-account.ensures.is;
-        known = subst (λ (a : Account). AreKnown 1 texts.fields a.seen) (sym c.in_ok-account.ensures.is) (c.fields_that_come.ensures.begin texts);
+        is_account = nothing.is;
+        known = subst (λ (a : Account). AreKnown 1 texts.fields a.seen) (sym nothing.is) (c.fields_that_come.ensures.begin texts);
         stood_last = λ looked. absurd (false≢true (sym c.new-4.ensures ∙ looked));
       },
     )

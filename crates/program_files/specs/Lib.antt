@@ -1,2 +1,0 @@
--- What the contracts on files cite.
-pub mod Why

@@ -1,0 +1,3 @@
+mod Mapped
+pub mod Calls
+pub mod Stopping

@@ -1,0 +1,6 @@
+-- What the contracts on files and words cite.
+pub mod Why
+pub mod Error
+pub mod Arguments
+pub mod FileCall
+pub mod Stops

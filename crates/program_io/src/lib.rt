@@ -1,0 +1,32 @@
+//! What both programs do with files and with their process: files are read up to a bound or in pieces, told apart, made, and
+//! written beside their names; the words of the command line. What a file gives or takes no contract says; the rows of
+//! `tools/lib/programs` show it. Calls over a `Disk` are noted, one after the other.
+#![tactic(auto)]
+
+mod arguments;
+mod disk;
+mod draft;
+mod error;
+mod feed;
+mod identity;
+mod named;
+mod noting;
+mod shell;
+mod standard;
+mod whole_files;
+mod why;
+mod writing;
+
+pub use arguments::{ArgumentsError, arguments_error, arguments_of, lend_words};
+pub use disk::Disk;
+pub use draft::{Draft, begin, discard, keep};
+pub use error::{FileError, error_at};
+pub use feed::{Feed, feed_of};
+pub use identity::is_one_file;
+pub use named::{LONGEST_TEXT, check_apart, read_text, read_texts, read_whole_text, write_file};
+pub use noting::Noting;
+pub use shell::Shell;
+pub use standard::{STANDARD_INPUT, STANDARD_OUTPUT};
+pub use whole_files::{read_all, read_front};
+pub use why::{FileFault, Why, fault_of, reason_for};
+pub use writing::write_all_to;

@@ -1,0 +1,20 @@
+-- What a rule text has that was read: items, and the rules that they mean. This project's own.
+use Rattle.std.specs.Prelude.{ℕ, List}
+use Rattle.lc_model.specs.Rule.{NamedRule}
+use Rattle.lc_model.specs.Text.Meaning.{Means}
+use Rattle.lc_model.specs.Text.Reading.{Parses}
+use Rattle.lc_model.specs.Text.Syntax.{Item}
+use Rattle.lc_model.specs.Text.Token.{Token, Splits}
+
+-- the text has these items
+pub record HasItems (text : List ℕ) (items : List Item) : Type 0 where
+  pub tokens : List Token
+  pub splits : Splits text tokens
+  pub parses : Parses tokens items
+
+-- the text has these items, and they mean these rules
+pub record IsRead (text : List ℕ) (items : List Item) (rules : List NamedRule) : Type 0 where
+  pub tokens : List Token
+  pub splits : Splits text tokens
+  pub parses : Parses tokens items
+  pub means : Means items rules

@@ -1,0 +1,45 @@
+//! What is judged of the rules of a text.
+
+ghost use Rattle.std.specs.Prelude.{◌≡◌, IfOk};
+ghost use Rattle.rule_lints.specs.Warned.{IsJudged, unsampled};
+
+use crate::judging::Judged;
+use analysis_listing::unsampled_rules;
+use lc_model::Rules;
+use rule_analysis::{judge, judge_pairs, spare_comparisons};
+use schedules::Schedule;
+use std::alloc::{AllocError, Global};
+
+/// Of so many rules those that the schedule never samples.
+fn unsampled_numbers(
+    alloc: Global,
+    plan: Option<&Schedule>,
+    rules: usize,
+) -> Result<Vec<usize>, AllocError>
+    ensures { IfOk result (λ numbers. numbers.items ≡ unsampled plan.entry rules) }
+{
+    match plan {
+        Some(plan) => unsampled_rules(alloc, rules, plan),
+        None => Ok(Vec::new(alloc)),
+    }
+}
+
+/// What is judged of rules.
+pub(crate) fn judge_all(
+    alloc: Global,
+    rules: &Rules,
+    plan: Option<&Schedule>,
+) -> Result<Judged, AllocError>
+    ensures { IfOk result (IsJudged rules.now plan.entry) }
+{
+    let judgement = judge(alloc, rules)?;
+    let pairs = judge_pairs(alloc, rules)?;
+    let spare = spare_comparisons(alloc, rules)?;
+    let unsampled = unsampled_numbers(alloc, plan, rules.as_slice().len())?;
+    Ok(Judged {
+        rules: judgement.rules,
+        pairs,
+        spare,
+        unsampled,
+    })
+}
