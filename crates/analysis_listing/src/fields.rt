@@ -22,30 +22,6 @@ pub struct FieldNames<'a> {
     fields: Vec<NamedField<'a>>,
 }
 
-/// A packet that a text names.
-#[derive(Clone, Copy)]
-pub struct NamedPacket<'a> {
-    pub name: &'a [u8],
-    pub mid: u16,
-}
-
-/// The packets of a text.
-pub fn packets_of<'a>(
-    alloc: Global,
-    text: &RuleText<'a>,
-) -> Result<Vec<NamedPacket<'a>>, AllocError> {
-    let mut packets = Vec::new(alloc);
-    for item in &text.file.items {
-        if let Item::Packet(packet) = item {
-            packets.push(NamedPacket {
-                name: packet.name.text,
-                mid: u16::try_from(packet.mid.value).unwrap_or(0),
-            })?;
-        }
-    }
-    Ok(packets)
-}
-
 /// The message id of the packet of this name; 0 where there is none.
 fn mid_of(items: &[Item<'_>], name: &[u8]) -> u16 {
     for item in items {

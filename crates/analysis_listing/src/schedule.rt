@@ -6,14 +6,10 @@ ghost use Rattle.rule_analysis.specs.Reach.{is_sampled};
 ghost use Rattle.schedules.specs.Entry.{entries_of};
 ghost use Rattle.analysis_listing.specs.Requests.{request_in, requests_of};
 
-use crate::error::ListingError;
-use crate::lines::Shown;
 use lc_model::SampleRequest;
-use rpn_compiler::RuleText;
 use rule_analysis::never_sampled;
 use schedules::{Entry, Schedule};
 use std::alloc::{AllocError, Global};
-use std::io::Write;
 
 /// The sample requests of a slot join those before.
 fn push_requests(entries: &[Entry], requests: &mut Vec<SampleRequest>) -> Result<(), AllocError>
@@ -50,23 +46,4 @@ pub fn unsampled_rules(
 {
     let requests = requests_of(alloc, schedule)?;
     never_sampled(alloc, rules, &requests)
-}
-
-/// Writes which rules of a text a schedule samples at no tick, a warning each.
-///
-/// Errors: `Memory`; `Write`, where the writer refuses bytes.
-pub fn list_unsampled<W: Write>(
-    alloc: Global,
-    text: &RuleText<'_>,
-    schedule: &Schedule,
-    out: &mut W,
-) -> Result<(), ListingError> {
-    let rules = text.rules.rules.as_slice();
-    for number in &unsampled_rules(alloc, rules.len(), schedule)? {
-        if let Some(rule) = rules.get(*number) {
-            let name = Shown(rule.name.as_slice());
-            writeln!(out, "warning: {name}: the schedule never samples it")?;
-        }
-    }
-    Ok(())
 }

@@ -10,8 +10,10 @@ mod trying;
 
 use crate::comparing::Counts;
 use crate::measuring::measure;
-use analysis_listing::{LineChoice, list_actionpoints, list_judgement, list_unsampled};
+use analysis_listing::{LineChoice, list_actionpoints, list_outcomes};
+use diagnostics::Message;
 use rpn_compiler::{RuleText, compile};
+use rule_lints::warnings;
 use schedules::parse_schedule;
 use std::{env, fs};
 
@@ -25,12 +27,24 @@ const TEXTS: [&str; 6] = [
     "shared_bits.rules",
 ];
 
-/// Prints the judgement of a text.
+/// Prints a warning, and what stands beside its place.
+fn show_warning(rt: &HostRuntime, message: &Message) -> anyhow::Result<()> {
+    if let (Some(name), Some(mark)) = (message.warning, &message.first) {
+        let (head, label) = (&message.head, &mark.label);
+        println!(rt; "warning[{name}]: {head}: {label}")?;
+    }
+    Ok(())
+}
+
+/// Prints the outcomes of a text's rules, and its warnings.
 fn show(rt: &HostRuntime, name: &str) -> anyhow::Result<()> {
     println!(rt; "{name}")?;
     let source = fs::read(rt, name)?;
     let text = RuleText::read_valid(rt.alloc(), source.as_slice())?;
-    list_judgement(rt.alloc(), &text, LineChoice::All, &mut rt.stdout())?;
+    list_outcomes(rt.alloc(), &text, &mut rt.stdout())?;
+    for message in &warnings(rt.alloc(), &text, None)? {
+        show_warning(rt, message)?;
+    }
     Ok(())
 }
 
@@ -59,7 +73,11 @@ fn show_unsampled(rt: &HostRuntime, name: &str, schedule: &str) -> anyhow::Resul
     let text = RuleText::read_valid(rt.alloc(), source.as_slice())?;
     let schedule = fs::read(rt, schedule)?;
     let schedule = parse_schedule(rt.alloc(), &schedule)?;
-    list_unsampled(rt.alloc(), &text, &schedule, &mut rt.stdout())?;
+    for message in &warnings(rt.alloc(), &text, Some(&schedule))? {
+        if message.warning == Some("never-sampled") {
+            show_warning(rt, message)?;
+        }
+    }
     Ok(())
 }
 

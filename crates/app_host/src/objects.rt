@@ -5,7 +5,7 @@ ghost use Rattle.std.specs.List.{position_from};
 ghost use Rattle.lc_model.specs.Kept.Executive.{is_called, is_seated};
 ghost use Rattle.app_host.specs.Calls.{IsObject};
 ghost use Rattle.app_host.specs.Hosted.{Object, object_at, spare_in, member_of, objects_in, object_in};
-ghost use Rattle.app_host.specs.Objects.{IfBoth, MayStartOn, HasStarted, MayAnswer, HasAnswered, MayRetire, HasRetired};
+ghost use Rattle.app_host.specs.Objects.{IfBoth, MayStartOn, HasStarted, MayRetire, HasRetired};
 
 use crate::app::App;
 use crate::laws::objects_are_at_home;
@@ -21,18 +21,6 @@ pub(crate) fn start<B: App>(app: &mut B, seat: Seat, services: &mut Services)
     // For the proof: an object stays at home on its seat, whatever packets it has.
     objects_are_at_home();
     app.start(seat, services);
-}
-
-/// The object of a seat answers a packet.
-#[inline(always)]
-pub(crate) fn give<B: App>(app: &mut B, seat: Seat, services: &mut Services, packet: &[u8])
-    requires { MayAnswer seat packet.now services.old (B.meaning app.old) }
-    ensures { HasAnswered seat packet.now services.old services.new (B.meaning app.old)
-        (B.meaning app.new) }
-{
-    // For the proof: an object stays at home on its seat, whatever packets it has.
-    objects_are_at_home();
-    app.on_packet(services, packet);
 }
 
 /// The object of a seat gives it back.

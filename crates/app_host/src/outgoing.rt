@@ -41,6 +41,7 @@ impl Outgoing {
         })
     }
 
+    /// The bytes that wait.
     pub fn as_slice(&self) -> &[u8]
         ensures { result.now ≡ self.now }
     {

@@ -26,7 +26,7 @@ impl<B: App> Host<B> {
     {
         // For the proof: tables and files are within their bounds, each under a name of its own.
         self.services.tables.is_service();
-        self.services.ask(None, id, kind, text.as_bytes());
+        self.services.tell(None, id, kind, text.as_bytes());
     }
 
     /// Tells an event of `HOST` and writes it, which is all that a record leads to.

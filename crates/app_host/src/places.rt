@@ -7,7 +7,8 @@ ghost use Rattle.app_host.specs.Left.{LeftBy};
 ghost use Rattle.app_host.specs.Objects.{IfBoth, MayAnswer, HasAnswered, MayRetire, HasRetired};
 
 use crate::app::App;
-use crate::objects::{give, retire};
+use crate::laws::objects_are_at_home;
+use crate::objects::retire;
 use crate::services::Services;
 use lc_model::Seat;
 
@@ -19,7 +20,9 @@ fn give_in<B: App>(place: &mut Option<B>, seat: Seat, services: &mut Services, p
         (HasAnswered seat packet.now services.old services.new) }
 {
     if let Some(app) = place {
-        give(app, seat, services, packet);
+        // For the proof: an object stays at home on its seat, whatever packets it has.
+        objects_are_at_home();
+        app.on_packet(services, packet);
     }
 }
 

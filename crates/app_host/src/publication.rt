@@ -87,6 +87,7 @@ impl<B: App> Host<B> {
     }
 
     /// A tick is published, and all packets are delivered.
+    #[inline(never)]
     pub(crate) fn tick<W: ByteSink>(&mut self, out: &mut W) -> Result<u64, WriteFault>
         requires whole { IsWhole (shown B.meaning self.old) }
         requires quiet { IsQuiet (shown B.meaning self.old) }

@@ -65,19 +65,6 @@ impl Services {
             (λ (sender : Sender). Tells from sender.name (Event sender.name id kind text.now ∷ [])
             self.old self.new) }
         ensures size { length self.new.outgoing ≤ length self.old.outgoing + event_packet_size }
-    {
-        self.ask(from, id, kind, text);
-    }
-
-    /// Asks for an event as `tell` does; contracts see by seats what the event services become, too.
-    #[inline(always)]
-    pub(crate) fn ask(&mut self, from: Option<Seat>, id: u16, kind: EventKind, text: &[u8])
-        requires text { length text.now ≤ longest_event_text }
-        requires room { length self.old.outgoing + event_packet_size ≤ outgoing_room }
-        ensures told { IfSome (sender_at from self.old.events)
-            (λ (sender : Sender). Tells from sender.name (Event sender.name id kind text.now ∷ [])
-            self.old self.new) }
-        ensures size { length self.new.outgoing ≤ length self.old.outgoing + event_packet_size }
         ensures events { self.new.events ≡
             (event_asked from self.old.moment id kind text.now self.old.events).0 }
         ensures outgoing { self.new.outgoing ≡ self.old.outgoing ++

@@ -1,7 +1,13 @@
 //! What is said of each text.
 
+ghost use Rattle.std.specs.Prelude.{◌≡◌, None};
+ghost use Rattle.lc_model.specs.Tables.Compiling.{limit_refusal};
+ghost use Rattle.lc_model.specs.Tables.InForce.{limits};
+ghost use Rattle.rpn_compiler.specs.TextParts.{IsRuleText};
+
 use crate::outcomes::write_outcomes;
 use crate::totals::{CheckOptions, CheckResult, Totals};
+use diagnostics::Many;
 use rpn_compiler::{CompileError, RuleText};
 use rule_errors::messages;
 use rule_lints::warnings;
@@ -27,7 +33,8 @@ fn write_counts<'a, W: Write>(
     } else {
         ""
     };
-    listing_result(writeln!(out, "{name}: {rules} rules, {warnings} warnings{shown}"))
+    let (rules, told) = (Many(rules, "rule"), Many(warnings, "warning"));
+    listing_result(writeln!(out, "{name}: {rules}, {told}{shown}"))
 }
 
 /// Writes what can be said of a valid rule text, and answers how many warnings these are.
@@ -38,7 +45,10 @@ fn judge<'a, W: Write>(
     plan: &Option<Schedule>,
     asked: CheckOptions,
     out: &mut W,
-) -> Result<usize, Fault<'a>> {
+) -> Result<usize, Fault<'a>>
+    requires reads { IsRuleText text.now }
+    requires within { limit_refusal limits text.now.rules.rules ≡ None }
+{
     let told = warnings(alloc, text, plan.as_ref())?;
     write_warnings(alloc, name, text.bytes, told.as_slice(), asked.is_json, out)?;
     if asked.is_all {

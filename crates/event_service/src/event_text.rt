@@ -30,6 +30,7 @@ impl Model for EventText {
 }
 
 impl EventText {
+    /// Its bytes, at most 121.
     pub fn as_bytes(&self) -> &[u8]
         ensures bytes { result.now ≡ self.now }
         ensures fits { length result.now ≤ longest_event_text }

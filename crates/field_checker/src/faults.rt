@@ -26,6 +26,7 @@ pub(crate) struct Faults {
 }
 
 impl Faults {
+    /// No fault was met.
     pub fn none() -> Faults
         ensures { result.first ≡ None }
     {

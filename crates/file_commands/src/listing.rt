@@ -2,8 +2,7 @@
 
 use analysis_listing::{LineChoice, list_actionpoints};
 use clap::Error;
-use lc_model::packet::first_packet;
-use packet_listing::PacketLine;
+use packet_listing::list_whole;
 use program_io::{Feed, Noting, feed_of};
 use std::alloc::Global;
 use std::cell::Cell;
@@ -11,7 +10,9 @@ use std::fs::Files;
 use std::io::{Read, Write};
 use stream_script::{Front, front_of, write_listing_from, write_script};
 use table_listing::{ListingError, list_table};
-use tool_faults::{Fault, LONGEST_TABLE, judgement_fault, listing_result, read, written_fault};
+use tool_faults::{
+    Fault, LONGEST_TABLE, judgement_fault, listing_result, output_fault, read, written_fault,
+};
 
 /// The largest number that a listing gives a record or a packet.
 const MOST_COUNTED: usize = usize::MAX / 2;
@@ -141,25 +142,6 @@ fn ended_with<'a>(is_whole: bool) -> Result<(), Fault<'a>> {
     if is_whole { Ok(()) } else { Err(Fault::Early) }
 }
 
-/// Lists the whole packets at the front, after `before` earlier ones. Returns how many there are then, and their bytes.
-fn list_whole<W: Write>(
-    packets: &[u8],
-    before: u64,
-    out: &mut W,
-) -> Result<(u64, usize), Fault<'static>> {
-    let mut number = before;
-    let mut rest = packets;
-    for _ in 0..packets.len() {
-        let Some((packet, behind)) = first_packet(rest) else {
-            break;
-        };
-        number = number.saturating_add(1);
-        listing_result(writeln!(out, "{}", PacketLine { number, packet }))?;
-        rest = behind;
-    }
-    Ok((number, packets.len().saturating_sub(rest.len())))
-}
-
 /// Lists the packets of a file piece by piece. Error: `Early` if bytes follow the last whole packet; others are of
 /// files, output and memory.
 pub fn packets<'a, R: Files + AllocGlobal, W: Write>(
@@ -171,7 +153,9 @@ pub fn packets<'a, R: Files + AllocGlobal, W: Write>(
     let mut number = 0u64;
     for _ in 0..u64::MAX {
         let is_more = feed.read_on()?;
-        let (count, size) = list_whole(feed.contents(), number, out)?;
+        let (count, size) = list_whole(feed.contents(), number, out).map_err(|error| output_fault(
+            error.kind(),
+        ))?;
         number = count;
         feed.let_go(size);
         if !is_more {

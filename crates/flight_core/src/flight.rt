@@ -42,7 +42,7 @@ fn run_error(halt: Halt, report: Report, held: usize) -> RunError
 
 /// Handles all records of the source: all whole ones of a piece before the next read. Before each read, and before the answer,
 /// all output is with the device behind the sink.
-pub(crate) fn fly<R: ByteSource, T: ByteSink, O: Outlet<T>, B: App>(
+pub(crate) fn handle_all<R: ByteSource, T: ByteSink, O: Outlet<T>, B: App>(
     records: &mut Records,
     room: &mut [u8],
     pairs: &[TablePair],

@@ -11,7 +11,7 @@ use crate::error::{Report, RunError};
 use crate::gathered::{Gathered, Gathering, MOST_GATHERED, Outset};
 use crate::laws::runs_keep_their_promises;
 use crate::pieces::MOST_READS;
-use crate::running::begin;
+use crate::running::run_texts;
 use app_host::App;
 use lc_model::{ByteSink, ByteSource};
 use schedules::Schedule;
@@ -19,7 +19,7 @@ use std::alloc::Global;
 use std::marker::Brand;
 
 /// Runs with this buffer, which is empty and has room for a piece.
-fn gather<R: ByteSource, W: ByteSink, S: Outset, B: App>(
+fn run_with_buffer<R: ByteSource, W: ByteSink, S: Outset, B: App>(
     alloc: Global,
     texts: &[&[u8]],
     schedule: &Schedule,
@@ -45,7 +45,7 @@ fn gather<R: ByteSource, W: ByteSink, S: Outset, B: App>(
     // For the proof: each promise follows from how the run ends.
     runs_keep_their_promises();
     let mut out: Gathered<W, S> = Gathered::new(device, held);
-    let answer = begin::<R, Gathered<W, S>, Gathering, B>(
+    let answer = run_texts::<R, Gathered<W, S>, Gathering, B>(
         alloc, texts, schedule, stock, reader, &mut out, MOST_READS,
     );
     (answer, out.into_device())
@@ -82,7 +82,9 @@ pub fn run_gathered<R: ByteSource, W: ByteSink, B: App>(
     // For the proof: each promise follows from how the run ends.
     runs_keep_their_promises();
     match Vec::with_capacity(alloc, MOST_GATHERED) {
-        Ok(held) => gather::<R, W, Brand, B>(alloc, texts, schedule, stock, reader, device, held),
+        Ok(held) => run_with_buffer::<R, W, Brand, B>(
+            alloc, texts, schedule, stock, reader, device, held,
+        ),
         Err(_) => (Err(RunError::Memory), device),
     }
 }

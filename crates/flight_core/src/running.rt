@@ -17,7 +17,7 @@ ghost use Rattle.flight_core.specs.Run.{AreOfProfile, AreThese, IsOfProfile, Ref
 
 use crate::compiling::compile_all;
 use crate::error::{Report, RunError};
-use crate::flight::fly;
+use crate::flight::handle_all;
 use crate::laws::runs_keep_their_promises;
 use crate::outlet::{AtOnce, Outlet};
 use crate::pieces::{MOST_READS, PIECE};
@@ -83,7 +83,7 @@ fn run_compiled<R: ByteSource, T: ByteSink, O: Outlet<T>, B: App>(
     let mut room = vec![in alloc; 0; PIECE]?;
     match Host::new(alloc, stock) {
         Ok(mut host) => {
-            let result = fly::<R, T, O, B>(
+            let result = handle_all::<R, T, O, B>(
                 &mut records,
                 room.as_mut_slice(),
                 pairs,
@@ -125,11 +125,11 @@ pub fn run_within<R: ByteSource, W: ByteSink, B: App>(
 {
     // For the proof: each promise follows from how the run ends.
     runs_keep_their_promises();
-    begin::<R, W, AtOnce, B>(alloc, texts, schedule, stock, reader, writer, reads)
+    run_texts::<R, W, AtOnce, B>(alloc, texts, schedule, stock, reader, writer, reads)
 }
 
 /// Compiles the texts, and runs.
-pub(crate) fn begin<R: ByteSource, T: ByteSink, O: Outlet<T>, B: App>(
+pub(crate) fn run_texts<R: ByteSource, T: ByteSink, O: Outlet<T>, B: App>(
     alloc: Global,
     texts: &[&[u8]],
     schedule: &Schedule,

@@ -1,7 +1,7 @@
 -- A stock that was filled spare by spare has these names, and what is promised of it is promised of them.
-use Rattle.std.proofs.Common.{◌≡◌, refl, sym, ◌∙◌, ap, subst, List, [], ◌∷◌, ◌++◌, map, Option, Some, None}
+use Rattle.std.proofs.Common.{◌≡◌, refl, sym, ◌∙◌, ap, subst, List, [], ◌∷◌, ◌++◌, map}
 use Rattle.std.specs.Borrow.{Bor}
-use Rattle.std.specs.Prelude.{ℕ, Result, ⊤, IfSome}
+use Rattle.std.specs.Prelude.{ℕ, Result, ⊤}
 use Rattle.lc_model.specs.Name.{Name}
 use Rattle.lc_model.specs.Host.Outcome.{Devices, Ending, Complete, Uncompiled, MetNoRecord, MetTheEnd, FailedToRead, FailedToWrite, ReachedTheBound, NoMemory}
 use Rattle.lc_model.specs.Host.Promise.{Mission}
@@ -61,8 +61,3 @@ keeps texts schedule stock is d result same promises =
       reasons = in_other_words (λ members these. subst (AreOwn schedule) (sym these) (is, called_so stock ∙ same)) _ d (ending_of result) own.reasons;
       bounded = own.bounded;
     }
-
--- what is so of the device that was there
-pub of_the_device : {W : Type 0} (old : Option W) (device : W) (So : W → Type 0) → old ≡ Some device → So device → IfSome old So
-of_the_device None device So is so = tt
-of_the_device (Some other) device So is so = subst So (let same : device ≡ other = cc is in same) so

@@ -11,9 +11,9 @@ mod answering;
 mod compiling;
 mod done;
 mod fault;
-mod flying;
 mod lines;
 mod place;
+mod running;
 mod stored;
 
 use crate::answering::{print_result, status_by};
@@ -22,7 +22,6 @@ use crate::fault::Fault;
 use flight_run_args::{Plan, read_words};
 use program_io::{Disk, Shell, arguments_of, lend_words};
 use std::alloc::Global;
-use std::env::Env;
 use std::fs::Files;
 use std::io::{Eprint, Print};
 use std::process::ExitCode;
@@ -54,7 +53,7 @@ fn obey<'a, D: Disk>(alloc: Global, disk: &mut D, words: &'a [&'a str]) -> Resul
             stream,
             out,
             rules,
-        } => flying::fly_files(alloc, disk, schedule, stream, out, rules.as_slice()),
+        } => running::run_files(alloc, disk, schedule, stream, out, rules.as_slice()),
     }
 }
 
@@ -69,17 +68,13 @@ fn tell<R: Eprint>(rt: &R, answer: &Result<(), Fault<'_>>) -> u8
 }
 
 /// Does what the words of the command line say, and answers the exit status.
-fn status_on<R: Env + Files + Print + Eprint + AllocGlobal>(rt: &R) -> u8 {
-    let own = match arguments_of(rt) {
+fn main(rt: HostRuntime) -> ExitCode {
+    let own = match arguments_of(&rt) {
         Ok(own) => own,
-        Err(error) => return tell(rt, &Err(Fault::from(error))),
+        Err(error) => return ExitCode::from(tell(&rt, &Err(Fault::from(error)))),
     };
     match lend_words(rt.alloc(), own.as_slice()) {
-        Ok(words) => main_on(rt, words.as_slice()),
-        Err(_) => tell(rt, &Err(Fault::Memory)),
+        Ok(words) => ExitCode::from(main_on(&rt, words.as_slice())),
+        Err(_) => ExitCode::from(tell(&rt, &Err(Fault::Memory))),
     }
-}
-
-fn main(rt: HostRuntime) -> ExitCode {
-    ExitCode::from(status_on(&rt))
 }

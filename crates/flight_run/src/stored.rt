@@ -7,6 +7,7 @@ ghost use Rattle.flight_run.specs.Dispatch.{IsStored};
 use crate::done::Done;
 use crate::fault::Fault;
 use flight_core::run;
+use lc_model::stream::PIECE;
 use lc_model::{Limited, Pieces};
 use limit_checker::LimitChecker;
 use schedules::parse_schedule;
@@ -43,7 +44,7 @@ pub fn run_stored(alloc: Global) -> Result<Done, Fault<'static>>
     let mut stock: Vec<Box<LimitChecker>> = Vec::new(alloc);
     stock.push(Box::new(alloc, LimitChecker::new(alloc)?)?)?;
     let mut room = [0; ROOM];
-    let mut reader = Pieces::new(STREAM, 8_192);
+    let mut reader = Pieces::new(STREAM, PIECE);
     let mut writer = Limited::new(&mut room, ROOM);
     run(alloc, &[TEXT], &schedule, stock, &mut reader, &mut writer)?;
     Ok(Done::Stored(Vec::from_slice(alloc, writer.bytes())?))

@@ -3,9 +3,10 @@
 ghost use Rattle.std.specs.Prelude.{◌≡◌};
 ghost use Rattle.lc_model.specs.Packet.{is_telemetry_mid};
 
-/// Telemetry with a secondary header, from the first to the last.
+/// The first message id of telemetry with a secondary header.
 pub const FIRST_TELEMETRY: u16 = 0x0800;
 
+/// The last message id of telemetry with a secondary header.
 pub const LAST_TELEMETRY: u16 = 0x0FFF;
 
 /// Event packets, out.

@@ -162,6 +162,7 @@ impl Engine {
         self.watchpoints.terms()
     }
 
+    /// The Limit Checker's own mode.
     pub fn mode(&self) -> LcMode
         ensures { result ≡ self.now.mode }
     {

@@ -55,6 +55,7 @@ impl PipePlace {
         })
     }
 
+    /// Whether somebody has the pipe.
     pub fn is_open(&self) -> bool
         ensures { result ≡ is_some self.now }
     {

@@ -40,6 +40,7 @@ impl SeatSet {
         SeatSet { bits: self.bits }
     }
 
+    /// Whether the seat is one of these.
     pub fn contains(&self, seat: Seat) -> bool
         ensures inside { result ≡ slice_index_or self.now seat false }
         ensures below { seat < seat_count }
@@ -47,12 +48,14 @@ impl SeatSet {
         self.bits & 1 << seat.index() != 0
     }
 
+    /// The seat is one of these from now on.
     pub fn insert(&mut self, seat: Seat)
         ensures { self.new ≡ slice_set self.old seat true }
     {
         self.bits |= 1 << seat.index();
     }
 
+    /// The seat is none of these from now on.
     pub fn remove(&mut self, seat: Seat)
         ensures { self.new ≡ slice_set self.old seat false }
     {
@@ -102,6 +105,7 @@ impl SeatSet {
         self.bits |= others.bits;
     }
 
+    /// Whether there is no seat.
     pub fn is_empty(&self) -> bool
         ensures { result ≡ (count_by is_in self.now == 0) }
     {

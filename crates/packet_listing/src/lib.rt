@@ -10,5 +10,5 @@ mod sent;
 
 pub use display::{TextField, Time};
 pub use line::PacketLine;
-pub use listing::list_packets;
+pub use listing::list_whole;
 pub use sent::{Event, Sent, read_packet};

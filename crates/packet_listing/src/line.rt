@@ -11,7 +11,7 @@ use std::fmt::{self, Display, Formatter, Write};
 /// A packet with its number; it displays as its line without the line end (docs/TOOLS.md, this project's own).
 #[derive(Clone, Copy)]
 pub struct PacketLine<'a> {
-    /// The packet's number, counted from 1 in `list_packets`.
+    /// The packet's number among those of its file, counted from 1.
     pub number: u64,
     /// The packet's bytes, headers included; any bytes are accepted.
     pub packet: &'a [u8],

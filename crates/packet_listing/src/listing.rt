@@ -1,14 +1,14 @@
-//! Lists all packets of a file.
+//! Lists packets that stand one behind the other.
 
 use crate::line::PacketLine;
 use lc_model::packet::first_packet;
 use std::io::{self, Write};
 
-/// Writes one line for each packet, counted from 1, and a last line if bytes are left that are no whole packet.
-/// The error is the writer's.
-pub fn list_packets<W: Write>(packets: &[u8], out: &mut W) -> io::Result<()> {
+/// Writes one line for each whole packet at the front, numbered after `before` earlier ones. Answers the number of the last one, and
+/// the bytes of all. The error is the writer's.
+pub fn list_whole<W: Write>(packets: &[u8], before: u64, out: &mut W) -> io::Result<(u64, usize)> {
+    let mut number = before;
     let mut rest = packets;
-    let mut number = 0u64;
     for _ in 0..packets.len() {
         let Some((packet, behind)) = first_packet(rest) else {
             break;
@@ -17,12 +17,5 @@ pub fn list_packets<W: Write>(packets: &[u8], out: &mut W) -> io::Result<()> {
         writeln!(out, "{}", PacketLine { number, packet })?;
         rest = behind;
     }
-    if rest.is_empty() {
-        return Ok(());
-    }
-    writeln!(
-        out,
-        "cut behind packet {number}: {} bytes are no whole packet",
-        rest.len()
-    )
+    Ok((number, packets.len().saturating_sub(rest.len())))
 }

@@ -90,6 +90,7 @@ pub struct Json<'o, W: Write> {
 }
 
 impl<'o, W: Write> Json<'o, W> {
+    /// Nothing is written yet.
     pub fn new(out: &'o mut W) -> Json<'o, W> {
         Json {
             out,
@@ -147,6 +148,7 @@ impl<'o, W: Write> Json<'o, W> {
         self.row(texts, items);
     }
 
+    /// The first error of the writer, if it had one.
     pub fn end(self) -> fmt::Result {
         self.result
     }

@@ -15,6 +15,7 @@ pub fn state(state: ApMode) -> Item<'static> {
     Item::Word(state.word())
 }
 
+/// A comparison's sign, without the bytes that end a script in HTML.
 pub fn operator(op: CmpOp) -> Item<'static> {
     Item::Word(match op {
         CmpOp::Less => "\\u003c",

@@ -2,11 +2,9 @@
 
 use crate::error::{FileError, error_at};
 use crate::why::fault_of;
+use lc_model::stream::PIECE;
 use std::fs::{File, Files};
 use std::io::Read;
-
-/// The most bytes of one read.
-const PIECE: usize = 8_192;
 
 /// A file that is read piece by piece. What is held is less than a longest record or packet, and a piece.
 #[derive(Drop)]

@@ -23,7 +23,7 @@ pub use draft::{Draft, begin, discard, keep};
 pub use error::{FileError, error_at};
 pub use feed::{Feed, feed_of};
 pub use identity::is_one_file;
-pub use named::{LONGEST_TEXT, check_apart, read_text, read_texts, read_whole_text, write_file};
+pub use named::{check_apart, read_text, read_texts, read_whole_text, write_file};
 pub use noting::Noting;
 pub use shell::Shell;
 pub use standard::{STANDARD_INPUT, STANDARD_OUTPUT};

@@ -8,10 +8,8 @@ ghost use Rattle.program_io.specs.declared.error.FileError.{FileError};
 use crate::disk::Disk;
 use crate::error::{FileError, error_at};
 use crate::why::Why;
+use lc_model::LONGEST_TEXT;
 use std::alloc::Global;
-
-/// The longest rule text, and the longest schedule, in bytes.
-pub const LONGEST_TEXT: usize = 65_536;
 
 /// The text in a file, 65,537 bytes of it at most: of a longer one as many as show that it is too long.
 pub fn read_text<'a, D: Disk>(disk: &mut D, name: &'a str) -> Result<Vec<u8>, FileError<'a>>

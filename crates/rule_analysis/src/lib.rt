@@ -26,6 +26,6 @@ pub use finding::{
 };
 pub use judging::{RULE_STEPS, can_be_true, judge, judge_condition};
 pub use pairs::{TEXT_STEPS, judge_pairs};
-pub use reach::{never_read, never_sampled};
+pub use reach::never_sampled;
 pub use seen::value_with;
 pub use spare::spare_comparisons;

@@ -1,14 +1,10 @@
-//! What of a text nothing reaches. (That a field lies behind its packet's declared length, no text says that compiles.)
+//! Which rules sample requests reach.
 
-ghost use Rattle.std.specs.Prelude.{◌≡◌, IfOk, filter, flat_map, not};
-ghost use Rattle.lc_model.specs.Condition.{condition_of};
-ghost use Rattle.lc_model.specs.Tables.Equation.{mentions};
+ghost use Rattle.std.specs.Prelude.{◌≡◌, IfOk, filter, not};
 ghost use Rattle.lc_model.specs.Tables.Image.{numbers_below};
-ghost use Rattle.lc_model.specs.declared.rule.Rule.{Rule as Item};
-ghost use Rattle.rule_analysis.specs.Reach.{is_read, is_sampled, mentioned_in};
+ghost use Rattle.rule_analysis.specs.Reach.{is_sampled};
 
-use crate::fields::collect;
-use lc_model::{Rule, Rules, SampleRequest, Term};
+use lc_model::SampleRequest;
 use std::alloc::{AllocError, Global};
 
 /// Whether one of the requests takes the rule of this number.
@@ -39,43 +35,4 @@ pub fn never_sampled(
         }
     }
     Ok(numbers)
-}
-
-/// Whether one of the terms reads packets of this message id.
-fn is_read(terms: &[Term], mid: u16) -> bool
-    ensures { result ≡ is_read terms.now mid }
-{
-    for term in terms {
-        if term.mid == mid {
-            return true;
-        }
-    }
-    false
-}
-
-/// All terms that rules mention.
-fn terms_of_rules(alloc: Global, rules: &[Rule]) -> Result<Vec<Term>, AllocError>
-    ensures { IfOk result (λ terms. terms.items ≡ flat_map (λ (rule : Item).
-        mentions (condition_of rule.cond)) rules.now) }
-{
-    let mut terms = Vec::new(alloc);
-    for rule in rules {
-        collect(&rule.cond, &mut terms)?;
-    }
-    Ok(terms)
-}
-
-/// Of these message ids those that no rule needs.
-pub fn never_read(alloc: Global, rules: &Rules, mids: &[u16]) -> Result<Vec<u16>, AllocError>
-    ensures { IfOk result (λ unread. unread.items ≡ filter (λ mid.
-        not (is_read (mentioned_in rules.now) mid)) mids.now) }
-{
-    let terms = terms_of_rules(alloc, rules.as_slice())?;
-    let mut unread = Vec::new(alloc);
-    for mid in mids {
-        if !is_read(&terms, *mid) {
-            unread.push(*mid)?;
-        }
-    }
-    Ok(unread)
 }

@@ -2,7 +2,7 @@
 
 use crate::source::{NameKind, Source, TokenRange};
 use diagnostics::{around, printable};
-use lc_model::TYPE_WORDS;
+use lc_model::{EVENT_WORDS, STATE_WORDS, TYPE_WORDS};
 use rule_lexer::{Token, TokenKind};
 use rule_parser::{Sign, What, Word};
 use std::alloc::{AllocError, Global};
@@ -13,10 +13,6 @@ pub const TYPES: &str =
 
 /// The words that begin an item.
 pub const ITEM_WORDS: &[&[u8]] = &[b"packet", b"field", b"rule"];
-
-const STATE_WORDS: &[&[u8]] = &[b"active", b"passive", b"disabled"];
-
-const LEVEL_WORDS: &[&[u8]] = &[b"debug", b"info", b"error", b"critical"];
 
 const JOINING_WORDS: &[&[u8]] = &[b"or", b"xor", b"and"];
 
@@ -106,7 +102,7 @@ pub fn words_for(source: &Source<'_>, part: TokenRange, what: What) -> &'static 
         What::Item => ITEM_WORDS,
         What::FieldKind => TYPE_WORDS,
         What::State => STATE_WORDS,
-        What::Level => LEVEL_WORDS,
+        What::Level => EVENT_WORDS,
         What::Operand => OPERAND_WORDS,
         What::Word(word) => words_of(word),
         What::Sign(Sign::Semicolon) => match source.kind_of(part) {

@@ -1,6 +1,8 @@
 //! All warnings of a rule text.
 
-ghost use Rattle.std.specs.Prelude.{◌≡◌, IfOk, map};
+ghost use Rattle.std.specs.Prelude.{◌≡◌, None, IfOk, map};
+ghost use Rattle.lc_model.specs.Tables.Compiling.{limit_refusal};
+ghost use Rattle.lc_model.specs.Tables.InForce.{limits};
 ghost use Rattle.rpn_compiler.specs.TextParts.{IsRuleText};
 ghost use Rattle.rule_parser.specs.Syntax.{items_of};
 ghost use Rattle.rule_lints.specs.Warned.{AreWarned, found, named, seen, told};
@@ -64,7 +66,7 @@ fn explain_all(
 /// What is to be looked at in a valid rule text: fields and packets that no rule uses, rules whose events are off or whose
 /// sequence another one has, what is judged of rules before any packet comes, and rules that a schedule never samples, if one is
 /// given. A comment `# quiet: NAME, ..` alone on the line above keeps the warnings of these names quiet; one that keeps nothing quiet
-/// is told of itself.
+/// is told of itself. Condition: the text compiles, as one does that `RuleText::read_valid` read.
 ///
 /// Errors: there is no memory.
 pub fn warnings(
@@ -72,8 +74,9 @@ pub fn warnings(
     text: &RuleText<'_>,
     plan: Option<&Schedule>,
 ) -> Result<Vec<Message>, AllocError>
-    ensures { IsRuleText text.now →
-        IfOk result (λ messages. AreWarned text.now.bytes.now plan.entry messages.items) }
+    requires reads { IsRuleText text.now }
+    requires within { limit_refusal limits text.now.rules.rules ≡ None }
+    ensures { IfOk result (λ messages. AreWarned text.now.bytes.now plan.entry messages.items) }
 {
     let all = judge_all(alloc, &text.rules.rules, plan)?;
     let told = reported_warnings(alloc, text.bytes, text.file.items.as_slice(), &all)?;

@@ -69,6 +69,7 @@ IsOfTrial script rules (trial.Scenario error) noted found = IsOfScenario error f
 IsOfTrial script rules (trial.Expectation error) noted found = IsOfReading error found
 IsOfTrial script rules (trial.Script error) noted found = IsOfScript error found
 IsOfTrial script rules (trial.Rules text error) noted found = found ≡ fault.Rules (unwrap_or (slice_get rules text) script) error
+IsOfTrial script rules (trial.Stopped n) noted found = IsToldFault found
 IsOfTrial script rules trial.Memory noted found = found ≡ fault.Memory
 IsOfTrial script rules trial.Write noted found = IsOfWrite noted found
 

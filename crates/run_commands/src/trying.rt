@@ -11,8 +11,12 @@ use std::cell::Cell;
 use std::fs::Files;
 use std::io::{ErrorKind, Write};
 use tool_faults::{
-    Fault, LONGEST_WHOLE, listing_result, read, schedule_in, script_fault, texts_in, written_fault,
+    Fault, LONGEST_WHOLE, line_fault, listing_result, read, schedule_in, script_fault, texts_in,
+    written_fault,
 };
+
+/// The number of a line whose record stops the run.
+const STOPPED: u8 = 171;
 
 /// Why a script in a file of this name isn't tried with rule texts in files of these names.
 fn trial_fault<'a>(
@@ -33,6 +37,7 @@ fn trial_fault<'a>(
             Some(rules) => Fault::Rules(rules, error),
             None => Fault::Rules(name, error),
         },
+        TrialError::Stopped { n } => line_fault(alloc, name, text, STOPPED, n, &error),
         TrialError::Memory => Fault::Memory,
         TrialError::Write => written_fault(kind),
     }

@@ -10,9 +10,6 @@ use crate::intake::Intake;
 use lc_model::ByteSource;
 use run_stepper::{Handled, Stepping};
 
-/// The most bytes of a piece.
-pub const PIECE: usize = 8192;
-
 /// Handles the next record of a stream, behind as many pieces as it needs. Part of a record is left only at the stream's end.
 pub fn handle_next<R: ByteSource>(
     stepping: &mut Stepping,

@@ -16,7 +16,7 @@ ghost use Rattle.run_summary.specs.Run.{AreRead, OfTexts};
 ghost use Rattle.run_summary.specs.Texts.{HaveItems};
 ghost use Rattle.run_page.specs.Model.{HasTaken, HasTold, IsKept, IsNew, KeepsStands, ListsTell, SaidLast, TellsRead, TellsTaken, ending_at, led_to, place_of, stands_of, stood_more, ticks_of, values_more};
 
-use crate::arriving::{PIECE, handle_next};
+use crate::arriving::handle_next;
 use crate::behind::Behind;
 use crate::clock::{Clock, ticks_in};
 use crate::entry::value_entry;
@@ -26,6 +26,7 @@ use crate::lists::Lists;
 use crate::progress::Progress;
 use flight_core::laws::{records_are_handed_out, the_rest_says_the_end};
 use lc_model::ByteSource;
+use lc_model::stream::PIECE;
 use rpn_compiler::RuleText;
 use run_stepper::laws::steps_are_a_run;
 use run_stepper::{Ending, Handled, Stepping, read_texts};

@@ -45,11 +45,13 @@ pub fn stand_in(stands: &[Stand], rule: usize) -> Stand
     }
 }
 
-/// A failure, and the states of a rule that asks, and of one that has asked.
+/// The bit of a failure.
 pub const FAIL: u8 = 32;
 
+/// The bit of a rule that asks for its sequence.
 pub const ACTIVE: u8 = 1;
 
+/// The bit of a rule that has asked, or may not ask.
 pub const PASSIVE: u8 = 2;
 
 /// The bit of a result: the worse, the higher.

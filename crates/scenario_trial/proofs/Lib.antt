@@ -1,4 +1,3 @@
 mod Lines
-mod Pairs
 mod Comments
 mod TrialSteps

@@ -33,15 +33,16 @@ judged_so sources schedule declared script expectations came judged unmet count 
 }
 
 -- why a plain script isn't tried is why the scenario isn't that is short for it
-pub untried : (sources : List (List ℕ)) (text : List ℕ) (declared : Declarations) (plain : PlainScript) (result : Result Tried TrialError) →
-    AreDeclared sources nothing_declared declared → plain_in declared text ≡ Ok plain → IfErr result (IsPlainUntried sources plain) → IfErr result (IsUntried sources text)
-untried sources text declared plain (Ok tried) declares short why = tt
-untried sources text declared plain (Err trial.Memory) declares short why = tt
-untried sources text declared plain (Err trial.Write) declares short why = tt
-untried sources text declared plain (Err (trial.Rules number error)) declares short why = why
-untried sources text declared plain (Err (trial.Scenario error)) declares short why = absurd why
-untried sources text declared plain (Err (trial.Script error)) declares short why = (plain, record { declared = declared; declares = declares; short = short }, why)
-untried sources text declared plain (Err (trial.Expectation error)) declares short why = (plain, record { declared = declared; declares = declares; short = short }, why)
+pub untried : (sources : List (List ℕ)) (schedule : Schedule) (text : List ℕ) (declared : Declarations) (plain : PlainScript) (result : Result Tried TrialError) →
+    AreDeclared sources nothing_declared declared → plain_in declared text ≡ Ok plain → IfErr result (IsPlainUntried sources schedule plain) → IfErr result (IsUntried sources schedule text)
+untried sources schedule text declared plain (Ok tried) declares short why = tt
+untried sources schedule text declared plain (Err trial.Memory) declares short why = tt
+untried sources schedule text declared plain (Err trial.Write) declares short why = tt
+untried sources schedule text declared plain (Err (trial.Rules number error)) declares short why = why
+untried sources schedule text declared plain (Err (trial.Scenario error)) declares short why = absurd why
+untried sources schedule text declared plain (Err (trial.Script error)) declares short why = (plain, record { declared = declared; declares = declares; short = short }, why)
+untried sources schedule text declared plain (Err (trial.Expectation error)) declares short why = (plain, record { declared = declared; declares = declares; short = short }, why)
+untried sources schedule text declared plain (Err (trial.Stopped n)) declares short why = (plain, record { declared = declared; declares = declares; short = short }, why)
 
 -- what a plain script comes to is what the scenario comes to that is short for it
 pub tried_so : (sources : List (List ℕ)) (schedule : Schedule) (text : List ℕ) (declared : Declarations) (plain : PlainScript) (result : Result Tried TrialError) →

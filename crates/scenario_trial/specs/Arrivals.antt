@@ -1,5 +1,5 @@
 -- What of the packets that came may be expected, and how the rules of expectations stand. This project's own.
-use Rattle.std.specs.Prelude.{◌≡◌, ℕ, true, false, List, codes, bytes_eq, filter_map, find, length, map, option_map, take, Option, Some, None, Ok, if◌then◌else◌}
+use Rattle.std.specs.Prelude.{◌≡◌, ℕ, Bool, true, false, List, codes, bytes_eq, filter_map, find, length, map, option_map, take, Option, Some, None, Ok, if◌then◌else◌}
 use Rattle.std.specs.List.{AllByRecursion}
 use Rattle.lc_model.specs.Host.Schedule.{Schedule}
 use Rattle.packet_listing.specs.Told.{Told, Request, Event, Housekeeping, told_in}
@@ -9,6 +9,8 @@ use Rattle.scenarios.specs.Plain.{PlainScript, plain_in}
 use Rattle.stream_script.specs.Script.{script_in}
 use Rattle.run_stepper.specs.declared.behind.RuleStanding.{RuleStanding}
 use Rattle.run_stepper.specs.declared.behind.RuleStanding.TheVariants.{NoRule}
+use Rattle.run_stepper.specs.declared.ending.Ending.{Ending}
+use Rattle.run_stepper.specs.declared.ending.Ending.TheVariants.{Whole}
 use Rattle.run_stepper.specs.Trace.{Arrived, IsStanding, IsTraced, Traced, arrived_from}
 use Rattle.scenario_trial.specs.declared.expectation.Arrival.{Arrival}
 use Rattle.scenario_trial.specs.declared.expectation_lines.Placed.{Placed}
@@ -82,8 +84,13 @@ module _ (sources : List (List ℕ)) (schedule : Schedule) (declared : Declarati
 
 -- ---- a trial
 
--- A plain script was tried: without its expectations it says a stream, and they are judged by what each of that stream's records
--- led to, by the definitions, where the rule texts are run over it.
+-- a run went to the end of its stream
+abbrev pub is_whole : Ending → Bool
+is_whole (Whole records) = true
+is_whole other = false
+
+-- A plain script was tried: without its expectations it says a stream, the run over it goes to its end, and they are judged by what
+-- each of that stream's records led to, by the definitions, where the rule texts are run over it.
 pub record IsPlainTried (sources : List (List ℕ)) (schedule : Schedule) (declared : Declarations) (script : List ℕ) (tried : Tried) : Type 0 where
   pub expectations : List PlacedExpected
   pub expects : expectations_in script ≡ Ok expectations
@@ -91,6 +98,7 @@ pub record IsPlainTried (sources : List (List ℕ)) (schedule : Schedule) (decla
   pub says : script_in (silenced_in script) ≡ Ok stream
   pub trace : Traced
   pub traced : IsTraced sources schedule stream trace
+  pub whole : is_whole trace.ending ≡ true
   pub judged : IsJudged sources schedule declared (silenced_in script) expectations (arrivals_of trace) tried
 
 -- a scenario was tried: the plain script that it is short for, in the words that the rule texts declare

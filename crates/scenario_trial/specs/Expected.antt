@@ -1,10 +1,11 @@
 -- What the words of an expectation say. This project's own.
-use Rattle.std.specs.Prelude.{ℕ, ◌-◌, ◌==◌, Bool, true, false, List, [], ◌∷◌, codes, bytes_eq, nat_le, Option, Some, None, Result, Ok, Err, if◌then◌else◌}
+use Rattle.std.specs.Prelude.{ℕ, ◌-◌, ◌==◌, Bool, true, false, ◌&&◌, ◌||◌, List, [], ◌∷◌, codes, bytes_eq, nat_le, Option, Some, None, Result, Ok, Err, if◌then◌else◌}
 use Rattle.std.specs.Char.{is_ascii_digit}
 use Rattle.lc_model.specs.declared.mode.ApMode.{ApMode}
-use Rattle.lc_model.specs.declared.mode.ApMode.TheVariants.{Active, Passive, Disabled, PermOff}
+use Rattle.lc_model.specs.declared.mode.ApMode.TheVariants.{PermOff}
 use Rattle.lc_model.specs.declared.mode.ApResult.{ApResult}
 use Rattle.lc_model.specs.declared.mode.ApResult.TheVariants.{Pass, Fail, Stale, Error}
+use Rattle.lc_model.specs.Text.Class.{state}
 use Rattle.stream_script.specs.Number.{decimal_number}
 use Rattle.scenario_trial.specs.declared.expectation.Expectation.{Expectation}
 use Rattle.scenario_trial.specs.declared.expectation.Expectation.TheVariants as held
@@ -13,7 +14,7 @@ use Rattle.scenario_trial.specs.declared.expectation.Span.{Span}
 use Rattle.scenario_trial.specs.declared.expectation.What.{What}
 use Rattle.scenario_trial.specs.declared.expectation.What.TheVariants.{Sequence, Event}
 use Rattle.scenario_trial.specs.declared.fault.ExpectationFault.{ExpectationFault}
-use Rattle.scenario_trial.specs.declared.fault.ExpectationFault.TheVariants.{NoWhat, BadNumber, BadSecond, NoSpan, NoState, NoResult}
+use Rattle.scenario_trial.specs.declared.fault.ExpectationFault.TheVariants.{NoWhat, BadNumber, BadSecond, NoSpan, NoSecond, NoState, NoResult}
 
 -- something comes within some seconds, or nothing of it; or how a rule stands where the expectation is
 pub data Expected : Type 0 where
@@ -80,11 +81,32 @@ narrowed_to span word second =
 abbrev pub narrowed : Span → List ℕ → List ℕ → Result Span ExpectationFault
 narrowed span word second = some_second (number_in 4294967295 second) >>= narrowed_to span word
 
--- the seconds that are left of some, as words tell them, two by two
-abbrev pub span_in : Span → List (List ℕ) → Result Span ExpectationFault
-span_in span [] = Ok span
-span_in span (word ∷ []) = Err NoSpan
-span_in span (word ∷ second ∷ words) = narrowed span word second >>= (λ (left : Span). span_in left words)
+-- a word tells where seconds end, and not where they begin
+abbrev pub is_end : List ℕ → Bool
+is_end word = bytes_eq word (codes "by") || bytes_eq word (codes "until")
+
+-- of two words one tells where seconds begin, and one where they end
+abbrev pub go_together : List ℕ → List ℕ → Bool
+go_together word other =
+    (bytes_eq word (codes "from") && is_end other) || (is_end word && bytes_eq other (codes "from"))
+
+-- seconds of which there is one
+abbrev pub some_span : Span → Result Span ExpectationFault
+some_span span = if nat_le span.first span.last then Ok span else Err NoSecond
+
+abbrev pub narrowed_twice : (word second other last : List ℕ) → Result Span ExpectationFault
+narrowed_twice word second other last = do
+  once ← narrowed whole_span word second
+  twice ← narrowed once other last
+  some_span twice
+
+-- the seconds that words tell: all, or those that one word narrows, or two that go together
+abbrev pub span_in : List (List ℕ) → Result Span ExpectationFault
+span_in [] = Ok whole_span
+span_in (word ∷ second ∷ []) = narrowed whole_span word second
+span_in (word ∷ second ∷ other ∷ last ∷ []) =
+    if go_together word other then narrowed_twice word second other last else Err NoSpan
+span_in words = Err NoSpan
 
 -- ---- what comes: `sequence [N]` or `event [N]`, and seconds
 
@@ -95,7 +117,7 @@ what_of false number = Event number
 -- this, within the seconds that words tell
 abbrev pub within : What → List (List ℕ) → Result Coming ExpectationFault
 within what words = do
-  span ← span_in whole_span words
+  span ← span_in words
   Ok (record { what = what; span = span })
 
 -- the same with a number, and then the seconds
@@ -119,14 +141,9 @@ coming_in (word ∷ words) =
 
 -- ---- how a rule stands
 
--- the state that a word names
+-- the state that a word names: one that a rule may begin in, or off for good
 abbrev pub state_named : List ℕ → Option ApMode
-state_named word =
-    if bytes_eq word (codes "active") then Some Active
-    else if bytes_eq word (codes "passive") then Some Passive
-    else if bytes_eq word (codes "disabled") then Some Disabled
-    else if bytes_eq word (codes "off") then Some PermOff
-    else None
+state_named word = if bytes_eq word (codes "off") then Some PermOff else state word
 
 -- the result that a word names: none before the first sample
 abbrev pub result_named : List ℕ → Option (Option ApResult)

@@ -1,5 +1,6 @@
 -- Why a scenario isn't tried. This project's own.
-use Rattle.std.specs.Prelude.{◌≡◌, ℕ, List, take, Ok, Err, ⊤}
+use Rattle.std.specs.Prelude.{◌≡◌, ℕ, false, List, take, Ok, Err, ⊤}
+use Rattle.lc_model.specs.Host.Schedule.{Schedule}
 use Rattle.scenarios.specs.Declarations.{Declarations, AreDeclared, nothing_declared}
 use Rattle.scenarios.specs.Error.{IsScenarioError}
 use Rattle.scenarios.specs.Plain.{PlainScript, line_of, plain_in}
@@ -10,12 +11,14 @@ use Rattle.stream_script.specs.declared.error.ScriptError.{ScriptError}
 use Rattle.stream_script.specs.declared.error.ScriptError.TheVariants as script
 use Rattle.stream_script.specs.Script.{script_in}
 use Rattle.run_stepper.specs.Stepping.{IsRefusal}
+use Rattle.run_stepper.specs.Trace.{IsTraced, Traced}
 use Rattle.run_stepper.specs.declared.error.CourseError.{CourseError}
 use Rattle.run_stepper.specs.declared.error.CourseError.TheVariants as course
 use Rattle.scenario_trial.specs.declared.error.TrialError.{TrialError}
 use Rattle.scenario_trial.specs.declared.error.TrialError.TheVariants as trial
 use Rattle.scenario_trial.specs.declared.expectation_lines.ReadError.{ReadError}
 use Rattle.scenario_trial.specs.declared.expectation_lines.ReadError.TheVariants as reading
+use Rattle.scenario_trial.specs.Arrivals.{is_whole}
 use Rattle.scenario_trial.specs.Reading.{expectations_in, silenced_in}
 
 -- ---- as a trial's
@@ -78,15 +81,25 @@ IsNotFound sources text lines (trial.Rules number why) = IsRefusal sources (cour
 IsNotFound sources text lines (trial.Script error) = (at : ℕ) × IsUnsaid (take at text) lines (trial.Script error)
 IsNotFound sources text lines (trial.Scenario error) = ⊥
 IsNotFound sources text lines (trial.Expectation error) = ⊥
+IsNotFound sources text lines (trial.Stopped n) = ⊥
 
--- a plain script isn't tried: one of its lines says no expectation, or without these it says no stream
-abbrev pub IsPlainUntried : (sources : List (List ℕ)) → PlainScript → TrialError → Type 0
-IsPlainUntried sources plain trial.Memory = ⊤
-IsPlainUntried sources plain trial.Write = ⊤
-IsPlainUntried sources plain (trial.Rules number why) = IsRefusal sources (course.Rules number why)
-IsPlainUntried sources plain (trial.Script error) = (at : ℕ) × IsUnsaid (take at (silenced_in plain.script)) plain.lines (trial.Script error)
-IsPlainUntried sources plain (trial.Scenario error) = ⊥
-IsPlainUntried sources plain (trial.Expectation error) = IsUnexpected plain.script plain.lines (trial.Expectation error)
+-- without its expectations a plain script says a stream, and the run over it stops before its end
+pub record StopsEarly (sources : List (List ℕ)) (schedule : Schedule) (script : List ℕ) : Type 0 where
+  pub stream : List ℕ
+  pub says : script_in (silenced_in script) ≡ Ok stream
+  pub trace : Traced
+  pub traced : IsTraced sources schedule stream trace
+  pub early : is_whole trace.ending ≡ false
+
+-- a plain script isn't tried: one of its lines says no expectation, without these it says no stream, or the run over that stops early
+abbrev pub IsPlainUntried : (sources : List (List ℕ)) (schedule : Schedule) → PlainScript → TrialError → Type 0
+IsPlainUntried sources schedule plain trial.Memory = ⊤
+IsPlainUntried sources schedule plain trial.Write = ⊤
+IsPlainUntried sources schedule plain (trial.Rules number why) = IsRefusal sources (course.Rules number why)
+IsPlainUntried sources schedule plain (trial.Script error) = (at : ℕ) × IsUnsaid (take at (silenced_in plain.script)) plain.lines (trial.Script error)
+IsPlainUntried sources schedule plain (trial.Scenario error) = ⊥
+IsPlainUntried sources schedule plain (trial.Expectation error) = IsUnexpected plain.script plain.lines (trial.Expectation error)
+IsPlainUntried sources schedule plain (trial.Stopped n) = StopsEarly sources schedule plain.script
 
 -- what is held of a plain script
 abbrev pub plain_script_of : Plain → PlainScript
@@ -105,11 +118,12 @@ SaysNoScript sources text (scenario.Line n reason) =
     (declared : Declarations) × AreDeclared sources nothing_declared declared × IsScenarioError (plain_in declared text) (scenario.Line n reason)
 
 -- Why a scenario isn't tried: the first rule text that doesn't compile, the first of its lines that says nothing, or that says no
--- expectation, or of what is left of it nothing of a stream; want of memory, or a writer that fails.
-abbrev pub IsUntried : (sources : List (List ℕ)) (text : List ℕ) → TrialError → Type 0
-IsUntried sources text (trial.Rules number why) = IsRefusal sources (course.Rules number why)
-IsUntried sources text (trial.Scenario error) = SaysNoScript sources text error
-IsUntried sources text (trial.Script error) = (plain : PlainScript) × IsPlainOf sources text plain × IsPlainUntried sources plain (trial.Script error)
-IsUntried sources text (trial.Expectation error) = (plain : PlainScript) × IsPlainOf sources text plain × IsPlainUntried sources plain (trial.Expectation error)
-IsUntried sources text trial.Memory = ⊤
-IsUntried sources text trial.Write = ⊤
+-- expectation, or of what is left of it nothing of a stream; a run that stops early; want of memory, or a writer that fails.
+abbrev pub IsUntried : (sources : List (List ℕ)) (schedule : Schedule) (text : List ℕ) → TrialError → Type 0
+IsUntried sources schedule text (trial.Rules number why) = IsRefusal sources (course.Rules number why)
+IsUntried sources schedule text (trial.Scenario error) = SaysNoScript sources text error
+IsUntried sources schedule text (trial.Script error) = (plain : PlainScript) × IsPlainOf sources text plain × IsPlainUntried sources schedule plain (trial.Script error)
+IsUntried sources schedule text (trial.Expectation error) = (plain : PlainScript) × IsPlainOf sources text plain × IsPlainUntried sources schedule plain (trial.Expectation error)
+IsUntried sources schedule text (trial.Stopped n) = (plain : PlainScript) × IsPlainOf sources text plain × IsPlainUntried sources schedule plain (trial.Stopped n)
+IsUntried sources schedule text trial.Memory = ⊤
+IsUntried sources schedule text trial.Write = ⊤

@@ -2,12 +2,18 @@
 
 ghost use Rattle.std.specs.Prelude.{◌≡◌, bytes_eq, Ok, Err, IfOk, IfErr};
 ghost use Rattle.text_lines.specs.Lines.{texts_of};
-ghost use Rattle.scenario_trial.specs.Expected.{coming_in, coming_of, expected_in, expected_of, is_numeral, narrowed, narrowed_to, number_in, numbered, result_in, result_named, some_number, span_in, state_in, state_named, until, what_of, within};
+ghost use Rattle.scenario_trial.specs.Expected.{coming_in, coming_of, expected_in, expected_of, go_together, is_end, is_numeral, narrowed, narrowed_to, narrowed_twice, number_in, numbered, result_in, result_named, some_number, some_span, span_in, state_in, state_named, until, what_of, within};
 
 use crate::expectation::{Coming, Expectation, Span, What};
 use crate::fault::ExpectationFault;
 use lc_model::{ApMode, ApResult};
 use stream_script::decimal_number;
+
+/// All seconds.
+const WHOLE_SPAN: Span = Span {
+    first: 0,
+    last: u32::MAX,
+};
 
 /// The number that a word's decimal digits write, up to the most.
 fn number_in(most: u32, word: &[u8]) -> Option<u32>
@@ -87,21 +93,66 @@ fn narrow_by(span: Span, word: &[u8], second: &[u8]) -> Result<Span, Expectation
     }
 }
 
-/// The seconds that are left of some, as words tell them.
-fn span_in(all: Span, words: &[&[u8]]) -> Result<Span, ExpectationFault>
-    ensures set { IfOk result (λ span. span_in all (texts_of words.now) ≡ Ok span) }
-    ensures refused { IfErr result (λ fault. span_in all (texts_of words.now) ≡ Err fault) }
+/// Whether a word tells where seconds end, and not where they begin.
+fn is_end(word: &[u8]) -> bool
+    ensures { result ≡ is_end word.now }
 {
-    let mut span = all;
-    let mut left = words;
-    while let [word, second, others @ ..] = left {
-        span = narrow_by(span, word, second)?;
-        left = others;
+    is(word, b"by") || is(word, b"until")
+}
+
+/// Whether of two words one tells where seconds begin, and one where they end.
+fn go_together(word: &[u8], other: &[u8]) -> bool
+    ensures { result ≡ go_together word.now other.now }
+{
+    is(word, b"from") && is_end(other) || is_end(word) && is(other, b"from")
+}
+
+/// Seconds of which there is one.
+fn some_span(span: Span) -> Result<Span, ExpectationFault>
+    ensures { result ≡ some_span span }
+{
+    if span.first <= span.last {
+        Ok(span)
+    } else {
+        Err(ExpectationFault::NoSecond)
     }
-    if !left.is_empty() {
-        return Err(ExpectationFault::NoSpan);
+}
+
+/// The seconds between two that words tell.
+fn narrow_twice(
+    word: &[u8],
+    second: &[u8],
+    other: &[u8],
+    last: &[u8],
+) -> Result<Span, ExpectationFault>
+    ensures set { IfOk result
+        (λ span. narrowed_twice word.now second.now other.now last.now ≡ Ok span) }
+    ensures refused { IfErr result
+        (λ fault. narrowed_twice word.now second.now other.now last.now ≡ Err fault) }
+{
+    let once = narrow_by(WHOLE_SPAN, word, second)?;
+    let twice = narrow_by(once, other, last)?;
+    some_span(twice)
+}
+
+/// The seconds that words tell.
+fn span_in(words: &[&[u8]]) -> Result<Span, ExpectationFault>
+    ensures set { IfOk result (λ span. span_in (texts_of words.now) ≡ Ok span) }
+    ensures refused { IfErr result (λ fault. span_in (texts_of words.now) ≡ Err fault) }
+{
+    match words {
+        [] => Ok(WHOLE_SPAN),
+        [word, second] => narrow_by(WHOLE_SPAN, word, second),
+        [word, second, other, last] => {
+            if !go_together(word, other) {
+                return Err(ExpectationFault::NoSpan);
+            }
+            narrow_twice(word, second, other, last)
+        }
+        [_] => Err(ExpectationFault::NoSpan),
+        [_, _, _] => Err(ExpectationFault::NoSpan),
+        [_, _, _, _, _, ..] => Err(ExpectationFault::NoSpan),
     }
-    Ok(span)
 }
 
 /// A request for a sequence or an event, by its number, or any.
@@ -120,11 +171,7 @@ fn within(what: What, words: &[&[u8]]) -> Result<Coming, ExpectationFault>
     ensures said { IfOk result (λ coming. within what (texts_of words.now) ≡ Ok coming) }
     ensures refused { IfErr result (λ fault. within what (texts_of words.now) ≡ Err fault) }
 {
-    let all = Span {
-        first: 0,
-        last: u32::MAX,
-    };
-    let span = span_in(all, words)?;
+    let span = span_in(words)?;
     Ok(Coming { what, span })
 }
 
@@ -190,23 +237,14 @@ fn coming_in(words: &[&[u8]]) -> Result<Coming, ExpectationFault>
     }
 }
 
-/// The state that a word names.
+/// The state that a word names: one that a rule may begin in, or off for good.
 fn state_named(word: &[u8]) -> Option<ApMode>
     ensures { result ≡ state_named word.now }
 {
-    if is(word, b"active") {
-        return Some(ApMode::Active);
-    }
-    if is(word, b"passive") {
-        return Some(ApMode::Passive);
-    }
-    if is(word, b"disabled") {
-        return Some(ApMode::Disabled);
-    }
     if is(word, b"off") {
         return Some(ApMode::PermOff);
     }
-    None
+    ApMode::from_word(word)
 }
 
 /// The result that a word names: none before the first sample.

@@ -11,8 +11,10 @@ pub enum ExpectationFault {
     BadNumber,
     #[error("a second is from 0 to 4294967295, and behind `until` from 1 on")]
     BadSecond,
-    #[error("seconds are told by `from`, `at`, `by` or `until`, each with a second")]
+    #[error("seconds are told by `from`, `at`, `by` or `until` with a second, or by `from` and one of the last two")]
     NoSpan,
+    #[error("these seconds end before they begin: nothing can come in them")]
+    NoSecond,
     #[error("`state` goes on with a rule's name and `active`, `passive`, `disabled` or `off`")]
     NoState,
     #[error("`result` goes on with a rule's name and `none`, `pass`, `fail`, `stale` or `error`")]

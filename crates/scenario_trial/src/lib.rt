@@ -7,6 +7,7 @@ mod expectation_lines;
 mod expectation_words;
 mod fault;
 pub mod laws;
+mod stopping;
 mod telling;
 mod trial;
 mod verdict;

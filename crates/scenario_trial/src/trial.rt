@@ -12,8 +12,10 @@ ghost use Rattle.stream_script.specs.Script.{script_in};
 use crate::error::TrialError;
 use crate::expectation::{Arrival, Coming, Expectation};
 use crate::expectation_lines::{Placed, read_expectations, silence};
+use crate::stopping::{is_whole, stop_line};
 use crate::telling::Unmet;
 use crate::verdict::{Judged, unmet_of};
+use diagnostics::Many;
 use packet_listing::{PacketLine, Sent, read_packet};
 use run_stepper::{Came, RuleStanding, RunInputs, read_texts, standing_of, trace_of};
 use scenarios::{DeclaredItems, Plain, declared_in, plain_script};
@@ -255,16 +257,13 @@ fn judge<W: Write>(
         expected: expectations.len() as u64,
         unmet: unmet.len() as u64,
     };
-    writeln!(
-        out,
-        "{name}: {} expectations, {} not met",
-        tried.expected, tried.unmet
-    )?;
+    let (all, unmet) = (Many(expectations.len(), "expectation"), tried.unmet);
+    writeln!(out, "{name}: {all}, {unmet} not met")?;
     Ok(tried)
 }
 
 /// What becomes of a plain script: a run over the stream that it says without its expectations, which are judged, where it has some;
-/// where it has none, the packets that came are listed.
+/// where it has none, the packets that came are listed. A run that stops before the stream's end is refused.
 fn try_plain<W: Write>(
     alloc: Global,
     name: &str,
@@ -276,12 +275,23 @@ fn try_plain<W: Write>(
     ensures tried { IfOk result (λ tried. IsPlainTried (sources_of plan.entry.texts.now)
         plan.entry.schedule.now declared.now plain.now.text.items tried) }
     ensures refused { IfErr result (IsPlainUntried (sources_of plan.entry.texts.now)
-        (plain_script_of plain.now)) }
+        plan.entry.schedule.now (plain_script_of plain.now)) }
 {
     let expectations = expectations_of(alloc, plain)?;
     let quiet = silence(alloc, plain.text.as_slice())?;
     let stream = stream_of(alloc, plain, quiet.as_slice())?;
     let trace = trace_of(alloc, plan.texts, plan.schedule, stream.as_slice())?;
+    if !is_whole(trace.ending()) {
+        return Err(TrialError::Stopped {
+            n: stop_line(
+                alloc,
+                plain,
+                quiet.as_slice(),
+                stream.as_slice(),
+                trace.ending(),
+            )?,
+        });
+    }
     let came = trace.came(alloc)?;
     if expectations.is_empty() {
         list_all(came.as_slice(), out)?;
@@ -311,7 +321,8 @@ fn try_plain<W: Write>(
 /// a line is written for each expectation that isn't met, with what came in its place, and a last one with how many there are.
 ///
 /// Errors: `Rules` with the first text that doesn't compile, and `Scenario`, `Expectation` and `Script` with the first line that
-/// can't be read, before anything is written; `Memory`; `Write`, where the writer fails.
+/// can't be read, and `Stopped` with the line whose record stopped the run, before anything is written; `Memory`; `Write`, where the
+/// writer fails.
 pub fn try_scenario<W: Write>(
     alloc: Global,
     name: &str,
@@ -321,7 +332,8 @@ pub fn try_scenario<W: Write>(
 ) -> Result<Tried, TrialError>
     ensures tried { IfOk result (IsTried (sources_of plan.entry.texts.now) plan.entry.schedule.now
         scenario.now) }
-    ensures refused { IfErr result (IsUntried (sources_of plan.entry.texts.now) scenario.now) }
+    ensures refused { IfErr result (IsUntried (sources_of plan.entry.texts.now)
+        plan.entry.schedule.now scenario.now) }
 {
     let texts = read_texts(alloc, plan.texts)?;
     let declared = declared_in(alloc, texts.as_slice())?;

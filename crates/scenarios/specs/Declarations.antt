@@ -1,5 +1,5 @@
 -- What rule texts declare. This project's own.
-use Rattle.std.specs.Prelude.{◌≡◌, ℕ, ◌+◌, List, [], ◌∷◌, ◌++◌, None, unsigned_abs}
+use Rattle.std.specs.Prelude.{◌≡◌, ℕ, ◌+◌, List, [], ◌∷◌, ◌++◌, None, nat_le, unsigned_abs, if◌then◌else◌}
 use Rattle.lc_model.specs.Text.Syntax.{FieldItem, Item, Number, PacketItem}
 use Rattle.lc_model.specs.Text.Syntax as item
 use Rattle.rpn_compiler.specs.Read.{HasItems}
@@ -15,9 +15,12 @@ pub record Declarations : Type 0 where
 abbrev pub nothing_declared : Declarations
 nothing_declared = record { packets = []; fields = []; rules = [] }
 
--- a number of a text; of one that compiles none of these is negative
+-- 16 bits hold each number here of a text that compiles; of any other they hold the most
+abbrev pub short : ℕ → ℕ
+short n = if nat_le n 65_535 then n else 65_535
+
 abbrev pub number_of : Number → ℕ
-number_of n = unsigned_abs n.value
+number_of n = short (unsigned_abs n.value)
 
 -- a packet, before the first of it is said
 abbrev pub packet_declared : PacketItem → NamedPacket
@@ -32,7 +35,7 @@ abbrev pub with_item : ℕ → Item → Declarations → Declarations
 with_item next (item.Packet p) d = record { packets = d.packets ++ packet_declared p ∷ []; fields = d.fields; rules = d.rules }
 with_item next (item.Field f) d = record { packets = d.packets; fields = d.fields ++ field_declared f ∷ []; rules = d.rules }
 with_item next (item.Rule r) d =
-    record { packets = d.packets; fields = d.fields; rules = d.rules ++ record { name = r.name.text; number = next } ∷ [] }
+    record { packets = d.packets; fields = d.fields; rules = d.rules ++ record { name = r.name.text; number = short next } ∷ [] }
 
 -- the number of the next rule behind an item
 abbrev pub next_behind : Item → ℕ → ℕ

@@ -1,9 +1,11 @@
 -- Commands in words: modes, states of rules, and filters of events. This project's own.
-use Rattle.std.specs.Prelude.{ℕ, Bool, not, ◌&&◌, List, [], ◌∷◌, ◌++◌, length, codes, bytes_eq, nat_le, Option, Some, None, find, Result, Ok, Err, if◌then◌else◌}
+use Rattle.std.specs.Prelude.{ℕ, Bool, not, ◌&&◌, List, [], ◌∷◌, ◌++◌, length, codes, bytes_eq, nat_le, Option, Some, None, find, option_map, Result, Ok, Err, if◌then◌else◌}
 use Rattle.std.specs.Fmt.{decimal}
 use Rattle.lc_model.specs.Bytes.{u16, zero_filled}
+use Rattle.lc_model.specs.Codes.{state_code}
 use Rattle.lc_model.specs.Name.{app_name_size}
 use Rattle.lc_model.specs.Packet.{event_services_mid, lc_command_mid}
+use Rattle.lc_model.specs.Text.Class.{state}
 use Rattle.table_listing.specs.Shown.{in_hex}
 use Rattle.scenarios.specs.declared.error.Reason.{Reason}
 use Rattle.scenarios.specs.declared.error.Reason.TheVariants.{NoFilter, NoMode, NoState, UnknownRule}
@@ -15,13 +17,9 @@ use Rattle.scenarios.specs.Number.{number_in}
 abbrev pub command_line : (mid code : ℕ) → List ℕ → List ℕ
 command_line mid code payload = codes "command " ++ (in_hex (u16 mid) ++ (codes " " ++ (decimal code ++ (codes " " ++ in_hex payload))))
 
--- the number of a mode or of a state that a command sets
+-- the number of a mode or of a state that a command sets: they have the same words and numbers
 abbrev pub standing_number : List ℕ → Option ℕ
-standing_number word =
-    if bytes_eq word (codes "active") then Some 1
-    else if bytes_eq word (codes "passive") then Some 2
-    else if bytes_eq word (codes "disabled") then Some 3
-    else None
+standing_number word = option_map state_code (state word)
 
 -- ---- `mode MODE`: the Limit Checker's command 2
 

@@ -6,7 +6,7 @@ ghost use Rattle.rpn_compiler.specs.TextParts.{AreTextsOf};
 ghost use Rattle.scenarios.specs.Named.{NamedRule};
 ghost use Rattle.scenarios.specs.Declarations.{AreDeclared, next_behind, nothing_declared, with_item, with_items};
 
-use crate::named::{Packet, Rule, ScenarioField, number_of_rule};
+use crate::named::{Packet, Rule, ScenarioField, number_of_rule, short};
 use rpn_compiler::RuleText;
 use rule_parser::Item;
 use std::alloc::{AllocError, Global};
@@ -80,24 +80,9 @@ impl<'a> DeclaredItems<'a> {
             mut rules,
         } = self;
         match item {
-            Item::Packet(item) => {
-                let Some(packet) = Packet::from_item(item) else {
-                    return Err(AllocError);
-                };
-                packets.push(packet)?;
-            }
-            Item::Field(item) => {
-                let Some(field) = ScenarioField::from_item(item) else {
-                    return Err(AllocError);
-                };
-                fields.push(field)?;
-            }
-            Item::Rule(item) => {
-                if next > 65_535 {
-                    return Err(AllocError);
-                }
-                rules.push(Rule::new(item.name.text, next as u16))?;
-            }
+            Item::Packet(item) => packets.push(Packet::from_item(item))?,
+            Item::Field(item) => fields.push(ScenarioField::from_item(item))?,
+            Item::Rule(item) => rules.push(Rule::new(item.name.text, short(next as u64)))?,
         }
         Ok(DeclaredItems {
             packets,

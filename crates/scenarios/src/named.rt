@@ -3,7 +3,7 @@
 ghost use Rattle.std.specs.Prelude.{◌≡◌, ◌<◌, bytes_eq, flat_map, length, IfOk, IfSome, Some, find, option_map};
 ghost use Rattle.rule_parser.specs.Syntax.{field_of, number_of, packet_of};
 ghost use Rattle.scenarios.specs.Declarations as declared;
-ghost use Rattle.scenarios.specs.Declarations.{field_declared, packet_declared};
+ghost use Rattle.scenarios.specs.Declarations.{field_declared, packet_declared, short};
 ghost use Rattle.scenarios.specs.Named.{NamedField, NamedPacket, NamedRule, counted_on, field_words, packet_line, valued};
 ghost use Rattle.scenarios.specs.Said.{field_place, packet_place};
 
@@ -16,15 +16,22 @@ use std::fmt::{self, Display, Formatter, Write};
 use std::marker::Model;
 use table_listing::InHex;
 
-/// A number of a rule text, where it is one of 16 bits.
-fn short(number: Number) -> Option<u16>
-    ensures { IfSome result (λ n. n ≡ declared.number_of (number_of number)) }
+/// In 16 bits, which hold each of these numbers of a rule text.
+pub(crate) fn short(number: u64) -> u16
+    ensures { result ≡ short number }
 {
-    if (0..=65_535).contains(&number.value) {
-        Some(number.value as u16)
+    if number <= 65_535 {
+        number as u16
     } else {
-        None
+        65_535
     }
+}
+
+/// A number of a rule text.
+fn short_of(number: Number) -> u16
+    ensures { result ≡ declared.number_of (number_of number) }
+{
+    short(number.value.unsigned_abs())
 }
 
 /// A packet that is declared, with the sequence count of the next one of it.
@@ -45,18 +52,16 @@ impl<'a> Model for Packet<'a> {
 }
 
 impl<'a> Packet<'a> {
-    /// A packet of a rule text, before the first one of it; none where a number hasn't 16 bits.
-    pub(crate) fn from_item(item: &PacketItem<'a>) -> Option<Packet<'a>>
-        ensures { IfSome result (λ packet. packet ≡ packet_declared (packet_of item.now)) }
+    /// A packet of a rule text, before the first one of it.
+    pub(crate) fn from_item(item: &PacketItem<'a>) -> Packet<'a>
+        ensures { result ≡ packet_declared (packet_of item.now) }
     {
-        let mid = short(item.mid)?;
-        let size = short(item.length)?;
-        Some(Packet {
+        Packet {
             name: item.name.text,
-            mid,
-            size,
+            mid: short_of(item.mid),
+            size: short_of(item.length),
             count: 0,
-        })
+        }
     }
 
     /// The same packet.
@@ -134,18 +139,17 @@ impl<'a> Model for ScenarioField<'a> {
 }
 
 impl<'a> ScenarioField<'a> {
-    /// A field of a rule text, before it has a value; none where its offset hasn't 16 bits.
-    pub(crate) fn from_item(item: &FieldItem<'a>) -> Option<ScenarioField<'a>>
-        ensures { IfSome result (λ field. field ≡ field_declared (field_of item.now)) }
+    /// A field of a rule text, before it has a value.
+    pub(crate) fn from_item(item: &FieldItem<'a>) -> ScenarioField<'a>
+        ensures { result ≡ field_declared (field_of item.now) }
     {
-        let offset = short(item.offset)?;
-        Some(ScenarioField {
+        ScenarioField {
             name: item.name.text,
             packet: item.packet.text,
             kind: item.kind,
-            offset,
+            offset: short_of(item.offset),
             value: None,
-        })
+        }
     }
 
     /// The same field.

@@ -9,7 +9,7 @@ use crate::error::{LineRefusal, Reason};
 use crate::named::{Rule, number_of_rule};
 use crate::number::number_in;
 use crate::word::is;
-use lc_model::mids;
+use lc_model::{ApMode, mids};
 use std::alloc::{AllocError, Global};
 use table_listing::InHex;
 
@@ -26,20 +26,14 @@ fn command_line(alloc: Global, mid: u16, code: u8, payload: &[u8]) -> Result<Vec
     Ok(line.into_bytes())
 }
 
-/// The number of a mode or a state that a command sets.
+/// The number of a mode or a state that a command sets: they have the same words and numbers.
 fn standing_number(word: &[u8]) -> Option<u16>
     ensures { result ≡ standing_number word.now }
 {
-    if is(word, b"active") {
-        return Some(1);
+    match ApMode::from_word(word) {
+        Some(state) => Some(u16::from(state.code())),
+        None => None,
     }
-    if is(word, b"passive") {
-        return Some(2);
-    }
-    if is(word, b"disabled") {
-        return Some(3);
-    }
-    None
 }
 
 /// `mode MODE`: the Limit Checker's command 2.

@@ -1,16 +1,11 @@
 -- The line of a reader's fault is one of the text's.
 use Rattle.std.proofs.Common.{◌≡◌, ◌+◌, ◌<◌, ◌≤◌, ℕ, Bool, true, false, suc, cond, List, [], ◌∷◌, length, count_by, nat_lt, nat_le, not, refl, sym, ◌∙◌, ap, subst, arith, Option, Some, None, Result, Ok, Err}
-use Rattle.std.specs.Prelude.{⊤, slice_index_or}
+use Rattle.std.specs.Prelude.{slice_index_or}
 use Rattle.lc_model.specs.Host.Schedule.{Schedule, ScheduleEntry, most_slots, most_entries}
 use Rattle.lc_model.specs.Host.ScheduleText.{ScheduleFault, entry_added, entry_in, empty_slots, is_silent, line_read, lines_of, lines_read, schedule_in, slots_in, words_of}
 use Rattle.diagnostics.specs.Line.{is_line_feed}
 use Rattle.text_lines.proofs.Splits.{length-parted}
-use Rattle.stream_script.specs.Error.{ScriptFault}
-use Rattle.stream_script.specs.Script.{Said, line_said, lines_said, nothing_said, script_in, stream_of}
-use Rattle.stream_script.specs.declared.error.Reason.{Reason}
 use Rattle.script_errors.specs.Line.{line_count}
-
--- ---- schedules
 
 -- the line of a fault, or 0 where there is none
 abbrev fault_line : Result Schedule ScheduleFault → ℕ
@@ -69,44 +64,3 @@ of_schedule text code number fault =
     let below = of_lines (lines_of text) None 1 (omega arith) in
     let count = length-parted is_line_feed text in
     omega (arith, line, below, count)
-
--- ---- scripts
-
--- a fault is on one of these lines
-abbrev IsBetween : {A : Type 0} → (from to : ℕ) → Result A ScriptFault → Type 0
-IsBetween from to (Ok said) = ⊤
-IsBetween from to (Err fault) = (from ≤ fault.line) × (fault.line < to)
-
--- a line, and those behind it
-abbrev said_on : Result Said Reason → ℕ → (Said → Result Said ScriptFault) → Result Said ScriptFault
-said_on answer n next = elim answer [ Err reason ↦ Err (record { line = n; reason = reason }) | Ok after ↦ next after ]
-
-one_later : (answer : Result Said ScriptFault) (n count : ℕ) → IsBetween (n + 1) (n + 1 + count) answer → IsBetween n (n + suc count) answer
-one_later (Ok said) n count is = tt
-one_later (Err fault) n count is = (omega (arith, is.0), omega (arith, is.1))
-
-of_statement : (answer : Result Said Reason) (n count : ℕ) (next : Said → Result Said ScriptFault)
-    → ((after : Said) → IsBetween (n + 1) (n + 1 + count) (next after)) → IsBetween n (n + suc count) (said_on answer n next)
-of_statement (Err reason) n count next later = (omega arith, omega arith)
-of_statement (Ok after) n count next later = one_later (next after) n count (later after)
-
-of_statements : (lines : List (List ℕ)) (said : Said) (n : ℕ) → IsBetween n (n + length lines) (lines_said said n lines)
-of_statements [] said n = tt
-of_statements (line ∷ lines) said n =
-    of_statement (line_said said (words_of line)) n (length lines) (λ after. lines_said after (n + 1) lines)
-    (λ after. of_statements lines after (n + 1))
-
-of_stream : (answer : Result Said ScriptFault) (from to : ℕ) → IsBetween from to answer → IsBetween from to (stream_of answer)
-of_stream (Ok said) from to is = tt
-of_stream (Err fault) from to is = is
-
--- the line of a script's fault is one of the text's
-pub of_script : (text : List ℕ) (reason : Reason) (number : ℕ) → script_in text ≡ Err (record { line = number; reason = reason })
-    → (1 ≤ number) × (number ≤ line_count text)
-of_script text reason number fault =
-    let is = of_stream (lines_said nothing_said 1 (lines_of text)) 1 (1 + length (lines_of text))
-    (of_statements (lines_of text) nothing_said 1) in
-    let place : (1 ≤ number) × (number < 1 + length (lines_of text)) =
-    subst (IsBetween 1 (1 + length (lines_of text))) fault is in
-    let count = length-parted is_line_feed text in
-    (place.0, omega (arith, place.1, count))

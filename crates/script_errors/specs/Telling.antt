@@ -3,7 +3,6 @@ use Rattle.std.specs.Prelude.{◌≡◌, ℕ, ◌≤◌, List, length, ⊤, IsSo
 use Rattle.lc_model.specs.Host.Schedule.{Schedule}
 use Rattle.lc_model.specs.Host.ScheduleText.{ScheduleFault}
 use Rattle.diagnostics.specs.Line.{line_number}
-use Rattle.stream_script.specs.Error.{ScriptFault}
 use Rattle.stream_script.specs.declared.error.Reason.{Reason}
 use Rattle.stream_script.specs.declared.error.Reason.TheVariants.{UnknownStatement, BadNumber, BadBytes, UnknownKind, UnknownType, OutsidePacket, BadBody, LongName}
 use Rattle.diagnostics.specs.Message.{first_place}
@@ -46,12 +45,3 @@ reason_code UnknownType = 165
 reason_code OutsidePacket = 166
 reason_code BadBody = 167
 reason_code LongName = 168
-
--- the same of a script
-abbrev pub TellsLine : List ℕ → Result (List ℕ) ScriptFault → Message → Type 0
-TellsLine text (Ok stream) message = ⊥
-TellsLine text (Err fault) message = IsOn text (reason_code fault.reason) fault.line message
-
-abbrev pub IsScriptRefusal : List ℕ → Result (List ℕ) ScriptFault → Refusal → Type 0
-IsScriptRefusal text said (Told message) = TellsLine text said message
-IsScriptRefusal text said Memory = ⊤

@@ -8,6 +8,7 @@ use text_lines::decimal_number;
 
 const VERBS: &[&[u8]] = &[b"sample", b"housekeeping"];
 
+/// The last words of a sample.
 pub const AGES: &[&[u8]] = &[b"age", b"keep"];
 
 /// What the last word of a sample says.

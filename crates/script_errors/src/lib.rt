@@ -18,5 +18,5 @@ mod word;
 
 pub use refusal::Refusal;
 pub use schedule::read_schedule;
-pub use script::{read_stream, script_message};
+pub use script::script_message;
 pub use warnings::script_warnings;

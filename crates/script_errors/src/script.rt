@@ -1,22 +1,19 @@
-//! Scripts, and what is said of a text that is none.
+//! What is said of a script's line that is refused.
 
-ghost use Rattle.std.specs.Prelude.{◌≡◌, ◌≤◌, IfOk, IfErr, Ok, Err};
-ghost use Rattle.stream_script.specs.Error.{IsScriptError};
-ghost use Rattle.stream_script.specs.Script.{script_in};
+ghost use Rattle.std.specs.Prelude.{◌≡◌, ◌≤◌, IfOk};
 ghost use Rattle.script_errors.specs.Line.{line_count};
-ghost use Rattle.script_errors.specs.Telling.{IsOn, IsScriptRefusal, reason_code};
+ghost use Rattle.script_errors.specs.Telling.{IsOn, reason_code};
 
 use crate::argument::{is_right, word_said};
 use crate::body::body_said;
 use crate::fields::fields_said;
 use crate::line::{line_count, line_numbered};
-use crate::refusal::Refusal;
 use crate::said::{LineMessage, expected_word, message_on, too_many};
 use crate::statement::{Statement, VERBS, statement_of};
 use crate::word::nth_word;
 use diagnostics::Message;
 use std::alloc::{AllocError, Global};
-use stream_script::{Reason, ScriptError, read_script};
+use stream_script::Reason;
 
 /// What is said where no statement begins so.
 const VERBS_ADVICE: &str = "write `at`, `after`, `fields`, `tick`, `sample`, `start` or another";
@@ -113,8 +110,10 @@ fn message(alloc: Global, text: &[u8], code: u8, number: usize) -> Result<Messag
     message_on(alloc, line, code, said)
 }
 
-/// What is said of the line with this number, from 1, for which the reader gives this reason. Of a number that no line has the nearest
-/// line is told.
+/// What is said of the line with this number, from 1, for which the reader gives this reason: which word is wrong or what is missing,
+/// and what would be right, by a number for each reason: 161 no statement is written so, 162 a number, 163 bytes, 164 a kind of record,
+/// 165 a type of a field, 166 a field outside its packet, 167 bytes that such a record can't have, 168 a name that is too long. Of a
+/// number that no line has the nearest line is told.
 ///
 /// Errors: there is no memory for what is said.
 pub fn script_message(
@@ -128,42 +127,4 @@ pub fn script_message(
 {
     let nearest = number.min(line_count(text)).max(1);
     message(alloc, text, code_of(reason), nearest)
-}
-
-/// The refusal of a text with this fault.
-fn refusal_of(alloc: Global, text: &[u8], reason: Reason, number: usize) -> Refusal
-    requires { script_in text.now ≡ Err (record { line = number; reason = reason }) }
-    ensures { IsScriptRefusal text.now (script_in text.now) result }
-{
-    match message(alloc, text, code_of(reason), number) {
-        Ok(message) => Refusal::Told(message),
-        Err(_) => Refusal::Memory,
-    }
-}
-
-/// The refusal of a text that the reader refuses so.
-fn refusal(alloc: Global, text: &[u8], error: ScriptError) -> Refusal
-    requires { IsScriptError (script_in text.now) error }
-    ensures { IsScriptRefusal text.now (script_in text.now) result }
-{
-    match error {
-        ScriptError::Line { n, reason } => refusal_of(alloc, text, reason, n),
-        ScriptError::Memory => Refusal::Memory,
-    }
-}
-
-/// The stream that a script says, as `stream_script::read_script` reads it.
-///
-/// Errors: `Told` with what the script's author is told of its first fault, on its line, which word is wrong or what is missing, and what
-/// would be right, by a number for each reason: 161 no statement is written so, 162 a number, 163 bytes, 164 a kind of record, 165 a type
-/// of a field, 166 a field outside its packet, 167 bytes that such a record can't have, 168 a name that is too long. `Memory` where the
-/// stream or what is said finds no room.
-pub fn read_stream(alloc: Global, text: &[u8]) -> Result<Vec<u8>, Refusal>
-    ensures said { IfOk result (λ stream. script_in text.now ≡ Ok stream.items) }
-    ensures refused { IfErr result (IsScriptRefusal text.now (script_in text.now)) }
-{
-    match read_script(alloc, text) {
-        Ok(stream) => Ok(stream),
-        Err(error) => Err(refusal(alloc, text, error)),
-    }
 }

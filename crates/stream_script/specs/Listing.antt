@@ -127,7 +127,3 @@ lines_from number stream = lines_within (length stream) number stream
 abbrev pub lines_of_rest : ℕ → Option (Bor (List ℕ)) → List ℕ
 lines_of_rest number None = []
 lines_of_rest number (Some bytes) = lines_from number bytes.now
-
--- the listing of a stream; records count from 1
-abbrev pub listing_of : List ℕ → List ℕ
-listing_of stream = lines_from 1 stream

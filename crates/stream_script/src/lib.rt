@@ -21,6 +21,6 @@ pub use error::{Reason, ScriptError};
 pub use front::{Front, front_of};
 pub use kind::RecordKind;
 pub use line_reader::read_script;
-pub use listing::{write_listing, write_listing_from};
+pub use listing::write_listing_from;
 pub use number::decimal_number;
 pub use writing::write_script;

@@ -4,7 +4,7 @@ ghost use Rattle.std.specs.Prelude.{◌≡◌, ◌++◌, ◌+◌, ◌-◌, ◌^�
 ghost use Rattle.lc_model.specs.Host.Stream.{header_size, moment_of};
 ghost use Rattle.stream_script.specs.Front.{body_in_front, bytes_left, record_size};
 ghost use Rattle.stream_script.specs.Kind.{fits_kind};
-ghost use Rattle.stream_script.specs.Listing.{head_shown, lines_from, lines_of_rest, listing_of, record_shown};
+ghost use Rattle.stream_script.specs.Listing.{head_shown, lines_from, lines_of_rest, record_shown};
 
 use crate::front::{Front, front_of};
 use crate::kind::RecordKind;
@@ -111,18 +111,10 @@ fn with_next<'a>(
     }
 }
 
-/// The listing of a stream: a line for each record, with its number from 1, its seconds and subseconds, its kind and what it
-/// brings: a packet's message id, what a command says, and its size; the name and the size of a file; which half of which rule
-/// text. Where the stream ends early, the last line says of which number there is no record, or that it is cut short. Numbers of
-/// rule texts aren't judged. Out of memory is the only error.
-pub fn write_listing(alloc: Global, stream: &[u8]) -> Result<Vec<u8>, AllocError>
-    ensures { IfOk result (λ listing. listing.items ≡ listing_of stream.now) }
-{
-    write_listing_from(alloc, 1, stream)
-}
-
-/// The listing of what is left of a stream, as `write_listing` makes it, whose first record has this number. Out of memory is the
-/// only error.
+/// The listing of what is left of a stream, whose first record has this number: a line for each record, with its number, its seconds
+/// and subseconds, its kind and what it brings: a packet's message id, what a command says, and its size; the name and the size of a
+/// file; which half of which rule text. Where the stream ends early, the last line says of which number there is no record, or that it
+/// is cut short. Numbers of rule texts aren't judged. Out of memory is the only error.
 pub fn write_listing_from(alloc: Global, first: usize, stream: &[u8]) -> Result<Vec<u8>, AllocError>
     requires { first + length stream.now + 1 < 2 ^ 64 }
     ensures { IfOk result (λ listing. listing.items ≡ lines_from first stream.now) }

@@ -108,6 +108,7 @@ impl<'a> ActionpointEntry<'a> {
         event_kind_of(u16_at(self.bytes, 10))
     }
 
+    /// The id of the event that a sequence's request goes with.
     pub fn event_id(&self) -> u16
         ensures { result ≡ event_id_field self.now }
     {

@@ -1,7 +1,7 @@
 //! The lines of packets.
 
 use crate::claims::same;
-use packet_listing::{PacketLine, list_packets};
+use packet_listing::{PacketLine, list_whole};
 use std::alloc::{AllocError, Global};
 use std::process::Abort;
 
@@ -115,25 +115,17 @@ const OTHERS: &[PacketRow] = &[
         ],
         "1 - packet 0x0883 of 8 bytes\n2 - packet 0x0808 of 7 bytes\n3 - packet 0x0FAB of 7 bytes\n",
     ),
-    // What is no whole packet is said.
+    // What is no whole packet has no line.
     (0, &[], ""),
-    (
-        1,
-        &[(0, b"\x18")],
-        "cut behind packet 0: 1 bytes are no whole packet\n",
-    ),
-    (
-        11,
-        &[(0, b"\x18\xA9\xC0\0\0\x05\x04\x88\0\x07")],
-        "cut behind packet 0: 11 bytes are no whole packet\n",
-    ),
+    (1, &[(0, b"\x18")], ""),
+    (11, &[(0, b"\x18\xA9\xC0\0\0\x05\x04\x88\0\x07")], ""),
     (
         15,
         &[
             (0, b"\x18\xA9\xC0\0\0\x05\x04\x88\0\x07\0\0"),
             (12, b"\x18\xA9\xC0"),
         ],
-        "1 - sequence request 7, count 0\ncut behind packet 1: 3 bytes are no whole packet\n",
+        "1 - sequence request 7, count 0\n",
     ),
 ];
 
@@ -153,7 +145,10 @@ fn are_listed<R: Abort + AllocGlobal>(rt: &R, rows: &[PacketRow]) {
     for &(size, parts, line) in rows {
         let bytes = packet(rt.alloc(), size, parts).expect(rt, "memory for a packet");
         let mut listing = Vec::new(rt.alloc());
-        list_packets(bytes.as_slice(), &mut listing).expect(rt, "memory for a listing");
+        let _listed = list_whole(bytes.as_slice(), 0, &mut listing).expect(
+            rt,
+            "memory for a listing",
+        );
         same(rt, line, listing.as_slice(), line.as_bytes());
     }
 }

@@ -43,12 +43,12 @@ OUTCOMES = outcomes_of(b"dead_rules.rules")
 WARNED, OF_DEAD_RULES = read_warnings("rules_that_say_less_than_they_seem_to.said").replace(b"rules.txt:", b"rules:").rsplit(b"rules: ", 1)
 IN_JSON = read_warnings("rules_that_say_less_than_they_seem_to.json")
 SAMPLES_THE_FIRST = b"slots 1\n0 sample 0 0 age\n"
-ONE_RULE = b"1 rules, 0 warnings\n"
+ONE_RULE = b"1 rule, 0 warnings\n"
 UNSAMPLED = b"""rules:1:150: warning[never-sampled]: the schedule never samples `OTHER`
   1 | ... 1001 "low volts" when V < 2400;rule OTHER active fails 1 sequence 8 event error 1002 "" when ...
     |                                         ^^^^^ sample it, as rule 1, or leave it out
 
-rules: 2 rules, 1 warnings
+rules: 2 rules, 1 warning
 """
 ENDS_EARLY = b"""rules:1:11: error[11]: expected `=`, found the end of the file
   1 | packet BUS

@@ -57,7 +57,7 @@ script.txt:4:9: warning[message-id]: the message id `0883` is not one of a comma
 
 """
 
-OF_GOOD = b"good: 1 rules, 0 warnings\n"
+OF_GOOD = b"good: 1 rule, 0 warnings\n"
 BEHIND = read("a_misspelt_word.rules")
 SAID_OF_BEHIND = read("a_misspelt_word.said")
 

@@ -108,6 +108,10 @@ def refused(line, why):
     return Row("no expectation: " + line.decode(), TRY, trial(lines), status=1, error=told(lines, 2, 170, why))
 
 
+NO_SPAN = b"seconds are told by `from`, `at`, `by` or `until` with a second, or by `from` and one of the last two"
+NO_SECOND = b"these seconds end before they begin: nothing can come in them"
+STOPS = b"start LC\nexpect no sequence\n\nat 100 0\nwdt 1 /cf/w.tbl\ntick\n"
+STOPS_LATE = b"repeat 3 {\ntick\n}\nadt 4 /cf/a.tbl\ntick\n"
 TOCK = b"expect sequence 7\ntock\n"
 
 
@@ -128,7 +132,7 @@ TRIALS = [
         TRY,
         trial(b"expect state LOW active\n" + BUS_SCRIPT),
         status=1,
-        output=b"script:1: not met: expect state LOW active: the Limit Checker doesn't run\nscript: 1 expectations, 1 not met\n",
+        output=b"script:1: not met: expect state LOW active: the Limit Checker doesn't run\nscript: 1 expectation, 1 not met\n",
     ),
     Row("a script that expects nothing", TRY, trial(b"start LC\n"), output=b"""\
 1 0.00000 LC 1 information: started without tables
@@ -145,13 +149,32 @@ TRIALS = [
         error=told(TOCK, 2, 161, b"expected a statement, found `tock`", b"did you mean `tick`?"),
     ),
     Row("a text that isn't tried", TRY, {**trial(b"tick\n"), "rules": b"packet BUS"}, status=1, error=b"rules: expected `=` at 10\n"),
+    Row(
+        "a run that stops at a rule text that isn't given",
+        TRY,
+        trial(STOPS),
+        status=1,
+        error=told(STOPS, 5, 171, b"the run stops here: no rule text of this number is given"),
+    ),
+    Row(
+        "a run that stops behind repeated lines",
+        TRY,
+        trial(STOPS_LATE),
+        status=1,
+        error=told(STOPS_LATE, 4, 171, b"the run stops here: no rule text of this number is given"),
+    ),
     refused(b"expect", b"`expect` goes on with `sequence`, `event`, `state` or `result`, or with `no` and one of the first two"),
     refused(b"expect no state LOW active", b"`expect` goes on with `sequence`, `event`, `state` or `result`, or with `no` and one of the first two"),
     refused(b"expect sequence 65536", b"a number is from 0 to 65535"),
     refused(b"expect event 7 by x", b"a second is from 0 to 4294967295, and behind `until` from 1 on"),
     refused(b"expect no event 7 until 0", b"a second is from 0 to 4294967295, and behind `until` from 1 on"),
-    refused(b"expect event 7 about 9", b"seconds are told by `from`, `at`, `by` or `until`, each with a second"),
-    refused(b"expect event 7 by", b"seconds are told by `from`, `at`, `by` or `until`, each with a second"),
+    refused(b"expect event 7 about 9", NO_SPAN),
+    refused(b"expect event 7 by", NO_SPAN),
+    refused(b"expect sequence 7 at 200 by 200", NO_SPAN),
+    refused(b"expect sequence 7 from 3 from 5", NO_SPAN),
+    refused(b"expect sequence 7 from 3 by 5 until 6", NO_SPAN),
+    refused(b"expect no sequence from 8 by 3", NO_SECOND),
+    refused(b"expect no sequence until 8 from 8", NO_SECOND),
     refused(b"expect state LOW", b"`state` goes on with a rule's name and `active`, `passive`, `disabled` or `off`"),
     refused(b"expect result LOW active", b"`result` goes on with a rule's name and `none`, `pass`, `fail`, `stale` or `error`"),
 ]

@@ -7,7 +7,7 @@ pub fn front_decides()
     ensures { FrontDecides }
 {}
 
-/// A record in front of some bytes stays there, whatever follows, and so does what is none.
+/// A record in front of some bytes stays there, whatever follows, and so does what is none. To read.
 pub fn fronts_stay()
     ensures { AllFrontsStay }
 {}

@@ -1,4 +1,4 @@
 use Rattle.flight_core.proofs.gathering.run_gathered.Given as goal
 
-abbrev pub ghosts-gather : goal.ghosts-gather
-ghosts-gather g a = record { had = (g.W.ByteSink.sink a.device).gained }
+abbrev pub ghosts-run_with_buffer : goal.ghosts-run_with_buffer
+ghosts-run_with_buffer g a = record { had = (g.W.ByteSink.sink a.device).gained }

@@ -13,5 +13,5 @@ returns-clause-tried g c =
 pub returns-clause-refused : goal.returns-clause-refused
 returns-clause-refused g c =
     let read = subst (AreTextsOf (sources_of c.args.plan.texts.now)) (sym c.as_slice.ensures.value) c.in_ok-texts.ensures.read in
-    untried (sources_of c.args.plan.texts.now) c.args.scenario.now _ _ c.try_plain.result
+    untried (sources_of c.args.plan.texts.now) c.args.plan.schedule.now c.args.scenario.now _ _ c.try_plain.result
     (c.in_ok-declared.ensures (sources_of c.args.plan.texts.now) read) c.in_ok-plain.ensures.said c.try_plain.ensures.refused

@@ -5,5 +5,5 @@ use Rattle.app_host.proofs.host.Host.tell.Goals as goal
 
 pub returns : goal.returns
 returns g c =
-    has_told tables_are_found _ _ _ (rw c.as_bytes.ensures.bytes at c.ask.ensures.told) c.is_service.ensures c.requires.seated c.requires.idle refl refl refl refl
-    c.ask.ensures.events (rw c.as_bytes.ensures.bytes at c.ask.ensures.outgoing) c.ask.ensures.counts c.ask.ensures.size
+    has_told tables_are_found _ _ _ (rw c.as_bytes.ensures.bytes at c.tell.ensures.told) c.is_service.ensures c.requires.seated c.requires.idle refl refl refl refl
+    c.tell.ensures.events (rw c.as_bytes.ensures.bytes at c.tell.ensures.outgoing) c.tell.ensures.counts c.tell.ensures.size

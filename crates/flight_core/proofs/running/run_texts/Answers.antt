@@ -5,7 +5,7 @@ use Rattle.flight_core.proofs.Fitting.{named, none_named, refused, taken}
 use Rattle.flight_core.proofs.Known.{all_not_other}
 use Rattle.flight_core.proofs.Outset.{whole_files, is_run}
 use Rattle.flight_core.proofs.Reasons.{answers_for, none_answered}
-use Rattle.flight_core.proofs.running.begin.Goals as goal
+use Rattle.flight_core.proofs.running.run_texts.Goals as goal
 
 pub run_compiled-requires-clause-files : goal.run_compiled-requires-clause-files
 run_compiled-requires-clause-files g c =

@@ -2,7 +2,7 @@ use Rattle.std.proofs.Common.{◌≡◌, ◌+◌, ◌*◌, ◌-◌, ◌≤◌, l
 use Rattle.app_host.specs.Hosted.{shown}
 use Rattle.flight_core.specs.Brought.{meanings_of}
 use Rattle.flight_core.proofs.Courses.{SoFar}
-use Rattle.flight_core.proofs.flight.fly.Given as goal
+use Rattle.flight_core.proofs.flight.handle_all.Given as goal
 
 -- the records so far
 abbrev pub invariant-loop-total : goal.invariant-loop-total

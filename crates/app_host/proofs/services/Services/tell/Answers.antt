@@ -1,7 +1,7 @@
 use Rattle.std.proofs.Common.{refl, ◌∙◌}
 use Rattle.app_host.proofs.Told.{told_there, one_or_none}
 use Rattle.lc_model.proofs.Services.SenderLaws.{events_by_name}
-use Rattle.app_host.proofs.services.Services.ask.Goals as goal
+use Rattle.app_host.proofs.services.Services.tell.Goals as goal
 
 pub returns-clause-told : goal.returns-clause-told
 returns-clause-told c =

@@ -3,7 +3,7 @@ use Rattle.std.proofs.Common.{subst}
 use Rattle.flight_run.specs.Stops.{IsScheduleRefused}
 use Rattle.program_io.proofs.Stopping.{passes}
 use Rattle.flight_run.proofs.Stopping.{lifted, schedule_stops}
-use Rattle.flight_run.proofs.flying.schedule_in.Goals as goal
+use Rattle.flight_run.proofs.running.schedule_in.Goals as goal
 
 pub returns-in_err-text-clause-stops : goal.returns-in_err-text-clause-stops
 returns-in_err-text-clause-stops g c = passes _ _ _ c.from_residual.ensures.1 (lifted _ _ _ c.in_err-text.field-0.0 c.in_err-text.ensures.stops)

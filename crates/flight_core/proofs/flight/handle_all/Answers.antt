@@ -5,7 +5,7 @@ use Rattle.flight_core.proofs.Courses.{goes_on_board, takes_on_board, one_more, 
 use Rattle.flight_core.proofs.Cutting.{begins, comes, goes, ends_badly, ends_whole, ends_cut}
 use Rattle.flight_core.proofs.Exits.{begins_so, shows_device, goes_on_behind, profile_stops, profile_reads, profile_ends}
 use Rattle.flight_core.proofs.Reasons.{reason_to_stop, reason_to_read_no_more, reason_to_end}
-use Rattle.flight_core.proofs.flight.fly.Goals as goal
+use Rattle.flight_core.proofs.flight.handle_all.Goals as goal
 
 pub loop-total-init : goal.loop-total-init
 loop-total-init g c = record {

@@ -51,7 +51,7 @@ fn slices_of<'a>(alloc: Global, texts: &'a [Vec<u8>]) -> Result<Vec<&'a [u8]>, A
 /// All that the program does between its files and its answer, over any reader and any device, which comes back: the host runs
 /// with four Limit Checkers, two schedulers and two counters in stock. What is answered is said by its `Display`, and ends the
 /// program with its status. Conditions: nothing was read or failed yet.
-pub fn fly<'a, R: ByteSource, W: ByteSink + Drop>(
+pub fn run_devices<'a, R: ByteSource, W: ByteSink + Drop>(
     alloc: Global,
     texts: &[&[u8]],
     plan: &Schedule,
@@ -76,7 +76,7 @@ pub fn fly<'a, R: ByteSource, W: ByteSink + Drop>(
 /// The files of rule texts, a schedule and a stream are opened in this order: the schedule, the texts, the stream, and what is
 /// written, which is none of them. Then the host runs, from the stream's file to the output's, each of whose bytes is given to
 /// the device once.
-pub fn fly_files<'a, D: Disk>(
+pub fn run_files<'a, D: Disk>(
     alloc: Global,
     disk: &mut D,
     schedule: &'a str,
@@ -101,7 +101,7 @@ pub fn fly_files<'a, D: Disk>(
     let Ok(device) = disk.create(out) else {
         return Err(Fault::File(out));
     };
-    let (outcome, device) = fly(alloc, slices.as_slice(), &plan, &mut reader, device);
+    let (outcome, device) = run_devices(alloc, slices.as_slice(), &plan, &mut reader, device);
     disk.close(device);
     outcome
 }
