@@ -20,7 +20,7 @@ def outcomes_of(title):
     count = 0
     while b": " in SAID[first + count]:
         count += 1
-    return [line for line in SAID[first : first + count] if not line.startswith(b"warning: ")]
+    return [line for line in SAID[first : first + count] if not line.startswith(b"warning[")]
 
 
 def named(lines, summary):
