@@ -108,6 +108,11 @@ def refused(line, why):
     return Row("no expectation: " + line.decode(), TRY, trial(lines), status=1, error=told(lines, 2, 170, why))
 
 
+def stopped(name, script, line):
+    why = b"the run stops here: no rule text of this number is given"
+    return Row(name, TRY, trial(script), status=1, error=told(script, line, 171, why))
+
+
 NO_SPAN = b"seconds are told by `from`, `at`, `by` or `until` with a second, or by `from` and one of the last two"
 NO_SECOND = b"these seconds end before they begin: nothing can come in them"
 STOPS = b"start LC\nexpect no sequence\n\nat 100 0\nwdt 1 /cf/w.tbl\ntick\n"
@@ -149,20 +154,8 @@ TRIALS = [
         error=told(TOCK, 2, 161, b"expected a statement, found `tock`", b"did you mean `tick`?"),
     ),
     Row("a text that isn't tried", TRY, {**trial(b"tick\n"), "rules": b"packet BUS"}, status=1, error=b"rules: expected `=` at 10\n"),
-    Row(
-        "a run that stops at a rule text that isn't given",
-        TRY,
-        trial(STOPS),
-        status=1,
-        error=told(STOPS, 5, 171, b"the run stops here: no rule text of this number is given"),
-    ),
-    Row(
-        "a run that stops behind repeated lines",
-        TRY,
-        trial(STOPS_LATE),
-        status=1,
-        error=told(STOPS_LATE, 4, 171, b"the run stops here: no rule text of this number is given"),
-    ),
+    stopped("a run that stops at a rule text that isn't given", STOPS, 5),
+    stopped("a run that stops behind repeated lines", STOPS_LATE, 4),
     refused(b"expect", b"`expect` goes on with `sequence`, `event`, `state` or `result`, or with `no` and one of the first two"),
     refused(b"expect no state LOW active", b"`expect` goes on with `sequence`, `event`, `state` or `result`, or with `no` and one of the first two"),
     refused(b"expect sequence 65536", b"a number is from 0 to 65535"),
