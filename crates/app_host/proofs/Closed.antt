@@ -57,6 +57,8 @@ one_more_back index there gone it first before now inside earlier this =
 -- the seats below this number are empty, and who stood there has retired and is handed on; the others are as they were
 pub record EmptyBelow (index : ℕ) (old now : Hosted) (handed : List (Option Object)) : Type 0 where
   pub stock : now.stock ≡ old.stock
+  pub is_closed : now.is_closed ≡ old.is_closed
+  pub calls : now.calls ≡ old.calls
   pub seated : AreSeated now.seats now.services
   pub gone : (seat : ℕ) → seat < index → object_at seat now.seats ≡ None
   pub rest : (seat : ℕ) → index ≤ seat → object_at seat now.seats ≡ object_at seat old.seats
@@ -65,10 +67,13 @@ pub record EmptyBelow (index : ℕ) (old now : Hosted) (handed : List (Option Ob
   pub retired : GiveBack index old.seats handed old.services now.services
 
 -- one seat more
-one_seat_more : (index : ℕ) (old now new : Hosted) (handed : List (Option Object)) (it : Option Object) → EmptyBelow index old now handed → index < 8 → new.stock ≡ now.stock → AreSeated new.seats new.services →
+one_seat_more : (index : ℕ) (old now new : Hosted) (handed : List (Option Object)) (it : Option Object) → EmptyBelow index old now handed → index < 8 → new.stock ≡ now.stock → new.is_closed ≡ now.is_closed →
+    new.calls ≡ now.calls → AreSeated new.seats new.services →
     new.seats ≡ slice_set now.seats index None → new.services.outgoing ≡ [] → GivesBack index (object_at index now.seats) it now.services new.services → EmptyBelow (index + 1) old new (slice_set handed index it)
-one_seat_more index old now new handed it below inside stock seated emptied idle back = record {
+one_seat_more index old now new handed it below inside stock is_closed calls seated emptied idle back = record {
   stock = stock ∙ below.stock;
+  is_closed = is_closed ∙ below.is_closed;
+  calls = calls ∙ below.calls;
   seated = seated;
   gone = gone;
   rest = λ seat above. let another : seat ≢ index = (λ same. let nothing : ⊥ = omega (arith, above, same) in nothing) in
@@ -98,6 +103,8 @@ one_seat_more index old now new handed it below inside stock seated emptied idle
 pub all_empty : (index : ℕ) (old now : Hosted) (handed : List (Option Object)) → EmptyBelow index old now handed → index ≤ 8 → 8 ≤ index → HasClosed old now handed
 all_empty index old now handed below most past = record {
   stock = below.stock;
+  is_closed = below.is_closed;
+  calls = below.calls;
   gone = gone;
   free = λ seat. below.seated.free seat (gone seat);
   retired = let eight : index ≡ 8 = omega (arith, most, past) in subst (λ n. GiveBack n old.seats handed old.services now.services) eight below.retired;
@@ -115,6 +122,8 @@ pub none_empty : (old : Hosted) (handed : List (Option Object)) → IsWhole old 
 unfolding GiveBack
 none_empty old handed whole eight = record {
   stock = refl;
+  is_closed = refl;
+  calls = refl;
   seated = whole.seated;
   gone = λ seat less. absurd (omega (arith, less));
   rest = λ seat above. refl;
@@ -125,8 +134,8 @@ none_empty old handed whole eight = record {
 
 -- by a seat that was vacated, and what waited behind that let go
 pub one_vacated : (index seat : ℕ) (old now mid new : Hosted) (handed : List (Option Object)) (it : Option Object) → EmptyBelow index old now handed → index < 8 → seat ≡ index → HasVacated seat now mid →
-    GoesFrom seat now.services mid.services (object_at seat now.seats) it → new.stock ≡ mid.stock → new.seats ≡ mid.seats → new.services ≡ written_off mid.services → AreSeated new.seats new.services →
+    GoesFrom seat now.services mid.services (object_at seat now.seats) it → new.stock ≡ mid.stock → new.is_closed ≡ mid.is_closed → new.calls ≡ mid.calls → new.seats ≡ mid.seats → new.services ≡ written_off mid.services → AreSeated new.seats new.services →
     EmptyBelow (index + 1) old new (slice_set handed index it)
-one_vacated index seat old now mid new handed it below inside same vacated goes stock seats services seated =
-    one_seat_more index old now new handed it below inside (stock ∙ vacated.stock) seated (seats ∙ vacated.seats ∙ ap (λ n. slice_set now.seats n None) same) (ap (λ (s : Services). s.outgoing) services)
+one_vacated index seat old now mid new handed it below inside same vacated goes stock is_closed calls seats services seated =
+    one_seat_more index old now new handed it below inside (stock ∙ vacated.stock) (is_closed ∙ vacated.is_closed) (calls ∙ vacated.calls) seated (seats ∙ vacated.seats ∙ ap (λ n. slice_set now.seats n None) same) (ap (λ (s : Services). s.outgoing) services)
     (subst (λ n. GivesBack n (object_at n now.seats) it now.services new.services) same (record { behind = mid.services; goes = goes; let_go = services }))

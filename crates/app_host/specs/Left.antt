@@ -59,9 +59,11 @@ GiveBack zero there gone first now = now ≡ first
 GiveBack (suc seat) there gone first now = (before : Services) × GiveBack seat there gone first before × GivesBack seat (object_at seat there) (object_at seat gone) before now
 
 -- nothing runs: all that ran retired over the host's own services, seat by seat, and are handed on; each seat is free, without a
--- pipe, subscriptions, a sender with its filters, and tables
+-- pipe, subscriptions, a sender with its filters, and tables; nothing else of the host changes
 pub record HasClosed (old new : Hosted) (handed : List (Option Object)) : Type 0 where
   pub stock : new.stock ≡ old.stock
+  pub is_closed : new.is_closed ≡ old.is_closed
+  pub calls : new.calls ≡ old.calls
   pub gone : (seat : ℕ) → object_at seat new.seats ≡ None
   pub free : (seat : ℕ) → IsFreeSeat seat (held_by new.services)
   pub retired : GiveBack seat_count old.seats handed old.services new.services

@@ -64,6 +64,8 @@ impl<B: App> Host<B> {
         ensures services { self.new.services ≡ written_off self.old.services }
         ensures stock { (shown B.meaning self.new).stock ≡ (shown B.meaning self.old).stock }
         ensures seats { (shown B.meaning self.new).seats ≡ (shown B.meaning self.old).seats }
+        ensures is_closed { self.new.closed ≡ self.old.closed }
+        ensures calls { self.new.calls ≡ self.old.calls }
     {
         // For the proof: tables and files are within their bounds, each under a name of its own.
         self.services.tables.is_service();

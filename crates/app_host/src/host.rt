@@ -7,6 +7,7 @@ ghost use Rattle.lc_model.specs.Kept.Stations.{first_host};
 ghost use Rattle.app_host.specs.declared.error.HostError.TheVariants.{Memory};
 ghost use Rattle.app_host.specs.Hosted.{Object, object_at, shown, member_of, in_numbers, objects_in};
 ghost use Rattle.app_host.specs.Whole.{AreSpares, IsWhole, IsQuiet};
+ghost use Rattle.tbl_service.specs.Images.{active_of};
 
 use crate::app::App;
 use crate::error::HostError;
@@ -83,6 +84,14 @@ impl<B: App> Host<B> {
             Some(app) => Some(app),
             None => None,
         }
+    }
+
+    /// The active image of the table of this name, where there is such a table and it has one.
+    pub fn active_image(&self, table: &[u8]) -> Option<&[u8]>
+        ensures { option_map (λ image. image.now) result ≡ active_of
+            ((in_numbers (shown B.meaning self.now)).executive.services.slots table.now) }
+    {
+        self.services.tables.active_under(table)
     }
 
     /// Whether a write has failed: then it takes no record any more.

@@ -3,3 +3,4 @@ mod StoredFiles
 mod Handles
 mod Installed
 mod Sound
+mod Named

@@ -2,6 +2,9 @@
 use Rattle.std.specs.Prelude.{ℕ, Bool, List, Option, Some, None, option_map, if◌then◌else◌}
 use Rattle.lc_model.specs.Tables.Slot as model
 use Rattle.lc_model.specs.Tables.Slot.{Slot, Waiting}
+use Rattle.lc_model.specs.Name.{Name}
+use Rattle.lc_model.specs.Services.Seen as seen
+use Rattle.lc_model.specs.Services.Tables.{Places}
 use Rattle.tbl_service.specs.declared.slot.Stage.{Stage}
 use Rattle.tbl_service.specs.declared.slot.Stage.TheVariants.{Loaded, Asked, Valid, Activated}
 use Rattle.tbl_service.specs.declared.slot.Move.{Move}
@@ -28,3 +31,12 @@ slot_of active is_active waiting stage = record {
   active = if is_active then Some active else None;
   waiting = option_map (λ (s : Stage). waiting_seen s waiting) stage;
 }
+
+-- the slot of the first table of a name, over all seats
+abbrev pub slot_named : Places → Name → Option (Slot (List ℕ))
+slot_named places name = seen.slot_among places name
+
+-- the active image of a slot, where there is a slot that has one
+abbrev pub active_of : Option (Slot (List ℕ)) → Option (List ℕ)
+active_of None = None
+active_of (Some slot) = slot.active

@@ -8,11 +8,11 @@ ghost use Rattle.lc_model.specs.Tables.Slot.{Activated, Asked, Validate, Activat
 ghost use Rattle.lc_model.specs.Services.Tables.{IsTableService, file_put, first_tables, fits_at, image_installed, image_taken, new_handle, slot_at, stored_image, table_at, table_commanded, table_registered, tables_unregistered, verdict_set};
 ghost use Rattle.tbl_service.specs.declared.error.TableError.TheVariants.{Memory};
 ghost use Rattle.tbl_service.specs.Error.{answered};
-ghost use Rattle.tbl_service.specs.Images.{waiting_seen};
+ghost use Rattle.tbl_service.specs.Images.{active_of, slot_named, waiting_seen};
 
 use crate::error::TableError;
 use crate::place::{SeatTables, Table};
-use crate::seats::{Slot, change_among, install_into, judge, load_into, register, take};
+use crate::seats::{Slot, change_among, find, install_into, judge, load_into, register, take};
 use crate::slot::{Move, Stage};
 use crate::store::Files;
 use lc_model::Seat;
@@ -150,6 +150,19 @@ impl Tables {
         ensures { option_map (λ image. image.now) result ≡ (slot_at slot self.now).active }
     {
         self.table(slot).active()
+    }
+
+    /// Returns the active image of the first table with this name, or `None` if no table has the name or it has no image.
+    pub fn active_under(&self, name: &[u8]) -> Option<&[u8]>
+        ensures { option_map (λ image. image.now) result ≡
+            active_of (slot_named self.now.places name.now) }
+    {
+        // For the proof: there are eight seats.
+        self.is_service();
+        match find(self.places.as_slice(), name) {
+            Some(slot) => self.active(slot),
+            None => None,
+        }
     }
 
     /// Sets the owner's verdict on the image that it is asked about: the stage becomes `Valid`, or `Loaded` again.

@@ -15,7 +15,7 @@ loop-index-preserved g c =
     (map-set (object_in g.B.App.meaning) c.loop-index.retired c.index.result c.vacate.result
     ∙ ap (λ n. slice_set (map (object_in g.B.App.meaning) c.loop-index.retired) n (object_in g.B.App.meaning c.vacate.result)) (c.index.ensures.value ∙ c.new-seat.ensures)))
     (one_vacated c.loop-index.index c.new-seat.result _ _ _ _ _ _ c.loop-index.invariant (search rules) c.new-seat.ensures c.vacate.ensures.vacated c.vacate.ensures.goes
-    c.let_go.ensures.stock c.let_go.ensures.seats c.let_go.ensures.services c.let_go.ensures.seated)
+    c.let_go.ensures.stock c.let_go.ensures.is_closed c.let_go.ensures.calls c.let_go.ensures.seats c.let_go.ensures.services c.let_go.ensures.seated)
 
 pub returns-clause-closed : goal.returns-clause-closed
 returns-clause-closed g c = all_empty c.loop-index.index _ _ _ c.loop-index.invariant (search rules) (search rules)
